@@ -1,0 +1,5 @@
+pub mod Outside
+pub mod Letter
+pub mod Name
+pub mod NameFields
+pub mod Histories
