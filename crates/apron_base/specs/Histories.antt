@@ -1,5 +1,5 @@
 -- Histories: lists of entries, each of which tells the number of the call that added it.
-use Rattle.std.specs.Prelude.{◌≡◌, ◌⊎◌, ℕ, ◌+◌, ◌≤◌, List, [], ◌∷◌, ◌++◌}
+use Rattle.std.specs.Prelude.{ℕ, ◌+◌, ◌≤◌, List, [], ◌∷◌}
 
 -- P holds of each of these
 abbrev pub Every : {E : Type 0} → (E → Type 0) → List E → Type 0

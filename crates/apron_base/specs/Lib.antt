@@ -1,4 +1,5 @@
 pub mod Outside
+pub mod MemoryEnds
 pub mod Letter
 pub mod Name
 pub mod NameFields

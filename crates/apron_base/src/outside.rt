@@ -18,7 +18,8 @@ pub trait Source {
     /// How often it has failed. It never falls, and stands still at `2^64 - 1`.
     ghost faults: { Self → ℕ };
 
-    /// Takes at least one byte. 0 is the end of input.
+    /// Takes at least one byte, and puts it at the front of `into`, which must not be empty. It gives how
+    /// many it took; 0 is the end of input. At `Err` nothing was taken, and the count of faults rose.
     fn read(&mut self, into: &mut [u8]) -> Result<usize, Failed>
         requires { 0 < length into.old }
         ensures bound { ReadsAtMost result into.new }
@@ -34,7 +35,7 @@ pub trait Sink {
     /// How often it has failed. It never falls, and stands still at `2^64 - 1`.
     ghost faults: { Self → ℕ };
 
-    /// Writes the whole piece, or a front of it at `Err`.
+    /// Writes the whole piece. At `Err` a front of it was written, and the count of faults rose.
     fn put(&mut self, piece: &[u8]) -> Result<(), Failed>
         ensures bytes { Puts (told self.old) (told self.new) result piece.now }
         ensures cause { HasCause (faults self.old) (faults self.new) result };
@@ -43,22 +44,35 @@ pub trait Sink {
 /// What one ask of a desk gives. After all but a reply nothing has changed.
 #[derive(Debug, Drop)]
 pub enum Acted {
+    /// The bytes of the reply.
     Reply(Listed<u8>),
+    /// Memory is wanting.
     Memory,
+    /// What keeps the entries failed.
     Fault,
+    /// There are no more call numbers.
     Spent,
 }
 
 /// How a session ended.
 #[derive(Clone, Copy, Debug, PartialEq, Eq)]
 pub enum Outcome {
+    /// The input ended behind a request.
     Ended,
+    /// A request asked to close.
     Closed,
+    /// The input ended within a request.
     Cut,
+    /// The input is cut into no request.
     Malformed,
+    /// As many requests were answered as one session may have.
     Limit,
+    /// The source failed.
     ReadFault,
+    /// The sink failed.
     WriteFault,
+    /// There were no more call numbers.
     Spent,
+    /// Memory was wanting.
     Memory,
 }

@@ -1,0 +1,22 @@
+-- The JSON of a body, and the fields of its objects.
+use Rattle.std.specs.Prelude.{ℕ, List, nat_le, Option, Some, None, option_and_then, if◌then◌else◌}
+use Rattle.std.specs.Str.{is_utf8}
+use Rattle.serde_json.specs.Data.{Data}
+use Rattle.serde_json.specs.Read.{read}
+use Rattle.serde_json.specs.Find.{get, as_number, as_u64, as_str}
+
+-- the JSON that a body in UTF-8 holds, nested at most 127 deep; of a key written twice the last value
+unfoldable pub body_data : List ℕ → Option Data
+body_data bytes = if is_utf8 bytes then read bytes else None
+
+-- the number, where it is at most that
+abbrev pub at_most : ℕ → ℕ → Option ℕ
+at_most most n = if nat_le n most then Some n else None
+
+-- the whole number under a key, written without sign, fraction and exponent, where it is at most that
+abbrev pub number_at : List ℕ → ℕ → Data → Option ℕ
+number_at key most d = option_and_then (at_most most) (option_and_then as_u64 (option_and_then as_number (get key d)))
+
+-- the text under a key
+abbrev pub text_at : List ℕ → Data → Option (List ℕ)
+text_at key d = option_and_then as_str (get key d)

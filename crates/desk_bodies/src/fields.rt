@@ -1,0 +1,70 @@
+// The JSON of a body, and the fields of its objects.
+ghost use Rattle.std.specs.Prelude.{◌≡◌, Some, None, Err, IfOk, option_map};
+ghost use Rattle.serde_json.specs.View.{view};
+ghost use Rattle.desk_bodies.specs.Fields.{body_data, number_at, text_at};
+
+use serde_json::Value;
+use std::alloc::Global;
+
+/// Why a body wasn't read.
+#[derive(Clone, Copy, Debug, PartialEq, Eq)]
+pub enum BodyFault {
+    /// It isn't of the form.
+    Form,
+    /// Memory is wanting; nothing is known of the body.
+    Memory,
+}
+
+impl From<apron_base::Memory> for BodyFault {
+    ghost use Rattle.std.specs.Prelude.{◌≡◌};
+    ghost use Rattle.desk_bodies.specs.declared.fields.BodyFault.TheVariants.{Memory};
+
+    ghost from_gives = { λ _ e. e ≡ Memory };
+
+    fn from(_: apron_base::Memory) -> Self {
+        BodyFault::Memory
+    }
+}
+
+/// The JSON of a body: `Form` where it is no JSON in UTF-8, or nests more than 127 deep.
+#[tactic(auto, unfolding(crate::specs::Fields::body_data))]
+pub fn read_json(alloc: Global, body: &[u8]) -> Result<Value, BodyFault>
+    ensures ok { IfOk result (λ v. body_data body.now ≡ Some (view v)) }
+    ensures form { result ≡ Err BodyFault.Form → body_data body.now ≡ None }
+{
+    match Value::from_slice(alloc, body) {
+        Ok(value) => Ok(value),
+        Err(e) => if e.is_memory() {
+            Err(BodyFault::Memory)
+        } else {
+            Err(BodyFault::Form)
+        },
+    }
+}
+
+/// The whole number of 32 bits under a key. None where none is there.
+pub fn number(object: &Value, key: &str) -> Option<u32>
+    ensures { result ≡ number_at key.now 4294967295 (view object.now) }
+{
+    let n = object.get(key)?.as_u64()?;
+    if n <= 4_294_967_295 {
+        Some(n as u32)
+    } else {
+        None
+    }
+}
+
+/// The whole number of 8 bits under a key. None where none is there.
+pub fn small_number(object: &Value, key: &str) -> Option<u8>
+    ensures { result ≡ number_at key.now 255 (view object.now) }
+{
+    let n = object.get(key)?.as_u64()?;
+    if n <= 255 { Some(n as u8) } else { None }
+}
+
+/// The text under a key. None where none is there.
+pub fn text<'v>(object: &'v Value, key: &str) -> Option<&'v str>
+    ensures { option_map (λ s. s.now) result ≡ text_at key.now (view object.now) }
+{
+    object.get(key)?.as_str()
+}

@@ -1,0 +1,11 @@
+//! The JSON bodies of requests, as `serde_json` reads them.
+#![tactic(auto)]
+
+mod commits;
+mod fields;
+
+pub use commits::{CommitText, EditText, read_commit};
+pub use fields::BodyFault;
+
+#[cfg(test)]
+mod tests;

@@ -1,0 +1,3 @@
+pub mod SoFar
+pub mod OneDesk
+pub mod Asking

@@ -1,0 +1,72 @@
+-- A desk alone takes its turns at the history that it has seen.
+use Rattle.std.proofs.Common.{◌≡◌, ◌≢◌, ◌∙◌, ◌≤◌, ◌<◌, ◌+◌, ◌-◌, ◌^◌, ◌==◌, ℕ, zero, suc, false, List, [], ◌∷◌, ◌++◌, refl, sym, ap, subst, arith, append-nil}
+use Rattle.std.proofs.lemmas.Bool.Decides.{nat_tests}
+use Rattle.apron_base.specs.Histories.{Every}
+use Rattle.apron_base.specs.declared.outside.Acted.{Acted}
+use Rattle.apron_base.specs.declared.outside.Acted.TheVariants.{Reply as Replied, Memory as NoMemory, Fault, Spent}
+use Rattle.desk_words.specs.declared.asks.Ask.{Ask}
+use Rattle.history_core.specs.Acts.{IsReplyOrMemory}
+use Rattle.history_core.specs.Answer.{ActsAs, Given, Gives, replied, no_memory, keeper_fault}
+use Rattle.history_core.specs.Board.{BoardState}
+use Rattle.desk_http.specs.Alone.{AloneAsks, IsAlone, alone_port, numbers_from}
+use Rattle.desk_http.specs.Ports.{HasFaultCause, ShowsAsk, Turn}
+
+every_one : {E : Type 0} (P : E → Type 0) (xs : List E) → ((x : E) → P x) → Every P xs
+every_one P [] h = tt
+every_one P (x ∷ xs) h = (h x, every_one P xs h)
+
+numbers_below : (first count bound : ℕ) → first + count ≤ bound → Every (λ own. own < bound) (numbers_from first count)
+numbers_below first zero bound h = tt
+numbers_below first (suc count) bound h = (omega arith, numbers_below (first + 1) count bound (omega arith))
+
+-- one number more
+pub numbers_from-push : (first count : ℕ) → numbers_from first (suc count) ≡ numbers_from first count ++ (first + count) ∷ []
+numbers_from-push first zero = let e : first ≡ first + 0 = omega arith in ap (λ n. n ∷ []) e
+numbers_from-push first (suc count) =
+    let rest : numbers_from (first + 1) (suc count) ≡ numbers_from (first + 1) count ++ (first + 1 + count) ∷ [] = numbers_from-push (first + 1) count in
+    let last : first + 1 + count ≡ first + suc count = omega arith in
+    ap (λ ns. first ∷ ns) (rest ∙ ap (λ n. numbers_from (first + 1) count ++ n ∷ []) last)
+
+-- its calls after one more
+calls_push : (first next : ℕ) → first ≤ next → numbers_from first (next + 1 - first) ≡ numbers_from first (next - first) ++ next ∷ []
+calls_push first next h =
+    let count : next + 1 - first ≡ suc (next - first) = omega arith in
+    let last : first + (next - first) ≡ next = omega arith in
+    ap (numbers_from first) count ∙ (numbers_from-push first (next - first) ∙ ap (λ n. numbers_from first (next - first) ++ n ∷ []) last)
+
+-- an ask of a desk alone gets its turn
+turn : (before after : BoardState) (first : ℕ) (ask : Ask) (given : Given)
+    → IsAlone before first → before.next < 2 ^ 62 → Gives before.start before.history before.next ask given after.history
+    → after.next ≡ before.next + 1 → HasFaultCause 0 given 0
+    → AloneAsks before.start (alone_port (record { board = before; first = first })) ask given (alone_port (record { board = after; first = first }))
+turn before after first ask given h last gives next cause = (
+  record {
+    history = before.history;
+    call = before.next;
+    later = record { new = []; is = sym (append-nil before.history); above = every_one _ _ (λ _. tt) };
+    legal = h.legal;
+    numbers = h.numbers;
+    above = let begun = h.begun in numbers_below first (before.next - first) before.next (omega arith);
+    last = last;
+    gives = gives;
+    calls = ap (λ n. numbers_from first (n - first)) next ∙ calls_push first before.next h.begun;
+    spent = grind (arith, nat_tests);
+    counts = omega arith;
+    fault = cause;
+  },
+  refl,
+)
+
+-- what a desk alone shows of an ask
+pub alone_shows : (before after : BoardState) (first : ℕ) (ask : Ask) (acted : Acted)
+    → IsAlone before first → before.next < 2 ^ 62 → ActsAs before.start before.history before.next ask acted after.history
+    → after.next ≡ before.next + 1 → IsReplyOrMemory acted
+    → ShowsAsk AloneAsks before.start (alone_port (record { board = before; first = first })) ask acted (alone_port (record { board = after; first = first }))
+alone_shows before after first ask (Replied bytes) h last (replied reply, shows, gives) next free = (replied reply, shows, turn before after first ask (replied reply) h last gives next tt)
+alone_shows before after first ask (Replied bytes) h last (no_memory, shows, gives) next free = absurd shows
+alone_shows before after first ask (Replied bytes) h last (keeper_fault, shows, gives) next free = absurd shows
+alone_shows before after first ask NoMemory h last (replied reply, shows, gives) next free = absurd shows
+alone_shows before after first ask NoMemory h last (no_memory, shows, gives) next free = (no_memory, shows, turn before after first ask no_memory h last gives next tt)
+alone_shows before after first ask NoMemory h last (keeper_fault, shows, gives) next free = absurd shows
+alone_shows before after first ask Fault h last acts next free = absurd free
+alone_shows before after first ask Spent h last acts next free = absurd free

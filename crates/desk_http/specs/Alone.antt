@@ -1,0 +1,38 @@
+-- One desk alone over a board.
+use Rattle.std.specs.Prelude.{◌≡◌, ◌==◌, ◌+◌, ◌-◌, ◌≤◌, ◌^◌, ℕ, zero, suc, List, [], ◌∷◌}
+use Rattle.plan_core.specs.PlanState.{PlanState}
+use Rattle.desk_words.specs.declared.asks.Ask.{Ask}
+use Rattle.apron_base.specs.Histories.{Rises}
+use Rattle.history_core.specs.Answer.{Given}
+use Rattle.history_core.specs.History.{call_of, IsLegal}
+use Rattle.history_core.specs.Board.{BoardState}
+use Rattle.desk_http.specs.Ports.{PortState, Turn}
+
+-- a desk alone: its board, and the number that its first call has
+pub record AloneState : Type 0 where
+  pub board : BoardState
+  pub first : ℕ
+
+-- what is true of every desk alone: its calls come from its first number on, its history is legal and numbered below its next call
+pub record IsAlone (board : BoardState) (first : ℕ) : Type 0 where
+  pub begun : first ≤ board.next
+  pub numbers : Rises call_of 1 board.next board.history
+  pub legal : IsLegal board.start board.history
+
+-- so many numbers from the first on, in order
+abbrev pub numbers_from : ℕ → ℕ → List ℕ
+numbers_from first zero = []
+numbers_from first (suc count) = first ∷ numbers_from (first + 1) count
+
+-- what a desk alone tells: it has seen the board's history, its calls are the numbers from the first up to the board's next, and no append can fail
+abbrev pub alone_port : AloneState → PortState
+alone_port alone = record {
+  seen = alone.board.history;
+  calls = numbers_from alone.first (alone.board.next - alone.first);
+  spent = alone.board.next == 2 ^ 62;
+  faults = 0;
+}
+
+-- an ask of a desk alone gets its turn at the history that it has seen
+abbrev pub AloneAsks : PlanState → PortState → Ask → Given → PortState → Type 0
+AloneAsks start before ask given after = (turn : Turn start before ask given after) × (turn.history ≡ before.seen)

@@ -1,0 +1,74 @@
+// One desk alone over a board.
+ghost use Rattle.std.specs.Prelude.{◌≡◌};
+
+use crate::DeskPort;
+use apron_base::Acted;
+use apron_rules::Airport;
+use desk_words::asks::Ask;
+use history_core::Board;
+use std::alloc::Global;
+use std::marker::Model;
+
+// The number that no call has any more.
+const END_OF_NUMBERS: u64 = 1 << 62;
+
+/// The port of a desk that has a board to itself. It numbers its calls from the board's next one
+/// on, and waits for nobody.
+#[derive(Drop)]
+pub struct Alone<'a> {
+    board: Board<'a>,
+    first: u64,
+}
+
+impl<'a> Model for Alone<'a> {
+    ghost use Rattle.std.specs.Prelude.{◌≤◌};
+    ghost use Rattle.desk_http.specs.Alone.{AloneState, IsAlone};
+
+    ghost Value = { AloneState };
+
+    ghost view = { λ a. record { board = a.board; first = a.first } };
+
+    ghost invariant = { λ a. IsAlone a.board a.first };
+}
+
+impl<'a> Alone<'a> {
+    /// A desk that has made no call yet.
+    pub fn new(board: Board<'a>) -> Alone<'a>
+        ensures board { result.board ≡ board.entry }
+        ensures first { result.first ≡ board.entry.next }
+    {
+        let first = board.next_call();
+        Alone { board, first }
+    }
+
+    /// The board after the desk's calls.
+    pub fn into_board(self) -> Board<'a>
+        ensures { result ≡ self.entry.board }
+    {
+        self.board
+    }
+}
+
+impl<'a> DeskPort for Alone<'a> {
+    ghost use Rattle.desk_http.specs.Alone.{AloneAsks, alone_port};
+
+    ghost start = { λ a. a.board.start };
+
+    ghost port = { alone_port };
+
+    ghost asks = { AloneAsks };
+
+    ghost takes_turns = { λ from before after ask given asked. asked.0 };
+
+    fn airport(&self) -> &Airport {
+        self.board.airport()
+    }
+
+    fn ask(&mut self, alloc: Global, ask: &Ask) -> Acted {
+        let call = self.board.next_call();
+        if call == END_OF_NUMBERS {
+            return Acted::Spent;
+        }
+        self.board.ask(alloc, call, ask)
+    }
+}

@@ -1,0 +1,9 @@
+use Rattle.std.proofs.Common.{refl}
+use Rattle.std.specs.Fmt.{digits}
+use Rattle.serde_json.proofs.OnLiterals.{serde_json_on_literals}
+use Rattle.desk_words.specs.Fixed.{keeper_fault_text}
+use Rattle.desk_words.proofs.fixed.keeper_fault.Goals as goal
+
+pub returns : goal.returns
+unfolding digits serde_json_on_literals keeper_fault_text
+returns c = refl

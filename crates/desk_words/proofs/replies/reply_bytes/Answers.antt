@@ -1,0 +1,10 @@
+use Rattle.std.proofs.Common.{◌≡◌}
+use Rattle.std.proofs.lemmas.Result.{IfOk-weaker}
+use Rattle.desk_words.specs.Replies.{reply_text}
+use Rattle.desk_words.proofs.replies.reply_bytes.Goals as goal
+
+pub returns : goal.returns
+unfolding reply_text
+returns c =
+    IfOk-weaker c.text.result _ (λ bytes. bytes ≡ reply_text c.args.reply.now)
+    (λ bytes h. rw (c.status.ensures, c.as_slice.ensures.value, c.in_ok-body.ensures) at h) c.text.ensures

@@ -1,0 +1,38 @@
+// Replies whose text is a constant. They take no memory.
+ghost use Rattle.std.specs.Prelude.{◌≡◌};
+ghost use Rattle.desk_words.specs.Fixed.{no_memory_text, keeper_fault_text, not_json_text, unbuilt_text, bad_head_text};
+
+/// Memory is wanting.
+pub fn no_memory() -> &'static [u8]
+    ensures { result.now ≡ no_memory_text }
+{
+    b"HTTP/1.1 507 Insufficient Storage\r\nContent-Type: application/json\r\nContent-Length: 18\r\n\r\n{\"error\":\"memory\"}"
+}
+
+/// The keeper of the plan can't go on.
+pub fn keeper_fault() -> &'static [u8]
+    ensures { result.now ≡ keeper_fault_text }
+{
+    b"HTTP/1.1 503 Service Unavailable\r\nContent-Type: application/json\r\nContent-Length: 18\r\n\r\n{\"error\":\"keeper\"}"
+}
+
+/// The body isn't of the form that was asked for.
+pub fn not_json() -> &'static [u8]
+    ensures { result.now ≡ not_json_text }
+{
+    b"HTTP/1.1 400 Bad Request\r\nContent-Type: application/json\r\nContent-Length: 16\r\n\r\n{\"error\":\"json\"}"
+}
+
+/// The body asks for what isn't built.
+pub fn unbuilt() -> &'static [u8]
+    ensures { result.now ≡ unbuilt_text }
+{
+    b"HTTP/1.1 400 Bad Request\r\nContent-Type: application/json\r\nContent-Length: 19\r\n\r\n{\"error\":\"unbuilt\"}"
+}
+
+/// The head of the request is malformed, and the connection ends.
+pub fn bad_head() -> &'static [u8]
+    ensures { result.now ≡ bad_head_text }
+{
+    b"HTTP/1.1 400 Bad Request\r\nContent-Type: application/json\r\nContent-Length: 16\r\nConnection: close\r\n\r\n{\"error\":\"head\"}"
+}

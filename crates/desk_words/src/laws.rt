@@ -1,0 +1,23 @@
+// Laws of the texts: no two causes are answered alike by chance.
+ghost use Rattle.std.specs.Prelude.{◌≢◌, All, AllPairs};
+ghost use Rattle.desk_words.specs.declared.replies.Reply.{Reply};
+ghost use Rattle.desk_words.specs.Fixed.{fixed_texts};
+ghost use Rattle.desk_words.specs.Replies.{reply_text};
+ghost use Rattle.desk_words.specs.Spelt.{CommittedIsSpelt, UnfitIsSpelt, ClashIsSpelt};
+
+/// No two of the fixed texts are the same.
+pub fn fixed_texts_differ()
+    ensures { AllPairs (λ a b. a ≢ b) fixed_texts }
+{}
+
+/// No reply has a fixed text.
+pub fn no_reply_is_fixed()
+    ensures { (reply : Reply) → All (λ text. reply_text reply ≢ text) fixed_texts }
+{}
+
+/// Some replies are spelt so.
+pub fn replies_are_spelt()
+    ensures committed { CommittedIsSpelt }
+    ensures unfit { UnfitIsSpelt }
+    ensures clash { ClashIsSpelt }
+{}

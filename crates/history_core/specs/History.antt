@@ -1,0 +1,62 @@
+-- The plan that a history of commands makes, and which histories are legal.
+use Rattle.std.specs.Prelude.{◌≡◌, ◌+◌, ◌^◌, ◌≤◌, ℕ, List, [], ◌∷◌, length, All, Result, Ok, Err}
+use Rattle.apron_base.specs.Histories.{Rises}
+use Rattle.apron_rules.specs.declared.parts.AirportParts.{AirportParts}
+use Rattle.plan_core.specs.declared.visits.Edit.{Edit}
+use Rattle.plan_core.specs.declared.visits.EditFault.{EditFault}
+use Rattle.plan_core.specs.declared.visits.Visit.{Visit}
+use Rattle.plan_core.specs.PlanState.{PlanState}
+use Rattle.plan_core.specs.Rebase.{IsEditOf, Rebases, edited, stamped}
+use Rattle.desk_words.specs.declared.asks.Command.{Command}
+use Rattle.desk_words.specs.declared.asks.Command.TheVariants.{Commit}
+use Rattle.desk_words.specs.declared.asks.Entry.{Entry}
+use Rattle.desk_words.specs.declared.asks.What.{What}
+use Rattle.desk_words.specs.declared.asks.What.TheVariants.{Change}
+use Rattle.desk_words.specs.declared.asks.Ask.{Ask}
+
+-- the number of the call that added the entry
+abbrev pub call_of : Entry → ℕ
+call_of entry = entry.call
+
+-- the command is of the airport: it has 1 to 64 edits, on stands of it
+abbrev pub IsCommandOf : AirportParts → Command → Type 0
+IsCommandOf airport (Commit desk draft base edits) = (1 ≤ length edits) × (length edits ≤ 64) × All (IsEditOf airport) edits
+
+-- what the ask asks is of the airport
+abbrev pub IsWhatOf : AirportParts → What → Type 0
+IsWhatOf airport (Change command) = IsCommandOf airport command
+
+abbrev pub IsAskOf : AirportParts → Ask → Type 0
+IsAskOf airport ask = IsWhatOf airport ask.what
+
+-- the command is accepted at the plan: its edits apply, and leave it sound
+abbrev pub IsAccepted : PlanState → Command → Type 0
+IsAccepted plan (Commit desk draft base edits) = (visits : List Visit) × Rebases plan.airport plan.visits edits visits
+
+-- the plan after an accepted commit whose edits give these visits
+abbrev pub committed : PlanState → List Edit → List Visit → PlanState
+committed plan edits visits = record plan { visits = stamped (plan.version + 1) edits visits; version = plan.version + 1 }
+
+abbrev pub committed_if : PlanState → List Edit → Result (List Visit) EditFault → PlanState
+committed_if plan edits (Ok visits) = committed plan edits visits
+committed_if plan edits (Err fault) = plan
+
+-- the plan after an accepted command
+abbrev pub after_command : PlanState → Command → PlanState
+after_command plan (Commit desk draft base edits) = committed_if plan edits (edited plan.airport plan.visits edits)
+
+-- the plan after a history: each of its commands in order
+abbrev pub replay : PlanState → List Entry → PlanState
+replay start [] = start
+replay start (entry ∷ entries) = replay (after_command start entry.command) entries
+
+-- each command is of the airport, and accepted at the entries before it
+abbrev pub AreAccepted : PlanState → List Entry → Type 0
+AreAccepted start [] = Unit {0}
+AreAccepted start (entry ∷ entries) =
+    IsCommandOf start.airport entry.command × IsAccepted start entry.command × AreAccepted (after_command start entry.command) entries
+
+-- a history that desks can have made, from the plan that it began with: call numbers rise strictly from at least 1 and stay below 2^62
+pub record IsLegal (start : PlanState) (history : List Entry) : Type 0 where
+  pub accepted : AreAccepted start history
+  pub numbers : Rises call_of 1 (2 ^ 62) history

@@ -1,0 +1,4 @@
+pub mod History
+pub mod Answer
+pub mod Board
+pub mod Acts

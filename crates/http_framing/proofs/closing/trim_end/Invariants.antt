@@ -1,0 +1,9 @@
+use Rattle.std.proofs.Common.{◌≡◌, length, reverse}
+use Rattle.http_framing.specs.Closing.{skip_spaces}
+use Rattle.http_framing.proofs.closing.trim_end.Given as goal
+
+abbrev pub decreases-loop-trimmed : goal.decreases-loop-trimmed
+decreases-loop-trimmed l = length l.trimmed
+
+abbrev pub invariant-loop-trimmed : goal.invariant-loop-trimmed
+invariant-loop-trimmed l = skip_spaces (reverse l.trimmed) ≡ skip_spaces (reverse l.bytes)

@@ -1,0 +1,9 @@
+pub mod Fields
+pub mod Heads
+pub mod Blank
+pub mod Bodies
+pub mod Closing
+pub mod Requests
+pub mod Streams
+pub mod Fronts
+pub mod Laws

@@ -1,0 +1,37 @@
+-- The requests of a stream of bytes in order, and how it ends.
+use Rattle.std.specs.Prelude.{◌≡◌, ℕ, ◌<◌, List, [], ◌∷◌, length, true, false}
+use Rattle.http_framing.specs.Heads.{max_head}
+use Rattle.http_framing.specs.Blank.{is_blank}
+use Rattle.http_framing.specs.Closing.{is_closing}
+use Rattle.http_framing.specs.Requests.{Request, HasRequest, IsPartial, IsMalformed}
+use Rattle.http_framing.specs.declared.bodies.Refusal.{Refusal}
+
+-- how a stream ends: after its last request, inside a request, after a request that closes, or at one that is refused
+pub data Ending : Type 0 where
+  ended : Ending
+  cut : Ending
+  closed : Ending
+  malformed : Refusal → Ending
+
+-- the bytes hold no whole request, and a stream that ends with them ends so
+abbrev pub Ends : List ℕ → Ending → Type 0
+Ends bytes ended = (is_blank bytes ≡ true) × (length bytes < max_head)
+Ends bytes cut = IsPartial bytes × (is_blank bytes ≡ false)
+Ends bytes closed = ⊥
+Ends bytes (malformed why) = IsMalformed bytes why
+
+-- the session goes on after the request
+abbrev pub IsOpen : Request → Type 0
+IsOpen r = is_closing r.head ≡ false
+
+-- a stream of these bytes has these requests in order, and ends so
+abbrev pub Requests : List ℕ → List Request → Ending → Type 0
+Requests bytes [] ending = Ends bytes ending
+Requests bytes (r ∷ rs) ending =
+    (rest : List ℕ) × HasRequest bytes r rest
+    × (is_closing r.head ≡ true → (rs ≡ []) × (ending ≡ closed)) × (is_closing r.head ≡ false → Requests rest rs ending)
+
+-- the bytes are these requests, one after another, and then rest
+abbrev pub Splits : List ℕ → List Request → List ℕ → Type 0
+Splits bytes [] rest = bytes ≡ rest
+Splits bytes (r ∷ rs) rest = (after : List ℕ) × HasRequest bytes r after × Splits after rs rest

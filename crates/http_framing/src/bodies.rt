@@ -1,0 +1,66 @@
+// How long the body is that follows a head.
+ghost use Rattle.std.specs.Prelude.{◌≡◌, ◌≤◌, map, length, All};
+ghost use Rattle.httparse.specs.Grammar.{RequestHead};
+ghost use Rattle.httparse.specs.Spans.{IsHeaderWithin, header_bytes, IsRequestAt, IsRequestWithin};
+ghost use Rattle.http_framing.specs.Fields.{pairs};
+ghost use Rattle.http_framing.specs.Bodies.{framed};
+
+use crate::fields::{OnlyValue, only_value, read_number};
+use httparse::spans::{HeaderSpan, RequestSpans};
+
+/// The most bytes of a body.
+pub const MAX_BODY: usize = 65_536;
+
+/// Why a request is refused. Where several reasons hold, the first of these counts: no head, an
+/// encoding, a bad length, a large one, none.
+#[derive(Clone, Copy, Debug, PartialEq, Eq)]
+pub enum Refusal {
+    /// No head of at most `MAX_FIELDS` fields and `MAX_HEAD` bytes can come; or there are two
+    /// `Content-Length` fields, or one whose value is not 1 to 10 digits.
+    Head,
+    /// There is a `Transfer-Encoding` field.
+    Encoding,
+    /// The body is longer than `MAX_BODY`.
+    Large,
+    /// A POST gives no `Content-Length`.
+    Length,
+}
+
+/// The length of the body after a head, in bytes, or why the head's fields are refused.
+pub(crate) fn body_length(
+    bytes: &[u8],
+    fields: &[HeaderSpan],
+    spans: &RequestSpans,
+) -> Result<usize, Refusal>
+    requires { IsRequestWithin bytes.now fields.now spans.now }
+    ensures { (h : RequestHead) → IsRequestAt bytes.now fields.now spans.now h
+        → result ≡ framed h.method (pairs h) }
+{
+    length_by(bytes, &fields[..spans.headers], spans.method.of(bytes))
+}
+
+/// The same by the fields and the method.
+fn length_by(bytes: &[u8], fields: &[HeaderSpan], method: &[u8]) -> Result<usize, Refusal>
+    requires { All (IsHeaderWithin (length bytes.now)) fields.now }
+    ensures { result ≡ framed method.now (map (header_bytes bytes.now) fields.now) }
+{
+    let OnlyValue::Nothing = only_value(bytes, fields, b"transfer-encoding") else {
+        return Err(Refusal::Encoding);
+    };
+    match only_value(bytes, fields, b"content-length") {
+        OnlyValue::Nothing => if method == b"POST".as_slice() {
+            Err(Refusal::Length)
+        } else {
+            Ok(0)
+        },
+        OnlyValue::One(value) => match read_number(value) {
+            None => Err(Refusal::Head),
+            Some(number) => if number <= MAX_BODY as u64 {
+                Ok(number as usize)
+            } else {
+                Err(Refusal::Large)
+            },
+        },
+        OnlyValue::Many => Err(Refusal::Head),
+    }
+}

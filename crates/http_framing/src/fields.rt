@@ -1,0 +1,59 @@
+// One field of a head, found by its name.
+ghost use Rattle.std.specs.Prelude.{◌≡◌, map, length, All};
+ghost use Rattle.httparse.specs.Spans.{IsHeaderWithin, header_bytes};
+ghost use Rattle.http_framing.specs.Fields.{is_same_name, values_of, IsOnly, number_of};
+
+use httparse::spans::HeaderSpan;
+
+/// What a search for the value of one field finds.
+#[derive(Clone, Copy, Debug)]
+pub enum OnlyValue<'b> {
+    /// No field has the name.
+    Nothing,
+    /// The value of the one that has.
+    One(&'b [u8]),
+    /// Two or more have the name.
+    Many,
+}
+
+/// The value of the only field of a name, in any case, without the white space around it.
+pub fn only_value<'b>(bytes: &'b [u8], fields: &[HeaderSpan], name: &[u8]) -> OnlyValue<'b>
+    requires { All (IsHeaderWithin (length bytes.now)) fields.now }
+    ensures { IsOnly result (values_of name.now (map (header_bytes bytes.now) fields.now)) }
+{
+    let mut found = OnlyValue::Nothing;
+    for field in fields {
+        if is_named(field.name.of(bytes), name) {
+            found = match found {
+                OnlyValue::Nothing => OnlyValue::One(field.value.of(bytes)),
+                _ => return OnlyValue::Many,
+            };
+        }
+    }
+    found
+}
+
+/// Whether two names are the same in any case.
+pub(crate) fn is_named(text: &[u8], name: &[u8]) -> bool
+    ensures { result ≡ is_same_name text.now name.now }
+{
+    text.eq_ignore_ascii_case(name)
+}
+
+/// The number that 1 to 10 digits write. None where the value is anything else.
+#[tactic(auto, unfolding(crate::specs::Fields::number_of))]
+pub(crate) fn read_number(value: &[u8]) -> Option<u64>
+    ensures { result ≡ number_of value.now }
+{
+    if value.is_empty() || value.len() > 10 {
+        return None;
+    }
+    let mut number = 0u64;
+    for byte in value {
+        if !byte.is_ascii_digit() {
+            return None;
+        }
+        number = number * 10 + (*byte - b'0') as u64;
+    }
+    Some(number)
+}

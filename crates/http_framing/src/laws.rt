@@ -1,0 +1,14 @@
+// What holds of every stream.
+ghost use Rattle.http_framing.specs.Laws.{HaveOneReading, StayWithMore, RefusalsStay};
+
+/// A stream has one list of requests and one ending, but where it ends inside a head that no
+/// bytes complete: that is cut or malformed.
+pub fn requests_have_one_reading()
+    ensures { HaveOneReading }
+{}
+
+/// Bytes that follow change no request, and no refusal.
+pub fn more_bytes_change_no_request()
+    ensures requests { StayWithMore }
+    ensures refusals { RefusalsStay }
+{}
