@@ -6,9 +6,10 @@ pub record SourceHeld : Type 0 where
   pub left : List ℕ
   pub faults : ℕ
 
--- the bytes that were written, and how often a call has failed
+-- the bytes that were written, how many more there is room for, and how often a call has failed
 pub record SinkHeld : Type 0 where
   pub told : List ℕ
+  pub room : ℕ
   pub faults : ℕ
 
 -- a reader or a writer, and how often a call has failed

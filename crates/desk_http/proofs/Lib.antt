@@ -1,3 +1,4 @@
 pub mod SoFar
 pub mod OneDesk
 pub mod Asking
+pub mod Seeing

@@ -1,5 +1,5 @@
 -- A desk alone takes its turns at the history that it has seen.
-use Rattle.std.proofs.Common.{◌≡◌, ◌≢◌, ◌∙◌, ◌≤◌, ◌<◌, ◌+◌, ◌-◌, ◌^◌, ◌==◌, ℕ, zero, suc, false, List, [], ◌∷◌, ◌++◌, refl, sym, ap, subst, arith, append-nil}
+use Rattle.std.proofs.Common.{◌≡◌, ◌≢◌, ◌∙◌, ◌≤◌, ◌<◌, ◌+◌, ◌-◌, ◌^◌, ◌==◌, ℕ, zero, suc, false, List, [], ◌∷◌, ◌++◌, length, refl, sym, ap, subst, arith, append-nil}
 use Rattle.std.proofs.lemmas.Bool.Decides.{nat_tests}
 use Rattle.apron_base.specs.Histories.{Every}
 use Rattle.apron_base.specs.declared.outside.Acted.{Acted}
@@ -8,6 +8,7 @@ use Rattle.desk_words.specs.declared.asks.Ask.{Ask}
 use Rattle.history_core.specs.Acts.{IsReplyOrMemory}
 use Rattle.history_core.specs.Answer.{ActsAs, Given, Gives, replied, no_memory, keeper_fault}
 use Rattle.history_core.specs.Board.{BoardState}
+use Rattle.history_core.specs.History.{IsLegal}
 use Rattle.desk_http.specs.Alone.{AloneAsks, IsAlone, alone_port, numbers_from}
 use Rattle.desk_http.specs.Ports.{HasFaultCause, ShowsAsk, Turn}
 
@@ -27,6 +28,10 @@ numbers_from-push first (suc count) =
     let last : first + 1 + count ≡ first + suc count = omega arith in
     ap (λ ns. first ∷ ns) (rest ∙ ap (λ n. numbers_from (first + 1) count ++ n ∷ []) last)
 
+pub length-numbers_from : (first count : ℕ) → length (numbers_from first count) ≡ count
+length-numbers_from first zero = refl
+length-numbers_from first (suc count) = ap suc (length-numbers_from (first + 1) count)
+
 -- its calls after one more
 calls_push : (first next : ℕ) → first ≤ next → numbers_from first (next + 1 - first) ≡ numbers_from first (next - first) ++ next ∷ []
 calls_push first next h =
@@ -36,37 +41,40 @@ calls_push first next h =
 
 -- an ask of a desk alone gets its turn
 turn : (before after : BoardState) (first : ℕ) (ask : Ask) (given : Given)
-    → IsAlone before first → before.next < 2 ^ 62 → Gives before.start before.history before.next ask given after.history
+    → IsAlone before first → IsLegal before.start after.history → before.next < 2 ^ 62 → Gives before.start before.history before.next ask given after.history
     → after.next ≡ before.next + 1 → HasFaultCause 0 given 0
     → AloneAsks before.start (alone_port (record { board = before; first = first })) ask given (alone_port (record { board = after; first = first }))
-turn before after first ask given h last gives next cause = (
+turn before after first ask given h still last gives next cause = (
   record {
     history = before.history;
     call = before.next;
     later = record { new = []; is = sym (append-nil before.history); above = every_one _ _ (λ _. tt) };
     legal = h.legal;
+    still = still;
     numbers = h.numbers;
     above = let begun = h.begun in numbers_below first (before.next - first) before.next (omega arith);
     last = last;
     gives = gives;
+    first = refl;
     calls = ap (λ n. numbers_from first (n - first)) next ∙ calls_push first before.next h.begun;
     spent = grind (arith, nat_tests);
     counts = omega arith;
     fault = cause;
   },
   refl,
+  let begun = h.begun in let size : length (numbers_from first (before.next - first)) ≡ before.next - first = length-numbers_from first (before.next - first) in omega arith,
 )
 
 -- what a desk alone shows of an ask
 pub alone_shows : (before after : BoardState) (first : ℕ) (ask : Ask) (acted : Acted)
-    → IsAlone before first → before.next < 2 ^ 62 → ActsAs before.start before.history before.next ask acted after.history
+    → IsAlone before first → IsLegal before.start after.history → before.next < 2 ^ 62 → ActsAs before.start before.history before.next ask acted after.history
     → after.next ≡ before.next + 1 → IsReplyOrMemory acted
     → ShowsAsk AloneAsks before.start (alone_port (record { board = before; first = first })) ask acted (alone_port (record { board = after; first = first }))
-alone_shows before after first ask (Replied bytes) h last (replied reply, shows, gives) next free = (replied reply, shows, turn before after first ask (replied reply) h last gives next tt)
-alone_shows before after first ask (Replied bytes) h last (no_memory, shows, gives) next free = absurd shows
-alone_shows before after first ask (Replied bytes) h last (keeper_fault, shows, gives) next free = absurd shows
-alone_shows before after first ask NoMemory h last (replied reply, shows, gives) next free = absurd shows
-alone_shows before after first ask NoMemory h last (no_memory, shows, gives) next free = (no_memory, shows, turn before after first ask no_memory h last gives next tt)
-alone_shows before after first ask NoMemory h last (keeper_fault, shows, gives) next free = absurd shows
-alone_shows before after first ask Fault h last acts next free = absurd free
-alone_shows before after first ask Spent h last acts next free = absurd free
+alone_shows before after first ask (Replied bytes) h still last (replied reply, shows, gives) next free = (replied reply, shows, turn before after first ask (replied reply) h still last gives next tt)
+alone_shows before after first ask (Replied bytes) h still last (no_memory, shows, gives) next free = absurd shows
+alone_shows before after first ask (Replied bytes) h still last (keeper_fault, shows, gives) next free = absurd shows
+alone_shows before after first ask NoMemory h still last (replied reply, shows, gives) next free = absurd shows
+alone_shows before after first ask NoMemory h still last (no_memory, shows, gives) next free = (no_memory, shows, turn before after first ask no_memory h still last gives next tt)
+alone_shows before after first ask NoMemory h still last (keeper_fault, shows, gives) next free = absurd shows
+alone_shows before after first ask Fault h still last acts next free = absurd free
+alone_shows before after first ask Spent h still last acts next free = absurd free

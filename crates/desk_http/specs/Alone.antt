@@ -1,5 +1,5 @@
 -- One desk alone over a board.
-use Rattle.std.specs.Prelude.{◌≡◌, ◌==◌, ◌+◌, ◌-◌, ◌≤◌, ◌^◌, ℕ, zero, suc, List, [], ◌∷◌}
+use Rattle.std.specs.Prelude.{◌≡◌, ◌==◌, ◌+◌, ◌-◌, ◌≤◌, ◌^◌, ℕ, zero, suc, List, [], ◌∷◌, length}
 use Rattle.plan_core.specs.PlanState.{PlanState}
 use Rattle.desk_words.specs.declared.asks.Ask.{Ask}
 use Rattle.apron_base.specs.Histories.{Rises}
@@ -27,12 +27,14 @@ numbers_from first (suc count) = first ∷ numbers_from (first + 1) count
 -- what a desk alone tells: it has seen the board's history, its calls are the numbers from the first up to the board's next, and no append can fail
 abbrev pub alone_port : AloneState → PortState
 alone_port alone = record {
+  first = alone.first;
   seen = alone.board.history;
   calls = numbers_from alone.first (alone.board.next - alone.first);
   spent = alone.board.next == 2 ^ 62;
   faults = 0;
 }
 
--- an ask of a desk alone gets its turn at the history that it has seen
+-- an ask of a desk alone gets its turn at the history that it has seen, and with the next number
 abbrev pub AloneAsks : PlanState → PortState → Ask → Given → PortState → Type 0
-AloneAsks start before ask given after = (turn : Turn start before ask given after) × (turn.history ≡ before.seen)
+AloneAsks start before ask given after =
+    (turn : Turn start before ask given after) × (turn.history ≡ before.seen) × (turn.call ≡ before.first + length before.calls)

@@ -10,8 +10,10 @@ use Rattle.desk_words.specs.declared.asks.Ask.{Ask}
 use Rattle.history_core.specs.History.{call_of, IsLegal}
 use Rattle.history_core.specs.Answer.{Given, replied, no_memory, keeper_fault, ShowsAs, Gives}
 
--- a port: the history that it has seen, the numbers of its own calls, whether its numbers are exhausted, and its count of faults
+-- a port: the least number that a call of it can have, the history that it has seen, the numbers of its own calls,
+-- whether its numbers are exhausted, and its count of faults
 pub record PortState : Type 0 where
+  pub first : ℕ
   pub seen : List Entry
   pub calls : List ℕ
   pub spent : Bool
@@ -35,10 +37,12 @@ pub record Turn (start : PlanState) (before : PortState) (ask : Ask) (given : Gi
   pub call : ℕ
   pub later : IsLater before.seen before.calls history
   pub legal : IsLegal start history
+  pub still : IsLegal start after.seen
   pub numbers : Rises call_of 1 call history
   pub above : Every (λ own. own < call) before.calls
   pub last : call < 2 ^ 62
   pub gives : Gives start history call ask given after.seen
+  pub first : after.first ≡ before.first
   pub calls : after.calls ≡ before.calls ++ call ∷ []
   pub spent : before.spent ≡ false
   pub counts : before.faults ≤ after.faults
@@ -46,6 +50,7 @@ pub record Turn (start : PlanState) (before : PortState) (ask : Ask) (given : Gi
 
 -- an ask that found the numbers exhausted: it made no call, and changed nothing else
 pub record IsExhausted (before after : PortState) : Type 0 where
+  pub first : after.first ≡ before.first
   pub seen : after.seen ≡ before.seen
   pub calls : after.calls ≡ before.calls
   pub spent : after.spent ≡ true

@@ -1,3 +1,4 @@
 pub mod Numbers
 pub mod Replay
 pub mod Accepting
+pub mod Legal

@@ -1,11 +1,13 @@
 -- The plan that a history of commands makes, and which histories are legal.
-use Rattle.std.specs.Prelude.{◌≡◌, ◌+◌, ◌^◌, ◌≤◌, ℕ, List, [], ◌∷◌, length, All, Result, Ok, Err}
+use Rattle.std.specs.Prelude.{◌≡◌, ◌+◌, ◌^◌, ◌≤◌, ℕ, List, [], ◌∷◌, length, All, None, Result, Ok, Err}
 use Rattle.apron_base.specs.Histories.{Rises}
 use Rattle.apron_rules.specs.declared.parts.AirportParts.{AirportParts}
 use Rattle.plan_core.specs.declared.visits.Edit.{Edit}
 use Rattle.plan_core.specs.declared.visits.EditFault.{EditFault}
 use Rattle.plan_core.specs.declared.visits.Visit.{Visit}
+use Rattle.apron_rules.specs.Clash.{IsFirstClash}
 use Rattle.plan_core.specs.PlanState.{PlanState}
+use Rattle.plan_core.specs.Slots.{slots_of}
 use Rattle.plan_core.specs.Rebase.{IsEditOf, Rebases, edited, stamped}
 use Rattle.desk_words.specs.declared.asks.Command.{Command}
 use Rattle.desk_words.specs.declared.asks.Command.TheVariants.{Commit}
@@ -60,3 +62,7 @@ AreAccepted start (entry ∷ entries) =
 pub record IsLegal (start : PlanState) (history : List Entry) : Type 0 where
   pub accepted : AreAccepted start history
   pub numbers : Rises call_of 1 (2 ^ 62) history
+
+-- no planned part of the plan clashes with another part
+abbrev pub IsSoundPlan : PlanState → Type 0
+IsSoundPlan plan = IsFirstClash plan.airport (slots_of plan.airport plan.visits) None

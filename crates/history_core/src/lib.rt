@@ -3,5 +3,7 @@
 
 mod board;
 mod commits;
+mod laws;
 
 pub use board::Board;
+pub use laws::{fronts_of_legal_histories_are_legal, legal_histories_make_sound_plans};

@@ -1,5 +1,6 @@
 use Rattle.std.proofs.Common.{◌≡◌, ◌<◌, ◌≤◌, ◌+◌, ◌^◌, ◌∙◌, ap, arith, subst}
 use Rattle.history_core.specs.Answer.{ActsAs}
+use Rattle.history_core.specs.History.{IsLegal}
 use Rattle.desk_http.specs.Alone.{AloneAsks, AloneState, alone_port}
 use Rattle.desk_http.specs.Ports.{ShowsAsk}
 use Rattle.desk_http.proofs.OneDesk.{alone_shows}
@@ -15,4 +16,5 @@ returns-clause-shows c =
     let acts : ActsAs before.start before.history before.next c.args.ask.now c.ask.result after.history =
     subst (λ n. ActsAs before.start before.history n c.args.ask.now c.ask.result after.history) call c.ask.ensures.acts in
     subst (λ (a : AloneState). ShowsAsk AloneAsks a.board.start (alone_port a) c.args.ask.now c.ask.result (alone_port (record { board = after; first = c.self.inside.first }))) c.self.view_is
-    (alone_shows before after c.self.inside.first c.args.ask.now c.ask.result c.self.invariant last acts (c.ask.ensures.next ∙ ap (λ n. n + 1) call) c.ask.ensures.free)
+    (alone_shows before after c.self.inside.first c.args.ask.now c.ask.result c.self.invariant
+    (subst (λ start. IsLegal start after.history) c.ask.ensures.start c.ask.ensures.legal) last acts (c.ask.ensures.next ∙ ap (λ n. n + 1) call) c.ask.ensures.free)

@@ -1,0 +1,37 @@
+//! apron: airport stand allocation, from the words of the command line, standard input and standard output.
+#![tactic(auto)]
+
+use apron_base::{Memory, Reading, Word, Writing};
+use apron_run::run;
+use std::alloc::Global;
+use std::process::ExitCode;
+use std::rt::Env;
+use std::{env, io};
+
+// The status for want of memory before anything was done.
+const NO_MEMORY: u8 = 12;
+
+fn main(rt: HostRuntime) -> ExitCode {
+    let Ok(words) = words(&rt) else {
+        return ExitCode::from(NO_MEMORY);
+    };
+    let mut source = Reading::new(rt.stdin());
+    let mut sink = Writing::new(rt.stdout());
+    ExitCode::from(run(rt.alloc(), words.as_slice(), &mut source, &mut sink))
+}
+
+// The words after the program's name. Where one is no text, there are none, which is as faulty.
+fn words(rt: &(impl Env + AllocGlobal)) -> Result<Vec<Word>, Memory> {
+    let alloc: Global = rt.alloc();
+    let mut words = Vec::new(alloc);
+    match env::args(rt) {
+        Ok(args) => {
+            for arg in args.skip(1) {
+                words.push(Word::new(alloc, arg.as_str())?)?;
+            }
+        }
+        Err(error) if error.kind() == io::ErrorKind::OutOfMemory => return Err(Memory),
+        Err(_) => {}
+    }
+    Ok(words)
+}

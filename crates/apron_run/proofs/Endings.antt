@@ -1,0 +1,156 @@
+-- How the input of the session ends, and what that says of the status.
+use Rattle.std.proofs.Common.{◌≡◌, ◌≢◌, ◌⊎◌, ◌∙◌, inl, inr, ℕ, List, [], ◌∷◌, ◌++◌, Option, None, Some, refl, sym, ap, subst, append-nil, arith}
+use Rattle.std.specs.Prelude.{All}
+use Rattle.std.specs.Io.KnownBytes.{Consumes, IsAtEnd}
+use Rattle.apron_base.specs.declared.outside.Outcome.{Outcome}
+use Rattle.apron_base.specs.declared.outside.Outcome.TheVariants.{Ended, Closed, Cut, Malformed, Limit, ReadFault, WriteFault, Spent, Memory}
+use Rattle.http_framing.specs.Laws.{IsChoice}
+use Rattle.http_framing.specs.Requests.{Request}
+use Rattle.http_framing.specs.Streams.{Ending, ended, cut, closed, malformed, Requests, Splits}
+use Rattle.http_framing.proofs.OneReading.{one_reading}
+use Rattle.http_framing.proofs.StreamLaws.{malformed_more, requests_closed, requests_of, splits_more}
+use Rattle.history_core.proofs.Legal.{legal_sound}
+use Rattle.history_core.specs.History.{IsLegal, IsSoundPlan}
+use Rattle.desk_http.specs.Alone.{AloneAsks}
+use Rattle.desk_http.specs.Ports.{PortState}
+use Rattle.desk_http.specs.Session.{Close, EndsAs, Sent, texts_of}
+use Rattle.apron_run.specs.Demo.{demo_plan}
+use Rattle.apron_run.specs.Run.{Headline, IsStopped, IsWholeStatus, RunsDemo, ServesDemo, ending_text, status_of, status_of_ending}
+
+-- what was taken is a front of the input
+taken_front : (input : List ℕ) (left : Option (List ℕ)) (taken : List ℕ) → Consumes (Some input) left taken → (more : List ℕ) × (input ≡ taken ++ more)
+taken_front input None taken h = absurd h
+taken_front input (Some more) taken h = (more, h)
+
+-- at the end of the input all of it was taken
+taken_all : (input : List ℕ) (left : Option (List ℕ)) (taken : List ℕ) → Consumes (Some input) left taken → IsAtEnd left → input ≡ taken
+taken_all input None taken h e = absurd h
+taken_all input (Some more) taken h e = h ∙ (ap (λ m. taken ++ m) e ∙ append-nil taken)
+
+-- the input is read so, by what was answered of it
+record ReadsAll (input : List ℕ) (requests : List Request) (sents : List Sent) (written : List ℕ) (served new : PortState) (status : ℕ) : Type 0 where
+  pub ending : Ending
+  pub reads : Requests input requests ending
+  pub bytes : written ≡ texts_of sents ++ ending_text ending
+  pub same : new ≡ served
+  pub status_is : status ≡ status_of_ending ending
+
+closed_reads : (bytes rest : List ℕ) (requests : List Request) → Splits bytes requests rest → Close requests → Requests bytes requests closed
+closed_reads bytes rest requests splits h =
+    subst (λ rs. Requests bytes rs closed) (sym h.are)
+    (requests_closed bytes rest h.before h.last (subst (λ rs. Splits bytes rs rest) h.are splits) (let going = h.going in going.stay) h.closing)
+
+-- a session that answered all of its input, or one that stopped before
+reads_or_stops : (input : List ℕ) (left : Option (List ℕ)) (taken : List ℕ) (outcome : Outcome) (requests : List Request) (sents : List Sent) (rest written : List ℕ) (served new : PortState)
+    → Consumes (Some input) left taken → Splits taken requests rest → outcome ≢ Spent
+    → EndsAs AloneAsks demo_plan outcome left requests sents rest written served new
+    → ReadsAll input requests sents written served new (status_of outcome) ⊎ IsStopped (status_of outcome)
+reads_or_stops input left taken Ended requests sents rest written served new c s n (going, last, at_end, bytes, same) =
+    let all : input ≡ taken = taken_all input left taken c at_end in
+    inl (record {
+      ending = ended;
+      reads = subst (λ i. Requests i requests ended) (sym all) (requests_of taken rest requests ended s going.stay last);
+      bytes = bytes ∙ sym (append-nil (texts_of sents));
+      same = same;
+      status_is = refl;
+    })
+reads_or_stops input left taken Cut requests sents rest written served new c s n (going, last, at_end, bytes, same) =
+    let all : input ≡ taken = taken_all input left taken c at_end in
+    inl (record {
+      ending = cut;
+      reads = subst (λ i. Requests i requests cut) (sym all) (requests_of taken rest requests cut s going.stay last);
+      bytes = bytes ∙ sym (append-nil (texts_of sents));
+      same = same;
+      status_is = refl;
+    })
+reads_or_stops input left taken Closed requests sents rest written served new c s n (close, bytes, same) =
+    let front = taken_front input left taken c in
+    inl (record {
+      ending = closed;
+      reads = subst (λ i. Requests i requests closed) (sym front.1) (closed_reads (taken ++ front.0) (rest ++ front.0) requests (splits_more taken front.0 rest requests s) close);
+      bytes = bytes ∙ sym (append-nil (texts_of sents));
+      same = same;
+      status_is = refl;
+    })
+reads_or_stops input left taken Malformed requests sents rest written served new c s n (going, (why, refused), bytes, same) =
+    let front = taken_front input left taken c in
+    inl (record {
+      ending = malformed why;
+      reads = subst (λ i. Requests i requests (malformed why)) (sym front.1)
+          (requests_of (taken ++ front.0) (rest ++ front.0) requests (malformed why) (splits_more taken front.0 rest requests s) going.stay (malformed_more rest front.0 why refused));
+      bytes = bytes;
+      same = same;
+      status_is = refl;
+    })
+reads_or_stops input left taken Limit requests sents rest written served new c s n e = inr (inr (inr (inr refl)))
+reads_or_stops input left taken ReadFault requests sents rest written served new c s n e = inr (inl refl)
+reads_or_stops input left taken WriteFault requests sents rest written served new c s n e = inr (inr (inl refl))
+reads_or_stops input left taken Spent requests sents rest written served new c s n e = absurd (n refl)
+reads_or_stops input left taken Memory requests sents rest written served new c s n e = inr (inr (inr (inl refl)))
+
+stopped_is_not_whole : (status : ℕ) → IsStopped status → IsWholeStatus status → ⊥
+stopped_is_not_whole status (inl e) (inl f) = absurd (omega arith)
+stopped_is_not_whole status (inl e) (inr (inl f)) = absurd (omega arith)
+stopped_is_not_whole status (inl e) (inr (inr f)) = absurd (omega arith)
+stopped_is_not_whole status (inr (inl e)) (inl f) = absurd (omega arith)
+stopped_is_not_whole status (inr (inl e)) (inr (inl f)) = absurd (omega arith)
+stopped_is_not_whole status (inr (inl e)) (inr (inr f)) = absurd (omega arith)
+stopped_is_not_whole status (inr (inr (inl e))) (inl f) = absurd (omega arith)
+stopped_is_not_whole status (inr (inr (inl e))) (inr (inl f)) = absurd (omega arith)
+stopped_is_not_whole status (inr (inr (inl e))) (inr (inr f)) = absurd (omega arith)
+stopped_is_not_whole status (inr (inr (inr e))) (inl f) = absurd (omega arith)
+stopped_is_not_whole status (inr (inr (inr e))) (inr (inl f)) = absurd (omega arith)
+stopped_is_not_whole status (inr (inr (inr e))) (inr (inr f)) = absurd (omega arith)
+
+-- the built-in visits are on no stand
+demo_is_sound : IsSoundPlan demo_plan
+demo_is_sound = λ c r. omega (arith, r.1.1)
+
+-- the headline of a session that answered all of its input
+demo_headline : (input before after : List ℕ) (left : Option (List ℕ)) (status : ℕ) → ServesDemo (Some input) left (Some before) (Some after) status → IsWholeStatus status
+    → (output : List ℕ) × (after ≡ before ++ output) × Headline input output status
+demo_headline input before after left status h whole =
+    let session = h.session in
+    elim (reads_or_stops input left session.taken h.outcome session.requests session.sents session.rest session.written session.served h.new session.consumed session.splits h.numbers session.ends) [
+      | inl all ↦ (
+        session.written,
+        session.appended,
+        record {
+          requests = session.requests;
+          ending = all.ending;
+          sents = session.sents;
+          new = session.served;
+          reads = all.reads;
+          runs = session.runs;
+          bytes = all.bytes;
+          status_is = h.status_is ∙ all.status_is;
+          legal = served_legal all.same;
+          sound = let legal = served_legal all.same in legal_sound demo_plan session.served.seen demo_is_sound legal.accepted;
+        },
+      )
+      | inr stopped ↦ absurd (stopped_is_not_whole status (subst IsStopped (sym h.status_is) stopped) whole)
+    ]
+  where
+    served_legal : h.new ≡ h.session.served → IsLegal demo_plan h.session.served.seen
+    served_legal same = subst (λ (p : PortState). IsLegal demo_plan p.seen) same h.legal
+
+-- the headline of a run of the demo
+pub run_headline : (input before after : List ℕ) (left : Option (List ℕ)) (status : ℕ) → RunsDemo (Some input) left (Some before) (Some after) status → IsWholeStatus status
+    → (output : List ℕ) × (after ≡ before ++ output) × Headline input output status
+run_headline input before after left status (inl h) whole = demo_headline input before after left status h whole
+run_headline input before after left status (inr h) whole = absurd (stopped_is_not_whole status (inr (inr (inl h.status_is))) whole)
+
+-- the status of a run of the demo, by any reading of its input
+pub run_status : (input : List ℕ) (left told0 told1 : Option (List ℕ)) (status : ℕ) → RunsDemo (Some input) left told0 told1 status
+    → (requests : List Request) (ending : Ending) → Requests input requests ending
+    → (status ≡ status_of_ending ending) ⊎ (((other : Ending) × IsChoice ending other × (status ≡ status_of_ending other)) ⊎ IsStopped status)
+run_status input left told0 told1 status (inr h) requests ending reads = inr (inr (inr (inr (inl h.status_is))))
+run_status input left told0 told1 status (inl h) requests ending reads =
+    let session = h.session in
+    elim (reads_or_stops input left session.taken h.outcome session.requests session.sents session.rest session.written session.served h.new session.consumed session.splits h.numbers session.ends) [
+      | inl all ↦ elim (one_reading input requests session.requests ending all.ending reads all.reads).1 [
+        | inl same ↦ inl (h.status_is ∙ (all.status_is ∙ ap status_of_ending (sym same)))
+        | inr choice ↦ inr (inl (all.ending, choice, h.status_is ∙ all.status_is))
+      ]
+      | inr stopped ↦ inr (inr (subst IsStopped (sym h.status_is) stopped))
+    ]

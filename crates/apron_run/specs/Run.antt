@@ -1,0 +1,133 @@
+-- What the program does with its words and its bytes.
+use Rattle.std.specs.Prelude.{◌≡◌, ◌≢◌, ◌⊎◌, ◌+◌, ℕ, List, [], ◌++◌, length, take, Option, None, Some}
+use Rattle.std.specs.Io.KnownBytes.{Appends, Consumes}
+use Rattle.apron_base.specs.Outside.{Rose}
+use Rattle.apron_base.specs.declared.outside.Outcome.{Outcome}
+use Rattle.apron_base.specs.declared.outside.Outcome.TheVariants.{Ended, Closed, Cut, Malformed, Limit, ReadFault, WriteFault, Spent, Memory}
+use Rattle.http_framing.specs.Requests.{Request}
+use Rattle.http_framing.specs.Laws.{IsChoice}
+use Rattle.http_framing.specs.Streams.{Ending, ended, cut, closed, malformed, Requests}
+use Rattle.desk_words.specs.Fixed.{bad_head_text}
+use Rattle.history_core.specs.History.{IsLegal, IsSoundPlan, replay}
+use Rattle.desk_http.specs.Ports.{PortState}
+use Rattle.desk_http.specs.Alone.{AloneAsks, numbers_from}
+use Rattle.desk_http.specs.Runs.{Runs}
+use Rattle.desk_http.specs.Session.{Sent, Sends, SessionOf, texts_of}
+use Rattle.apron_run.specs.Demo.{demo_plan, fresh_port}
+use Rattle.apron_run.specs.declared.words.TheConstants.{HELP, VERSION, USAGE}
+use Rattle.apron_run.specs.declared.words.Form.{Form}
+use Rattle.apron_run.specs.declared.words.Form.TheVariants.{DeskDemo, Help, Version, Faulty}
+
+-- the status of a session's outcome
+abbrev pub status_of : Outcome → ℕ
+status_of Ended = 0
+status_of Closed = 0
+status_of ReadFault = 5
+status_of WriteFault = 6
+status_of Cut = 10
+status_of Memory = 12
+status_of Malformed = 13
+status_of Limit = 16
+status_of Spent = 17
+
+-- one session of a desk alone on the built-in plan, with the status of its outcome; its calls have the numbers from 1 on, and don't come to their end
+pub record ServesDemo (left0 left1 told0 told1 : Option (List ℕ)) (status : ℕ) : Type 0 where
+  pub new : PortState
+  pub outcome : Outcome
+  pub session : SessionOf AloneAsks demo_plan left0 left1 told0 told1 fresh_port new outcome
+  pub legal : IsLegal demo_plan new.seen
+  pub calls : new.calls ≡ numbers_from 1 (length new.calls)
+  pub numbers : outcome ≢ Spent
+  pub status_is : status ≡ status_of outcome
+
+-- no memory was there to begin with: nothing was taken or written
+pub record FindsNoMemory (left0 left1 told0 told1 : Option (List ℕ)) (status : ℕ) : Type 0 where
+  pub taken : Consumes left0 left1 []
+  pub written : Appends told0 told1 []
+  pub status_is : status ≡ 12
+
+-- one session of a desk alone on the built-in plan
+abbrev pub RunsDemo : Option (List ℕ) → Option (List ℕ) → Option (List ℕ) → Option (List ℕ) → ℕ → Type 0
+RunsDemo left0 left1 told0 told1 status = ServesDemo left0 left1 told0 told1 status ⊎ FindsNoMemory left0 left1 told0 told1 status
+
+-- a text was written whole, or a front of it where the sink failed
+abbrev pub Prints : List ℕ → Option (List ℕ) → Option (List ℕ) → ℕ → ℕ → Type 0
+Prints text told0 told1 faults0 faults1 = Appends told0 told1 text ⊎ (((count : ℕ) × Appends told0 told1 (take count text)) × Rose faults0 faults1)
+
+-- a text was written whole with status 0, or a front of it where the sink failed, with status 6
+abbrev pub PrintsText : List ℕ → Option (List ℕ) → Option (List ℕ) → ℕ → ℕ → ℕ → Type 0
+PrintsText text told0 told1 faults0 faults1 status =
+    ((status ≡ 0) × Appends told0 told1 text) ⊎ ((status ≡ 6) × ((count : ℕ) × Appends told0 told1 (take count text)) × Rose faults0 faults1)
+
+-- what the program does for what its words ask for
+abbrev pub RunsForm : Form → Option (List ℕ) → Option (List ℕ) → Option (List ℕ) → Option (List ℕ) → ℕ → ℕ → ℕ → Type 0
+RunsForm DeskDemo left0 left1 told0 told1 faults0 faults1 status = RunsDemo left0 left1 told0 told1 status
+RunsForm Help left0 left1 told0 told1 faults0 faults1 status = PrintsText HELP.now told0 told1 faults0 faults1 status
+RunsForm Version left0 left1 told0 told1 faults0 faults1 status = PrintsText VERSION.now told0 told1 faults0 faults1 status
+RunsForm Faulty left0 left1 told0 told1 faults0 faults1 status = Prints USAGE.now told0 told1 faults0 faults1 × (status ≡ 2)
+
+-- only the demo reads the source
+abbrev pub KeepsSource : {S : Type 0} → Form → S → S → Type 0
+KeepsSource DeskDemo before after = Unit {0}
+KeepsSource Help before after = after ≡ before
+KeepsSource Version before after = after ≡ before
+KeepsSource Faulty before after = after ≡ before
+
+-- the status that the ending of the input has
+abbrev pub status_of_ending : Ending → ℕ
+status_of_ending ended = 0
+status_of_ending closed = 0
+status_of_ending cut = 10
+status_of_ending (malformed why) = 13
+
+-- the reply to the input's ending: only a head that is refused has one
+abbrev pub ending_text : Ending → List ℕ
+ending_text ended = []
+ending_text closed = []
+ending_text cut = []
+ending_text (malformed why) = bad_head_text
+
+-- the status of a session that answered all of its input
+abbrev pub IsWholeStatus : ℕ → Type 0
+IsWholeStatus status = (status ≡ 0) ⊎ ((status ≡ 10) ⊎ (status ≡ 13))
+
+-- The headline: the whole input is its requests and its ending, and the output is the replies, in order, of one legal history that
+-- begins with the four visits, in which each commit is accepted exactly where its edits apply and leave no clash. The plan that it makes is sound.
+pub record Headline (input output : List ℕ) (status : ℕ) : Type 0 where
+  pub requests : List Request
+  pub ending : Ending
+  pub sents : List Sent
+  pub new : PortState
+  pub reads : Requests input requests ending
+  pub runs : Runs (Sends AloneAsks demo_plan) fresh_port requests sents new
+  pub bytes : output ≡ texts_of sents ++ ending_text ending
+  pub status_is : status ≡ status_of_ending ending
+  pub legal : IsLegal demo_plan new.seen
+  pub sound : IsSoundPlan (replay demo_plan new.seen)
+
+-- the headline, where the source tells its bytes and the sink what it got, and the session answered all of its input
+abbrev pub TellsHeadline : Form → Option (List ℕ) → Option (List ℕ) → Option (List ℕ) → ℕ → Type 0
+TellsHeadline DeskDemo (Some input) (Some before) (Some after) status =
+    IsWholeStatus status → (output : List ℕ) × (after ≡ before ++ output) × Headline input output status
+TellsHeadline DeskDemo (Some input) (Some before) None status = Unit {0}
+TellsHeadline DeskDemo (Some input) None told1 status = Unit {0}
+TellsHeadline DeskDemo None told0 told1 status = Unit {0}
+TellsHeadline Help left0 told0 told1 status = Unit {0}
+TellsHeadline Version left0 told0 told1 status = Unit {0}
+TellsHeadline Faulty left0 told0 told1 status = Unit {0}
+
+-- the status of a session that stopped before the end of its input: a fault of the source or the sink, want of memory, or the most requests
+abbrev pub IsStopped : ℕ → Type 0
+IsStopped status = (status ≡ 5) ⊎ ((status ≡ 6) ⊎ ((status ≡ 12) ⊎ (status ≡ 16)))
+
+-- whatever way the input is read, the status is that of its ending, or the other one where the input ends inside a head that
+-- nothing completes, or one of a session that stopped before
+abbrev pub TiesStatus : Form → Option (List ℕ) → ℕ → Type 0
+TiesStatus DeskDemo (Some input) status =
+    (requests : List Request) (ending : Ending) → Requests input requests ending
+    → (status ≡ status_of_ending ending)
+    ⊎ ((((other : Ending) × IsChoice ending other × (status ≡ status_of_ending other))) ⊎ IsStopped status)
+TiesStatus DeskDemo None status = Unit {0}
+TiesStatus Help left0 status = Unit {0}
+TiesStatus Version left0 status = Unit {0}
+TiesStatus Faulty left0 status = Unit {0}

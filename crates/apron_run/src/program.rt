@@ -1,0 +1,101 @@
+// The program's one call.
+ghost use Rattle.std.specs.Prelude.{◌≡◌, ◌≤◌, ◌↔◌};
+ghost use Rattle.apron_base.specs.Outside.{Rose};
+ghost use Rattle.apron_run.specs.Demo.{demo_plan, fresh_port};
+ghost use Rattle.apron_run.specs.Run.{KeepsSource, Prints, PrintsText, RunsDemo, RunsForm, TellsHeadline, TiesStatus, status_of};
+ghost use Rattle.apron_run.specs.Words.{form_of};
+
+use crate::demo::visits;
+use crate::words::{Form, HELP, USAGE, VERSION, read};
+use apron_base::{Failed, Outcome, Sink, Source, Word};
+use apron_rules::Airport;
+use desk_http::{Alone, session};
+use history_core::Board;
+use std::alloc::Global;
+
+/// Does what the words ask for, and gives the status that the program ends with.
+///
+/// `desk demo` answers HTTP requests from the source on the sink, for the built-in airport and
+/// visits. `--help` and `--version` print their text. Other words print the line `usage`.
+///
+/// | Status | Comes where |
+/// |---|---|
+/// | 0 | all was done; of a session, the source ended after whole requests, or a request closed it |
+/// | 2 | the words ask for nothing that there is |
+/// | 5, 6 | the source, the sink failed |
+/// | 10 | the source ended inside a request |
+/// | 12 | memory is wanting |
+/// | 13 | a request's head was refused |
+/// | 16 | 1,000,000 requests were answered |
+pub fn run<S: Source, W: Sink>(alloc: Global, words: &[Word], source: &mut S, sink: &mut W) -> u8
+    ensures headline { TellsHeadline (form_of words.now) (S.left source.old) (W.told sink.old) (W.told sink.new) result }
+    ensures of { RunsForm (form_of words.now) (S.left source.old) (S.left source.new) (W.told sink.old) (W.told sink.new)
+        (W.faults sink.old) (W.faults sink.new) result }
+    ensures status { TiesStatus (form_of words.now) (S.left source.old) result }
+    ensures usage { (result ≡ 2) ↔ (form_of words.now ≡ Form.Faulty) }
+    ensures read { result ≡ 5 → Rose (S.faults source.old) (S.faults source.new) }
+    ensures write { result ≡ 6 → Rose (W.faults sink.old) (W.faults sink.new) }
+    ensures source_kept { KeepsSource (form_of words.now) source.old source.new }
+    ensures source_later { S.faults source.old ≤ S.faults source.new }
+    ensures sink_later { W.faults sink.old ≤ W.faults sink.new }
+{
+    match read(words) {
+        Form::DeskDemo => desk_demo(alloc, source, sink),
+        Form::Help => print(sink, HELP),
+        Form::Version => print(sink, VERSION),
+        Form::Faulty => print_usage(sink),
+    }
+}
+
+// One session on the built-in airport and visits.
+fn desk_demo<S: Source, W: Sink>(alloc: Global, source: &mut S, sink: &mut W) -> u8
+    ensures of { RunsDemo (S.left source.old) (S.left source.new) (W.told sink.old) (W.told sink.new) result }
+    ensures read { result ≡ 5 → Rose (S.faults source.old) (S.faults source.new) }
+    ensures write { result ≡ 6 → Rose (W.faults sink.old) (W.faults sink.new) }
+    ensures source_later { S.faults source.old ≤ S.faults source.new }
+    ensures sink_later { W.faults sink.old ≤ W.faults sink.new }
+{
+    let Ok(airport) = Airport::demo(alloc) else {
+        return status(Outcome::Memory);
+    };
+    let Ok(visits) = visits(alloc) else {
+        return status(Outcome::Memory);
+    };
+    let mut desk = Alone::new(Board::new(alloc, &airport, visits));
+    status(session(alloc, &mut desk, source, sink))
+}
+
+fn status(outcome: Outcome) -> u8
+    ensures is { result ≡ status_of outcome }
+{
+    match outcome {
+        Outcome::Ended | Outcome::Closed => 0,
+        Outcome::ReadFault => 5,
+        Outcome::WriteFault => 6,
+        Outcome::Cut => 10,
+        Outcome::Memory => 12,
+        Outcome::Malformed => 13,
+        Outcome::Limit => 16,
+        Outcome::Spent => 17,
+    }
+}
+
+fn print<W: Sink>(sink: &mut W, text: &[u8]) -> u8
+    ensures prints { PrintsText text.now (W.told sink.old) (W.told sink.new) (W.faults sink.old) (W.faults sink.new) result }
+    ensures later { W.faults sink.old ≤ W.faults sink.new }
+{
+    match sink.put(text) {
+        Ok(()) => 0,
+        Err(Failed) => status(Outcome::WriteFault),
+    }
+}
+
+// The line for faulty words. The status stays theirs where it can't be written.
+fn print_usage<W: Sink>(sink: &mut W) -> u8
+    ensures prints { Prints USAGE.now (W.told sink.old) (W.told sink.new) (W.faults sink.old) (W.faults sink.new) }
+    ensures status { result ≡ 2 }
+    ensures later { W.faults sink.old ≤ W.faults sink.new }
+{
+    let _ = sink.put(USAGE);
+    2
+}

@@ -1,0 +1,56 @@
+// What the words of the command line ask for, and the texts that are printed.
+ghost use Rattle.std.specs.Prelude.{◌≡◌};
+ghost use Rattle.std.specs.Str.{bytes_eq};
+ghost use Rattle.apron_run.specs.Words.{form_of, form_of_one};
+
+use apron_base::Word;
+
+/// What the words ask for.
+#[derive(Clone, Copy, Debug, PartialEq, Eq)]
+pub(crate) enum Form {
+    /// One session on the built-in airport and visits.
+    DeskDemo,
+    Help,
+    Version,
+    /// Nothing that there is.
+    Faulty,
+}
+
+/// What `--help` prints.
+pub(crate) const HELP: &[u8] =
+    b"apron: airport stand allocation\n\napron desk demo    answers HTTP requests from standard input on standard output,\n                   for six built-in stands and four built-in visits\napron --help       prints this text\napron --version    prints the version\n";
+
+/// What `--version` prints.
+pub(crate) const VERSION: &[u8] = b"apron 0.1.0\n";
+
+/// What is printed for words that ask for nothing that there is.
+pub(crate) const USAGE: &[u8] = b"usage\n";
+
+/// What the words ask for.
+pub(crate) fn read(words: &[Word]) -> Form
+    ensures form { result ≡ form_of words.now }
+{
+    match words {
+        [word] => read_one(word),
+        [word, next] if is(word, "desk") && is(next, "demo") => Form::DeskDemo,
+        _ => Form::Faulty,
+    }
+}
+
+fn read_one(word: &Word) -> Form
+    ensures form { result ≡ form_of_one word.now }
+{
+    if is(word, "--help") {
+        Form::Help
+    } else if is(word, "--version") {
+        Form::Version
+    } else {
+        Form::Faulty
+    }
+}
+
+fn is(word: &Word, text: &str) -> bool
+    ensures same { result ≡ bytes_eq word.now text.now }
+{
+    word.text() == text
+}

@@ -1,0 +1,42 @@
+-- What a legal history has: a sound plan, and legal fronts.
+use Rattle.std.proofs.Common.{◌≡◌, ◌≤◌, ◌<◌, ◌+◌, ◌^◌, ◌∙◌, ℕ, List, [], ◌∷◌, ◌++◌, None, refl, sym, ap, subst, arith, Result, Ok, Err}
+use Rattle.apron_base.specs.Histories.{Rises}
+use Rattle.apron_rules.specs.Clash.{IsFirstClash}
+use Rattle.plan_core.specs.declared.visits.Visit.{Visit}
+use Rattle.plan_core.specs.declared.visits.Edit.{Edit}
+use Rattle.plan_core.specs.declared.visits.EditFault.{EditFault}
+use Rattle.plan_core.specs.PlanState.{PlanState}
+use Rattle.plan_core.specs.Rebase.{Rebases, edited}
+use Rattle.plan_core.proofs.Changed.{stamped_slots}
+use Rattle.desk_words.specs.declared.asks.Command.{Command}
+use Rattle.desk_words.specs.declared.asks.Command.TheVariants.{Commit}
+use Rattle.desk_words.specs.declared.asks.Entry.{Entry}
+use Rattle.history_core.specs.History.{AreAccepted, IsAccepted, IsLegal, IsSoundPlan, after_command, call_of, committed_if, replay}
+
+-- the plan after an accepted command is sound
+command_sound : (plan : PlanState) (command : Command) → IsAccepted plan command → IsSoundPlan (after_command plan command)
+command_sound plan (Commit desk draft base edits) (visits, rebases) =
+    subst (λ (r : Result (List Visit) EditFault). IsSoundPlan (committed_if plan edits r)) (sym rebases.apply)
+    (subst (λ slots. IsFirstClash plan.airport slots None) (sym (stamped_slots plan.airport (plan.version + 1) edits visits)) rebases.sound)
+
+pub legal_sound : (start : PlanState) (history : List Entry) → IsSoundPlan start → AreAccepted start history → IsSoundPlan (replay start history)
+legal_sound start [] sound h = sound
+legal_sound start (e ∷ history) sound h = legal_sound (after_command start e.command) history (command_sound start e.command h.1) h.2
+
+front_accepted : (start : PlanState) (front back : List Entry) → AreAccepted start (front ++ back) → AreAccepted start front
+front_accepted start [] back h = tt
+front_accepted start (e ∷ front) back h = (h.0, h.1, front_accepted (after_command start e.command) front back h.2)
+
+rises_order : {E : Type 0} (number : E → ℕ) (low high : ℕ) (es : List E) → Rises number low high es → low ≤ high
+rises_order number low high [] h = h
+rises_order number low high (e ∷ es) h = let rest : number e + 1 ≤ high = rises_order number (number e + 1) high es h.1 in let first : low ≤ number e = h.0 in omega arith
+
+front_rises : {E : Type 0} (number : E → ℕ) (low high : ℕ) (front back : List E) → Rises number low high (front ++ back) → Rises number low high front
+front_rises number low high [] back h = rises_order number low high back h
+front_rises number low high (e ∷ front) back h = (h.0, front_rises number (number e + 1) high front back h.1)
+
+pub front_legal : (start : PlanState) (front back : List Entry) → IsLegal start (front ++ back) → IsLegal start front
+front_legal start front back h = record {
+  accepted = front_accepted start front back h.accepted;
+  numbers = front_rises call_of 1 (2 ^ 62) front back h.numbers;
+}
