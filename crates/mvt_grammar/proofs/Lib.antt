@@ -1,0 +1,15 @@
+pub mod Cuts
+pub mod Trims
+pub mod Names
+pub mod Identifying
+pub mod Written
+pub mod Lengths
+pub mod Ranges
+pub mod Gives
+pub mod Parts
+pub mod Digits
+pub mod ClocksBack
+pub mod FlightsBack
+pub mod LinesBack
+pub mod MarksBack
+pub mod RoundTrip

@@ -1,0 +1,12 @@
+pub mod Bytes
+pub mod Clocks
+pub mod Flights
+pub mod Pieces
+pub mod Spans
+pub mod Words
+pub mod Reading
+pub mod Left
+pub mod Canonical
+pub mod Led
+pub mod Readable
+pub mod Laws

@@ -1,0 +1,46 @@
+-- A text cut into pieces, each with the place of its first byte: a text into its lines, a line into its words.
+use Rattle.std.specs.Prelude.{ℕ, ◌+◌, ◌==◌, Bool, true, false, not, List, [], ◌∷◌, length, map, filter, if◌then◌else◌}
+use Rattle.std.specs.List.{slice_split}
+
+-- bytes of a text, the first of them at a place that counts from 0
+pub record Piece : Type 0 where
+  pub at : ℕ
+  pub text : List ℕ
+
+abbrev pub piece : ℕ → List ℕ → Piece
+piece at text = record { at = at; text = text }
+
+-- texts that follow one another with one byte between each two, the first of them at a place
+abbrev pub placed : ℕ → List (List ℕ) → List Piece
+placed at [] = []
+placed at (text ∷ texts) = piece at text ∷ placed (at + length text + 1) texts
+
+-- a piece cut at each such byte: one piece at least
+abbrev pub cut_at : ℕ → Piece → List Piece
+cut_at byte whole = placed whole.at (slice_split (λ b. b == byte) whole.text)
+
+abbrev pub is_empty : List ℕ → Bool
+is_empty [] = true
+is_empty (b ∷ bs) = false
+
+-- without one CR at the end
+abbrev pub without_cr : List ℕ → List ℕ
+without_cr [] = []
+without_cr (b ∷ bs) = if b == 13 then (if is_empty bs then [] else b ∷ without_cr bs) else b ∷ without_cr bs
+
+-- without the spaces at the end
+abbrev pub without_spaces : List ℕ → List ℕ
+without_spaces [] = []
+without_spaces (b ∷ bs) = if b == 32 then (if is_empty (without_spaces bs) then [] else b ∷ without_spaces bs) else b ∷ without_spaces bs
+
+-- a line loses one CR at its end, and then the spaces there
+abbrev pub trimmed : Piece → Piece
+trimmed line = piece line.at (without_spaces (without_cr line.text))
+
+-- the lines of a text, cut at each LF
+abbrev pub lines_of : Piece → List Piece
+lines_of whole = map trimmed (cut_at 10 whole)
+
+-- the words of a line: what is left of it, cut at each space, where that is not empty
+abbrev pub words_of : Piece → List Piece
+words_of line = filter (λ word. not (is_empty word.text)) (cut_at 32 line)

@@ -1,0 +1,65 @@
+// The times of an element: HHMM or DDHHMM, one or two of them.
+ghost use Rattle.std.specs.Prelude.{◌≡◌};
+ghost use Rattle.mvt_grammar.specs.Clocks.{day_of, minute_of, clock_of, times_of};
+
+use crate::Clock;
+use crate::bytes::{parted, two_digits};
+
+// DD, the day of a month.
+pub(crate) fn day_of(text: &[u8]) -> Option<u8>
+    ensures { result ≡ day_of text.now }
+{
+    let day = two_digits(text)?;
+    if (1..=31).contains(&day) {
+        Some(day)
+    } else {
+        None
+    }
+}
+
+// HHMM, as the minute of the day.
+fn minute_of(text: &[u8]) -> Option<u16>
+    ensures { result ≡ minute_of text.now }
+{
+    if text.len() < 2 {
+        return None;
+    }
+    let hours = two_digits(&text[..2])?;
+    let minutes = two_digits(&text[2..])?;
+    if hours < 24 && minutes < 60 {
+        Some(60 * u16::from(hours) + u16::from(minutes))
+    } else {
+        None
+    }
+}
+
+// A time in either form.
+pub(crate) fn clock_of(text: &[u8]) -> Option<Clock>
+    ensures { result ≡ clock_of text.now }
+{
+    if text.len() == 6 {
+        let day = day_of(&text[..2])?;
+        let minute = minute_of(&text[2..])?;
+        Some(Clock {
+            day: Some(day),
+            minute,
+        })
+    } else {
+        let minute = minute_of(text)?;
+        Some(Clock { day: None, minute })
+    }
+}
+
+// A time, or two with a slash between them.
+pub(crate) fn times_of(text: &[u8]) -> Option<(Clock, Option<Clock>)>
+    ensures { result ≡ times_of text.now }
+{
+    match parted(text, b'/') {
+        None => Some((clock_of(text)?, None)),
+        Some((first, second)) => {
+            let first = clock_of(first)?;
+            let second = clock_of(second)?;
+            Some((first, Some(second)))
+        }
+    }
+}

@@ -1,0 +1,95 @@
+// The text of a flight: its airline, its number and its suffix.
+ghost use Rattle.std.specs.Prelude.{◌≡◌, IsTrue, IfSome};
+ghost use Rattle.mvt_grammar.specs.Flights.{is_airline_byte, is_airline, airline_len, is_number, flight_with, flight_after, flight_of};
+ghost use Rattle.mvt_grammar.specs.Bytes.{is_capital, is_digit, value_after};
+ghost use Rattle.mvt_grammar.specs.Readable.{IsFlight};
+ghost use Rattle.std.specs.List.{list_all, list_any};
+
+use crate::Flight;
+use crate::bytes::{are_capitals, are_digits, is_capital, is_digit, third_is_capital};
+use apron_base::Name;
+
+fn are_letters_or_digits(text: &[u8]) -> bool
+    ensures { result ≡ list_all is_airline_byte text.now }
+{
+    text.iter().all(|byte| is_capital(*byte) || is_digit(*byte))
+}
+
+fn has_capital(text: &[u8]) -> bool
+    ensures { result ≡ list_any is_capital text.now }
+{
+    text.iter().any(|byte| is_capital(*byte))
+}
+
+// Three capitals; or two capitals or digits, at least one of them a capital.
+pub(crate) fn is_airline(text: &[u8]) -> bool
+    ensures { result ≡ is_airline text.now }
+{
+    match text.len() {
+        3 => are_capitals(text),
+        2 => are_letters_or_digits(text) && has_capital(text),
+        _ => false,
+    }
+}
+
+// One to four digits.
+fn is_number(text: &[u8]) -> bool
+    ensures { result ≡ is_number text.now }
+{
+    (1..=4).contains(&text.len()) && are_digits(text)
+}
+
+// The number that one to four digits write.
+fn number_of(digits: &[u8]) -> u16
+    requires { IsTrue (is_number digits.now) }
+    ensures { result ≡ value_after 0 digits.now }
+{
+    let mut number = 0;
+    for digit in digits {
+        number = 10 * number + u16::from(*digit - b'0');
+    }
+    number
+}
+
+fn flight_with(airline: &[u8], number: &[u8], suffix: Option<u8>) -> Option<Flight>
+    ensures { result ≡ flight_with airline.now number.now suffix }
+{
+    if is_airline(airline) && is_number(number) {
+        Some(Flight {
+            airline: Name::new(airline)?,
+            number: number_of(number),
+            suffix,
+        })
+    } else {
+        None
+    }
+}
+
+fn flight_after(airline: &[u8], text: &[u8]) -> Option<Flight>
+    ensures { result ≡ flight_after airline.now text.now }
+{
+    match text.split_last() {
+        Some((last, front)) if is_capital(*last) => flight_with(airline, front, Some(*last)),
+        _ => flight_with(airline, text, None),
+    }
+}
+
+fn airline_len(text: &[u8]) -> usize
+    ensures { result ≡ airline_len text.now }
+{
+    if third_is_capital(text) { 3 } else { 2 }
+}
+
+/// The flight that the whole text writes: where the third byte is a capital, the first three bytes are capitals and are
+/// the airline; else the first two are capitals or digits, at least one of them a capital, and are the airline. Then one
+/// to four digits, and at most one capital. None for any other text. It takes no memory.
+pub fn read_flight(text: &[u8]) -> Option<Flight>
+    ensures read { result ≡ flight_of text.now }
+    ensures form { IfSome result IsFlight }
+{
+    let len = airline_len(text);
+    if text.len() < len {
+        return None;
+    }
+    flight_after(&text[..len], &text[len..])
+}
