@@ -4,18 +4,15 @@ use Rattle.std.specs.Prelude.{All}
 use Rattle.std.specs.Io.KnownBytes.{Consumes, IsAtEnd}
 use Rattle.apron_base.specs.declared.outside.Outcome.{Outcome}
 use Rattle.apron_base.specs.declared.outside.Outcome.TheVariants.{Ended, Closed, Cut, Malformed, Limit, ReadFault, WriteFault, Spent, Memory}
-use Rattle.http_framing.specs.Laws.{IsChoice}
 use Rattle.http_framing.specs.Requests.{Request}
 use Rattle.http_framing.specs.Streams.{Ending, ended, cut, closed, malformed, Requests, Splits}
-use Rattle.http_framing.proofs.OneReading.{one_reading}
 use Rattle.http_framing.proofs.StreamLaws.{malformed_more, requests_closed, requests_of, splits_more}
-use Rattle.history_core.proofs.Legal.{legal_sound}
-use Rattle.history_core.specs.History.{IsLegal, IsSoundPlan}
+use Rattle.history_core.specs.History.{IsLegal}
 use Rattle.desk_http.specs.Alone.{AloneAsks}
 use Rattle.desk_http.specs.Ports.{PortState}
 use Rattle.desk_http.specs.Session.{Close, EndsAs, Sent, texts_of}
 use Rattle.apron_run.specs.Demo.{demo_plan}
-use Rattle.apron_run.specs.Run.{Headline, IsStopped, IsWholeStatus, RunsDemo, ServesDemo, ending_text, status_of, status_of_ending}
+use Rattle.apron_run.specs.Run.{AllSound, EndsInput, Headline, IsStopped, IsWholeStatus, RunsDemo, ServesDemo, ending_text, status_of, status_of_ending}
 
 -- what was taken is a front of the input
 taken_front : (input : List ℕ) (left : Option (List ℕ)) (taken : List ℕ) → Consumes (Some input) left taken → (more : List ℕ) × (input ≡ taken ++ more)
@@ -44,7 +41,7 @@ closed_reads bytes rest requests splits h =
 reads_or_stops : (input : List ℕ) (left : Option (List ℕ)) (taken : List ℕ) (outcome : Outcome) (requests : List Request) (sents : List Sent) (rest written : List ℕ) (served new : PortState)
     → Consumes (Some input) left taken → Splits taken requests rest → outcome ≢ Spent
     → EndsAs AloneAsks demo_plan outcome left requests sents rest written served new
-    → ReadsAll input requests sents written served new (status_of outcome) ⊎ IsStopped (status_of outcome)
+    → ReadsAll input requests sents written served new (status_of outcome) ⊎ IsStopped input (status_of outcome)
 reads_or_stops input left taken Ended requests sents rest written served new c s n (going, last, at_end, bytes, same) =
     let all : input ≡ taken = taken_all input left taken c at_end in
     inl (record {
@@ -72,7 +69,7 @@ reads_or_stops input left taken Closed requests sents rest written served new c 
       same = same;
       status_is = refl;
     })
-reads_or_stops input left taken Malformed requests sents rest written served new c s n (going, (why, refused), bytes, same) =
+reads_or_stops input left taken Malformed requests sents rest written served new c s n (going, (why, refused, bytes), same) =
     let front = taken_front input left taken c in
     inl (record {
       ending = malformed why;
@@ -82,36 +79,40 @@ reads_or_stops input left taken Malformed requests sents rest written served new
       same = same;
       status_is = refl;
     })
-reads_or_stops input left taken Limit requests sents rest written served new c s n e = inr (inr (inr (inr refl)))
+reads_or_stops input left taken Limit requests sents rest written served new c s n (stay, most, bytes, same) =
+    let front = taken_front input left taken c in
+    inr (inr (inr (inr (refl, record {
+      requests = requests;
+      rest = rest ++ front.0;
+      splits = subst (λ i. Splits i requests (rest ++ front.0)) (sym front.1) (splits_more taken front.0 rest requests s);
+      stay = stay;
+      most = most;
+    }))))
 reads_or_stops input left taken ReadFault requests sents rest written served new c s n e = inr (inl refl)
 reads_or_stops input left taken WriteFault requests sents rest written served new c s n e = inr (inr (inl refl))
 reads_or_stops input left taken Spent requests sents rest written served new c s n e = absurd (n refl)
 reads_or_stops input left taken Memory requests sents rest written served new c s n e = inr (inr (inr (inl refl)))
 
-stopped_is_not_whole : (status : ℕ) → IsStopped status → IsWholeStatus status → ⊥
-stopped_is_not_whole status (inl e) (inl f) = absurd (omega arith)
-stopped_is_not_whole status (inl e) (inr (inl f)) = absurd (omega arith)
-stopped_is_not_whole status (inl e) (inr (inr f)) = absurd (omega arith)
-stopped_is_not_whole status (inr (inl e)) (inl f) = absurd (omega arith)
-stopped_is_not_whole status (inr (inl e)) (inr (inl f)) = absurd (omega arith)
-stopped_is_not_whole status (inr (inl e)) (inr (inr f)) = absurd (omega arith)
-stopped_is_not_whole status (inr (inr (inl e))) (inl f) = absurd (omega arith)
-stopped_is_not_whole status (inr (inr (inl e))) (inr (inl f)) = absurd (omega arith)
-stopped_is_not_whole status (inr (inr (inl e))) (inr (inr f)) = absurd (omega arith)
-stopped_is_not_whole status (inr (inr (inr e))) (inl f) = absurd (omega arith)
-stopped_is_not_whole status (inr (inr (inr e))) (inr (inl f)) = absurd (omega arith)
-stopped_is_not_whole status (inr (inr (inr e))) (inr (inr f)) = absurd (omega arith)
-
--- the built-in visits are on no stand
-demo_is_sound : IsSoundPlan demo_plan
-demo_is_sound = λ c r. omega (arith, r.1.1)
+stopped_is_not_whole : (input : List ℕ) (status : ℕ) → IsStopped input status → IsWholeStatus status → ⊥
+stopped_is_not_whole input status (inl e) (inl f) = absurd (omega arith)
+stopped_is_not_whole input status (inl e) (inr (inl f)) = absurd (omega arith)
+stopped_is_not_whole input status (inl e) (inr (inr f)) = absurd (omega arith)
+stopped_is_not_whole input status (inr (inl e)) (inl f) = absurd (omega arith)
+stopped_is_not_whole input status (inr (inl e)) (inr (inl f)) = absurd (omega arith)
+stopped_is_not_whole input status (inr (inl e)) (inr (inr f)) = absurd (omega arith)
+stopped_is_not_whole input status (inr (inr (inl e))) (inl f) = absurd (omega arith)
+stopped_is_not_whole input status (inr (inr (inl e))) (inr (inl f)) = absurd (omega arith)
+stopped_is_not_whole input status (inr (inr (inl e))) (inr (inr f)) = absurd (omega arith)
+stopped_is_not_whole input status (inr (inr (inr (e, most)))) (inl f) = absurd (omega arith)
+stopped_is_not_whole input status (inr (inr (inr (e, most)))) (inr (inl f)) = absurd (omega arith)
+stopped_is_not_whole input status (inr (inr (inr (e, most)))) (inr (inr f)) = absurd (omega arith)
 
 -- the headline of a session that answered all of its input
 demo_headline : (input before after : List ℕ) (left : Option (List ℕ)) (status : ℕ) → ServesDemo (Some input) left (Some before) (Some after) status → IsWholeStatus status
     → (output : List ℕ) × (after ≡ before ++ output) × Headline input output status
 demo_headline input before after left status h whole =
     let session = h.session in
-    elim (reads_or_stops input left session.taken h.outcome session.requests session.sents session.rest session.written session.served h.new session.consumed session.splits h.numbers session.ends) [
+    elim (reads_or_stops input left session.taken h.outcome session.requests session.sents session.rest session.written session.served h.new session.consumed session.splits h.unspent session.ends) [
       | inl all ↦ (
         session.written,
         session.appended,
@@ -124,33 +125,27 @@ demo_headline input before after left status h whole =
           runs = session.runs;
           bytes = all.bytes;
           status_is = h.status_is ∙ all.status_is;
-          legal = served_legal all.same;
-          sound = let legal = served_legal all.same in legal_sound demo_plan session.served.seen demo_is_sound legal.accepted;
+          legal = subst (λ (p : PortState). IsLegal demo_plan p.seen) all.same h.legal;
+          sound = subst (λ (p : PortState). AllSound p.seen) all.same h.sound;
+          faults = subst (λ (p : PortState). p.faults ≡ 0) all.same h.faults;
         },
       )
-      | inr stopped ↦ absurd (stopped_is_not_whole status (subst IsStopped (sym h.status_is) stopped) whole)
+      | inr stopped ↦ absurd (stopped_is_not_whole input status (subst (IsStopped input) (sym h.status_is) stopped) whole)
     ]
-  where
-    served_legal : h.new ≡ h.session.served → IsLegal demo_plan h.session.served.seen
-    served_legal same = subst (λ (p : PortState). IsLegal demo_plan p.seen) same h.legal
 
 -- the headline of a run of the demo
 pub run_headline : (input before after : List ℕ) (left : Option (List ℕ)) (status : ℕ) → RunsDemo (Some input) left (Some before) (Some after) status → IsWholeStatus status
     → (output : List ℕ) × (after ≡ before ++ output) × Headline input output status
 run_headline input before after left status (inl h) whole = demo_headline input before after left status h whole
-run_headline input before after left status (inr h) whole = absurd (stopped_is_not_whole status (inr (inr (inl h.status_is))) whole)
+run_headline input before after left status (inr h) whole = absurd (stopped_is_not_whole input status (inr (inr (inl h.status_is))) whole)
 
--- the status of a run of the demo, by any reading of its input
+-- the status of a run of the demo
 pub run_status : (input : List ℕ) (left told0 told1 : Option (List ℕ)) (status : ℕ) → RunsDemo (Some input) left told0 told1 status
-    → (requests : List Request) (ending : Ending) → Requests input requests ending
-    → (status ≡ status_of_ending ending) ⊎ (((other : Ending) × IsChoice ending other × (status ≡ status_of_ending other)) ⊎ IsStopped status)
-run_status input left told0 told1 status (inr h) requests ending reads = inr (inr (inr (inr (inl h.status_is))))
-run_status input left told0 told1 status (inl h) requests ending reads =
+    → EndsInput input status ⊎ IsStopped input status
+run_status input left told0 told1 status (inr h) = inr (inr (inr (inl h.status_is)))
+run_status input left told0 told1 status (inl h) =
     let session = h.session in
-    elim (reads_or_stops input left session.taken h.outcome session.requests session.sents session.rest session.written session.served h.new session.consumed session.splits h.numbers session.ends) [
-      | inl all ↦ elim (one_reading input requests session.requests ending all.ending reads all.reads).1 [
-        | inl same ↦ inl (h.status_is ∙ (all.status_is ∙ ap status_of_ending (sym same)))
-        | inr choice ↦ inr (inl (all.ending, choice, h.status_is ∙ all.status_is))
-      ]
-      | inr stopped ↦ inr (inr (subst IsStopped (sym h.status_is) stopped))
+    elim (reads_or_stops input left session.taken h.outcome session.requests session.sents session.rest session.written session.served h.new session.consumed session.splits h.unspent session.ends) [
+      | inl all ↦ inl (record { requests = session.requests; ending = all.ending; reads = all.reads; status_is = h.status_is ∙ all.status_is })
+      | inr stopped ↦ inr (subst (IsStopped input) (sym h.status_is) stopped)
     ]

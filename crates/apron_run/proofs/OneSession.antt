@@ -4,7 +4,9 @@ use Rattle.std.proofs.lemmas.Bool.{eqb-true}
 use Rattle.apron_base.specs.declared.outside.Outcome.{Outcome}
 use Rattle.apron_base.specs.declared.outside.Outcome.TheVariants.{Spent}
 use Rattle.plan_core.specs.PlanState.{PlanState}
-use Rattle.history_core.specs.History.{IsLegal}
+use Rattle.history_core.specs.History.{IsLegal, IsSoundPlan}
+use Rattle.history_core.proofs.Legal.{front_legal, legal_sound}
+use Rattle.desk_words.specs.declared.asks.Entry.{Entry}
 use Rattle.desk_http.specs.Alone.{AloneAsks, AloneState, alone_port, numbers_from}
 use Rattle.desk_http.specs.Ports.{PortState}
 use Rattle.http_framing.specs.Requests.{Request}
@@ -12,7 +14,7 @@ use Rattle.desk_http.specs.Session.{EndsAs, Sent, SessionOf, most_requests}
 use Rattle.desk_http.proofs.OneDesk.{length-numbers_from}
 use Rattle.desk_http.proofs.Seeing.{KeepsPort, ends_kept, ends_spent, run_keeps}
 use Rattle.apron_run.specs.Demo.{demo_plan, fresh_port}
-use Rattle.apron_run.specs.Run.{ServesDemo, status_of}
+use Rattle.apron_run.specs.Run.{AllSound, ServesDemo, status_of}
 
 -- the calls of a desk alone whose first number is 1
 calls_from_one : (alone : AloneState) → (alone_port alone).first ≡ 1 → (alone_port alone).calls ≡ numbers_from 1 (length (alone_port alone).calls)
@@ -37,6 +39,16 @@ numbers_last left1 requests sents rest written served new kept h =
     let few : length requests < most_requests = spent.0 in
     has_numbers new (spent.1.first ∙ kept.first) (omega arith) spent.1.spent
 
+-- the built-in visits are on no stand
+demo_is_sound : IsSoundPlan demo_plan
+demo_is_sound = λ c r. omega (arith, r.1.1)
+
+-- each front of a legal history makes a sound plan
+all_sound : (history : List Entry) → IsLegal demo_plan history → AllSound history
+all_sound history legal front back is =
+    let front_is_legal = front_legal demo_plan front back (subst (IsLegal demo_plan) is legal) in
+    legal_sound demo_plan front demo_is_sound front_is_legal.accepted
+
 pub demo_serves : (left0 left1 told0 told1 : Option (List ℕ)) (start : PlanState) (old : PortState) (new : AloneState) (outcome : Outcome) (status : ℕ)
     → start ≡ demo_plan → old ≡ fresh_port → SessionOf AloneAsks start left0 left1 told0 told1 old (alone_port new) outcome → status ≡ status_of outcome
     → ServesDemo left0 left1 told0 told1 status
@@ -59,7 +71,9 @@ demo_serves left0 left1 told0 told1 start old new outcome status is_start is_old
       session = here;
       legal = subst (IsLegal demo_plan) (sym seen) legal;
       calls = calls_from_one new (first ∙ kept.first);
-      numbers = λ e. numbers_last left1 here.requests here.sents here.rest here.written here.served new kept
+      sound = all_sound (alone_port new).seen (subst (IsLegal demo_plan) (sym seen) legal);
+      faults = refl;
+      unspent = λ e. numbers_last left1 here.requests here.sents here.rest here.written here.served new kept
           (subst (λ (o : Outcome). EndsAs AloneAsks demo_plan o left1 here.requests here.sents here.rest here.written here.served (alone_port new)) e here.ends);
       status_is = is;
     }

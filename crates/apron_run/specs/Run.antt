@@ -1,18 +1,17 @@
 -- What the program does with its words and its bytes.
-use Rattle.std.specs.Prelude.{◌≡◌, ◌≢◌, ◌⊎◌, ◌+◌, ℕ, List, [], ◌++◌, length, take, Option, None, Some}
+use Rattle.std.specs.Prelude.{◌≡◌, ◌≢◌, ◌⊎◌, ◌+◌, ℕ, List, [], ◌++◌, All, length, take, Option, None, Some}
 use Rattle.std.specs.Io.KnownBytes.{Appends, Consumes}
 use Rattle.apron_base.specs.Outside.{Rose}
 use Rattle.apron_base.specs.declared.outside.Outcome.{Outcome}
 use Rattle.apron_base.specs.declared.outside.Outcome.TheVariants.{Ended, Closed, Cut, Malformed, Limit, ReadFault, WriteFault, Spent, Memory}
 use Rattle.http_framing.specs.Requests.{Request}
-use Rattle.http_framing.specs.Laws.{IsChoice}
-use Rattle.http_framing.specs.Streams.{Ending, ended, cut, closed, malformed, Requests}
-use Rattle.desk_words.specs.Fixed.{bad_head_text}
+use Rattle.http_framing.specs.Streams.{Ending, ended, cut, closed, malformed, IsOpen, Requests, Splits}
+use Rattle.desk_words.specs.declared.asks.Entry.{Entry}
 use Rattle.history_core.specs.History.{IsLegal, IsSoundPlan, replay}
 use Rattle.desk_http.specs.Ports.{PortState}
 use Rattle.desk_http.specs.Alone.{AloneAsks, numbers_from}
 use Rattle.desk_http.specs.Runs.{Runs}
-use Rattle.desk_http.specs.Session.{Sent, Sends, SessionOf, texts_of}
+use Rattle.desk_http.specs.Session.{Sent, Sends, SessionOf, most_requests, refusal_text, texts_of}
 use Rattle.apron_run.specs.Demo.{demo_plan, fresh_port}
 use Rattle.apron_run.specs.declared.words.TheConstants.{HELP, VERSION, USAGE}
 use Rattle.apron_run.specs.declared.words.Form.{Form}
@@ -30,14 +29,21 @@ status_of Malformed = 13
 status_of Limit = 16
 status_of Spent = 17
 
--- one session of a desk alone on the built-in plan, with the status of its outcome; its calls have the numbers from 1 on, and don't come to their end
+-- the plan that each front of the history makes is sound
+abbrev pub AllSound : List Entry → Type 0
+AllSound history = (front back : List Entry) → history ≡ front ++ back → IsSoundPlan (replay demo_plan front)
+
+-- One session of a desk alone on the built-in plan, with the status of its outcome. Its calls have the numbers from 1 on and don't come
+-- to their end, and no append failed, so that no reply says that one did.
 pub record ServesDemo (left0 left1 told0 told1 : Option (List ℕ)) (status : ℕ) : Type 0 where
   pub new : PortState
   pub outcome : Outcome
   pub session : SessionOf AloneAsks demo_plan left0 left1 told0 told1 fresh_port new outcome
   pub legal : IsLegal demo_plan new.seen
+  pub sound : AllSound new.seen
   pub calls : new.calls ≡ numbers_from 1 (length new.calls)
-  pub numbers : outcome ≢ Spent
+  pub unspent : outcome ≢ Spent
+  pub faults : new.faults ≡ 0
   pub status_is : status ≡ status_of outcome
 
 -- no memory was there to begin with: nothing was taken or written
@@ -80,19 +86,21 @@ status_of_ending closed = 0
 status_of_ending cut = 10
 status_of_ending (malformed why) = 13
 
--- the reply to the input's ending: only a head that is refused has one
+-- the reply to the input's ending: only a request that is refused has one
 abbrev pub ending_text : Ending → List ℕ
 ending_text ended = []
 ending_text closed = []
 ending_text cut = []
-ending_text (malformed why) = bad_head_text
+ending_text (malformed why) = refusal_text why
 
 -- the status of a session that answered all of its input
 abbrev pub IsWholeStatus : ℕ → Type 0
 IsWholeStatus status = (status ≡ 0) ⊎ ((status ≡ 10) ⊎ (status ≡ 13))
 
 -- The headline: the whole input is its requests and its ending, and the output is the replies, in order, of one legal history that
--- begins with the four visits, in which each commit is accepted exactly where its edits apply and leave no clash. The plan that it makes is sound.
+-- begins with the four visits. A commit is accepted only where its edits apply to the plan as it then is and leave no clash, and is refused
+-- only for the first cause why they don't; its one other reply is that memory is wanting, which changes nothing. No reply says that an
+-- append failed. Each front of the history makes a sound plan.
 pub record Headline (input output : List ℕ) (status : ℕ) : Type 0 where
   pub requests : List Request
   pub ending : Ending
@@ -103,30 +111,44 @@ pub record Headline (input output : List ℕ) (status : ℕ) : Type 0 where
   pub bytes : output ≡ texts_of sents ++ ending_text ending
   pub status_is : status ≡ status_of_ending ending
   pub legal : IsLegal demo_plan new.seen
-  pub sound : IsSoundPlan (replay demo_plan new.seen)
+  pub sound : AllSound new.seen
+  pub faults : new.faults ≡ 0
 
--- the headline, where the source tells its bytes and the sink what it got, and the session answered all of its input
+-- the headline, where the source tells its bytes and the sink what it got, and the session answered all of its input; what the sink told
+-- before it tells after too
 abbrev pub TellsHeadline : Form → Option (List ℕ) → Option (List ℕ) → Option (List ℕ) → ℕ → Type 0
 TellsHeadline DeskDemo (Some input) (Some before) (Some after) status =
     IsWholeStatus status → (output : List ℕ) × (after ≡ before ++ output) × Headline input output status
-TellsHeadline DeskDemo (Some input) (Some before) None status = Unit {0}
+TellsHeadline DeskDemo (Some input) (Some before) None status = ⊥
 TellsHeadline DeskDemo (Some input) None told1 status = Unit {0}
 TellsHeadline DeskDemo None told0 told1 status = Unit {0}
 TellsHeadline Help left0 told0 told1 status = Unit {0}
 TellsHeadline Version left0 told0 told1 status = Unit {0}
 TellsHeadline Faulty left0 told0 told1 status = Unit {0}
 
--- the status of a session that stopped before the end of its input: a fault of the source or the sink, want of memory, or the most requests
-abbrev pub IsStopped : ℕ → Type 0
-IsStopped status = (status ≡ 5) ⊎ ((status ≡ 6) ⊎ ((status ≡ 12) ⊎ (status ≡ 16)))
+-- a session that answered all that it may: the input begins with so many requests, and none of them closes it
+pub record HasMost (input : List ℕ) : Type 0 where
+  pub requests : List Request
+  pub rest : List ℕ
+  pub splits : Splits input requests rest
+  pub stay : All IsOpen requests
+  pub most : length requests ≡ most_requests
 
--- whatever way the input is read, the status is that of its ending, or the other one where the input ends inside a head that
--- nothing completes, or one of a session that stopped before
+-- the status of a session that stopped without regard to the input's ending: the source or the sink failed, memory was wanting, or it
+-- answered all that it may
+abbrev pub IsStopped : List ℕ → ℕ → Type 0
+IsStopped input status = (status ≡ 5) ⊎ ((status ≡ 6) ⊎ ((status ≡ 12) ⊎ ((status ≡ 16) × HasMost input)))
+
+-- the status is that of the ending of the input
+pub record EndsInput (input : List ℕ) (status : ℕ) : Type 0 where
+  pub requests : List Request
+  pub ending : Ending
+  pub reads : Requests input requests ending
+  pub status_is : status ≡ status_of_ending ending
+
+-- where the source tells its bytes, the status is that of their ending, or of a session that stopped
 abbrev pub TiesStatus : Form → Option (List ℕ) → ℕ → Type 0
-TiesStatus DeskDemo (Some input) status =
-    (requests : List Request) (ending : Ending) → Requests input requests ending
-    → (status ≡ status_of_ending ending)
-    ⊎ ((((other : Ending) × IsChoice ending other × (status ≡ status_of_ending other))) ⊎ IsStopped status)
+TiesStatus DeskDemo (Some input) status = EndsInput input status ⊎ IsStopped input status
 TiesStatus DeskDemo None status = Unit {0}
 TiesStatus Help left0 status = Unit {0}
 TiesStatus Version left0 status = Unit {0}

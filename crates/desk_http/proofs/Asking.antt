@@ -1,11 +1,10 @@
 -- What a port gives is what is sent.
-use Rattle.std.proofs.Common.{◌≡◌, ℕ, List, refl, subst}
-use Rattle.apron_base.specs.declared.outside.Acted.{Acted}
+use Rattle.std.proofs.Common.{◌≡◌, ℕ, List, refl}
 use Rattle.apron_base.specs.declared.outside.Acted.TheVariants.{Reply as Replied, Memory as NoMemory, Fault}
 use Rattle.plan_core.specs.PlanState.{PlanState}
 use Rattle.desk_words.specs.Fixed.{no_memory_text, keeper_fault_text}
 use Rattle.desk_words.specs.declared.asks.Ask.{Ask}
-use Rattle.history_core.specs.Answer.{Given, given_text, replied, no_memory, keeper_fault, ShowsAs}
+use Rattle.history_core.specs.Answer.{Given, replied, no_memory, keeper_fault, ShowsAs}
 use Rattle.desk_http.specs.declared.routes.Routed.TheVariants.{Asks}
 use Rattle.desk_http.specs.Ports.{PortState}
 use Rattle.desk_http.specs.Session.{Sent, given, sent_text, SendsFor}

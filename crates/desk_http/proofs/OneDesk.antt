@@ -1,5 +1,6 @@
 -- A desk alone takes its turns at the history that it has seen.
-use Rattle.std.proofs.Common.{◌≡◌, ◌≢◌, ◌∙◌, ◌≤◌, ◌<◌, ◌+◌, ◌-◌, ◌^◌, ◌==◌, ℕ, zero, suc, false, List, [], ◌∷◌, ◌++◌, length, refl, sym, ap, subst, arith, append-nil}
+use Rattle.std.proofs.Common.{◌≡◌, ◌∙◌, ◌≤◌, ◌<◌, ◌+◌, ◌-◌, ◌^◌, ℕ, zero, suc, List, [], ◌∷◌, ◌++◌, length, refl, sym, ap, arith, append-nil}
+use Rattle.std.proofs.lemmas.Bool.{eqb-true}
 use Rattle.std.proofs.lemmas.Bool.Decides.{nat_tests}
 use Rattle.apron_base.specs.Histories.{Every}
 use Rattle.apron_base.specs.declared.outside.Acted.{Acted}
@@ -10,7 +11,7 @@ use Rattle.history_core.specs.Answer.{ActsAs, Given, Gives, replied, no_memory, 
 use Rattle.history_core.specs.Board.{BoardState}
 use Rattle.history_core.specs.History.{IsLegal}
 use Rattle.desk_http.specs.Alone.{AloneAsks, IsAlone, alone_port, numbers_from}
-use Rattle.desk_http.specs.Ports.{HasFaultCause, ShowsAsk, Turn}
+use Rattle.desk_http.specs.Ports.{HasFaultCause, ShowsAsk}
 
 every_one : {E : Type 0} (P : E → Type 0) (xs : List E) → ((x : E) → P x) → Every P xs
 every_one P [] h = tt
@@ -58,6 +59,7 @@ turn before after first ask given h still last gives next cause = (
     first = refl;
     calls = ap (λ n. numbers_from first (n - first)) next ∙ calls_push first before.next h.begun;
     spent = grind (arith, nat_tests);
+    stays = λ spent. let all : after.next ≡ 2 ^ 62 = eqb-true after.next (2 ^ 62) spent in omega arith;
     counts = omega arith;
     fault = cause;
   },

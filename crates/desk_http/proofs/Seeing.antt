@@ -1,5 +1,5 @@
 -- What a port has seen and called after a run of requests.
-use Rattle.std.proofs.Common.{◌≡◌, ◌≤◌, ◌<◌, ◌+◌, ◌⊎◌, ◌∙◌, inl, inr, ℕ, Option, List, [], ◌∷◌, ◌++◌, length, length-append, refl, sym, ap, subst, arith}
+use Rattle.std.proofs.Common.{◌≡◌, ◌≤◌, ◌<◌, ◌+◌, ◌⊎◌, ◌∙◌, inl, inr, ℕ, Option, List, [], ◌∷◌, length, length-append, sym, ap, subst, arith}
 use Rattle.apron_base.specs.declared.outside.Outcome.{Outcome}
 use Rattle.apron_base.specs.declared.outside.Outcome.TheVariants.{Ended, Closed, Cut, Malformed, Limit, ReadFault, WriteFault, Spent, Memory}
 use Rattle.http_framing.specs.Requests.{Request}
@@ -54,7 +54,7 @@ module _ (Asked : PlanState → PortState → Ask → Given → PortState → Ty
   ends_kept Ended left requests sents rest written served new h = inl h.4
   ends_kept Closed left requests sents rest written served new h = inl h.2
   ends_kept Cut left requests sents rest written served new h = inl h.4
-  ends_kept Malformed left requests sents rest written served new h = inl h.3
+  ends_kept Malformed left requests sents rest written served new h = inl h.2
   ends_kept Limit left requests sents rest written served new h = inl h.3
   ends_kept ReadFault left requests sents rest written served new h = inl h.3
   ends_kept WriteFault left requests sents rest written served new h = inl h.1

@@ -1,7 +1,7 @@
 -- A session's progress: more bytes, one more request, and its end.
-use Rattle.std.proofs.Common.{◌≡◌, ◌∙◌, ◌<◌, ◌≤◌, ◌+◌, ℕ, true, false, List, [], ◌∷◌, ◌++◌, length, take, refl, sym, ap, subst, arith, append_assoc, append-nil, length-append, Option, None, Some, inl, inr}
+use Rattle.std.proofs.Common.{◌≡◌, ◌∙◌, ◌<◌, ◌+◌, ℕ, true, false, List, [], ◌∷◌, ◌++◌, length, take, refl, sym, ap, subst, arith, append_assoc, append-nil, length-append, Option, None, Some, inl, inr}
 use Rattle.std.specs.Prelude.{All}
-use Rattle.std.specs.Io.KnownBytes.{Appends, Consumes, IsAtEnd}
+use Rattle.std.specs.Io.KnownBytes.{Appends, Consumes}
 use Rattle.std.proofs.lemmas.List.Elements.{All-append, All-from_recursion}
 use Rattle.apron_base.specs.declared.outside.Outcome.{Outcome}
 use Rattle.apron_base.specs.declared.outside.Outcome.TheVariants.{Ended, Closed, Cut, Malformed, Limit, ReadFault, WriteFault, Spent, Memory}
@@ -9,15 +9,14 @@ use Rattle.apron_base.proofs.Known.{appends_both, consumes_both}
 use Rattle.plan_core.specs.PlanState.{PlanState}
 use Rattle.http_framing.specs.declared.bodies.Refusal.{Refusal}
 use Rattle.http_framing.specs.Closing.{is_closing}
-use Rattle.http_framing.specs.Requests.{Request, HasRequest, IsPartial, IsMalformed}
-use Rattle.http_framing.specs.Streams.{Ends, ended, cut, Splits, IsOpen}
+use Rattle.http_framing.specs.Requests.{Request, HasRequest, IsMalformed}
+use Rattle.http_framing.specs.Streams.{Splits, IsOpen}
 use Rattle.http_framing.proofs.StreamLaws.{splits_more, splits_push}
 use Rattle.desk_words.specs.declared.asks.Ask.{Ask}
-use Rattle.desk_words.specs.Fixed.{bad_head_text}
 use Rattle.history_core.specs.Answer.{Given}
 use Rattle.desk_http.specs.Ports.{PortState}
 use Rattle.desk_http.specs.Runs.{Runs}
-use Rattle.desk_http.specs.Session.{Sent, sent_text, texts_of, most_requests, GoOn, Close, CutsReply, CutsRefusal, Sends, FindsExhausted, EndsAs, SessionOf}
+use Rattle.desk_http.specs.Session.{Sent, refusal_text, sent_text, texts_of, most_requests, Sends, EndsAs, SessionOf}
 use Rattle.desk_http.specs.Serving.{SoFar, TakesStep, MeetsFront, ServesFront, PutsRefusal}
 
 -- one step more
@@ -183,37 +182,37 @@ module _ (Asked : PlanState → PortState → Ask → Given → PortState → Ty
 
   -- it ends at a head that is refused, whose reply was written whole
   refuses_head : (left0 left1 told0 told1 told2 : Option (List ℕ)) (old new : PortState) (rest : List ℕ) (why : Refusal) (count : ℕ)
-      → SoFar Asked start left0 left1 told0 told1 old new rest count → count < most_requests → IsMalformed rest why → Appends told1 told2 bad_head_text
+      → SoFar Asked start left0 left1 told0 told1 old new rest count → count < most_requests → IsMalformed rest why → Appends told1 told2 (refusal_text why)
       → SessionOf Asked start left0 left1 told0 told2 old new Malformed
   refuses_head left0 left1 told0 told1 told2 old new rest why count h few f a = record {
     taken = h.taken;
     requests = h.requests;
     sents = h.sents;
     rest = rest;
-    written = texts_of h.sents ++ bad_head_text;
+    written = texts_of h.sents ++ refusal_text why;
     served = new;
     consumed = h.consumed;
     splits = h.splits;
     runs = h.runs;
-    appended = appends_both told0 told1 told2 (texts_of h.sents) bad_head_text h.appended a;
-    ends = (record { stay = h.stay; few = let n = h.counted in omega arith }, (why, f), refl, refl);
+    appended = appends_both told0 told1 told2 (texts_of h.sents) (refusal_text why) h.appended a;
+    ends = (record { stay = h.stay; few = let n = h.counted in omega arith }, (why, f, refl), refl);
   }
 
   -- it ends at a head that is refused, whose reply was cut
   cuts_refusal : (left0 left1 told0 told1 told2 : Option (List ℕ)) (old new : PortState) (rest : List ℕ) (why : Refusal) (count n : ℕ)
-      → SoFar Asked start left0 left1 told0 told1 old new rest count → count < most_requests → IsMalformed rest why → Appends told1 told2 (take n bad_head_text)
+      → SoFar Asked start left0 left1 told0 told1 old new rest count → count < most_requests → IsMalformed rest why → Appends told1 told2 (take n (refusal_text why))
       → SessionOf Asked start left0 left1 told0 told2 old new WriteFault
   cuts_refusal left0 left1 told0 told1 told2 old new rest why count n h few f a = record {
     taken = h.taken;
     requests = h.requests;
     sents = h.sents;
     rest = rest;
-    written = texts_of h.sents ++ take n bad_head_text;
+    written = texts_of h.sents ++ take n (refusal_text why);
     served = new;
     consumed = h.consumed;
     splits = h.splits;
     runs = h.runs;
-    appended = appends_both told0 told1 told2 (texts_of h.sents) (take n bad_head_text) h.appended a;
+    appended = appends_both told0 told1 told2 (texts_of h.sents) (take n (refusal_text why)) h.appended a;
     ends = (
       inr (record { going = record { stay = h.stay; few = let m = h.counted in omega arith }; why = why; malformed = f; count = n; bytes = refl }),
       refl,
@@ -246,7 +245,7 @@ module _ (Asked : PlanState → PortState → Ask → Given → PortState → Ty
           (λ requests sents stay size. (record { stay = stay; few = omega arith }, last, at_end, refl, same))
       at_front Closed so (request, whole, closing, sent, sends, appended) =
           closes_after left0 left2 told0 told1 told2 old mid new (rest ++ piece) left request sent count so few whole closing sends appended
-      at_front Malformed so ((why, malformed), appended, same) =
+      at_front Malformed so ((why, malformed, appended), same) =
           subst (λ p. SessionOf Asked start left0 left2 told0 told2 old p Malformed) (sym same)
           (refuses_head left0 left2 told0 told1 told2 old mid (rest ++ piece) why count so few malformed appended)
       at_front Limit so meets = absurd meets
@@ -255,7 +254,7 @@ module _ (Asked : PlanState → PortState → Ask → Given → PortState → Ty
           (λ requests sents stay size. (record { stay = stay; few = omega arith }, partial, refl, same))
       at_front WriteFault so (inl (request, whole, sent, sends, n, appended)) =
           cuts_reply left0 left2 told0 told1 told2 old mid new (rest ++ piece) left request sent count n so few whole sends appended
-      at_front WriteFault so (inr ((why, malformed), (n, appended), same)) =
+      at_front WriteFault so (inr ((why, malformed, n, appended), same)) =
           subst (λ p. SessionOf Asked start left0 left2 told0 told2 old p WriteFault) (sym same)
           (cuts_refusal left0 left2 told0 told1 told2 old mid (rest ++ piece) why count n so few malformed appended)
       at_front Spent so (request, more, whole, exhausted, quiet) =
@@ -287,9 +286,9 @@ module _ (Asked : PlanState → PortState → Ask → Given → PortState → Ty
 
   -- what was done where it is no request
   pub refusal_met : (left1 told0 told1 : Option (List ℕ)) (port : PortState) (bytes left : List ℕ) (why : Refusal) (outcome : Outcome)
-      → IsMalformed bytes why → PutsRefusal told0 told1 outcome → MeetsFront Asked start left1 told0 told1 port bytes (Some outcome) port left
-  refusal_met left1 told0 told1 port bytes left why Malformed f p = ((why, f), p, refl)
-  refusal_met left1 told0 told1 port bytes left why WriteFault f p = inr ((why, f), p, refl)
+      → IsMalformed bytes why → PutsRefusal told0 told1 why outcome → MeetsFront Asked start left1 told0 told1 port bytes (Some outcome) port left
+  refusal_met left1 told0 told1 port bytes left why Malformed f p = ((why, f, p), refl)
+  refusal_met left1 told0 told1 port bytes left why WriteFault f p = inr ((why, f, p.0, p.1), refl)
   refusal_met left1 told0 told1 port bytes left why Ended f p = absurd p
   refusal_met left1 told0 told1 port bytes left why Closed f p = absurd p
   refusal_met left1 told0 told1 port bytes left why Cut f p = absurd p

@@ -45,6 +45,7 @@ pub record Turn (start : PlanState) (before : PortState) (ask : Ask) (given : Gi
   pub first : after.first ≡ before.first
   pub calls : after.calls ≡ before.calls ++ call ∷ []
   pub spent : before.spent ≡ false
+  pub stays : after.spent ≡ true → call + 1 ≡ 2 ^ 62
   pub counts : before.faults ≤ after.faults
   pub fault : HasFaultCause before.faults given after.faults
 

@@ -1,9 +1,8 @@
 -- What a request asks: of the plan, or nothing, where its reply is fixed before the plan is consulted.
-use Rattle.std.specs.Prelude.{◌≡◌, ◌&&◌, ℕ, List, [], ◌∷◌, codes, position, Option, None, Some, if◌then◌else◌}
+use Rattle.std.specs.Prelude.{◌&&◌, ℕ, List, [], ◌∷◌, codes, position, Option, None, Some, if◌then◌else◌}
 use Rattle.std.specs.Option.{option_map, option_and_then}
 use Rattle.std.specs.Str.{bytes_eq}
 use Rattle.apron_base.specs.declared.numbers.StandNo.{StandNo}
-use Rattle.apron_base.specs.declared.numbers.VisitNo.{VisitNo}
 use Rattle.apron_rules.specs.declared.parts.AirportParts.{AirportParts}
 use Rattle.plan_core.specs.declared.visits.Edit.{Edit}
 use Rattle.plan_core.specs.declared.visits.Edit.TheVariants.{Put}
@@ -11,7 +10,6 @@ use Rattle.http_framing.specs.Requests.{Request}
 use Rattle.desk_bodies.specs.Commits.{CommitSaid, EditSaid, put, lift, cut, join, body_commit}
 use Rattle.desk_words.specs.declared.asks.Command.TheVariants.{Commit}
 use Rattle.desk_words.specs.declared.asks.What.TheVariants.{Change}
-use Rattle.desk_words.specs.declared.asks.Ask.{Ask}
 use Rattle.desk_words.specs.Fixed.{not_json_text, unbuilt_text}
 use Rattle.history_core.specs.History.{IsAskOf}
 use Rattle.desk_http.specs.declared.routes.Early.{Early}

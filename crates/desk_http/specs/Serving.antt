@@ -1,5 +1,5 @@
 -- What the steps of a session do.
-use Rattle.std.specs.Prelude.{◌≡◌, ◌<◌, ◌+◌, All, ℕ, Bool, true, false, List, [], ◌∷◌, ◌++◌, length, take, Option, None, Some, ◌⊎◌}
+use Rattle.std.specs.Prelude.{◌≡◌, ◌<◌, All, ℕ, Bool, true, false, List, [], ◌++◌, length, take, Option, None, Some, ◌⊎◌}
 use Rattle.std.specs.Io.KnownBytes.{Appends, Consumes, IsAtEnd}
 use Rattle.httparse.specs.declared.spans.HeaderSpan.{HeaderSpan}
 use Rattle.apron_base.specs.declared.outside.Outcome.{Outcome}
@@ -12,7 +12,6 @@ use Rattle.http_framing.specs.Fronts.{IsFront}
 use Rattle.http_framing.specs.Requests.{Request, HasRequest, IsPartial, IsMalformed}
 use Rattle.http_framing.specs.Streams.{Ends, ended, cut, Splits, IsOpen}
 use Rattle.desk_words.specs.declared.asks.Ask.{Ask}
-use Rattle.desk_words.specs.Fixed.{bad_head_text}
 use Rattle.history_core.specs.Answer.{Given}
 use Rattle.desk_http.specs.declared.routes.Routed.{Routed}
 use Rattle.desk_http.specs.declared.answering.Answer.{Answer}
@@ -21,9 +20,9 @@ use Rattle.desk_http.specs.declared.reading.More.{More}
 use Rattle.desk_http.specs.declared.reading.More.TheVariants.{Taken, AtEnd, Fault, NoRoom}
 use Rattle.desk_http.specs.declared.reading.Filled.{Filled}
 use Rattle.desk_http.specs.declared.reading.Filled.TheVariants.{Request as ARequest, Refused, End, SourceFault, OutOfMemory}
-use Rattle.desk_http.specs.Ports.{PortState, IsExhausted}
+use Rattle.desk_http.specs.Ports.{PortState}
 use Rattle.desk_http.specs.Runs.{Runs}
-use Rattle.desk_http.specs.Session.{Sent, sent_text, texts_of, Sends, SendsFor, FindsExhausted, FindsExhaustedFor}
+use Rattle.desk_http.specs.Session.{Sent, refusal_text, sent_text, texts_of, Sends, SendsFor, FindsExhausted, FindsExhaustedFor}
 
 -- what one read gave, and the buffer after it
 abbrev pub MoreAs : Option (List ℕ) → Option (List ℕ) → List ℕ → List ℕ → More → Type 0
@@ -79,13 +78,13 @@ module _ (Asked : PlanState → PortState → Ask → Given → PortState → Ty
   MeetsFront left1 told0 told1 before bytes (Some Closed) after left = ServesFront told0 told1 before bytes (Some Closed) after left
   MeetsFront left1 told0 told1 before bytes (Some WriteFault) after left =
       ServesFront told0 told1 before bytes (Some WriteFault) after left
-      ⊎ (((why : Refusal) × IsMalformed bytes why) × ((count : ℕ) × Appends told0 told1 (take count bad_head_text)) × (after ≡ before))
+      ⊎ (((why : Refusal) × IsMalformed bytes why × (count : ℕ) × Appends told0 told1 (take count (refusal_text why))) × (after ≡ before))
   MeetsFront left1 told0 told1 before bytes (Some Spent) after left = ServesFront told0 told1 before bytes (Some Spent) after left
   MeetsFront left1 told0 told1 before bytes (Some Memory) after left = ServesFront told0 told1 before bytes (Some Memory) after left
   MeetsFront left1 told0 told1 before bytes (Some Ended) after left = Ends bytes ended × IsAtEnd left1 × Appends told0 told1 [] × (after ≡ before)
   MeetsFront left1 told0 told1 before bytes (Some Cut) after left = Ends bytes cut × IsAtEnd left1 × Appends told0 told1 [] × (after ≡ before)
   MeetsFront left1 told0 told1 before bytes (Some Malformed) after left =
-      ((why : Refusal) × IsMalformed bytes why) × Appends told0 told1 bad_head_text × (after ≡ before)
+      ((why : Refusal) × IsMalformed bytes why × Appends told0 told1 (refusal_text why)) × (after ≡ before)
   MeetsFront left1 told0 told1 before bytes (Some Limit) after left = ⊥
   MeetsFront left1 told0 told1 before bytes (Some ReadFault) after left = IsPartial bytes × Appends told0 told1 [] × (after ≡ before)
 
@@ -131,14 +130,14 @@ PutsReply told0 told1 text closes (Some ReadFault) = ⊥
 PutsReply told0 told1 text closes (Some Spent) = ⊥
 PutsReply told0 told1 text closes (Some Memory) = ⊥
 
--- how the reply to a head that is refused was written
-abbrev pub PutsRefusal : Option (List ℕ) → Option (List ℕ) → Outcome → Type 0
-PutsRefusal told0 told1 Malformed = Appends told0 told1 bad_head_text
-PutsRefusal told0 told1 WriteFault = (count : ℕ) × Appends told0 told1 (take count bad_head_text)
-PutsRefusal told0 told1 Ended = ⊥
-PutsRefusal told0 told1 Closed = ⊥
-PutsRefusal told0 told1 Cut = ⊥
-PutsRefusal told0 told1 Limit = ⊥
-PutsRefusal told0 told1 ReadFault = ⊥
-PutsRefusal told0 told1 Spent = ⊥
-PutsRefusal told0 told1 Memory = ⊥
+-- how the reply to a request that is refused was written
+abbrev pub PutsRefusal : Option (List ℕ) → Option (List ℕ) → Refusal → Outcome → Type 0
+PutsRefusal told0 told1 why Malformed = Appends told0 told1 (refusal_text why)
+PutsRefusal told0 told1 why WriteFault = (count : ℕ) × Appends told0 told1 (take count (refusal_text why))
+PutsRefusal told0 told1 why Ended = ⊥
+PutsRefusal told0 told1 why Closed = ⊥
+PutsRefusal told0 told1 why Cut = ⊥
+PutsRefusal told0 told1 why Limit = ⊥
+PutsRefusal told0 told1 why ReadFault = ⊥
+PutsRefusal told0 told1 why Spent = ⊥
+PutsRefusal told0 told1 why Memory = ⊥

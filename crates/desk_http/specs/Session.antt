@@ -1,11 +1,12 @@
 -- One session: the requests at the front of the bytes taken, and for each what was sent.
-use Rattle.std.specs.Prelude.{◌≡◌, ◌⊎◌, ◌≤◌, ◌<◌, ◌+◌, All, ℕ, Bool, true, false, List, [], ◌∷◌, ◌++◌, length, take, Option}
+use Rattle.std.specs.Prelude.{◌≡◌, ◌⊎◌, ◌<◌, All, ℕ, true, List, [], ◌∷◌, ◌++◌, length, take, Option}
 use Rattle.std.specs.List.{flat_map}
 use Rattle.std.specs.Io.KnownBytes.{Appends, Consumes, IsAtEnd}
 use Rattle.apron_base.specs.declared.outside.Outcome.{Outcome}
 use Rattle.apron_base.specs.declared.outside.Outcome.TheVariants.{Ended, Closed, Cut, Malformed, Limit, ReadFault, WriteFault, Spent, Memory}
 use Rattle.plan_core.specs.PlanState.{PlanState}
 use Rattle.http_framing.specs.declared.bodies.Refusal.{Refusal}
+use Rattle.http_framing.specs.declared.bodies.Refusal.TheVariants.{Head, Encoding, Large, Length}
 use Rattle.http_framing.specs.Closing.{is_closing}
 use Rattle.http_framing.specs.Requests.{Request, HasRequest, IsPartial, IsMalformed}
 use Rattle.http_framing.specs.Streams.{Ends, ended, cut, Splits, IsOpen}
@@ -32,6 +33,13 @@ sent_text (given answer) = given_text answer
 -- the bytes of all that is sent
 abbrev pub texts_of : List Sent → List ℕ
 texts_of sents = flat_map sent_text sents
+
+-- the bytes of the reply to a request that is refused
+abbrev pub refusal_text : Refusal → List ℕ
+refusal_text Head = bad_head_text
+refusal_text Encoding = bad_head_text
+refusal_text Large = bad_head_text
+refusal_text Length = bad_head_text
 
 -- how many requests one session answers at most
 abbrev pub most_requests : ℕ
@@ -62,13 +70,13 @@ pub record CutsReply (requests : List Request) (sents : List Sent) (written : Li
   pub count : ℕ
   pub bytes : written ≡ texts_of whole ++ take count (sent_text sent)
 
--- all replies are written whole, and of the reply to a head that is refused a front is
+-- all replies are written whole, and of the reply to a request that is refused a front is
 pub record CutsRefusal (requests : List Request) (sents : List Sent) (rest written : List ℕ) : Type 0 where
   pub going : GoOn requests
   pub why : Refusal
   pub malformed : IsMalformed rest why
   pub count : ℕ
-  pub bytes : written ≡ texts_of sents ++ take count bad_head_text
+  pub bytes : written ≡ texts_of sents ++ take count (refusal_text why)
 
 -- `Asked` says what the port gives for an ask and what it becomes, and `start` is the plan that its history began with
 module _ (Asked : PlanState → PortState → Ask → Given → PortState → Type 0) (start : PlanState) where
@@ -101,7 +109,7 @@ module _ (Asked : PlanState → PortState → Ask → Given → PortState → Ty
   EndsAs Closed left requests sents rest written served new =
       Close requests × (written ≡ texts_of sents) × (new ≡ served)
   EndsAs Malformed left requests sents rest written served new =
-      GoOn requests × ((why : Refusal) × IsMalformed rest why) × (written ≡ texts_of sents ++ bad_head_text) × (new ≡ served)
+      GoOn requests × ((why : Refusal) × IsMalformed rest why × (written ≡ texts_of sents ++ refusal_text why)) × (new ≡ served)
   EndsAs Limit left requests sents rest written served new =
       All IsOpen requests × (length requests ≡ most_requests) × (written ≡ texts_of sents) × (new ≡ served)
   EndsAs ReadFault left requests sents rest written served new =

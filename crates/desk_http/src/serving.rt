@@ -3,7 +3,7 @@ ghost use Rattle.std.specs.Prelude.{◌≡◌, ◌≤◌, Some, drop, length, ve
 ghost use Rattle.apron_base.specs.Outside.{Rose};
 ghost use Rattle.http_framing.specs.Fronts.{IsFront};
 ghost use Rattle.http_framing.specs.Requests.{IsPartial};
-ghost use Rattle.desk_http.specs.Session.{SessionOf};
+ghost use Rattle.desk_http.specs.Session.{SessionOf, refusal_text as text_of_refusal};
 ghost use Rattle.desk_http.specs.Serving.{EndsSource, PutsRefusal, PutsReply, ServesFront, TakesStep};
 
 use crate::DeskPort;
@@ -11,7 +11,7 @@ use crate::answering::{Answer, answer_to};
 use crate::reading::{Filled, fill};
 use apron_base::{Failed, Outcome, Sink, Source};
 use desk_words::fixed;
-use http_framing::{Found, Front, MAX_FIELDS, are_blank};
+use http_framing::{Found, Front, MAX_FIELDS, Refusal, are_blank};
 use httparse::spans::{EMPTY_HEADER_SPAN, HeaderSpan};
 use std::alloc::Global;
 
@@ -65,7 +65,7 @@ fn serve_next<P: DeskPort, S: Source, W: Sink>(
 {
     match fill(source, buffer, fields) {
         Filled::Request(found) => serve_front(alloc, port, sink, buffer, fields, &found),
-        Filled::Refused(_) => Some(put_refusal(sink)),
+        Filled::Refused(why) => Some(put_refusal(sink, why)),
         Filled::End => Some(end_of(buffer.as_slice())),
         Filled::SourceFault => Some(Outcome::ReadFault),
         Filled::OutOfMemory => Some(Outcome::Memory),
@@ -141,13 +141,23 @@ fn put_reply<W: Sink>(
     }
 }
 
-fn put_refusal<W: Sink>(sink: &mut W) -> Outcome
-    ensures put { PutsRefusal (W.told sink.old) (W.told sink.new) result }
+// Writes the reply to a request that is refused.
+fn put_refusal<W: Sink>(sink: &mut W, why: Refusal) -> Outcome
+    ensures put { PutsRefusal (W.told sink.old) (W.told sink.new) why result }
     ensures later { W.faults sink.old ≤ W.faults sink.new }
     ensures fault { result ≡ Outcome.WriteFault → Rose (W.faults sink.old) (W.faults sink.new) }
 {
-    match sink.put(fixed::bad_head()) {
+    match sink.put(refusal_text(why)) {
         Ok(()) => Outcome::Malformed,
         Err(Failed) => Outcome::WriteFault,
+    }
+}
+
+// The whole text of the reply to a request that is refused.
+fn refusal_text(why: Refusal) -> &'static [u8]
+    ensures text { result.now ≡ text_of_refusal why }
+{
+    match why {
+        Refusal::Head | Refusal::Encoding | Refusal::Large | Refusal::Length => fixed::bad_head(),
     }
 }

@@ -1,12 +1,10 @@
 -- What a legal history has: a sound plan, and legal fronts.
-use Rattle.std.proofs.Common.{◌≡◌, ◌≤◌, ◌<◌, ◌+◌, ◌^◌, ◌∙◌, ℕ, List, [], ◌∷◌, ◌++◌, None, refl, sym, ap, subst, arith, Result, Ok, Err}
+use Rattle.std.proofs.Common.{◌≤◌, ◌+◌, ◌^◌, ℕ, List, [], ◌∷◌, ◌++◌, None, sym, subst, arith, Result}
 use Rattle.apron_base.specs.Histories.{Rises}
 use Rattle.apron_rules.specs.Clash.{IsFirstClash}
 use Rattle.plan_core.specs.declared.visits.Visit.{Visit}
-use Rattle.plan_core.specs.declared.visits.Edit.{Edit}
 use Rattle.plan_core.specs.declared.visits.EditFault.{EditFault}
 use Rattle.plan_core.specs.PlanState.{PlanState}
-use Rattle.plan_core.specs.Rebase.{Rebases, edited}
 use Rattle.plan_core.proofs.Changed.{stamped_slots}
 use Rattle.desk_words.specs.declared.asks.Command.{Command}
 use Rattle.desk_words.specs.declared.asks.Command.TheVariants.{Commit}

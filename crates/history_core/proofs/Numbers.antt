@@ -1,5 +1,5 @@
 -- Numbers that rise along a history.
-use Rattle.std.proofs.Common.{◌≡◌, ◌≤◌, ◌+◌, ℕ, List, [], ◌∷◌, ◌++◌, arith}
+use Rattle.std.proofs.Common.{◌≤◌, ◌+◌, ℕ, List, [], ◌∷◌, ◌++◌, arith}
 use Rattle.apron_base.specs.Histories.{Rises}
 
 -- the bound above may be greater

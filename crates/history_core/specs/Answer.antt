@@ -2,7 +2,6 @@
 use Rattle.std.specs.Prelude.{◌≡◌, ◌≢◌, ◌+◌, ℕ, List, [], ◌∷◌, ◌++◌}
 use Rattle.apron_base.specs.declared.outside.Acted.{Acted}
 use Rattle.apron_base.specs.declared.outside.Acted.TheVariants.{Reply as Replied, Memory as NoMemory, Fault, Spent}
-use Rattle.plan_core.specs.declared.visits.EditFault.{EditFault}
 use Rattle.plan_core.specs.declared.visits.EditFault.TheVariants.{Memory}
 use Rattle.plan_core.specs.PlanState.{PlanState}
 use Rattle.plan_core.specs.Rebase.{Refuses}
@@ -18,19 +17,30 @@ use Rattle.desk_words.specs.Fixed.{no_memory_text, keeper_fault_text}
 use Rattle.desk_words.specs.Replies.{reply_text}
 use Rattle.history_core.specs.History.{IsAccepted, replay}
 
--- the reply to a command at a plan: the next version where it is accepted, else why it is refused and the version
-abbrev pub Answers : PlanState → Command → Reply → Type 0
-Answers plan (Commit desk draft base edits) (Committed version) =
+-- how a plan takes a command, with the reply: it is accepted and stands in the history, or only answered
+pub data Stepped : Type 0 where
+  accepted : Reply → Stepped
+  answered : Reply → Stepped
+
+abbrev pub reply_of : Stepped → Reply
+reply_of (accepted reply) = reply
+reply_of (answered reply) = reply
+
+-- how a plan takes a command: it is accepted with the next version, or answered with why it is refused and the version
+abbrev pub Steps : PlanState → Command → Stepped → Type 0
+Steps plan (Commit desk draft base edits) (accepted (Committed version)) =
     IsAccepted plan (Commit desk draft base edits) × (version ≡ plan.version + 1)
-Answers plan (Commit desk draft base edits) (Refused fault version) =
+Steps plan (Commit desk draft base edits) (accepted (Refused fault version)) = ⊥
+Steps plan (Commit desk draft base edits) (answered (Committed version)) = ⊥
+Steps plan (Commit desk draft base edits) (answered (Refused fault version)) =
     Refuses plan.airport plan.visits edits fault × (fault ≢ Memory) × (version ≡ plan.version)
 
--- the entries that a reply adds: the command where it is accepted
-abbrev pub added : ℕ → Command → Reply → List Entry
-added call command (Committed version) = record { call = call; command = command } ∷ []
-added call command (Refused fault version) = []
+-- the entries that a command adds: one where it is accepted
+abbrev pub added : ℕ → Command → Stepped → List Entry
+added call command (accepted reply) = record { call = call; command = command } ∷ []
+added call command (answered reply) = []
 
--- what an ask is given: the plan's reply, or one that stands outside the history, for want of memory or for an append that failed
+-- what an ask is given: the plan's reply, or one that stands outside the history, for want of memory or where the append of an accepted command failed
 pub data Given : Type 0 where
   replied : Reply → Given
   no_memory : Given
@@ -45,9 +55,10 @@ given_text keeper_fault = keeper_fault_text
 -- what a command with this call number is given at the history before it, and the history after it
 abbrev pub GivesTo : PlanState → List Entry → ℕ → Command → Given → List Entry → Type 0
 GivesTo start before call command (replied reply) after =
-    Answers (replay start before) command reply × (after ≡ before ++ added call command reply)
+    (stepped : Stepped) × Steps (replay start before) command stepped × (reply ≡ reply_of stepped) × (after ≡ before ++ added call command stepped)
 GivesTo start before call command no_memory after = after ≡ before
-GivesTo start before call command keeper_fault after = IsAccepted (replay start before) command × (after ≡ before)
+GivesTo start before call command keeper_fault after =
+    ((reply : Reply) × Steps (replay start before) command (accepted reply)) × (after ≡ before)
 
 abbrev pub GivesWhat : PlanState → List Entry → ℕ → What → Given → List Entry → Type 0
 GivesWhat start before call (Change command) given after = GivesTo start before call command given after

@@ -1,5 +1,5 @@
 -- The plan that a history of commands makes, and which histories are legal.
-use Rattle.std.specs.Prelude.{◌≡◌, ◌+◌, ◌^◌, ◌≤◌, ℕ, List, [], ◌∷◌, length, All, None, Result, Ok, Err}
+use Rattle.std.specs.Prelude.{◌+◌, ◌^◌, ◌≤◌, ℕ, List, [], ◌∷◌, length, All, None, Result, Ok, Err}
 use Rattle.apron_base.specs.Histories.{Rises}
 use Rattle.apron_rules.specs.declared.parts.AirportParts.{AirportParts}
 use Rattle.plan_core.specs.declared.visits.Edit.{Edit}

@@ -3,9 +3,9 @@ ghost use Rattle.std.specs.Prelude.{◌≡◌, ◌≢◌, false, ◌≤◌, ◌<
 ghost use Rattle.plan_core.specs.declared.visits.Visit.{Visit};
 ghost use Rattle.plan_core.specs.PlanState.{IsInstallable, installed, put_in};
 ghost use Rattle.plan_core.specs.Rebase.{IsEditOf, Rebases, Refuses, stamped};
-ghost use Rattle.desk_words.specs.Replies.{reply_text};
 ghost use Rattle.history_core.specs.History.{IsCommandOf, IsWhatOf};
-ghost use Rattle.history_core.specs.Acts.{ActsOn, CommitsAs, RefusesAs};
+ghost use Rattle.history_core.specs.Acts.{ActsOn, CommitsAs, IsTextOf, RefusesAs};
+ghost use Rattle.history_core.specs.Answer.{accepted};
 
 use apron_base::{Acted, Listed, Memory, Steps};
 use apron_rules::Airport;
@@ -77,7 +77,7 @@ fn accept(
     requires { IsInstallable plan.old.plan change }
     ensures entry { IfOk result (λ bytes. history.new ≡ history.old ++ record { call = call; command = command.now } ∷ []) }
     ensures plan { IfOk result (λ bytes. plan.new.plan ≡ installed plan.old.plan change) }
-    ensures text { IfOk result (λ bytes. bytes ≡ reply_text (Reply.Committed change.version)) }
+    ensures text { IfOk result (λ bytes. IsTextOf (accepted (Reply.Committed change.version)) bytes) }
     ensures kept { OnErr result ((history.new ≡ history.old) × (plan.new.plan ≡ plan.old.plan)) }
 {
     let entry = Entry {

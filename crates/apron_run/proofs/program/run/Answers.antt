@@ -1,4 +1,4 @@
-use Rattle.std.proofs.Common.{◌≡◌, sym, subst, List, ℕ, Option, None, Some}
+use Rattle.std.proofs.Common.{◌≡◌, inl, inr, sym, subst, List, ℕ, Option, None, Some}
 use Rattle.apron_run.specs.declared.words.Form.{Form}
 use Rattle.apron_run.specs.declared.words.Form.TheVariants.{DeskDemo}
 use Rattle.apron_run.specs.Run.{RunsDemo, TellsHeadline, TiesStatus}
@@ -7,7 +7,8 @@ use Rattle.apron_run.proofs.program.run.Goals as goal
 
 headline : (left0 left1 told0 told1 : Option (List ℕ)) (status : ℕ) → RunsDemo left0 left1 told0 told1 status → TellsHeadline DeskDemo left0 told0 told1 status
 headline (Some input) left1 (Some before) (Some after) status h = run_headline input before after left1 status h
-headline (Some input) left1 (Some before) None status h = tt
+headline (Some input) left1 (Some before) None status (inl h) = let session = h.session in session.appended
+headline (Some input) left1 (Some before) None status (inr h) = h.written
 headline (Some input) left1 None told1 status h = tt
 headline None left1 told0 told1 status h = tt
 

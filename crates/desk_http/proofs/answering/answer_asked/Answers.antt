@@ -1,4 +1,3 @@
-use Rattle.std.proofs.Common.{◌≡◌, subst, sym}
 use Rattle.desk_http.proofs.Asking.{reply_sends, memory_sends, fault_sends}
 use Rattle.desk_http.proofs.answering.answer_asked.Goals as goal
 

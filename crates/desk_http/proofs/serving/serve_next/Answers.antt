@@ -1,4 +1,4 @@
-use Rattle.std.proofs.Common.{◌≡◌, ◌++◌, subst, sym}
+use Rattle.std.proofs.Common.{◌++◌, subst}
 use Rattle.desk_http.specs.Serving.{ServesFront}
 use Rattle.http_framing.specs.Requests.{IsMalformed}
 use Rattle.desk_http.proofs.SoFar.{front_met, refusal_met}
@@ -21,6 +21,6 @@ returns-in-Refused-clause-step g c =
       filled.0,
       filled.1,
       refusal_met g.P.DeskPort.asks (g.P.DeskPort.start c.args.port.now) (g.S.Source.left c.fill.new.source) (g.W.Sink.told c.args.sink.now) (g.W.Sink.told c.put_refusal.new.sink)
-          (g.P.DeskPort.port c.args.port.now) (c.args.buffer.now.items ++ filled.0) c.fill.new.buffer.items c.in-Refused.field-0 c.put_refusal.result
-          (subst (λ bytes. IsMalformed bytes c.in-Refused.field-0) filled.2 c.in-Refused.ensures.of.1) c.put_refusal.ensures.put,
+          (g.P.DeskPort.port c.args.port.now) (c.args.buffer.now.items ++ filled.0) c.fill.new.buffer.items c.in-Refused.why c.put_refusal.result
+          (subst (λ bytes. IsMalformed bytes c.in-Refused.why) filled.2 c.in-Refused.ensures.of.1) c.put_refusal.ensures.put,
     )

@@ -1,4 +1,4 @@
-use Rattle.std.proofs.Common.{◌≡◌, ◌∙◌, refl, subst, arith}
+use Rattle.std.proofs.Common.{◌∙◌, refl, subst, arith}
 use Rattle.std.specs.Prelude.{None, Some}
 use Rattle.desk_http.specs.Serving.{TakesStep}
 use Rattle.desk_http.proofs.SoFar.{begins, steps_on, steps_out}

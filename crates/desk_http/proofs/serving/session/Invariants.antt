@@ -1,4 +1,4 @@
-use Rattle.std.proofs.Common.{◌≡◌, ◌≤◌, length}
+use Rattle.std.proofs.Common.{◌≡◌, ◌≤◌}
 use Rattle.desk_http.specs.Serving.{SoFar}
 use Rattle.desk_http.proofs.serving.session.Given as goal
 
