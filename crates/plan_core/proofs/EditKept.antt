@@ -10,7 +10,7 @@ use Rattle.apron_rules.specs.declared.rules.UnfitBy.{UnfitBy}
 use Rattle.apron_rules.specs.Rules.{unfit_of}
 use Rattle.plan_core.specs.declared.visits.Visit.{Visit}
 use Rattle.plan_core.specs.declared.visits.Part.{Part}
-use Rattle.plan_core.specs.WellFormed.{IsPlaceOf, IsSpaced, IsWellFormed, is_actual, latest_end}
+use Rattle.plan_core.specs.WellFormed.{IsEarlyIfShort, IsPlaceOf, IsSpaced, IsWellFormed, is_actual, latest_end}
 use Rattle.plan_core.specs.declared.visits.Edit.{Edit}
 use Rattle.plan_core.specs.declared.visits.Edit.TheVariants.{Put}
 use Rattle.plan_core.specs.Rebase.{planned_on, with_part, with_visit, put_if_fit, put_part, put_visit, after_edit, IsEditOf}
@@ -42,8 +42,10 @@ planned_keeps a visit j part s g stand h = record {
   few = omega (arith, h.few, length-set visit.parts (j - 1) (planned_on s part));
   spaced = spaced_set a.tow 0 (j - 1) visit.parts part s g h.spaced;
   ends = All-set (λ part. part.to ≤ latest_end a visit.kind) visit.parts (j - 1) (planned_on s part) (got_all (λ part. part.to ≤ latest_end a visit.kind) visit.parts (j - 1) part g h.ends) h.ends;
+  short = All-set (IsEarlyIfShort a visit.kind) visit.parts (j - 1) (planned_on s part) (got_all (IsEarlyIfShort a visit.kind) visit.parts (j - 1) part g h.short) h.short;
   places = All-set (λ part. IsPlaceOf a part.place) visit.parts (j - 1) (planned_on s part) stand h.places;
   facts = λ free. All-set (λ part. is_actual part.place ≡ false) visit.parts (j - 1) (planned_on s part) refl (h.facts free);
+  live = h.live;
 }
 
 fit_keeps : (a : AirportParts) (visits : List Visit) (k : ℕ) (m : VisitNo) (v : Visit) (j : ℕ) (part : Part) (s : StandNo) (fit : Option UnfitBy) (new : List Visit)

@@ -5,6 +5,7 @@ use Rattle.apron_rules.specs.declared.parts.AirportParts.{AirportParts}
 use Rattle.apron_rules.specs.Rules.{least_of}
 use Rattle.plan_core.specs.declared.visits.Visit.{Visit}
 use Rattle.plan_core.specs.declared.visits.Part.{Part}
+use Rattle.plan_core.specs.declared.visits.End.TheVariants.{Live}
 use Rattle.plan_core.specs.declared.visits.Place.{Place}
 use Rattle.plan_core.specs.declared.visits.Place.TheVariants.{Unplaced, Planned, Actual}
 
@@ -25,19 +26,29 @@ abbrev pub IsSpaced : ℕ → ℕ → List Part → Type 0
 IsSpaced tow start [] = Unit {0}
 IsSpaced tow start (part ∷ parts) = (start ≤ part.from) × (part.from < part.to) × IsSpaced tow (part.to + tow) parts
 
+-- the minute after the plan's last
+abbrev pub plan_end : AirportParts → ℕ
+plan_end airport = 1440 * airport.days
+
 -- the minute after the plan's last, and the least minutes of three parts of the type with two tows between
 abbrev pub latest_end : AirportParts → TypeNo → ℕ
-latest_end airport t = 1440 * airport.days + 3 * least_of airport t + 2 * airport.tow
+latest_end airport t = plan_end airport + 3 * least_of airport t + 2 * airport.tow
 
--- a type and stands of the airport, one to three parts that follow one another, and none actual before the visit is on block
+-- a part that is shorter than the least minutes of the type ends before the plan does
+abbrev pub IsEarlyIfShort : AirportParts → TypeNo → Part → Type 0
+IsEarlyIfShort airport t part = part.to < part.from + least_of airport t → part.to < plan_end airport
+
+-- live, a type and stands of the airport, one to three parts that follow one another, none short at the plan's end, and none actual before the visit is on block
 pub record IsWellFormed (airport : AirportParts) (visit : Visit) : Type 0 where
   pub kind : visit.kind.0 < length airport.types
   pub some : 1 ≤ length visit.parts
   pub few : length visit.parts ≤ 3
   pub spaced : IsSpaced airport.tow 0 visit.parts
   pub ends : All (λ part. part.to ≤ latest_end airport visit.kind) visit.parts
+  pub short : All (IsEarlyIfShort airport visit.kind) visit.parts
   pub places : All (λ part. IsPlaceOf airport part.place) visit.parts
   pub facts : visit.on_block ≡ false → All (λ part. is_actual part.place ≡ false) visit.parts
+  pub live : visit.end ≡ Live
 
 -- all parts are unplaced, and none has a record of what took its stand
 abbrev pub IsUnplaced : Visit → Type 0
