@@ -1,6 +1,5 @@
 -- How the input of the session ends, and what that says of the status.
-use Rattle.std.proofs.Common.{◌≡◌, ◌≢◌, ◌⊎◌, ◌∙◌, inl, inr, ℕ, List, [], ◌∷◌, ◌++◌, Option, None, Some, refl, sym, ap, subst, append-nil, arith}
-use Rattle.std.specs.Prelude.{All}
+use Rattle.std.proofs.Common.{◌≡◌, ◌≢◌, ◌⊎◌, ◌∙◌, inl, inr, ℕ, List, ◌++◌, Option, None, Some, refl, sym, ap, subst, append-nil, arith}
 use Rattle.std.specs.Io.KnownBytes.{Consumes, IsAtEnd}
 use Rattle.apron_base.specs.declared.outside.Outcome.{Outcome}
 use Rattle.apron_base.specs.declared.outside.Outcome.TheVariants.{Ended, Closed, Cut, Malformed, Limit, ReadFault, WriteFault, Spent, Memory}
@@ -81,13 +80,16 @@ reads_or_stops input left taken Malformed requests sents rest written served new
     })
 reads_or_stops input left taken Limit requests sents rest written served new c s n (stay, most, bytes, same) =
     let front = taken_front input left taken c in
-    inr (inr (inr (inr (refl, record {
-      requests = requests;
-      rest = rest ++ front.0;
-      splits = subst (λ i. Splits i requests (rest ++ front.0)) (sym front.1) (splits_more taken front.0 rest requests s);
-      stay = stay;
-      most = most;
-    }))))
+    inr (inr (inr (inr (
+      refl,
+      record {
+        requests = requests;
+        rest = rest ++ front.0;
+        splits = subst (λ i. Splits i requests (rest ++ front.0)) (sym front.1) (splits_more taken front.0 rest requests s);
+        stay = stay;
+        most = most;
+      },
+    ))))
 reads_or_stops input left taken ReadFault requests sents rest written served new c s n e = inr (inl refl)
 reads_or_stops input left taken WriteFault requests sents rest written served new c s n e = inr (inr (inl refl))
 reads_or_stops input left taken Spent requests sents rest written served new c s n e = absurd (n refl)

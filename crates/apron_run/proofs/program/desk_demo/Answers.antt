@@ -1,6 +1,5 @@
-use Rattle.std.proofs.Common.{◌≡◌, ◌∙◌, [], inl, ap, refl}
+use Rattle.std.proofs.Common.{◌≡◌, ◌∙◌, inl, ap, refl}
 use Rattle.history_core.specs.Board.{BoardState}
-use Rattle.plan_core.specs.PlanState.{PlanState}
 use Rattle.desk_http.specs.Alone.{alone_port}
 use Rattle.apron_run.specs.Demo.{demo_plan}
 use Rattle.apron_run.proofs.OneSession.{demo_serves, fresh}

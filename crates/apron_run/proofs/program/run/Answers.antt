@@ -1,4 +1,4 @@
-use Rattle.std.proofs.Common.{◌≡◌, inl, inr, sym, subst, List, ℕ, Option, None, Some}
+use Rattle.std.proofs.Common.{inl, inr, subst, List, ℕ, Option, None, Some}
 use Rattle.apron_run.specs.declared.words.Form.{Form}
 use Rattle.apron_run.specs.declared.words.Form.TheVariants.{DeskDemo}
 use Rattle.apron_run.specs.Run.{RunsDemo, TellsHeadline, TiesStatus}
