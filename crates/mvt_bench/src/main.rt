@@ -6,19 +6,14 @@ use std::alloc::{AllocError, Global};
 use std::time::Instant;
 use std::{env, io};
 
-// A message of four elements, and lines that are passed over, up to so many bytes.
-fn message_of(alloc: Global, bytes: usize) -> Result<Vec<u8>, AllocError> {
-    let head = b"MVT\nLH123/27.DAIQA.MUC\nAD2355/0008 AA0930/0940 EA0105 APR ED1200\n";
-    let mut text = head.to_vec(alloc)?;
-    for at in head.len()..bytes {
-        text.push(if at % 60 == 59 { b'\n' } else { b'X' })?;
-    }
-    Ok(text)
-}
+// The head of a message of four elements.
+const MESSAGE: &[u8] = b"MVT\nLH123/27.DAIQA.MUC\nAD2355/0008 AA0930/0940 EA0105 APR ED1200\n";
 
-// A text whose lines after the flight line are all passed over, of so many bytes.
-fn passed_over(alloc: Global, bytes: usize) -> Result<Vec<u8>, AllocError> {
-    let head = b"MVT\nLH123/27.DAIQA.MUC\n";
+// The head of a message of none.
+const FLIGHT: &[u8] = b"MVT\nLH123/27.DAIQA.MUC\n";
+
+// The head and then lines that are passed over, of so many bytes in all.
+fn text_of(alloc: Global, head: &[u8], bytes: usize) -> Result<Vec<u8>, AllocError> {
     let mut text = head.to_vec(alloc)?;
     for at in head.len()..bytes {
         text.push(if at % 60 == 59 { b'\n' } else { b'X' })?;
@@ -54,9 +49,9 @@ fn main(rt: HostRuntime) -> io::Result<()> {
             "mvt_bench TIMES reads a message of 300 bytes and a text of 4000 bytes so many times"
         );
     }
-    let message = message_of(rt.alloc(), 300)?;
+    let message = text_of(rt.alloc(), MESSAGE, 300)?;
     measure(&rt, "messages of 300 bytes", message.as_slice(), times)?;
-    let text = passed_over(rt.alloc(), 4000)?;
+    let text = text_of(rt.alloc(), FLIGHT, 4000)?;
     measure(
         &rt,
         "texts of 4000 bytes of lines that are passed over",
