@@ -24,7 +24,7 @@ keeper_fault_text = error_text 503 (codes "keeper")
 unfoldable pub not_json_text : List ℕ
 not_json_text = error_text 400 (codes "json")
 
--- the body asks for what isn't built
+-- there is no such method, target or edit yet
 unfoldable pub unbuilt_text : List ℕ
 unbuilt_text = error_text 400 (codes "unbuilt")
 

@@ -13,7 +13,7 @@ CommittedIsSpelt =
     reply_text (Committed 7)
     ≡ codes "HTTP/1.1 200 OK\r\nContent-Type: application/json\r\nContent-Length: 13\r\n\r\n{\"version\":7}"
 
--- edit 2 fits its stand no more than object 3 lets it, at version 10
+-- edit 2 is refused at version 10, as its type would come too near to object 3 of the stand's frontage
 abbrev pub UnfitIsSpelt : Type 0
 UnfitIsSpelt =
     reply_text (Edit (Unfit 2 (Object 3)) 10)

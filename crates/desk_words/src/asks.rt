@@ -2,10 +2,10 @@
 use apron_base::{Listed, Name};
 use plan_core::visits::Edit;
 
-/// What changes the plan.
+/// What may change the plan.
 #[derive(Debug, Drop)]
 pub enum Command {
-    /// The edits of a desk's draft, which was made over the plan's version `base`.
+    /// The 1 to 64 edits of a desk's draft, in order. The desk made the draft over the plan's version `base`.
     Commit {
         desk: Name,
         draft: u32,
@@ -14,20 +14,20 @@ pub enum Command {
     },
 }
 
-/// A command as the journal keeps it, with the number of its call.
+/// An accepted command as the history keeps it, with the number of the call that brought it: at least 1 and below 2^62, and greater than that of each entry before.
 #[derive(Debug, Drop)]
 pub struct Entry {
     pub call: u64,
     pub command: Command,
 }
 
-/// What is asked.
+/// What is asked of the plan.
 #[derive(Debug, Drop)]
 pub enum What {
     Change(Command),
 }
 
-/// What a desk asks.
+/// What a desk asks with one request.
 #[derive(Debug, Drop)]
 pub struct Ask {
     pub what: What,

@@ -9,7 +9,7 @@ pub fn no_memory() -> &'static [u8]
     b"HTTP/1.1 507 Insufficient Storage\r\nContent-Type: application/json\r\nContent-Length: 18\r\n\r\n{\"error\":\"memory\"}"
 }
 
-/// The keeper of the plan can't go on.
+/// The commit could be accepted, but could not be kept, and so is no part of the plan.
 pub fn keeper_fault() -> &'static [u8]
     ensures { result.now ≡ keeper_fault_text }
 {
@@ -23,7 +23,7 @@ pub fn not_json() -> &'static [u8]
     b"HTTP/1.1 400 Bad Request\r\nContent-Type: application/json\r\nContent-Length: 16\r\n\r\n{\"error\":\"json\"}"
 }
 
-/// The body asks for what isn't built.
+/// There is no such method, target or edit yet.
 pub fn unbuilt() -> &'static [u8]
     ensures { result.now ≡ unbuilt_text }
 {
