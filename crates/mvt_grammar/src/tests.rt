@@ -74,7 +74,8 @@ fn envelopes_and_line_ends_are_passed_over(rt: HostRuntime) {
             "MVT\r\r\nMVT\r \n MVT\nMVT\nLH1/01.D.APR\n",
             "MVT\nLH1/01.D.APR\n",
         ),
-        // 20 lines before the line MVT
+        // 1 line before the line MVT, and 20
+        ("QU APROOXX\nMVT\nLH1/27.D-1.APR\n", "MVT\nLH1/27.D-1.APR\n"),
         (
             "1\n2\n3\n4\n5\n6\n7\n8\n9\n10\n11\n12\n13\n14\n15\n16\n17\n18\n19\n\nMVT\nLH1/31.ABCDEFGHIJ.APR\n",
             "MVT\nLH1/31.ABCDEFGHIJ.APR\n",
