@@ -4,3 +4,4 @@ pub mod Letter
 pub mod Name
 pub mod NameFields
 pub mod Histories
+pub mod Shelves

@@ -1,0 +1,73 @@
+// The files of the system as a shelf.
+ghost use Rattle.std.specs.Prelude.{◌≡◌, None};
+
+use crate::{Shelf, ShelfFault};
+use std::alloc::Global;
+use std::io::Read;
+use std::marker::Model;
+use std::rt::Files;
+use std::{fs, io};
+
+/// The files of the system by their paths as they are written. It tells nothing of what is in them, and
+/// counts each error. Contracts see its two counts.
+#[derive(Drop)]
+pub struct FileShelf<'a, R> {
+    rt: &'a R,
+    faults: u64,
+    read: u64,
+}
+
+impl<'a, R> Model for FileShelf<'a, R> {
+    ghost use Rattle.apron_base.specs.Shelves.{ShelfCounts};
+
+    ghost Value = { ShelfCounts };
+
+    ghost view = { λ s. record { faults = s.faults; read = s.read } };
+}
+
+impl<'a, R: Files> FileShelf<'a, R> {
+    /// The files that this runtime opens, of which none has been asked for.
+    pub fn new(rt: &'a R) -> Self
+        ensures { result ≡ record { faults = 0; read = 0 } }
+    {
+        FileShelf {
+            rt,
+            faults: 0,
+            read: 0,
+        }
+    }
+}
+
+impl<'a, R: Files> Shelf for FileShelf<'a, R> {
+    ghost file = { λ _ _. None };
+
+    ghost faults = { λ s. s.faults };
+
+    ghost read = { λ s. s.read };
+
+    fn read_file(&mut self, alloc: Global, name: &str, limit: u32) -> Result<Vec<u8>, ShelfFault> {
+        match read_up_to(self.rt, alloc, name, limit) {
+            Ok(bytes) => {
+                self.read = self.read.saturating_add(bytes.len() as u64);
+                if bytes.len() > limit as usize {
+                    Err(ShelfFault::TooLong)
+                } else {
+                    Ok(bytes)
+                }
+            }
+            Err(e) if e.kind() == io::ErrorKind::OutOfMemory => Err(ShelfFault::Memory),
+            Err(_) => {
+                self.faults = self.faults.saturating_add(1);
+                Err(ShelfFault::Failed)
+            }
+        }
+    }
+}
+
+// The bytes of a file, up to one more than the limit.
+fn read_up_to<R: Files>(rt: &R, alloc: Global, name: &str, limit: u32) -> io::Result<Vec<u8>> {
+    let file = fs::open(rt, name)?;
+    let mut bytes = Vec::new(alloc);
+    file.take(u64::from(limit) + 1).read_to_end(&mut bytes)?;
+    Ok(bytes)
+}
