@@ -1,0 +1,11 @@
+//! The first day of a plan, and the days counted from it.
+#![tactic(auto)]
+
+mod day;
+mod text;
+
+pub use day::{Date, month_day};
+pub use text::date_in;
+
+#[cfg(test)]
+mod tests;
