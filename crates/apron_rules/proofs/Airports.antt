@@ -1,0 +1,90 @@
+-- Parts that are refused for no reason are an airport.
+use Rattle.std.proofs.Common.{◌≡◌, ◌≤◌, ℕ, Bool, true, false, List, [], ◌∷◌, length, refl, arith, Option, None, Some}
+use Rattle.std.specs.Prelude.{IsTrue, nat_le}
+use Rattle.std.specs.Option.{option_map, option_or}
+use Rattle.std.specs.List.{list_all, AllByRecursion}
+use Rattle.std.proofs.lemmas.Bool.Decides.{nat_tests}
+use Rattle.std.proofs.lemmas.List.Elements.{All-from_recursion}
+use Rattle.apron_dates.specs.Dates.{IsFirstDay}
+use Rattle.apron_rules.specs.declared.parts.AirportParts.{AirportParts}
+use Rattle.apron_rules.specs.declared.parts.Frontage.{Frontage}
+use Rattle.apron_rules.specs.declared.parts.StandRow.{StandRow}
+use Rattle.apron_rules.specs.declared.parts.TypeRow.{TypeRow}
+use Rattle.apron_rules.specs.declared.refusals.Limit.{Limit}
+use Rattle.apron_rules.specs.Names.{is_station}
+use Rattle.apron_rules.specs.Refusals.{unknown_of, bad_half_of, limit_of, bad_span_of, first_reason, later_fault_of, fault_of, unless_kept, is_within, are_objects_kept, number_limit, frontage_limit, stand_limit, type_limit}
+use Rattle.apron_rules.specs.Rules.{IsAirport}
+
+left_none : {A : Type 0} (o p : Option A) → option_or o p ≡ None → o ≡ None
+left_none None p h = refl
+left_none (Some x) p h = absurd (cc)
+
+right_none : {A : Type 0} (o p : Option A) → option_or o p ≡ None → p ≡ None
+right_none None p h = h
+right_none (Some x) p h = absurd (cc)
+
+unmapped : {A B : Type 0} (f : A → B) (o : Option A) → option_map f o ≡ None → o ≡ None
+unmapped f None h = refl
+unmapped f (Some x) h = absurd (cc)
+
+kept : (which : Limit) (b : Bool) → unless_kept which b ≡ None → b ≡ true
+kept which true h = refl
+kept which false h = absurd (cc)
+
+each : {X : Type 0} (P : X → Type 0) (p : X → Bool) (xs : List X) → ((x : X) → p x ≡ true → P x) → list_all p xs ≡ true → AllByRecursion P xs
+each P p [] f h = tt
+each P p (x ∷ xs) f h = (f x (grind (arith, nat_tests)), each P p xs f (grind (arith, nat_tests)))
+
+-- no limit is passed
+pub record IsLimited (parts : AirportParts) : Type 0 where
+  pub days : is_within 1 14 parts.days ≡ true
+  pub tow : is_within 1 240 parts.tow ≡ true
+  pub objects : list_all are_objects_kept parts.frontages ≡ true
+  pub stands : is_within 1 400 (length parts.stands) ≡ true
+  pub buffers : list_all (λ row. nat_le row.buffer 240) parts.stands ≡ true
+  pub types : is_within 1 400 (length parts.types) ≡ true
+  pub least : list_all (λ row. is_within 1 600 row.least) parts.types ≡ true
+
+limited : (parts : AirportParts) → limit_of parts ≡ None → IsLimited parts
+limited parts h =
+    let numbers = left_none (number_limit parts) _ h in
+    let more = right_none (number_limit parts) _ h in
+    let frontages = left_none (frontage_limit parts.frontages) _ more in
+    let more_2 = right_none (frontage_limit parts.frontages) _ more in
+    let stands = left_none (stand_limit parts.stands) _ more_2 in
+    let types = right_none _ (type_limit parts.types) (right_none (stand_limit parts.stands) _ more_2) in
+    record {
+      days = kept _ _ (left_none _ _ numbers);
+      tow = kept _ _ (right_none _ _ (right_none _ _ numbers));
+      objects = kept _ _ (right_none _ _ frontages);
+      stands = kept _ _ (left_none _ _ stands);
+      buffers = kept _ _ (right_none _ _ (right_none _ _ stands));
+      types = kept _ _ (left_none _ _ types);
+      least = kept _ _ (right_none _ _ types);
+    }
+
+limit_none : (parts : AirportParts) → fault_of parts ≡ None → limit_of parts ≡ None
+unfolding fault_of later_fault_of
+limit_none parts h =
+    let later = right_none _ (first_reason (unknown_of parts) (bad_half_of parts) (limit_of parts) (bad_span_of parts)) h in
+    let third = right_none _ _ (right_none _ _ later) in
+    unmapped _ (limit_of parts) (left_none _ _ third)
+
+within : (low high n : ℕ) → is_within low high n ≡ true → n ≤ high
+within low high n h = grind (arith, nat_tests)
+
+pub airport_of : (parts : AirportParts) → IsTrue (is_station parts.station) → IsFirstDay parts.first → fault_of parts ≡ None → IsAirport parts
+airport_of parts station first none =
+    let l = limited parts (limit_none parts none) in
+    record {
+      station = station;
+      first = first;
+      faultless = none;
+      stands = within 1 400 _ l.stands;
+      types = within 1 400 _ l.types;
+      days = within 1 14 _ l.days;
+      tow = within 1 240 _ l.tow;
+      least = All-from_recursion _ _ (each (λ (row : TypeRow). row.least ≤ 600) _ parts.types (λ row h. within 1 600 row.least h) l.least);
+      buffers = All-from_recursion _ _ (each (λ (row : StandRow). row.buffer ≤ 240) _ parts.stands (λ row h. grind (arith, nat_tests)) l.buffers);
+      objects = All-from_recursion _ _ (each (λ (f : Frontage). length f.objects ≤ 50) _ parts.frontages (λ f h. grind (arith, nat_tests)) l.objects);
+    }

@@ -1,0 +1,25 @@
+use Rattle.std.proofs.Common.{None}
+use Rattle.std.proofs.lemmas.Result.{err_from_is_err_and}
+use Rattle.apron_rules.proofs.Airports.{airport_of}
+use Rattle.apron_rules.proofs.Reasons.{twice, later, later_named}
+use Rattle.apron_rules.proofs.airport.Airport.new.Goals as goal
+
+pub returns-in_err-names-clause-fault : goal.returns-in_err-names-clause-fault
+returns-in_err-names-clause-fault c =
+    let p = err_from_is_err_and c.from_residual.result c.from_residual.ensures.1 in
+    rw (p.1, p.2) (twice c.args.parts c.in_err-names.field-0.0 c.in_err-names.ensures.fault)
+
+pub returns-in_err-check-clause-fault : goal.returns-in_err-check-clause-fault
+returns-in_err-check-clause-fault c =
+    let p = err_from_is_err_and c.from_residual-in_err-check.result c.from_residual-in_err-check.ensures.1 in
+    rw (p.1, p.2) (later_named c.args.parts c.in_err-check.field-0.0 c.in_ok-names.ensures.fault c.in_err-check.ensures)
+
+pub invariant_of-result : goal.invariant_of-result
+invariant_of-result c = record {
+  airport = airport_of c.args.parts c.requires.station c.requires.first (later c.args.parts None c.in_ok-names.ensures.fault c.in_ok-check.ensures);
+  stands_named = c.in_ok-names.ensures.stands;
+  types_named = c.in_ok-names.ensures.types;
+}
+
+pub returns-clause-fault : goal.returns-clause-fault
+returns-clause-fault c = later c.args.parts None c.in_ok-names.ensures.fault c.in_ok-check.ensures

@@ -1,0 +1,108 @@
+-- Why an airport is refused: the first of the reasons in a fixed order, and of its names the first in list order.
+use Rattle.std.specs.Prelude.{ℕ, Bool, false, ◌&&◌, ◌||◌, not, nat_le, nat_lt, List, length, Option, None, Some, is_some, is_none, find, count_by, option_and_then, if◌then◌else◌}
+use Rattle.std.specs.Option.{option_map, option_or}
+use Rattle.std.specs.List.{list_all}
+use Rattle.std.specs.Str.{bytes_eq}
+use Rattle.apron_base.specs.Letter.{letter_for}
+use Rattle.apron_rules.specs.declared.parts.AirportParts.{AirportParts}
+use Rattle.apron_rules.specs.declared.parts.StandRow.{StandRow}
+use Rattle.apron_rules.specs.declared.parts.TypeRow.{TypeRow}
+use Rattle.apron_rules.specs.declared.parts.PairRow.{PairRow}
+use Rattle.apron_rules.specs.declared.parts.Frontage.{Frontage}
+use Rattle.apron_rules.specs.Names.{frontage_names, stand_names, type_names, is_known, is_named, first_repeated}
+use Rattle.apron_rules.specs.declared.refusals.Limit.{Limit}
+use Rattle.apron_rules.specs.declared.refusals.Limit.TheVariants as limit
+use Rattle.apron_rules.specs.declared.refusals.AirportFault.{AirportFault}
+use Rattle.apron_rules.specs.declared.refusals.AirportFault.TheVariants.{DuplicateName, UnknownName, BadHalf, LimitPassed, BadSpan}
+
+-- a name twice among the frontages, then among the stands, then among the types
+abbrev pub duplicate_of : AirportParts → Option (List ℕ)
+duplicate_of parts = option_or (first_repeated (frontage_names parts)) (option_or (first_repeated (stand_names parts)) (first_repeated (type_names parts)))
+
+-- what f finds in the first row in which it finds something
+abbrev pub first_found : {Row Found : Type 0} → (Row → Option Found) → List Row → Option Found
+first_found f rows = option_and_then f (find (λ row. is_some (f row)) rows)
+
+-- the name, where it is none of these
+abbrev pub unless_known : List (List ℕ) → List ℕ → Option (List ℕ)
+unless_known names name = if is_known name names then None else Some name
+
+-- the stand's frontage, then the stand of which it is a half
+abbrev pub unknown_of_stand : List (List ℕ) → List (List ℕ) → StandRow → Option (List ℕ)
+unknown_of_stand frontages stands row = option_or (unless_known frontages row.frontage) (option_and_then (unless_known stands) row.half_of)
+
+abbrev pub unknown_of_pair : List (List ℕ) → PairRow → Option (List ℕ)
+unknown_of_pair stands pair = option_or (unless_known stands pair.a) (unless_known stands pair.b)
+
+-- a name that is nowhere: of the first stand that names one, then of the first pair restriction
+abbrev pub unknown_of : AirportParts → Option (List ℕ)
+unknown_of parts =
+    option_or (first_found (unknown_of_stand (frontage_names parts) (stand_names parts)) parts.stands) (first_found (unknown_of_pair (stand_names parts)) parts.pairs)
+
+-- how many stands are halves of the stand of this name
+abbrev pub halves_of : List ℕ → List StandRow → ℕ
+halves_of name stands = count_by (λ row. is_named row.half_of name) stands
+
+-- the stand of this name is a half itself, is on another frontage, or has more than two halves
+abbrev pub is_bad_whole : List StandRow → StandRow → Option StandRow → Bool
+is_bad_whole stands half None = false
+is_bad_whole stands half (Some whole) = is_some whole.half_of || not (bytes_eq half.frontage whole.frontage) || nat_lt 2 (halves_of whole.name stands)
+
+abbrev pub stand_named : List StandRow → List ℕ → Option StandRow
+stand_named stands name = find (λ row. bytes_eq name row.name) stands
+
+abbrev pub is_bad_half : List StandRow → StandRow → Bool
+is_bad_half stands half = is_bad_whole stands half (option_and_then (stand_named stands) half.half_of)
+
+-- the first stand that is a half of no proper whole
+abbrev pub bad_half_of : AirportParts → Option (List ℕ)
+bad_half_of parts = option_map (λ row. row.name) (find (is_bad_half parts.stands) parts.stands)
+
+abbrev pub is_within : ℕ → ℕ → ℕ → Bool
+is_within low high n = nat_le low n && nat_le n high
+
+-- the limit, unless it is kept
+abbrev pub unless_kept : Limit → Bool → Option Limit
+unless_kept which kept = if kept then None else Some which
+
+-- at most 50 objects, each at a place up to 1,000,000 cm
+abbrev pub are_objects_kept : Frontage → Bool
+are_objects_kept frontage = nat_le (length frontage.objects) 50 && list_all (λ place. nat_le place 1000000) frontage.objects
+
+abbrev pub number_limit : AirportParts → Option Limit
+number_limit parts =
+    option_or (unless_kept limit.Days (is_within 1 14 parts.days)) (option_or (unless_kept limit.TaxiIn (nat_le parts.taxi_in 60)) (unless_kept limit.Tow (is_within 1 240 parts.tow)))
+
+abbrev pub frontage_limit : List Frontage → Option Limit
+frontage_limit frontages =
+    option_or (unless_kept limit.Frontages (nat_le (length frontages) 50)) (unless_kept limit.Objects (list_all are_objects_kept frontages))
+
+abbrev pub stand_limit : List StandRow → Option Limit
+stand_limit stands =
+    option_or (unless_kept limit.Stands (is_within 1 400 (length stands))) (option_or (unless_kept limit.Centre (list_all (λ row. nat_le row.centre 1000000) stands)) (unless_kept limit.Buffer (list_all (λ row. nat_le row.buffer 240) stands)))
+
+abbrev pub type_limit : List TypeRow → Option Limit
+type_limit types =
+    option_or (unless_kept limit.Types (is_within 1 400 (length types))) (unless_kept limit.Least (list_all (λ row. is_within 1 600 row.least) types))
+
+-- the first limit that is passed, in the order of the limits
+abbrev pub limit_of : AirportParts → Option Limit
+limit_of parts =
+    option_or (number_limit parts) (option_or (frontage_limit parts.frontages) (option_or (stand_limit parts.stands) (option_or (unless_kept limit.Pairs (nat_le (length parts.pairs) 1000)) (type_limit parts.types))))
+
+-- the first type of whose span there is no code letter
+abbrev pub bad_span_of : AirportParts → Option (List ℕ)
+bad_span_of parts = option_map (λ row. row.name) (find (λ row. is_none (letter_for row.span)) parts.types)
+
+-- the first reason in this order
+abbrev pub first_reason : Option (List ℕ) → Option (List ℕ) → Option Limit → Option (List ℕ) → Option AirportFault
+first_reason unknown half passed span =
+    option_or (option_map UnknownName unknown) (option_or (option_map BadHalf half) (option_or (option_map LimitPassed passed) (option_map BadSpan span)))
+
+-- the refusals behind that of a name that is there twice
+unfoldable pub later_fault_of : AirportParts → Option AirportFault
+later_fault_of parts = first_reason (unknown_of parts) (bad_half_of parts) (limit_of parts) (bad_span_of parts)
+
+-- why the airport is refused, or none where it is an airport
+unfoldable pub fault_of : AirportParts → Option AirportFault
+fault_of parts = option_or (option_map DuplicateName (duplicate_of parts)) (later_fault_of parts)

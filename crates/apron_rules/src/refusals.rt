@@ -1,0 +1,47 @@
+// Why an airport is refused.
+use apron_base::Name;
+
+/// Why parts are no airport: the first of these in their order.
+#[derive(Clone, Copy, Debug, PartialEq, Eq)]
+pub enum AirportFault {
+    /// The first frontage, stand or type whose name an earlier one of its kind has.
+    DuplicateName(Name),
+    /// The first frontage or stand that a stand or a pair restriction names and that isn't there.
+    UnknownName(Name),
+    /// The first stand that is a half of one that is a half itself, is on another frontage, or has more
+    /// than two halves.
+    BadHalf(Name),
+    /// The first limit that is passed.
+    LimitPassed(Limit),
+    /// The first type of whose span there is no code letter.
+    BadSpan(Name),
+    /// Memory is wanting.
+    Memory,
+}
+
+/// The limits of an airport, in the order in which they are looked at.
+#[derive(Clone, Copy, Debug, PartialEq, Eq)]
+pub enum Limit {
+    /// 1 to 14 days.
+    Days,
+    /// 0 to 60 minutes from touchdown to on block.
+    TaxiIn,
+    /// 1 to 240 minutes of a tow.
+    Tow,
+    /// 50 frontages.
+    Frontages,
+    /// 50 objects on a frontage, each at 0 to 1,000,000 cm.
+    Objects,
+    /// 1 to 400 stands.
+    Stands,
+    /// A centreline at 0 to 1,000,000 cm.
+    Centre,
+    /// A buffer of 0 to 240 minutes.
+    Buffer,
+    /// 1,000 pair restrictions.
+    Pairs,
+    /// 1 to 400 types.
+    Types,
+    /// 1 to 600 least minutes.
+    Least,
+}
