@@ -1,0 +1,69 @@
+-- A step of the walk over the records of a text.
+use Rattle.std.proofs.Common.{◌≡◌, ℕ, zero, suc, ◌+◌, true, false, List, [], ◌∷◌, ◌++◌, Option, Some, None, Result, Ok, Err, refl, sym, append_assoc, add-one}
+use Rattle.std.proofs.lemmas.Bool.{false≢true}
+use Rattle.std.proofs.lemmas.List.{append-nil}
+use Rattle.csv.specs.Machine.{Read, next_record}
+use Rattle.csv.specs.Reading.{default_config, records_from}
+use Rattle.csv.specs.declared.parser.State.{State}
+use Rattle.csv.specs.declared.reader.Reader.{Reader}
+use Rattle.apron_rules.specs.declared.parts.TypeRow.{TypeRow}
+use Rattle.airport_files.specs.declared.types.TableFault.{TableFault}
+use Rattle.airport_files.specs.declared.types.TableFault.TheVariants.{BadRow}
+use Rattle.airport_files.specs.TypeRows.{is_header, row_of}
+use Rattle.airport_files.specs.Reading.{IsReading, Found}
+use Rattle.airport_files.specs.Table.{◌>>=◌, rows_from, table_of, rows_left, table_from}
+
+-- the rows found so far, and those of the rest
+abbrev pub joined : List TypeRow → Result (List TypeRow) TableFault → Result (List TypeRow) TableFault
+joined found rest = rest >>= (λ more. Ok (found ++ more))
+
+joined-cons : (found : List TypeRow) (row : TypeRow) (rest : Result (List TypeRow) TableFault) → joined found (rest >>= (λ more. Ok (row ∷ more))) ≡ joined (found ++ row ∷ []) rest
+joined-cons found row (Ok more) = rw append_assoc
+joined-cons found row (Err e) = refl
+
+pub joined-nil : (rest : Result (List TypeRow) TableFault) → joined [] rest ≡ rest
+joined-nil (Ok more) = refl
+joined-nil (Err e) = refl
+
+pub step-row : (k j m n : ℕ) (s : State) (left : List ℕ) (p : Read) (found : List TypeRow) (row : TypeRow) → j ≡ k + 1 → m ≡ n + 1 → next_record default_config s [] [] left ≡ Some p → row_of p.0 ≡ Some row
+    → joined found (rows_left k m s left) ≡ joined (found ++ row ∷ []) (rows_left j n p.1 p.2)
+unfolding records_from rows_from
+step-row k j m n s left p found row after turn next good = rw (after, turn, add-one n, next, good) (joined-cons found row _)
+
+pub walk-start : (m n : ℕ) (s : State) (left : List ℕ) (found : List TypeRow) → found ≡ [] → m ≡ n → joined found (rows_left 2 m s left) ≡ rows_left 2 n s left
+walk-start m n s left found none same = rw (none, same) (joined-nil (rows_left 2 n s left))
+
+pub step-bad : (k m n : ℕ) (s : State) (left : List ℕ) (p : Read) (found : List TypeRow) → m ≡ n + 1 → next_record default_config s [] [] left ≡ Some p → row_of p.0 ≡ None
+    → joined found (rows_left k m s left) ≡ Err (BadRow k)
+unfolding records_from rows_from
+step-bad k m n s left p found turn next bad = rw (turn, add-one, next, bad)
+
+pub step-end : (k n : ℕ) (s : State) (left : List ℕ) (found : List TypeRow) → next_record default_config s [] [] left ≡ None → joined found (rows_left k n s left) ≡ Ok found
+unfolding records_from rows_from
+step-end k zero s left found none = rw (append-nil found)
+step-end k (suc n) s left found none = rw (none, append-nil found)
+
+pub out_of_turns : (k n : ℕ) (s : State) (left : List ℕ) (found : List TypeRow) → n ≡ 0 → joined found (rows_left k n s left) ≡ Ok found
+unfolding records_from rows_from
+out_of_turns k n s left found over = rw (over, append-nil found)
+
+pub header-none : (n : ℕ) (s : State) (left : List ℕ) → next_record default_config s [] [] left ≡ None → table_from (n + 1) s left ≡ Err (BadRow 1)
+unfolding records_from table_of
+header-none n s left none = rw (add-one, none)
+
+pub header-bad : (n : ℕ) (s : State) (left : List ℕ) (p : Read) → next_record default_config s [] [] left ≡ Some p → is_header p.0 ≡ false → table_from (n + 1) s left ≡ Err (BadRow 1)
+unfolding records_from table_of
+header-bad n s left p next bad = rw (add-one, next, bad)
+
+pub header-good : (n : ℕ) (s : State) (left : List ℕ) (p : Read) → next_record default_config s [] [] left ≡ Some p → is_header p.0 ≡ true → table_from (n + 1) s left ≡ rows_left 2 n p.1 p.2
+unfolding records_from table_of
+header-good n s left p next good = rw (add-one, next, good)
+
+-- what a read that found a record, or none, says
+pub found-some : {R : Type 0} (rem : R → Option (List ℕ)) (r : Reader R) (fields : List (List ℕ)) (o : Option Read) → Found rem r true fields o → (p : Read) × (o ≡ Some p) × (fields ≡ p.0) × IsReading rem r p.1 p.2
+found-some rem r fields None h = absurd (false≢true (sym h))
+found-some rem r fields (Some p) h = (p, refl, h.1, h.2)
+
+pub found-none : {R : Type 0} (rem : R → Option (List ℕ)) (r : Reader R) (fields : List (List ℕ)) (o : Option Read) → Found rem r false fields o → o ≡ None
+found-none rem r fields None h = refl
+found-none rem r fields (Some p) h = absurd (false≢true h.0)

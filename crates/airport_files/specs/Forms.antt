@@ -1,0 +1,83 @@
+-- The forms of values in an airport file, and what a key holds in a form.
+use Rattle.std.specs.Prelude.{ℕ, ℤ, pos, negsuc, ◌^◌, ◌&&◌, ◌||◌, ◌==◌, nat_lt, nat_le, Bool, List, length, slice_index, Option, Some, None, Result, Ok, Err, option_and_then, if◌then◌else◌}
+use Rattle.std.specs.List.{list_all}
+use Rattle.toml.specs.Data.{Data, as_integer, as_str}
+use Rattle.apron_base.specs.declared.letter.Letter.{Letter}
+use Rattle.apron_base.specs.declared.letter.Letter.TheVariants.{A, B, C, D, E, F}
+use Rattle.apron_dates.specs.Dates.{read_date}
+use Rattle.apron_dates.specs.declared.day.Date.{Date}
+use Rattle.apron_rules.specs.Names.{is_station}
+use Rattle.airport_files.specs.declared.keys.Key.{Key}
+use Rattle.airport_files.specs.declared.keys.WalkFault.{WalkFault}
+use Rattle.airport_files.specs.declared.keys.WalkFault.TheVariants.{Missing, Wrong}
+
+abbrev pub is_capital : ℕ → Bool
+is_capital b = nat_le 65 b && nat_le b 90
+
+abbrev pub is_decimal : ℕ → Bool
+is_decimal b = nat_le 48 b && nat_le b 57
+
+abbrev pub is_short_byte : ℕ → Bool
+is_short_byte b = is_capital b || is_decimal b
+
+-- so many capitals or digits
+abbrev pub is_short_name : ℕ → ℕ → List ℕ → Bool
+is_short_name least most text = nat_le least (length text) && nat_le (length text) most && list_all is_short_byte text
+
+abbrev pub text_if : (List ℕ → Bool) → List ℕ → Option (List ℕ)
+text_if test text = if test text then Some text else None
+
+-- a name of 1 to 6 capitals or digits
+abbrev pub name_of : Data → Option (List ℕ)
+name_of d = option_and_then (text_if (is_short_name 1 6)) (as_str d)
+
+-- three capitals
+abbrev pub station_of : Data → Option (List ℕ)
+station_of d = option_and_then (text_if is_station) (as_str d)
+
+-- a date YYYY-MM-DD
+abbrev pub date_of : Data → Option Date
+date_of d = option_and_then read_date (as_str d)
+
+abbrev pub letter_of_byte : ℕ → Option Letter
+letter_of_byte b =
+    if b == 65 then Some A
+    else (if b == 66 then Some B
+    else (if b == 67 then Some C
+    else (if b == 68 then Some D
+    else (if b == 69 then Some E
+    else (if b == 70 then Some F else None)))))
+
+abbrev pub letter_named : List ℕ → Option Letter
+letter_named text = if length text == 1 then letter_of_byte (slice_index text 0) else None
+
+-- one of the texts A to F
+abbrev pub letter_of : Data → Option Letter
+letter_of d = option_and_then letter_named (as_str d)
+
+abbrev pub in_u32 : ℤ → Option ℕ
+in_u32 (pos n) = if nat_lt n (2 ^ 32) then Some n else None
+in_u32 (negsuc n) = None
+
+-- a whole number from 0 to 4294967295
+abbrev pub number_of : Data → Option ℕ
+number_of d = option_and_then in_u32 (as_integer d)
+
+-- a value in a form, or a fault at its key
+abbrev pub in_form : {A : Type 0} → Key → Option A → Result A WalkFault
+in_form at None = Err (Wrong at)
+in_form at (Some x) = Ok x
+
+-- what a key holds, in a form
+abbrev pub at_key : {A : Type 0} → (Data → Option A) → Key → Option Data → Result A WalkFault
+at_key form at None = Err (Missing at)
+at_key form at (Some d) = in_form at (form d)
+
+abbrev pub in_form_if_there : {A : Type 0} → Key → Option A → Result (Option A) WalkFault
+in_form_if_there at None = Err (Wrong at)
+in_form_if_there at (Some x) = Ok (Some x)
+
+-- the same of a key that may be missing
+abbrev pub if_there : {A : Type 0} → (Data → Option A) → Key → Option Data → Result (Option A) WalkFault
+if_there form at None = Ok None
+if_there form at (Some d) = in_form_if_there at (form d)

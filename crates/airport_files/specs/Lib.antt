@@ -1,0 +1,9 @@
+pub mod Words
+pub mod Forms
+pub mod Rows
+pub mod Layout
+pub mod Document
+pub mod TypeRows
+pub mod Reading
+pub mod Table
+pub mod Meaning

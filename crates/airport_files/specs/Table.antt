@@ -1,0 +1,43 @@
+-- The table of a text, or its first bad record.
+use Rattle.std.specs.Prelude.{ℕ, ◌+◌, List, [], ◌∷◌, length, Option, Some, None, Result, Ok, Err, if◌then◌else◌}
+use Rattle.csv.specs.Reading.{default_config, records_from, strip_bom}
+use Rattle.csv.specs.declared.parser.State.{State}
+use Rattle.csv.specs.declared.parser.State.TheVariants as st
+use Rattle.apron_rules.specs.declared.parts.TypeRow.{TypeRow}
+use Rattle.airport_files.specs.declared.types.TableFault.{TableFault}
+use Rattle.airport_files.specs.declared.types.TableFault.TheVariants.{BadRow}
+use Rattle.airport_files.specs.TypeRows.{is_header, row_of}
+
+infixl 10 ◌>>=◌
+abbrev pub ◌>>=◌ : {A B : Type 0} → Result A TableFault → (A → Result B TableFault) → Result B TableFault
+Ok x >>= f = f x
+Err e >>= f = Err e
+
+-- record k in its form
+abbrev pub in_form : ℕ → Option TypeRow → Result TypeRow TableFault
+in_form k None = Err (BadRow k)
+in_form k (Some row) = Ok row
+
+-- the records from the k-th on
+unfoldable pub rows_from : ℕ → List (List (List ℕ)) → Result (List TypeRow) TableFault
+rows_from k [] = Ok []
+rows_from k (fields ∷ rest) = do
+  row ← in_form k (row_of fields)
+  more ← rows_from (k + 1) rest
+  Ok (row ∷ more)
+
+unfoldable pub table_of : List (List (List ℕ)) → Result (List TypeRow) TableFault
+table_of [] = Err (BadRow 1)
+table_of (header ∷ rows) = if is_header header then rows_from 2 rows else Err (BadRow 1)
+
+-- the rest of the walk, from a state and the bytes that are left: at most so many records
+abbrev pub rows_left : ℕ → ℕ → State → List ℕ → Result (List TypeRow) TableFault
+rows_left k turns s left = rows_from k (records_from default_config turns s left)
+
+-- the whole of it
+abbrev pub table_from : ℕ → State → List ℕ → Result (List TypeRow) TableFault
+table_from turns s left = table_of (records_from default_config turns s left)
+
+-- the table of a text
+abbrev pub table_in : List ℕ → Result (List TypeRow) TableFault
+table_in text = table_from (length text + 1) st.StartRecord (strip_bom text)

@@ -1,0 +1,48 @@
+-- The form of a record of a type file.
+use Rattle.std.specs.Prelude.{ℕ, ◌&&◌, ◌==◌, nat_le, Bool, false, List, length, codes, Option, Some, None, option_and_then, if◌then◌else◌}
+use Rattle.std.specs.List.{list_all}
+use Rattle.std.specs.Str.{bytes_eq}
+use Rattle.std.specs.Str.Parse.{digits_value}
+use Rattle.csv.specs.Records.{field_at}
+use Rattle.apron_rules.specs.declared.parts.TypeRow.{TypeRow}
+use Rattle.airport_files.specs.Forms.{is_decimal, is_short_name, text_if}
+
+infixl 10 ◌>>=◌
+abbrev pub ◌>>=◌ : {A B : Type 0} → Option A → (A → Option B) → Option B
+o >>= f = option_and_then f o
+
+abbrev pub is_number : List ℕ → Bool
+is_number text = (nat_le 1 (length text) && nat_le (length text) 9) && list_all is_decimal text
+
+-- the number of 1 to 9 digits
+abbrev pub number_from : List ℕ → Option ℕ
+number_from text = if is_number text then Some (digits_value 10 text) else None
+
+abbrev pub field_is : List ℕ → Option (List ℕ) → Bool
+field_is word None = false
+field_is word (Some field) = bytes_eq field word
+
+abbrev pub is_field : List (List ℕ) → ℕ → List ℕ → Bool
+is_field fields i word = field_is word (field_at fields i)
+
+-- the first record
+abbrev pub is_header : List (List ℕ) → Bool
+is_header fields = (length fields == 3) && (is_field fields 0 (codes "type") && (is_field fields 1 (codes "span") && is_field fields 2 (codes "least")))
+
+-- a name of 2 to 4 capitals or digits
+abbrev pub name_in : List (List ℕ) → ℕ → Option (List ℕ)
+name_in fields i = field_at fields i >>= text_if (is_short_name 2 4)
+
+abbrev pub number_in : List (List ℕ) → ℕ → Option ℕ
+number_in fields i = field_at fields i >>= number_from
+
+abbrev pub fields_in : List (List ℕ) → Option TypeRow
+fields_in fields = do
+  name ← name_in fields 0
+  span ← number_in fields 1
+  least ← number_in fields 2
+  Some (record { name = name; span = span; least = least })
+
+-- the type of a record: a name, a span and a least
+abbrev pub row_of : List (List ℕ) → Option TypeRow
+row_of fields = if length fields == 3 then fields_in fields else None

@@ -1,0 +1,75 @@
+// The table of a type file, read record by record.
+ghost use Rattle.std.specs.Prelude.{◌≡◌, ◌⊎◌, ℕ, List, Some, OnOk, IfErr, ◌<◌, ◌+◌, ◌^◌, length, MatchResult, Ok, Err};
+ghost use Rattle.csv.specs.declared.parser.State.{State};
+ghost use Rattle.airport_files.specs.Reading.{IsReading};
+ghost use Rattle.airport_files.specs.Table.{table_in, table_from, rows_left};
+
+use crate::reading::{read_row, start};
+use crate::type_rows::{is_header, row_of};
+use apron_base::Listed;
+use apron_rules::TypeRow;
+use csv::{ByteRecord, Reader};
+use std::alloc::Global;
+
+/// The first bad record, counted from 1, or want of memory.
+#[derive(Clone, Copy, PartialEq, Eq, Debug)]
+pub(crate) enum TableFault {
+    BadRow(u32),
+    Memory,
+}
+
+// Reads the first record, which is the header.
+fn read_header(rdr: &mut Reader<&[u8]>, row: &mut ByteRecord) -> Result<(), TableFault>
+    ensures ok { OnOk result ((turns : ℕ) (s : State) (left : List ℕ) → IsReading (λ b. Some b.now) rdr.old s left
+        → (t : State) × (rest : List ℕ) × IsReading (λ b. Some b.now) rdr.new t rest × (table_from (turns + 1) s left ≡ rows_left 2 turns t rest)) }
+    ensures err { IfErr result (λ e. (turns : ℕ) (s : State) (left : List ℕ) → IsReading (λ b. Some b.now) rdr.old s left
+        → (e ≡ TableFault.Memory) ⊎ (table_from (turns + 1) s left ≡ Err e)) }
+{
+    if !read_row(rdr, row)? {
+        return Err(TableFault::BadRow(1));
+    }
+    if is_header(row) {
+        Ok(())
+    } else {
+        Err(TableFault::BadRow(1))
+    }
+}
+
+// Reads the records after the header, as many as `turns`.
+fn read_rows(
+    alloc: Global,
+    rdr: &mut Reader<&[u8]>,
+    row: &mut ByteRecord,
+    turns: usize,
+) -> Result<Listed<TypeRow>, TableFault>
+    requires { turns < 2 ^ 31 }
+    ensures { (s : State) (left : List ℕ) → IsReading (λ b. Some b.now) rdr.old s left
+        → MatchResult result (λ v. rows_left 2 turns s left ≡ Ok v)
+        (λ e. (e ≡ TableFault.Memory) ⊎ (rows_left 2 turns s left ≡ Err e)) }
+{
+    let mut rows = Listed::new(alloc);
+    for k in 0..turns {
+        if !read_row(rdr, row)? {
+            return Ok(rows);
+        }
+        let Some(next) = row_of(row) else {
+            return Err(TableFault::BadRow(k as u32 + 2));
+        };
+        if rows.push(next).is_err() {
+            return Err(TableFault::Memory);
+        }
+    }
+    Ok(rows)
+}
+
+/// The types of a type file, or its first bad record.
+pub(crate) fn read_table(alloc: Global, text: &[u8]) -> Result<Listed<TypeRow>, TableFault>
+    requires { length text.now < 2 ^ 31 }
+    ensures { MatchResult result (λ v. table_in text.now ≡ Ok v)
+        (λ e. (e ≡ TableFault.Memory) ⊎ (table_in text.now ≡ Err e)) }
+{
+    let mut rdr = start(alloc, text);
+    let mut row = ByteRecord::new(alloc);
+    read_header(&mut rdr, &mut row)?;
+    read_rows(alloc, &mut rdr, &mut row, text.len())
+}
