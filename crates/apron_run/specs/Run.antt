@@ -13,7 +13,7 @@ use Rattle.desk_http.specs.Alone.{AloneAsks, numbers_from}
 use Rattle.desk_http.specs.Runs.{Runs}
 use Rattle.desk_http.specs.Session.{Sent, Sends, SessionOf, most_requests, refusal_text, texts_of}
 use Rattle.apron_run.specs.Demo.{demo_plan, fresh_port}
-use Rattle.apron_run.specs.declared.words.TheConstants.{HELP, VERSION, USAGE}
+use Rattle.apron_run.specs.Words.{help_text, usage_text, version_text}
 use Rattle.apron_run.specs.declared.words.Form.{Form}
 use Rattle.apron_run.specs.declared.words.Form.TheVariants.{DeskDemo, Help, Version, Faulty}
 
@@ -68,9 +68,9 @@ PrintsText text told0 told1 faults0 faults1 status =
 -- what the program does for what its words ask for
 abbrev pub RunsForm : Form → Option (List ℕ) → Option (List ℕ) → Option (List ℕ) → Option (List ℕ) → ℕ → ℕ → ℕ → Type 0
 RunsForm DeskDemo left0 left1 told0 told1 faults0 faults1 status = RunsDemo left0 left1 told0 told1 status
-RunsForm Help left0 left1 told0 told1 faults0 faults1 status = PrintsText HELP.now told0 told1 faults0 faults1 status
-RunsForm Version left0 left1 told0 told1 faults0 faults1 status = PrintsText VERSION.now told0 told1 faults0 faults1 status
-RunsForm Faulty left0 left1 told0 told1 faults0 faults1 status = Prints USAGE.now told0 told1 faults0 faults1 × (status ≡ 2)
+RunsForm Help left0 left1 told0 told1 faults0 faults1 status = PrintsText help_text told0 told1 faults0 faults1 status
+RunsForm Version left0 left1 told0 told1 faults0 faults1 status = PrintsText version_text told0 told1 faults0 faults1 status
+RunsForm Faulty left0 left1 told0 told1 faults0 faults1 status = Prints usage_text told0 told1 faults0 faults1 × (status ≡ 2)
 
 -- only the demo reads the source
 abbrev pub KeepsSource : {S : Type 0} → Form → S → S → Type 0

@@ -14,3 +14,16 @@ form_of [] = Faulty
 form_of (word ∷ []) = form_of_one word
 form_of (word ∷ next ∷ []) = if bytes_eq word (codes "desk") && bytes_eq next (codes "demo") then DeskDemo else Faulty
 form_of (word ∷ next ∷ third ∷ words) = Faulty
+
+-- what the word `--help` prints
+unfoldable pub help_text : List ℕ
+help_text =
+    codes "apron: airport stand allocation\n\napron desk demo    answers HTTP requests from standard input on standard output,\n                   for six built-in stands and four built-in visits\napron --help       prints this text\napron --version    prints the version\n"
+
+-- what the word `--version` prints
+unfoldable pub version_text : List ℕ
+version_text = codes "apron 0.1.0\n"
+
+-- what is printed for words that ask for nothing that there is
+unfoldable pub usage_text : List ℕ
+usage_text = codes "usage\n"

@@ -3,10 +3,10 @@ ghost use Rattle.std.specs.Prelude.{◌≡◌, ◌≤◌, ◌↔◌};
 ghost use Rattle.apron_base.specs.Outside.{Rose};
 ghost use Rattle.apron_run.specs.Demo.{demo_plan, fresh_port};
 ghost use Rattle.apron_run.specs.Run.{KeepsSource, Prints, PrintsText, RunsDemo, RunsForm, TellsHeadline, TiesStatus, status_of};
-ghost use Rattle.apron_run.specs.Words.{form_of};
+ghost use Rattle.apron_run.specs.Words.{form_of, usage_text};
 
 use crate::demo::visits;
-use crate::words::{Form, HELP, USAGE, VERSION, read};
+use crate::words::{Form, help, read, usage, version};
 use apron_base::{Failed, Outcome, Sink, Source, Word};
 use apron_rules::Airport;
 use desk_http::{Alone, session};
@@ -41,8 +41,8 @@ pub fn run<S: Source, W: Sink>(alloc: Global, words: &[Word], source: &mut S, si
 {
     match read(words) {
         Form::DeskDemo => desk_demo(alloc, source, sink),
-        Form::Help => print(sink, HELP),
-        Form::Version => print(sink, VERSION),
+        Form::Help => print(sink, help()),
+        Form::Version => print(sink, version()),
         Form::Faulty => print_usage(sink),
     }
 }
@@ -92,10 +92,10 @@ fn print<W: Sink>(sink: &mut W, text: &[u8]) -> u8
 
 // The line for faulty words. The status stays theirs where it can't be written.
 fn print_usage<W: Sink>(sink: &mut W) -> u8
-    ensures prints { Prints USAGE.now (W.told sink.old) (W.told sink.new) (W.faults sink.old) (W.faults sink.new) }
+    ensures prints { Prints usage_text (W.told sink.old) (W.told sink.new) (W.faults sink.old) (W.faults sink.new) }
     ensures status { result ≡ 2 }
     ensures later { W.faults sink.old ≤ W.faults sink.new }
 {
-    let _ = sink.put(USAGE);
+    let _ = sink.put(usage());
     2
 }

@@ -1,7 +1,7 @@
 // What the words of the command line ask for, and the texts that are printed.
 ghost use Rattle.std.specs.Prelude.{◌≡◌};
 ghost use Rattle.std.specs.Str.{bytes_eq};
-ghost use Rattle.apron_run.specs.Words.{form_of, form_of_one};
+ghost use Rattle.apron_run.specs.Words.{form_of, form_of_one, help_text, usage_text, version_text};
 
 use apron_base::Word;
 
@@ -17,14 +17,25 @@ pub(crate) enum Form {
 }
 
 /// What `--help` prints.
-pub(crate) const HELP: &[u8] =
-    b"apron: airport stand allocation\n\napron desk demo    answers HTTP requests from standard input on standard output,\n                   for six built-in stands and four built-in visits\napron --help       prints this text\napron --version    prints the version\n";
+pub(crate) fn help() -> &'static [u8]
+    ensures text { result.now ≡ help_text }
+{
+    b"apron: airport stand allocation\n\napron desk demo    answers HTTP requests from standard input on standard output,\n                   for six built-in stands and four built-in visits\napron --help       prints this text\napron --version    prints the version\n"
+}
 
 /// What `--version` prints.
-pub(crate) const VERSION: &[u8] = b"apron 0.1.0\n";
+pub(crate) fn version() -> &'static [u8]
+    ensures text { result.now ≡ version_text }
+{
+    b"apron 0.1.0\n"
+}
 
 /// What is printed for words that ask for nothing that there is.
-pub(crate) const USAGE: &[u8] = b"usage\n";
+pub(crate) fn usage() -> &'static [u8]
+    ensures text { result.now ≡ usage_text }
+{
+    b"usage\n"
+}
 
 /// What the words ask for.
 pub(crate) fn read(words: &[Word]) -> Form
