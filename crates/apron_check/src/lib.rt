@@ -7,3 +7,6 @@ mod line;
 
 pub use files::check;
 pub use finding::Finding;
+
+#[cfg(test)]
+mod tests;

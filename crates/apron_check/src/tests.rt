@@ -1,0 +1,380 @@
+// The lines and statuses of files, good and bad.
+use crate::check;
+use apron_base::{Kept, ListSink, Listed, MapShelf, Memory, Word};
+use std::alloc::{AllocError, Global};
+use std::test::Fail;
+
+const AIRPORT: &str = r#"frontage = [
+  { name = "N", objects = [0] },
+  { name = "S", objects = [0] },
+  { name = "R", objects = [] },
+  { name = "T", objects = [27500] },
+]
+stand = [
+  { name = "N1", frontage = "N", centre = 4000, letter = "C", buffer = 10 },
+  { name = "N2", frontage = "N", centre = 8030, letter = "C", buffer = 10 },
+  { name = "N3", frontage = "N", centre = 12059, letter = "E", buffer = 10 },
+  { name = "S1", frontage = "S", centre = 6000, letter = "C", buffer = 10 },
+  { name = "S2", frontage = "S", centre = 8890, letter = "C", buffer = 10 },
+  { name = "S3", frontage = "S", centre = 11779, letter = "E", buffer = 10 },
+  { name = "S4", frontage = "S", centre = 14670, letter = "C", buffer = 10 },
+  { name = "S5", frontage = "S", centre = 17559, letter = "C", buffer = 10 },
+  { name = "12", frontage = "R", centre = 10000, letter = "E", buffer = 10 },
+  { name = "12L", frontage = "R", centre = 8400, letter = "C", buffer = 10, half_of = "12" },
+  { name = "12R", frontage = "R", centre = 11600, letter = "C", buffer = 10, half_of = "12" },
+  { name = "14", frontage = "T", centre = 10000, letter = "F", buffer = 10 },
+  { name = "15", frontage = "T", centre = 25000, letter = "E", buffer = 10 },
+]
+pair = [ { a = "14", la = "E", b = "15", lb = "C" } ]
+
+[airport]
+station = "APR"
+first_day = "2026-03-27"
+days = 3
+taxi_in = 5
+tow = 20
+"#;
+
+const TYPES: &str = "type,span,least
+A320,3580,40
+B738,3579,40
+B77W,6480,60
+AT76,2705,25
+B190,1767,20
+A388,7975,90
+X360,3600,40
+";
+
+const OK: &str = "ok: 13 stands, 7 types, 3 days\n";
+
+const SAME: (&str, &str) = ("", "");
+
+fn edited(alloc: Global, text: &str, edit: (&str, &str)) -> Result<String, AllocError> {
+    match text.split_once(edit.0) {
+        Some((before, after)) => format!(in alloc; "{}{}{}", before, edit.1, after),
+        None => format!(in alloc; "no such text"),
+    }
+}
+
+fn kept(alloc: Global, name: &str, text: &str) -> Result<Kept, Memory> {
+    Ok(Kept {
+        name: Word::new(alloc, name)?,
+        bytes: Listed::from_vec(Vec::from_slice(alloc, text.as_bytes())?),
+    })
+}
+
+// The status, and what was written.
+fn checked(
+    alloc: Global,
+    airport: &str,
+    types: &str,
+    failing_reads: &[u64],
+    failing_puts: &[u64],
+) -> Result<(u8, Vec<u8>), Memory> {
+    let files = Vec::from_array(
+        alloc,
+        [kept(alloc, "A", airport)?, kept(alloc, "T", types)?],
+    )?;
+    let mut shelf = MapShelf::new(files, Vec::from_slice(alloc, failing_reads)?);
+    let mut sink = ListSink::new(alloc, 1000, Vec::from_slice(alloc, failing_puts)?)?;
+    let status = check(alloc, "A", "T", &mut shelf, &mut sink);
+    Ok((status, Vec::from_slice(alloc, sink.bytes())?))
+}
+
+#[test]
+fn faults_of_the_airport_file_are_named(rt: HostRuntime) -> Result<(), Fail> {
+    let alloc = rt.alloc();
+    for (edit, line) in [
+        (SAME, OK),
+        (("tow = 20", "tow = 20\nbeacon = [1]"), OK),
+        (("pair = [", "pair = "), "airport file: not toml\n"),
+        (
+            ("days = 3", "days = 3\ndays = 3"),
+            "airport file: not toml\n",
+        ),
+        (
+            ("days = 3", "days = 9223372036854775808"),
+            "airport file: not toml\n",
+        ),
+        (("[airport]", "[field]"), "airport file: missing airport\n"),
+        (("tow = 20", ""), "airport file: missing airport.tow\n"),
+        (
+            ("\"APR\"", "\"AP1\""),
+            "airport file: wrong airport.station\n",
+        ),
+        (
+            ("03-27", "02-29"),
+            "airport file: wrong airport.first_day\n",
+        ),
+        (
+            ("days = 3", "days = \"3\""),
+            "airport file: wrong airport.days\n",
+        ),
+        (
+            ("taxi_in = 5", "taxi_in = -1"),
+            "airport file: wrong airport.taxi_in\n",
+        ),
+        (
+            ("tow = 20", "tow = 4294967296"),
+            "airport file: wrong airport.tow\n",
+        ),
+        (
+            ("\"N\", ", "\"NORTHER\", "),
+            "airport file: wrong frontage 1.name\n",
+        ),
+        (
+            ("[27500]", "[27500, 2.5]"),
+            "airport file: wrong frontage 4.objects\n",
+        ),
+        (
+            ("objects = []", "place = []"),
+            "airport file: missing frontage 3.objects\n",
+        ),
+        (
+            ("name = \"N1\"", "name = \"n1\""),
+            "airport file: wrong stand 1.name\n",
+        ),
+        (
+            ("frontage = \"T\"", "front = \"T\""),
+            "airport file: missing stand 12.frontage\n",
+        ),
+        (("8400", "true"), "airport file: wrong stand 10.centre\n"),
+        (("\"F\"", "\"G\""), "airport file: wrong stand 12.letter\n"),
+        (
+            ("\"F\", buffer = 10", "\"F\""),
+            "airport file: missing stand 12.buffer\n",
+        ),
+        (
+            ("half_of = \"12\"", "half_of = 12"),
+            "airport file: wrong stand 10.half_of\n",
+        ),
+        (("a = \"14\"", "a = \"\""), "airport file: wrong pair 1.a\n"),
+        (
+            ("la = \"E\"", "la = \"e\""),
+            "airport file: wrong pair 1.la\n",
+        ),
+        (("b = \"15\", ", ""), "airport file: missing pair 1.b\n"),
+        (
+            ("lb = \"C\"", "lb = \"CC\""),
+            "airport file: wrong pair 1.lb\n",
+        ),
+        (("pair = [ ", "pair = [ 1, "), "airport file: wrong pair\n"),
+    ] {
+        let airport = edited(alloc, AIRPORT, edit)?;
+        let (status, written) = checked(alloc, airport.as_str(), TYPES, &[], &[])?;
+        assert_eq!(rt; written.as_slice(), line.as_bytes());
+        assert_eq!(rt; status == 0, line == OK);
+    }
+    Ok(())
+}
+
+#[test]
+fn faults_of_the_type_file_are_numbered(rt: HostRuntime) -> Result<(), Fail> {
+    let alloc = rt.alloc();
+    for (edit, line) in [
+        (("A320", "\"A320\""), OK),
+        (("A320", "\nA320"), OK),
+        (("type,", "\u{feff}type,"), OK),
+        ((",span", ",Span"), "type file: record 1\n"),
+        (("span,least", "span"), "type file: record 1\n"),
+        (("B738,", "B738X,"), "type file: record 3\n"),
+        (("B738,", "B,"), "type file: record 3\n"),
+        (("B738,", "b738,"), "type file: record 3\n"),
+        (("7975,90", "7975,90,1"), "type file: record 7\n"),
+        (("7975,90", "7975"), "type file: record 7\n"),
+        ((",3600", ",1234567890"), "type file: record 8\n"),
+        ((",3600", ", 3600"), "type file: record 8\n"),
+        ((",3600", ","), "type file: record 8\n"),
+        (("A320,3580", "A320,8000"), "airport: span A320\n"),
+        (("A320,3580", "A320,0"), "airport: span A320\n"),
+        (("B738", "A320"), "airport: duplicate A320\n"),
+        (("1767,20", "1767,601"), "airport: limit least\n"),
+        (("1767,20", "1767,000000000"), "airport: limit least\n"),
+    ] {
+        let types = edited(alloc, TYPES, edit)?;
+        let (status, written) = checked(alloc, AIRPORT, types.as_str(), &[], &[])?;
+        assert_eq!(rt; written.as_slice(), line.as_bytes());
+        assert_eq!(rt; status == 0, line == OK);
+    }
+    for (types, line) in [
+        ("", "type file: record 1\n"),
+        ("type,span,least", "airport: limit types\n"),
+    ] {
+        let (status, written) = checked(alloc, AIRPORT, types, &[], &[])?;
+        assert_eq!(rt; written.as_slice(), line.as_bytes());
+        assert_eq!(rt; status, 3);
+    }
+    Ok(())
+}
+
+#[test]
+fn refusals_of_the_airport_are_named(rt: HostRuntime) -> Result<(), Fail> {
+    let alloc = rt.alloc();
+    for (edit, line) in [
+        (("name = \"S\"", "name = \"N\""), "airport: duplicate N\n"),
+        (
+            ("name = \"N2\"", "name = \"N1\""),
+            "airport: duplicate N1\n",
+        ),
+        (
+            ("\"15\", frontage = \"T\"", "\"15\", frontage = \"U\""),
+            "airport: unknown U\n",
+        ),
+        (
+            ("half_of = \"12\"", "half_of = \"13\""),
+            "airport: unknown 13\n",
+        ),
+        (("a = \"14\"", "a = \"16\""), "airport: unknown 16\n"),
+        (("b = \"15\"", "b = \"16\""), "airport: unknown 16\n"),
+        (
+            ("\"12R\", frontage = \"R\"", "\"12R\", frontage = \"T\""),
+            "airport: half 12R\n",
+        ),
+        (
+            (
+                "11600, letter = \"C\", buffer = 10, half_of = \"12\"",
+                "11600, letter = \"C\", buffer = 10, half_of = \"12L\"",
+            ),
+            "airport: half 12R\n",
+        ),
+        (
+            (
+                "10000, letter = \"F\", buffer = 10",
+                "10000, letter = \"F\", buffer = 10, half_of = \"14\"",
+            ),
+            "airport: half 14\n",
+        ),
+        (
+            (
+                "pair = [",
+                "pair = [ { a = \"14\", la = \"A\", b = \"14\", lb = \"F\" },",
+            ),
+            OK,
+        ),
+        (("days = 3", "days = 0"), "airport: limit days\n"),
+        (("days = 3", "days = 15"), "airport: limit days\n"),
+        (("taxi_in = 5", "taxi_in = 61"), "airport: limit taxi_in\n"),
+        (("tow = 20", "tow = 0"), "airport: limit tow\n"),
+        (("tow = 20", "tow = 241"), "airport: limit tow\n"),
+        (("27500", "1000001"), "airport: limit objects\n"),
+        (("8030", "1000001"), "airport: limit centre\n"),
+        (
+            ("\"F\", buffer = 10", "\"F\", buffer = 241"),
+            "airport: limit buffer\n",
+        ),
+    ] {
+        let airport = edited(alloc, AIRPORT, edit)?;
+        let (status, written) = checked(alloc, airport.as_str(), TYPES, &[], &[])?;
+        assert_eq!(rt; written.as_slice(), line.as_bytes());
+        assert_eq!(rt; status == 0, line == OK);
+    }
+    Ok(())
+}
+
+#[test]
+fn of_two_faults_the_earlier_is_named(rt: HostRuntime) -> Result<(), Fail> {
+    let alloc = rt.alloc();
+    for (first, second, types, line) in [
+        (
+            ("tow = 20", ""),
+            ("pair = [", "pair = "),
+            SAME,
+            "airport file: not toml\n",
+        ),
+        (
+            ("tow = 20", ""),
+            ("\"APR\"", "\"A\""),
+            SAME,
+            "airport file: wrong airport.station\n",
+        ),
+        (
+            ("\"F\"", "\"G\""),
+            ("a = \"14\"", "a = 1"),
+            SAME,
+            "airport file: wrong stand 12.letter\n",
+        ),
+        (
+            ("lb = \"C\"", "lb = 1"),
+            SAME,
+            (",span", ",s"),
+            "airport file: wrong pair 1.lb\n",
+        ),
+        (
+            ("name = \"N2\"", "name = \"N1\""),
+            SAME,
+            ("A320,", "A,"),
+            "type file: record 2\n",
+        ),
+        (
+            ("name = \"N2\"", "name = \"N1\""),
+            ("a = \"14\"", "a = \"16\""),
+            SAME,
+            "airport: duplicate N1\n",
+        ),
+        (
+            ("a = \"14\"", "a = \"16\""),
+            ("\"12R\", frontage = \"R\"", "\"12R\", frontage = \"T\""),
+            SAME,
+            "airport: unknown 16\n",
+        ),
+        (
+            ("days = 3", "days = 0"),
+            ("\"12R\", frontage = \"R\"", "\"12R\", frontage = \"T\""),
+            SAME,
+            "airport: half 12R\n",
+        ),
+        (
+            ("days = 3", "days = 0"),
+            ("tow = 20", "tow = 0"),
+            SAME,
+            "airport: limit days\n",
+        ),
+        (
+            ("tow = 20", "tow = 0"),
+            SAME,
+            ("A320,3580", "A320,8000"),
+            "airport: limit tow\n",
+        ),
+    ] {
+        let once = edited(alloc, AIRPORT, first)?;
+        let airport = edited(alloc, once.as_str(), second)?;
+        let types = edited(alloc, TYPES, types)?;
+        let (status, written) = checked(alloc, airport.as_str(), types.as_str(), &[], &[])?;
+        assert_eq!(rt; written.as_slice(), line.as_bytes());
+        assert_eq!(rt; status, 3);
+    }
+    Ok(())
+}
+
+#[test]
+fn the_shelf_and_the_sink_may_fail(rt: HostRuntime) -> Result<(), Fail> {
+    let alloc = rt.alloc();
+    for (types, reads, puts, line, status) in [
+        (TYPES, 9, 99, OK, 0),
+        (TYPES, 0, 99, "shelf fault\n", 4),
+        ("", 1, 99, "shelf fault\n", 4),
+        (TYPES, 9, 0, "", 6),
+        (TYPES, 9, 2, "ok: 13", 6),
+        ("", 9, 1, "type file: record ", 3),
+        (TYPES, 0, 0, "", 4),
+    ] {
+        let (got, written) = checked(alloc, AIRPORT, types, &[reads], &[puts])?;
+        assert_eq!(rt; written.as_slice(), line.as_bytes());
+        assert_eq!(rt; got, status);
+    }
+    Ok(())
+}
+
+#[test]
+fn files_over_a_mebibyte_are_too_long(rt: HostRuntime) -> Result<(), Fail> {
+    let alloc = rt.alloc();
+    let blanks = String::from_utf8(vec![in alloc; b' '; 1_048_577]?).unwrap_or(String::new(alloc));
+    assert_eq!(rt; blanks.len(), 1_048_577);
+    let (status, written) = checked(alloc, blanks.as_str(), blanks.as_str(), &[], &[])?;
+    assert_eq!(rt; written.as_slice(), b"airport file: too long\n".as_slice());
+    assert_eq!(rt; status, 3);
+    let (status, written) = checked(alloc, "", blanks.as_str(), &[], &[])?;
+    assert_eq!(rt; written.as_slice(), b"type file: too long\n".as_slice());
+    assert_eq!(rt; status, 3);
+    Ok(())
+}
