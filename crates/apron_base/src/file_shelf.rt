@@ -86,21 +86,21 @@ mod tests {
 
     #[test]
     fn files_are_read_up_to_their_limit(rt: HostRuntime) -> Result<(), Fail> {
-        // `out` is where the crate is built; it is not kept.
-        fs::write(&rt, "out/five", b"abcde")?;
+        fs::write(&rt, "five", b"abcde")?;
         let mut shelf = FileShelf::new(&rt);
         for (name, limit, want, faults, read) in [
-            ("out/five", 5, Ok(5), 0, 5),
-            ("out/five", 4, Err(ShelfFault::TooLong), 0, 10),
-            ("out/none", 5, Err(ShelfFault::Failed), 1, 10),
-            ("src", 5, Err(ShelfFault::Failed), 2, 10),
-            ("out/five", 6, Ok(5), 2, 15),
+            ("five", 5, Ok(5), 0, 5),
+            ("five", 4, Err(ShelfFault::TooLong), 0, 10),
+            ("none", 5, Err(ShelfFault::Failed), 1, 10),
+            (".", 5, Err(ShelfFault::Failed), 2, 10),
+            ("five", 6, Ok(5), 2, 15),
         ] {
             let got = length(shelf.read_file(rt.alloc(), name, limit));
             assert_eq!(rt; got, want);
             assert_eq!(rt; shelf.faults, faults);
             assert_eq!(rt; shelf.read, read);
         }
+        fs::remove_file(&rt, "five")?;
         Ok(())
     }
 }
