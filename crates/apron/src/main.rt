@@ -1,7 +1,7 @@
-//! apron: airport stand allocation, from the words of the command line, standard input and standard output.
+//! apron: airport stand allocation, from the words of the command line, files, standard input and standard output.
 #![tactic(auto)]
 
-use apron_base::{Memory, Reading, Word, Writing};
+use apron_base::{FileShelf, Memory, Reading, Word, Writing};
 use apron_run::run;
 use std::alloc::Global;
 use std::process::ExitCode;
@@ -15,9 +15,17 @@ fn main(rt: HostRuntime) -> ExitCode {
     let Ok(words) = words(&rt) else {
         return ExitCode::from(NO_MEMORY);
     };
+    let mut shelf = FileShelf::new(&rt);
     let mut source = Reading::new(rt.stdin());
     let mut sink = Writing::new(rt.stdout());
-    ExitCode::from(run(rt.alloc(), words.as_slice(), &mut source, &mut sink))
+    let status = run(
+        rt.alloc(),
+        words.as_slice(),
+        &mut shelf,
+        &mut source,
+        &mut sink,
+    );
+    ExitCode::from(status)
 }
 
 // The words after the program's name. Where one is no text, there are none, which is as faulty.

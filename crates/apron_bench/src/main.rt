@@ -6,7 +6,7 @@ mod requests;
 
 use crate::replies::Replies;
 use crate::requests::{Mix, commits};
-use apron_base::{Memory, SteadySource, Word};
+use apron_base::{Memory, SteadyShelf, SteadySource, Word};
 use apron_run::run;
 use std::alloc::Global;
 use std::time::Instant;
@@ -45,7 +45,13 @@ fn measure(rt: &HostRuntime, name: &str, mix: Mix, times: u32) -> io::Result<()>
         refused: 0,
     };
     let start = Instant::now(rt)?;
-    let status = run(alloc, words.as_slice(), &mut source, &mut replies);
+    let status = run(
+        alloc,
+        words.as_slice(),
+        &mut SteadyShelf::new(Vec::new(alloc)),
+        &mut source,
+        &mut replies,
+    );
     let micros = u64::try_from(start.elapsed(rt)?.as_micros())
         .unwrap_or(u64::MAX)
         .max(1);

@@ -13,9 +13,12 @@ use Rattle.desk_http.specs.Alone.{AloneAsks, numbers_from}
 use Rattle.desk_http.specs.Runs.{Runs}
 use Rattle.desk_http.specs.Session.{Sent, Sends, SessionOf, most_requests, refusal_text, texts_of}
 use Rattle.apron_run.specs.Demo.{demo_plan, fresh_port}
-use Rattle.apron_run.specs.Words.{help_text, usage_text, version_text}
+use Rattle.apron_check.specs.Findings.{IsFound}
+use Rattle.apron_check.specs.Lines.{Tells}
+use Rattle.apron_check.specs.declared.finding.Finding.{Finding}
+use Rattle.apron_run.specs.Words.{help_text, usage_text, version_text, word_at}
 use Rattle.apron_run.specs.declared.words.Form.{Form}
-use Rattle.apron_run.specs.declared.words.Form.TheVariants.{DeskDemo, Help, Version, Faulty}
+use Rattle.apron_run.specs.declared.words.Form.TheVariants.{DeskDemo, Check, Help, Version, Faulty}
 
 -- the status of a session's outcome
 abbrev pub status_of : Outcome → ℕ
@@ -65,19 +68,33 @@ abbrev pub PrintsText : List ℕ → Option (List ℕ) → Option (List ℕ) →
 PrintsText text told0 told1 faults0 faults1 status =
     ((status ≡ 0) × Appends told0 told1 text) ⊎ ((status ≡ 6) × ((count : ℕ) × Appends told0 told1 (take count text)) × Rose faults0 faults1)
 
--- what the program does for what its words ask for
-abbrev pub RunsForm : Form → Option (List ℕ) → Option (List ℕ) → Option (List ℕ) → Option (List ℕ) → ℕ → ℕ → ℕ → Type 0
-RunsForm DeskDemo left0 left1 told0 told1 faults0 faults1 status = RunsDemo left0 left1 told0 told1 status
-RunsForm Help left0 left1 told0 told1 faults0 faults1 status = PrintsText help_text told0 told1 faults0 faults1 status
-RunsForm Version left0 left1 told0 told1 faults0 faults1 status = PrintsText version_text told0 told1 faults0 faults1 status
-RunsForm Faulty left0 left1 told0 told1 faults0 faults1 status = Prints usage_text told0 told1 faults0 faults1 × (status ≡ 2)
+-- the line that tells what is in the airport file and the type file was written, with the status that goes with it
+abbrev pub ChecksFiles : Option (List ℕ) → Option (List ℕ) → Option (List ℕ) → Option (List ℕ) → ℕ → ℕ → ℕ → Type 0
+ChecksFiles airport types told0 told1 faults0 faults1 status = (found : Finding) × IsFound airport types found × Tells told0 told1 faults0 faults1 found status
+
+-- what the program does for what its words ask for, where the shelf has these files
+abbrev pub RunsForm : Form → List (List ℕ) → (List ℕ → Option (List ℕ)) → Option (List ℕ) → Option (List ℕ) → Option (List ℕ) → Option (List ℕ) → ℕ → ℕ → ℕ → Type 0
+RunsForm DeskDemo words files left0 left1 told0 told1 faults0 faults1 status = RunsDemo left0 left1 told0 told1 status
+RunsForm Check words files left0 left1 told0 told1 faults0 faults1 status = ChecksFiles (files (word_at 1 words)) (files (word_at 2 words)) told0 told1 faults0 faults1 status
+RunsForm Help words files left0 left1 told0 told1 faults0 faults1 status = PrintsText help_text told0 told1 faults0 faults1 status
+RunsForm Version words files left0 left1 told0 told1 faults0 faults1 status = PrintsText version_text told0 told1 faults0 faults1 status
+RunsForm Faulty words files left0 left1 told0 told1 faults0 faults1 status = Prints usage_text told0 told1 faults0 faults1 × (status ≡ 2)
 
 -- only the demo reads the source
 abbrev pub KeepsSource : {S : Type 0} → Form → S → S → Type 0
 KeepsSource DeskDemo before after = Unit {0}
+KeepsSource Check before after = after ≡ before
 KeepsSource Help before after = after ≡ before
 KeepsSource Version before after = after ≡ before
 KeepsSource Faulty before after = after ≡ before
+
+-- only the check reads the shelf
+abbrev pub KeepsShelf : {F : Type 0} → Form → F → F → Type 0
+KeepsShelf DeskDemo before after = after ≡ before
+KeepsShelf Check before after = Unit {0}
+KeepsShelf Help before after = after ≡ before
+KeepsShelf Version before after = after ≡ before
+KeepsShelf Faulty before after = after ≡ before
 
 -- the status that the ending of the input has
 abbrev pub status_of_ending : Ending → ℕ
@@ -122,6 +139,7 @@ TellsHeadline DeskDemo (Some input) (Some before) (Some after) status =
 TellsHeadline DeskDemo (Some input) (Some before) None status = ⊥
 TellsHeadline DeskDemo (Some input) None told1 status = Unit {0}
 TellsHeadline DeskDemo None told0 told1 status = Unit {0}
+TellsHeadline Check left0 told0 told1 status = Unit {0}
 TellsHeadline Help left0 told0 told1 status = Unit {0}
 TellsHeadline Version left0 told0 told1 status = Unit {0}
 TellsHeadline Faulty left0 told0 told1 status = Unit {0}
@@ -150,6 +168,7 @@ pub record EndsInput (input : List ℕ) (status : ℕ) : Type 0 where
 abbrev pub TiesStatus : Form → Option (List ℕ) → ℕ → Type 0
 TiesStatus DeskDemo (Some input) status = EndsInput input status ⊎ IsStopped input status
 TiesStatus DeskDemo None status = Unit {0}
+TiesStatus Check left0 status = Unit {0}
 TiesStatus Help left0 status = Unit {0}
 TiesStatus Version left0 status = Unit {0}
 TiesStatus Faulty left0 status = Unit {0}

@@ -1,5 +1,5 @@
 // What the words of the command line ask for, and the texts that are printed.
-ghost use Rattle.std.specs.Prelude.{◌≡◌};
+ghost use Rattle.std.specs.Prelude.{◌≡◌, ◌≢◌, length};
 ghost use Rattle.std.specs.Str.{bytes_eq};
 ghost use Rattle.apron_run.specs.Words.{form_of, form_of_one, help_text, usage_text, version_text};
 
@@ -10,6 +10,8 @@ use apron_base::Word;
 pub(crate) enum Form {
     /// One session on the built-in airport and visits.
     DeskDemo,
+    /// A check of the airport file and the type file that the two other words name.
+    Check,
     Help,
     Version,
     /// Nothing that there is.
@@ -20,7 +22,7 @@ pub(crate) enum Form {
 pub(crate) fn help() -> &'static [u8]
     ensures text { result.now ≡ help_text }
 {
-    b"apron: airport stand allocation\n\napron desk demo    answers HTTP requests from standard input on standard output,\n                   for six built-in stands and four built-in visits\napron --help       prints this text\napron --version    prints the version\n"
+    b"apron: airport stand allocation\n\napron desk demo              answers HTTP requests from standard input on standard output,\n                             for six built-in stands and four built-in visits\napron check AIRPORT TYPES    reads an airport file and a type file, and prints how much they\n                             hold, or the first fault in them\napron --help                 prints this text\napron --version              prints the version\n"
 }
 
 /// What `--version` prints.
@@ -40,16 +42,19 @@ pub(crate) fn usage() -> &'static [u8]
 /// What the words ask for.
 pub(crate) fn read(words: &[Word]) -> Form
     ensures form { result ≡ form_of words.now }
+    ensures names { result ≡ Form.Check → length words.now ≡ 3 }
 {
     match words {
         [word] => read_one(word),
         [word, next] if is(word, "desk") && is(next, "demo") => Form::DeskDemo,
+        [word, _, _] if is(word, "check") => Form::Check,
         _ => Form::Faulty,
     }
 }
 
 fn read_one(word: &Word) -> Form
     ensures form { result ≡ form_of_one word.now }
+    ensures no_files { result ≢ Form.Check }
 {
     if is(word, "--help") {
         Form::Help
