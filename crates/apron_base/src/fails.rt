@@ -23,7 +23,7 @@ impl Model for Fails {
 
 impl Fails {
     pub(crate) fn new(numbers: Vec<u64>) -> Fails
-        ensures { result ≡ 0 }
+        ensures none { result ≡ 0 }
     {
         Fails {
             numbers,
@@ -34,7 +34,7 @@ impl Fails {
 
     /// Counts a call, and says whether it is to fail.
     pub(crate) fn is_next(&mut self) -> bool
-        ensures { self.new ≡ self.old }
+        ensures same { self.new ≡ self.old }
     {
         let call = self.calls;
         self.calls = self.calls.saturating_add(1);
@@ -51,7 +51,7 @@ impl Fails {
 
     /// How many calls have failed.
     pub(crate) fn faults(&self) -> u64
-        ensures { result ≡ self.now }
+        ensures value { result ≡ self.now }
     {
         self.faults
     }

@@ -28,7 +28,7 @@ impl<'a, R> Model for FileShelf<'a, R> {
 impl<'a, R: Files> FileShelf<'a, R> {
     /// The files that this runtime opens, of which none has been asked for.
     pub fn new(rt: &'a R) -> Self
-        ensures { result ≡ record { faults = 0; read = 0 } }
+        ensures is { result ≡ record { faults = 0; read = 0 } }
     {
         FileShelf {
             rt,

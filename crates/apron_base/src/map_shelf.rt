@@ -37,7 +37,7 @@ impl Model for MapShelf {
 impl MapShelf {
     /// `fails` are the numbers of the calls that fail, from 0, in any order.
     pub fn new(files: Vec<Kept>, fails: Vec<u64>) -> Self
-        ensures { result ≡ record { files = files.items; faults = 0; read = 0 } }
+        ensures is { result ≡ record { files = files.items; faults = 0; read = 0 } }
     {
         MapShelf {
             files: Listed::from_vec(files),
@@ -88,7 +88,7 @@ impl Model for SteadyShelf {
 impl SteadyShelf {
     /// The shelf of these files, of which none has been asked for.
     pub fn new(files: Vec<Kept>) -> Self
-        ensures { result ≡ record { files = files.items; read = 0 } }
+        ensures is { result ≡ record { files = files.items; read = 0 } }
     {
         SteadyShelf {
             files: Listed::from_vec(files),
@@ -121,7 +121,7 @@ impl Shelf for SteadyShelf {
 }
 
 fn kept_of<'a>(files: &'a [Kept], name: &str) -> Option<&'a Kept>
-    ensures { option_copied result ≡ find (λ kept. bytes_eq kept.name name.now) files.now }
+    ensures first { option_copied result ≡ find (λ kept. bytes_eq kept.name name.now) files.now }
 {
     files.iter().find(|kept| kept.name.text() == name)
 }

@@ -21,7 +21,7 @@ pub trait Source {
     /// Takes at least one byte, and puts it at the front of `into`, which must not be empty. It gives how
     /// many it took; 0 is the end of input. At `Err` nothing was taken, and the count of faults rose.
     fn read(&mut self, into: &mut [u8]) -> Result<usize, Failed>
-        requires { 0 < length into.old }
+        requires room { 0 < length into.old }
         ensures bound { ReadsAtMost result into.new }
         ensures bytes { ReadConsumes (left self.old) (left self.new) result into.new }
         ensures cause { HasCause (faults self.old) (faults self.new) result };

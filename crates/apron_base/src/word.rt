@@ -22,7 +22,7 @@ impl Model for Word {
 impl Word {
     /// The word of this text. At `Err` memory is wanting.
     pub fn new(alloc: Global, text: &str) -> Result<Word, Memory>
-        ensures { IfOk result (λ word. word ≡ text.now) }
+        ensures ok { IfOk result (λ word. word ≡ text.now) }
     {
         Ok(Word {
             text: String::from_str(alloc, text)?,
@@ -31,7 +31,7 @@ impl Word {
 
     /// The text that the word was made of.
     pub fn text(&self) -> &str
-        ensures { result.now ≡ self.now }
+        ensures text { result.now ≡ self.now }
     {
         self.text.as_str()
     }

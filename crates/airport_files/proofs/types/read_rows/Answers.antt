@@ -4,7 +4,7 @@ use Rattle.airport_files.proofs.TableWalk.{found-some, found-none, walk-start, s
 use Rattle.airport_files.proofs.types.read_rows.Goals as goal
 
 pub loop-k-init : goal.loop-k-init
-loop-k-init c s left reading = (s, left, reading, walk-start (c.args.turns - 0) c.args.turns s left c.new-rows.result c.new-rows.ensures (omega arith))
+loop-k-init c s left reading = (s, left, reading, walk-start (c.args.turns - 0) c.args.turns s left c.new-rows.result c.new-rows.ensures.none (omega arith))
 
 pub returns-then-not-branch : goal.returns-then-not-branch
 returns-then-not-branch c s left reading =

@@ -12,24 +12,24 @@ pub returns-in-Some-bad_half : goal.returns-in-Some-bad_half
 returns-in-Some-bad_half c =
     let a = c.args.parts.now in
     reason_is a None (Some c.in-Some-bad_half.name) (limit_of a) (bad_span_of a) (sym c.in_default.is ∙ c.unknown.ensures)
-    (sym c.in-Some-bad_half.is ∙ rw c.as_slice.ensures at c.bad_half.ensures) refl refl
+    (sym c.in-Some-bad_half.is ∙ rw c.as_slice.ensures.items at c.bad_half.ensures) refl refl
 
 pub returns-in-Some-passed_limit : goal.returns-in-Some-passed_limit
 returns-in-Some-passed_limit c =
     let a = c.args.parts.now in
     reason_is a None None (Some c.in-Some-passed_limit.limit) (bad_span_of a) (sym c.in_default.is ∙ c.unknown.ensures)
-    (sym c.in_default-bad_half.is ∙ rw c.as_slice.ensures at c.bad_half.ensures) (sym c.in-Some-passed_limit.is ∙ c.passed_limit.ensures) refl
+    (sym c.in_default-bad_half.is ∙ rw c.as_slice.ensures.items at c.bad_half.ensures) (sym c.in-Some-passed_limit.is ∙ c.passed_limit.ensures) refl
 
 pub returns-in-Some-bad_span : goal.returns-in-Some-bad_span
 returns-in-Some-bad_span c =
     let a = c.args.parts.now in
     reason_is a None None None (Some c.in-Some-bad_span.name) (sym c.in_default.is ∙ c.unknown.ensures)
-    (sym c.in_default-bad_half.is ∙ rw c.as_slice.ensures at c.bad_half.ensures) (sym c.in_default-passed_limit.is ∙ c.passed_limit.ensures)
-    (sym c.in-Some-bad_span.is ∙ rw c.as_slice-2.ensures at c.bad_span.ensures)
+    (sym c.in_default-bad_half.is ∙ rw c.as_slice.ensures.items at c.bad_half.ensures) (sym c.in_default-passed_limit.is ∙ c.passed_limit.ensures)
+    (sym c.in-Some-bad_span.is ∙ rw c.as_slice-2.ensures.items at c.bad_span.ensures)
 
 pub returns-in-None : goal.returns-in-None
 returns-in-None c =
     let a = c.args.parts.now in
     reason_is a None None None None (sym c.in_default.is ∙ c.unknown.ensures)
-    (sym c.in_default-bad_half.is ∙ rw c.as_slice.ensures at c.bad_half.ensures) (sym c.in_default-passed_limit.is ∙ c.passed_limit.ensures)
-    (sym c.in-None.is ∙ rw c.as_slice-2.ensures at c.bad_span.ensures)
+    (sym c.in_default-bad_half.is ∙ rw c.as_slice.ensures.items at c.bad_half.ensures) (sym c.in_default-passed_limit.is ∙ c.passed_limit.ensures)
+    (sym c.in-None.is ∙ rw c.as_slice-2.ensures.items at c.bad_span.ensures)
