@@ -12,7 +12,7 @@ ghost use Rattle.plan_core.specs.Rebase.{Rebases, Refuses};
 
 /// Each part of visits that are numbered in order has one slot at most, so there is one first clash.
 pub fn slots_are_of_one_part()
-    ensures { (airport : AirportParts) (visits : List Visit) → IsNumbered visits → IsOfOnePart (slots_of airport visits) }
+    ensures apart { (airport : AirportParts) (visits : List Visit) → IsNumbered visits → IsOfOnePart (slots_of airport visits) }
 {}
 
 /// Want of memory aside, there is one answer to the edits of a commit: they are refused by one fault,

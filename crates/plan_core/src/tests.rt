@@ -17,7 +17,7 @@ use std::sync::ledger::{Blank, Ledger};
 use std::test::Fail;
 
 fn visit(number: u32, kind: u16, on: u32, off: u32) -> Visit
-    ensures { result ≡ record {
+    ensures is { result ≡ record {
       number = record { 0 = number };
       name = codes "V";
       kind = record { 0 = kind };
@@ -49,7 +49,7 @@ fn visit(number: u32, kind: u16, on: u32, off: u32) -> Visit
 }
 
 fn begin(alloc: Global, airport: &Airport) -> Result<Plan, AllocError>
-    requires { airport.now ≡ demo_airport }
+    requires airport { airport.now ≡ demo_airport }
     ensures airport { IfOk result (λ held. held.plan.airport ≡ airport.now) }
     ensures version { IfOk result (λ held. held.plan.version ≡ 0) }
 {
@@ -91,7 +91,7 @@ fn commit<L: Ledger>(
 }
 
 fn put(visit: u32, part: u8, stand: u16) -> Edit
-    ensures { result ≡ Edit.Put (record { 0 = visit }) part (record { 0 = stand }) }
+    ensures is { result ≡ Edit.Put (record { 0 = visit }) part (record { 0 = stand }) }
 {
     Edit::Put {
         visit: VisitNo(visit),

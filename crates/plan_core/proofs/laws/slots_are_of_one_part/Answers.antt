@@ -2,4 +2,4 @@ use Rattle.plan_core.proofs.OneSlot.{slots_one}
 use Rattle.plan_core.proofs.laws.slots_are_of_one_part.Goals as goal
 
 pub returns : goal.returns
-returns c = slots_one
+returns c = record { apart = slots_one }
