@@ -5,7 +5,7 @@ ghost use Rattle.http_framing.specs.Blank.{is_blank};
 /// Whether the bytes are empty lines, of which the last may lack its LF: where a stream of fewer
 /// than `MAX_HEAD` such bytes ends, it ends between requests.
 pub fn are_blank(bytes: &[u8]) -> bool
-    ensures { result ≡ is_blank bytes.now }
+    ensures is { result ≡ is_blank bytes.now }
 {
     let mut after_cr = false;
     for byte in bytes {

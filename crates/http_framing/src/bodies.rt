@@ -32,8 +32,8 @@ pub(crate) fn body_length(
     fields: &[HeaderSpan],
     spans: &RequestSpans,
 ) -> Result<usize, Refusal>
-    requires { IsRequestWithin bytes.now fields.now spans.now }
-    ensures { (h : RequestHead) → IsRequestAt bytes.now fields.now spans.now h
+    requires inside { IsRequestWithin bytes.now fields.now spans.now }
+    ensures value { (h : RequestHead) → IsRequestAt bytes.now fields.now spans.now h
         → result ≡ framed h.method (pairs h) }
 {
     length_by(bytes, &fields[..spans.headers], spans.method.of(bytes))
@@ -41,8 +41,8 @@ pub(crate) fn body_length(
 
 /// The same by the fields and the method.
 fn length_by(bytes: &[u8], fields: &[HeaderSpan], method: &[u8]) -> Result<usize, Refusal>
-    requires { All (IsHeaderWithin (length bytes.now)) fields.now }
-    ensures { result ≡ framed method.now (map (header_bytes bytes.now) fields.now) }
+    requires fields { All (IsHeaderWithin (length bytes.now)) fields.now }
+    ensures value { result ≡ framed method.now (map (header_bytes bytes.now) fields.now) }
 {
     let OnlyValue::Nothing = only_value(bytes, fields, b"transfer-encoding") else {
         return Err(Refusal::Encoding);

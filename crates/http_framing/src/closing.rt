@@ -8,8 +8,8 @@ use httparse::spans::HeaderSpan;
 
 /// Whether a `Connection` field has `close` among its parts.
 pub(crate) fn asks_close(bytes: &[u8], fields: &[HeaderSpan]) -> bool
-    requires { All (IsHeaderWithin (length bytes.now)) fields.now }
-    ensures { result ≡ asks_close_lem (map (header_bytes bytes.now) fields.now) }
+    requires fields { All (IsHeaderWithin (length bytes.now)) fields.now }
+    ensures is { result ≡ asks_close_lem (map (header_bytes bytes.now) fields.now) }
 {
     for field in fields {
         if is_named(field.name.of(bytes), b"connection") && has_close(field.value.of(bytes)) {
@@ -22,14 +22,14 @@ pub(crate) fn asks_close(bytes: &[u8], fields: &[HeaderSpan]) -> bool
 /// Whether `close`, in any case, is one of the parts of a value between commas, where spaces at
 /// the ends of a part count for nothing.
 fn has_close(value: &[u8]) -> bool
-    ensures { result ≡ has_close_lem value.now }
+    ensures is { result ≡ has_close_lem value.now }
 {
     value.split(|byte| *byte == b',').any(|part| is_close(part))
 }
 
 /// Whether a part of a value is `close`.
 fn is_close(part: &[u8]) -> bool
-    ensures { result ≡ is_close_lem part.now }
+    ensures is { result ≡ is_close_lem part.now }
 {
     is_named(trim_spaces(part), b"close")
 }
@@ -37,13 +37,13 @@ fn is_close(part: &[u8]) -> bool
 /// The bytes without the spaces at both ends.
 #[tactic(auto, unfolding(crate::specs::Closing::trim_spaces))]
 fn trim_spaces(bytes: &[u8]) -> &[u8]
-    ensures { result.now ≡ trim_spaces_lem bytes.now }
+    ensures value { result.now ≡ trim_spaces_lem bytes.now }
 {
     trim_end(trim_start(bytes))
 }
 
 fn trim_start(bytes: &[u8]) -> &[u8]
-    ensures { result.now ≡ skip_spaces bytes.now }
+    ensures value { result.now ≡ skip_spaces bytes.now }
 {
     let mut trimmed = bytes;
     while let [b' ', rest @ ..] = trimmed {
@@ -53,7 +53,7 @@ fn trim_start(bytes: &[u8]) -> &[u8]
 }
 
 fn trim_end(bytes: &[u8]) -> &[u8]
-    ensures { result.now ≡ reverse (skip_spaces (reverse bytes.now)) }
+    ensures value { result.now ≡ reverse (skip_spaces (reverse bytes.now)) }
 {
     let mut trimmed = bytes;
     while let [rest @ .., b' '] = trimmed {

@@ -18,8 +18,8 @@ pub enum OnlyValue<'b> {
 
 /// The value of the only field of a name, in any case, without the white space around it.
 pub fn only_value<'b>(bytes: &'b [u8], fields: &[HeaderSpan], name: &[u8]) -> OnlyValue<'b>
-    requires { All (IsHeaderWithin (length bytes.now)) fields.now }
-    ensures { IsOnly result (values_of name.now (map (header_bytes bytes.now) fields.now)) }
+    requires fields { All (IsHeaderWithin (length bytes.now)) fields.now }
+    ensures value { IsOnly result (values_of name.now (map (header_bytes bytes.now) fields.now)) }
 {
     let mut found = OnlyValue::Nothing;
     for field in fields {
@@ -35,7 +35,7 @@ pub fn only_value<'b>(bytes: &'b [u8], fields: &[HeaderSpan], name: &[u8]) -> On
 
 /// Whether two names are the same in any case.
 pub(crate) fn is_named(text: &[u8], name: &[u8]) -> bool
-    ensures { result ≡ is_same_name text.now name.now }
+    ensures same { result ≡ is_same_name text.now name.now }
 {
     text.eq_ignore_ascii_case(name)
 }
@@ -43,7 +43,7 @@ pub(crate) fn is_named(text: &[u8], name: &[u8]) -> bool
 /// The number that 1 to 10 digits write. None where the value is anything else.
 #[tactic(auto, unfolding(crate::specs::Fields::number_of))]
 pub(crate) fn read_number(value: &[u8]) -> Option<u64>
-    ensures { result ≡ number_of value.now }
+    ensures value { result ≡ number_of value.now }
 {
     if value.is_empty() || value.len() > 10 {
         return None;

@@ -22,16 +22,16 @@ pub struct Found {
 impl Found {
     /// The length of the request in bytes, head and body.
     pub fn length(&self) -> usize
-        requires { found_length self.now ≤ max_request }
-        ensures { result ≡ found_length self.now }
+        requires most { found_length self.now ≤ max_request }
+        ensures value { result ≡ found_length self.now }
     {
         self.spans.len + self.body
     }
 
     /// The method, as it is written.
     pub fn method<'b>(&self, bytes: &'b [u8]) -> &'b [u8]
-        requires { IsFoundIn bytes.now self.now }
-        ensures { (fields : List FieldSpan) (request : Request)
+        requires found { IsFoundIn bytes.now self.now }
+        ensures value { (fields : List FieldSpan) (request : Request)
             → IsFoundAt bytes.now fields self.now request → result.now ≡ request.head.method }
     {
         self.spans.method.of(bytes)
@@ -39,8 +39,8 @@ impl Found {
 
     /// The target, as it is written.
     pub fn target<'b>(&self, bytes: &'b [u8]) -> &'b [u8]
-        requires { IsFoundIn bytes.now self.now }
-        ensures { (fields : List FieldSpan) (request : Request)
+        requires found { IsFoundIn bytes.now self.now }
+        ensures value { (fields : List FieldSpan) (request : Request)
             → IsFoundAt bytes.now fields self.now request → result.now ≡ request.head.target }
     {
         self.spans.path.of(bytes)
@@ -48,8 +48,8 @@ impl Found {
 
     /// The body.
     pub fn body<'b>(&self, bytes: &'b [u8]) -> &'b [u8]
-        requires { IsFoundIn bytes.now self.now }
-        ensures { (fields : List FieldSpan) (request : Request)
+        requires found { IsFoundIn bytes.now self.now }
+        ensures value { (fields : List FieldSpan) (request : Request)
             → IsFoundAt bytes.now fields self.now request → result.now ≡ request.body }
     {
         &bytes[self.spans.len..self.spans.len + self.body]
@@ -57,8 +57,8 @@ impl Found {
 
     /// Whether the session ends after the request.
     pub fn closes(&self, bytes: &[u8], fields: &[HeaderSpan]) -> bool
-        requires { IsSectionWithin bytes.now fields.now self.now.spans.len self.now.spans.headers }
-        ensures { (request : Request)
+        requires inside { IsSectionWithin bytes.now fields.now self.now.spans.len self.now.spans.headers }
+        ensures is { (request : Request)
             → IsFoundAt bytes.now fields.now self.now request → result ≡ is_closing request.head }
     {
         self.spans.version == 0 || asks_close(bytes, &fields[..self.spans.headers])

@@ -28,8 +28,8 @@ pub enum Front {
 /// What stands at the front of a buffer. Where it is a whole request, `fields` then begins with
 /// the spans of its fields. Bytes that follow change no answer but `Partial`.
 pub fn front_of(bytes: &[u8], fields: &mut [HeaderSpan]) -> Front
-    requires { length fields.old ≡ MAX_FIELDS }
-    ensures { IsFront bytes.now fields.new result }
+    requires room { length fields.old ≡ MAX_FIELDS }
+    ensures is { IsFront bytes.now fields.new result }
 {
     let window = window_of(bytes);
     match head_front(window, fields) {
@@ -57,7 +57,7 @@ enum HeadFront {
 
 /// The bytes that the longest head may lie in.
 fn window_of(bytes: &[u8]) -> &[u8]
-    ensures { result.now ≡ take max_head bytes.now }
+    ensures value { result.now ≡ take max_head bytes.now }
 {
     if bytes.len() <= MAX_HEAD {
         bytes
@@ -70,7 +70,7 @@ fn window_of(bytes: &[u8]) -> &[u8]
 fn head_front(window: &[u8], fields: &mut [HeaderSpan]) -> HeadFront
     requires room { length fields.old ≡ MAX_FIELDS }
     requires window { length window.now ≤ max_head }
-    ensures { IsHeadFront window.now fields.new result }
+    ensures is { IsHeadFront window.now fields.new result }
 {
     match parse_request(window, fields) {
         Ok(Status::Complete(spans)) => HeadFront::Whole(spans),

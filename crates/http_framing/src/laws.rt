@@ -4,7 +4,7 @@ ghost use Rattle.http_framing.specs.Laws.{HaveOneReading, StayWithMore, Refusals
 /// A stream has one list of requests and one ending, but where it ends inside a head that no
 /// bytes complete: that is cut or malformed.
 pub fn requests_have_one_reading()
-    ensures { HaveOneReading }
+    ensures one { HaveOneReading }
 {}
 
 /// Bytes that follow change no request, and no refusal.

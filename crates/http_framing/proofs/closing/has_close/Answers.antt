@@ -5,7 +5,8 @@ use Rattle.http_framing.specs.Closing.{is_close}
 use Rattle.http_framing.proofs.closing.has_close.Goals as goal
 
 pub returns : goal.returns
-returns c =
-    any_from_yields_List is_close _ _ _ c.any.ensures.ran
-    (YieldsList-from_slice_split _ (λ b. b == 44) c.args.value.now c.split.ensures.rest c.split.ensures.done c.split.ensures.closure (λ x b q k. search (rules, tests)))
-    (λ x b q k. search (rules, tests))
+returns c = record {
+  is = any_from_yields_List is_close _ _ _ c.any.ensures.ran
+      (YieldsList-from_slice_split _ (λ b. b == 44) c.args.value.now c.split.ensures.rest c.split.ensures.done c.split.ensures.closure (λ x b q k. search (rules, tests)))
+      (λ x b q k. search (rules, tests));
+}

@@ -5,4 +5,4 @@ use Rattle.http_framing.proofs.fields.is_named.Goals as goal
 
 pub returns : goal.returns
 unfolding is_same_name
-returns c = same_from_decides _ _ c.eq_ignore_ascii_case.ensures.test (bytes_eq-Decides _ _)
+returns c = record { same = same_from_decides _ _ c.eq_ignore_ascii_case.ensures.test (bytes_eq-Decides _ _) }

@@ -10,26 +10,26 @@ use Rattle.http_framing.proofs.FrontLaws.{IsFront-whole, IsPartial-body, IsMalfo
 use Rattle.http_framing.proofs.front.front_of.Goals as goal
 
 pub head_front-requires-clause-window : goal.head_front-requires-clause-window
-head_front-requires-clause-window c = rw c.window_of-window.ensures (omega (arith, length-take max_head c.args.bytes.now))
+head_front-requires-clause-window c = rw c.window_of-window.ensures.value (omega (arith, length-take max_head c.args.bytes.now))
 
 -- what was found in the window, by the window's other name
 in_window : {w window : List ℕ} (fields : List HeaderSpan) (front : HeadFront) → w ≡ window → IsHeadFront w fields front → IsHeadFront window fields front
 in_window fields front e x = subst (λ w. IsHeadFront w fields front) e x
 
 pub overflow_sub-bytes : goal.overflow_sub-bytes
-overflow_sub-bytes c = len_fits c.args.bytes.now _ _ c.in-Whole.spans c.window_of-window.ensures c.in-Whole.ensures.0
+overflow_sub-bytes c = len_fits c.args.bytes.now _ _ c.in-Whole.spans c.window_of-window.ensures.value c.in-Whole.ensures.is.0
 
 pub returns-in-Partial : goal.returns-in-Partial
-returns-in-Partial c = inl (IsUnfinished-window c.args.bytes.now (in_window c.head_front.new.fields Partial c.window_of-window.ensures c.in-Partial.ensures))
+returns-in-Partial c = record { is = inl (IsUnfinished-window c.args.bytes.now (in_window c.head_front.new.fields Partial c.window_of-window.ensures.value c.in-Partial.ensures.is)) }
 
 pub returns-in-Bad : goal.returns-in-Bad
-returns-in-Bad c = inl (refl, IsBadHead-window max_head c.args.bytes.now (in_window c.head_front.new.fields Bad c.window_of-window.ensures c.in-Bad.ensures))
+returns-in-Bad c = record { is = inl (refl, IsBadHead-window max_head c.args.bytes.now (in_window c.head_front.new.fields Bad c.window_of-window.ensures.value c.in-Bad.ensures.is)) }
 
 pub returns-in-Err : goal.returns-in-Err
-returns-in-Err c = IsMalformed-fields c.args.bytes.now _ _ c.in-Whole.spans c.in-Err.why c.window_of-window.ensures c.in-Whole.ensures c.in-Err.ensures
+returns-in-Err c = record { is = IsMalformed-fields c.args.bytes.now _ _ c.in-Whole.spans c.in-Err.why c.window_of-window.ensures.value c.in-Whole.ensures.is c.in-Err.ensures.value }
 
 pub returns-then-body-bytes : goal.returns-then-body-bytes
-returns-then-body-bytes c = IsFront-whole c.args.bytes.now _ _ c.in-Whole.spans c.in-Ok.body c.window_of-window.ensures c.in-Whole.ensures c.in-Ok.ensures c.if-body-bytes.true
+returns-then-body-bytes c = record { is = IsFront-whole c.args.bytes.now _ _ c.in-Whole.spans c.in-Ok.body c.window_of-window.ensures.value c.in-Whole.ensures.is c.in-Ok.ensures.value c.if-body-bytes.true }
 
 pub returns-else-body-bytes : goal.returns-else-body-bytes
-returns-else-body-bytes c = IsPartial-body c.args.bytes.now _ _ c.in-Whole.spans c.in-Ok.body c.window_of-window.ensures c.in-Whole.ensures c.in-Ok.ensures c.if-body-bytes.false
+returns-else-body-bytes c = record { is = IsPartial-body c.args.bytes.now _ _ c.in-Whole.spans c.in-Ok.body c.window_of-window.ensures.value c.in-Whole.ensures.is c.in-Ok.ensures.value c.if-body-bytes.false }

@@ -7,4 +7,4 @@ slice_bounds-result-end c =
     let long : 8192 ≤ length c.args.bytes.now = omega arith in sym (length-take-le 8192 c.args.bytes.now long)
 
 pub returns-then-bytes-le-MAX_HEAD : goal.returns-then-bytes-le-MAX_HEAD
-returns-then-bytes-le-MAX_HEAD c = sym (take_all 8192 c.args.bytes.now c.if-bytes-le-MAX_HEAD.true)
+returns-then-bytes-le-MAX_HEAD c = record { value = sym (take_all 8192 c.args.bytes.now c.if-bytes-le-MAX_HEAD.true) }
