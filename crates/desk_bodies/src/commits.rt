@@ -76,7 +76,7 @@ fn commit_value(alloc: Global, value: &Value) -> Result<Option<CommitText>, Memo
 
 #[tactic(auto, using(crate::proofs::Names::named), unfolding(crate::specs::Commits::name_at))]
 fn name(object: &Value, key: &str) -> Option<Name>
-    ensures { result ≡ name_at key.now (view object.now) }
+    ensures value { result ≡ name_at key.now (view object.now) }
 {
     Name::new(text(object, key)?.as_bytes())
 }
@@ -111,7 +111,7 @@ fn edits(alloc: Global, values: &[Value]) -> Result<Option<Listed<EditText>>, Me
 
 #[tactic(auto, unfolding(crate::specs::Commits::edit_of))]
 fn edit(alloc: Global, value: &Value) -> Result<Option<EditText>, Memory>
-    ensures { IfOk result (λ o. option_map edit_shown o ≡ edit_of (view value.now)) }
+    ensures is { IfOk result (λ o. option_map edit_shown o ≡ edit_of (view value.now)) }
 {
     match (
         value.get("put"),
@@ -128,7 +128,7 @@ fn edit(alloc: Global, value: &Value) -> Result<Option<EditText>, Memory>
 }
 
 fn put(alloc: Global, object: &Value) -> Result<Option<EditText>, Memory>
-    ensures { IfOk result (λ o. option_map edit_shown o ≡ put_of (view object.now)) }
+    ensures is { IfOk result (λ o. option_map edit_shown o ≡ put_of (view object.now)) }
 {
     let (Some(visit), Some(part), Some(stand)) = (
         visit(object),
@@ -142,7 +142,7 @@ fn put(alloc: Global, object: &Value) -> Result<Option<EditText>, Memory>
 }
 
 fn lift(object: &Value) -> Option<EditText>
-    ensures { option_map edit_shown result ≡ lift_of (view object.now) }
+    ensures is { option_map edit_shown result ≡ lift_of (view object.now) }
 {
     let visit = visit(object)?;
     let part = part(object)?;
@@ -150,7 +150,7 @@ fn lift(object: &Value) -> Option<EditText>
 }
 
 fn cut(object: &Value) -> Option<EditText>
-    ensures { option_map edit_shown result ≡ cut_of (view object.now) }
+    ensures is { option_map edit_shown result ≡ cut_of (view object.now) }
 {
     let visit = visit(object)?;
     let part = part(object)?;
@@ -159,7 +159,7 @@ fn cut(object: &Value) -> Option<EditText>
 }
 
 fn join(object: &Value) -> Option<EditText>
-    ensures { option_map edit_shown result ≡ join_of (view object.now) }
+    ensures is { option_map edit_shown result ≡ join_of (view object.now) }
 {
     let visit = visit(object)?;
     let part = part(object)?;
@@ -167,13 +167,13 @@ fn join(object: &Value) -> Option<EditText>
 }
 
 fn visit(object: &Value) -> Option<u32>
-    ensures { result ≡ visit_at (view object.now) }
+    ensures value { result ≡ visit_at (view object.now) }
 {
     number(object, "visit")
 }
 
 fn part(object: &Value) -> Option<u8>
-    ensures { result ≡ part_at (view object.now) }
+    ensures value { result ≡ part_at (view object.now) }
 {
     small_number(object, "part")
 }

@@ -44,7 +44,7 @@ pub fn read_json(alloc: Global, body: &[u8]) -> Result<Value, BodyFault>
 
 /// The whole number of 32 bits under a key. None where none is there.
 pub fn number(object: &Value, key: &str) -> Option<u32>
-    ensures { result ≡ number_at key.now 4294967295 (view object.now) }
+    ensures value { result ≡ number_at key.now 4294967295 (view object.now) }
 {
     let n = object.get(key)?.as_u64()?;
     if n <= 4_294_967_295 {
@@ -56,7 +56,7 @@ pub fn number(object: &Value, key: &str) -> Option<u32>
 
 /// The whole number of 8 bits under a key. None where none is there.
 pub fn small_number(object: &Value, key: &str) -> Option<u8>
-    ensures { result ≡ number_at key.now 255 (view object.now) }
+    ensures value { result ≡ number_at key.now 255 (view object.now) }
 {
     let n = object.get(key)?.as_u64()?;
     if n <= 255 { Some(n as u8) } else { None }
@@ -64,7 +64,7 @@ pub fn small_number(object: &Value, key: &str) -> Option<u8>
 
 /// The text under a key. None where none is there.
 pub fn text<'v>(object: &'v Value, key: &str) -> Option<&'v str>
-    ensures { option_map (λ s. s.now) result ≡ text_at key.now (view object.now) }
+    ensures text { option_map (λ s. s.now) result ≡ text_at key.now (view object.now) }
 {
     object.get(key)?.as_str()
 }
