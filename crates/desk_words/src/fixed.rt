@@ -4,35 +4,35 @@ ghost use Rattle.desk_words.specs.Fixed.{no_memory_text, keeper_fault_text, not_
 
 /// Memory is wanting.
 pub fn no_memory() -> &'static [u8]
-    ensures { result.now ≡ no_memory_text }
+    ensures text { result.now ≡ no_memory_text }
 {
     b"HTTP/1.1 507 Insufficient Storage\r\nContent-Type: application/json\r\nContent-Length: 18\r\n\r\n{\"error\":\"memory\"}"
 }
 
 /// The commit could be accepted, but could not be kept, and so is no part of the plan.
 pub fn keeper_fault() -> &'static [u8]
-    ensures { result.now ≡ keeper_fault_text }
+    ensures text { result.now ≡ keeper_fault_text }
 {
     b"HTTP/1.1 503 Service Unavailable\r\nContent-Type: application/json\r\nContent-Length: 18\r\n\r\n{\"error\":\"keeper\"}"
 }
 
 /// The body isn't of the form that was asked for.
 pub fn not_json() -> &'static [u8]
-    ensures { result.now ≡ not_json_text }
+    ensures text { result.now ≡ not_json_text }
 {
     b"HTTP/1.1 400 Bad Request\r\nContent-Type: application/json\r\nContent-Length: 16\r\n\r\n{\"error\":\"json\"}"
 }
 
 /// There is no such method, target or edit yet.
 pub fn unbuilt() -> &'static [u8]
-    ensures { result.now ≡ unbuilt_text }
+    ensures text { result.now ≡ unbuilt_text }
 {
     b"HTTP/1.1 400 Bad Request\r\nContent-Type: application/json\r\nContent-Length: 19\r\n\r\n{\"error\":\"unbuilt\"}"
 }
 
 /// The head of the request is malformed, and the connection ends.
 pub fn bad_head() -> &'static [u8]
-    ensures { result.now ≡ bad_head_text }
+    ensures text { result.now ≡ bad_head_text }
 {
     b"HTTP/1.1 400 Bad Request\r\nContent-Type: application/json\r\nContent-Length: 16\r\nConnection: close\r\n\r\n{\"error\":\"head\"}"
 }

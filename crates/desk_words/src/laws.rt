@@ -7,12 +7,12 @@ ghost use Rattle.desk_words.specs.Spelt.{CommittedIsSpelt, UnfitIsSpelt, ClashIs
 
 /// No two of the fixed texts are the same.
 pub fn fixed_texts_differ()
-    ensures { AllPairs (λ a b. a ≢ b) fixed_texts }
+    ensures apart { AllPairs (λ a b. a ≢ b) fixed_texts }
 {}
 
 /// No reply has a fixed text.
 pub fn no_reply_is_fixed()
-    ensures { (reply : Reply) → All (λ text. reply_text reply ≢ text) fixed_texts }
+    ensures apart { (reply : Reply) → All (λ text. reply_text reply ≢ text) fixed_texts }
 {}
 
 /// Some replies are spelt so.

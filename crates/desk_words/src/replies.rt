@@ -24,15 +24,15 @@ pub enum Reply {
 /// The reply's whole text, head and body. For want of memory, also as the fault of an edit, there
 /// is a fixed text in its place.
 pub fn reply_bytes(alloc: Global, reply: &Reply) -> Result<Listed<u8>, Memory>
-    requires { HasText reply.now }
-    ensures { IfOk result (λ bytes. bytes ≡ reply_text reply.now) }
+    requires text { HasText reply.now }
+    ensures text { IfOk result (λ bytes. bytes ≡ reply_text reply.now) }
 {
     let body = reply_body(alloc, reply)?;
     text(alloc, status(reply), body.as_slice())
 }
 
 fn status(reply: &Reply) -> StatusCode
-    ensures { result ≡ code_of reply.now }
+    ensures is { result ≡ code_of reply.now }
 {
     match reply {
         Reply::Committed { .. } => StatusCode::OK,
@@ -41,7 +41,7 @@ fn status(reply: &Reply) -> StatusCode
 }
 
 fn text(alloc: Global, status: StatusCode, body: &[u8]) -> Result<Listed<u8>, Memory>
-    ensures { IfOk result (λ bytes. bytes ≡ text_of status [] body.now) }
+    ensures text { IfOk result (λ bytes. bytes ≡ text_of status [] body.now) }
 {
     let mut bytes = head(alloc, status, body.len())?.into_bytes();
     bytes.extend_from_slice(body)?;
@@ -49,7 +49,7 @@ fn text(alloc: Global, status: StatusCode, body: &[u8]) -> Result<Listed<u8>, Me
 }
 
 fn head(alloc: Global, status: StatusCode, length: usize) -> Result<String, AllocError>
-    ensures { IfOk result (λ s. string_bytes s ≡ head_of status [] length) }
+    ensures text { IfOk result (λ s. string_bytes s ≡ head_of status [] length) }
 {
     format!(in alloc;
         "HTTP/1.1 {status}\r\nContent-Type: application/json\r\nContent-Length: {length}\r\n\r\n"
@@ -58,16 +58,16 @@ fn head(alloc: Global, status: StatusCode, length: usize) -> Result<String, Allo
 
 #[tactic(auto, using(crate::proofs::Floats::reply_has_none))]
 fn reply_body(alloc: Global, reply: &Reply) -> Result<Vec<u8>, AllocError>
-    requires { HasText reply.now }
-    ensures { IfOk result (λ v. v.items ≡ compact_text (reply_data reply.now)) }
+    requires text { HasText reply.now }
+    ensures text { IfOk result (λ v. v.items ≡ compact_text (reply_data reply.now)) }
 {
     let value = reply_value(alloc, reply)?;
     value.to_vec(alloc)
 }
 
 fn reply_value(alloc: Global, reply: &Reply) -> Result<Value, AllocError>
-    requires { HasText reply.now }
-    ensures { IfOk result (λ v. view v ≡ reply_data reply.now) }
+    requires text { HasText reply.now }
+    ensures is { IfOk result (λ v. view v ≡ reply_data reply.now) }
 {
     match reply {
         Reply::Committed { version } => json!(in alloc; {"version": *version}),
@@ -76,8 +76,8 @@ fn reply_value(alloc: Global, reply: &Reply) -> Result<Value, AllocError>
 }
 
 fn fault_value(alloc: Global, fault: EditFault, version: u32) -> Result<Value, AllocError>
-    requires { fault ≢ EditFault.Memory }
-    ensures { IfOk result (λ v. view v ≡ fault_data fault version) }
+    requires fault { fault ≢ EditFault.Memory }
+    ensures is { IfOk result (λ v. view v ≡ fault_data fault version) }
 {
     match fault {
         EditFault::UnknownVisit { edit } => {
@@ -96,7 +96,7 @@ fn fault_value(alloc: Global, fault: EditFault, version: u32) -> Result<Value, A
 }
 
 fn by_value(alloc: Global, by: UnfitBy) -> Result<Value, AllocError>
-    ensures { IfOk result (λ v. view v ≡ by_data by) }
+    ensures is { IfOk result (λ v. view v ≡ by_data by) }
 {
     match by {
         UnfitBy::Letter => json!(in alloc; "letter"),
@@ -105,7 +105,7 @@ fn by_value(alloc: Global, by: UnfitBy) -> Result<Value, AllocError>
 }
 
 fn clash_value(alloc: Global, clash: Clash, version: u32) -> Result<Value, AllocError>
-    ensures { IfOk result (λ v. view v ≡ clash_data clash version) }
+    ensures is { IfOk result (λ v. view v ≡ clash_data clash version) }
 {
     let a = part_value(alloc, clash.a)?;
     let b = part_value(alloc, clash.b)?;
@@ -120,13 +120,13 @@ fn clash_value(alloc: Global, clash: Clash, version: u32) -> Result<Value, Alloc
 }
 
 fn part_value(alloc: Global, part: PartId) -> Result<Value, AllocError>
-    ensures { IfOk result (λ v. view v ≡ part_data part) }
+    ensures is { IfOk result (λ v. view v ≡ part_data part) }
 {
     json!(in alloc; {"part": part.part, "visit": part.visit.0})
 }
 
 fn word(rule: Rule) -> &'static str
-    ensures { result.now ≡ rule_word rule }
+    ensures text { result.now ≡ rule_word rule }
 {
     match rule {
         Rule::Same => "same",

@@ -7,8 +7,8 @@ returns-in-Reply-clause-made g c =
 
 pub returns-in-Memory-clause-made : goal.returns-in-Memory-clause-made
 returns-in-Memory-clause-made g c =
-    rw c.no_memory.ensures (memory_sends g.P.DeskPort.asks (g.P.DeskPort.start c.args.port.now) (g.P.DeskPort.port c.args.port.now) (g.P.DeskPort.port c.ask.new.self) c.args.ask.now c.in-Memory.ensures.shows)
+    rw c.no_memory.ensures.text (memory_sends g.P.DeskPort.asks (g.P.DeskPort.start c.args.port.now) (g.P.DeskPort.port c.args.port.now) (g.P.DeskPort.port c.ask.new.self) c.args.ask.now c.in-Memory.ensures.shows)
 
 pub returns-in-Fault-clause-made : goal.returns-in-Fault-clause-made
 returns-in-Fault-clause-made g c =
-    rw c.keeper_fault.ensures (fault_sends g.P.DeskPort.asks (g.P.DeskPort.start c.args.port.now) (g.P.DeskPort.port c.args.port.now) (g.P.DeskPort.port c.ask.new.self) c.args.ask.now c.in-Fault.ensures.shows)
+    rw c.keeper_fault.ensures.text (fault_sends g.P.DeskPort.asks (g.P.DeskPort.start c.args.port.now) (g.P.DeskPort.port c.args.port.now) (g.P.DeskPort.port c.ask.new.self) c.args.ask.now c.in-Fault.ensures.shows)

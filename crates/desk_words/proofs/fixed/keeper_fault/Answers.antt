@@ -6,4 +6,4 @@ use Rattle.desk_words.proofs.fixed.keeper_fault.Goals as goal
 
 pub returns : goal.returns
 unfolding digits serde_json_on_literals keeper_fault_text
-returns c = refl
+returns c = record { text = refl }

@@ -6,4 +6,4 @@ use Rattle.desk_words.proofs.fixed.unbuilt.Goals as goal
 
 pub returns : goal.returns
 unfolding digits serde_json_on_literals unbuilt_text
-returns c = refl
+returns c = record { text = refl }

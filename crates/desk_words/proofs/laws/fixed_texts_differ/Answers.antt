@@ -2,4 +2,4 @@ use Rattle.desk_words.proofs.Apart.{fixed_apart}
 use Rattle.desk_words.proofs.laws.fixed_texts_differ.Goals as goal
 
 pub returns : goal.returns
-returns c = fixed_apart
+returns c = record { apart = fixed_apart }

@@ -5,6 +5,7 @@ use Rattle.desk_words.proofs.Heads.{plain_head}
 use Rattle.desk_words.proofs.replies.head.Goals as goal
 
 pub returns : goal.returns
-returns c =
-    IfOk-weaker c.format.result _ (λ s. string_bytes s ≡ head_of c.args.status [] c.args.length)
-    (λ s h. h ∙ sym (plain_head c.args.status c.args.length)) c.format.ensures.ok
+returns c = record {
+  text = IfOk-weaker c.format.result _ (λ s. string_bytes s ≡ head_of c.args.status [] c.args.length)
+      (λ s h. h ∙ sym (plain_head c.args.status c.args.length)) c.format.ensures.ok;
+}

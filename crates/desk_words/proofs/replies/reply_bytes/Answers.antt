@@ -5,6 +5,7 @@ use Rattle.desk_words.proofs.replies.reply_bytes.Goals as goal
 
 pub returns : goal.returns
 unfolding reply_text
-returns c =
-    IfOk-weaker c.text.result _ (λ bytes. bytes ≡ reply_text c.args.reply.now)
-    (λ bytes h. rw (c.status.ensures, c.as_slice.ensures.value, c.in_ok-body.ensures) at h) c.text.ensures
+returns c = record {
+  text = IfOk-weaker c.text.result _ (λ bytes. bytes ≡ reply_text c.args.reply.now)
+      (λ bytes h. rw (c.status.ensures.is, c.as_slice.ensures.value, c.in_ok-body.ensures.text) at h) c.text.ensures.text;
+}
