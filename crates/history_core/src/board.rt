@@ -45,7 +45,7 @@ impl<'a> Board<'a> {
         requires each { All (IsWellFormed airport.now) visits.items }
         requires numbered { IsNumbered visits.items }
         requires unplaced { All IsUnplaced visits.items }
-        ensures { result ≡ record { start = record { airport = airport.now; visits = visits.items; version = 0 }; history = []; next = 1 } }
+        ensures is { result ≡ record { start = record { airport = airport.now; visits = visits.items; version = 0 }; history = []; next = 1 } }
     {
         let plan = Plan::of_visits(airport, visits);
         let start = Snapshot::of(&plan);
@@ -60,7 +60,7 @@ impl<'a> Board<'a> {
 
     /// The airport whose plan this is.
     pub fn airport(&self) -> &'a Airport
-        ensures { result.now ≡ self.now.start.airport }
+        ensures value { result.now ≡ self.now.start.airport }
     {
         self.airport
     }

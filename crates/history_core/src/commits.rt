@@ -74,7 +74,7 @@ fn accept(
     command: &Command,
     change: Change,
 ) -> Result<Listed<u8>, Memory>
-    requires { IsInstallable plan.old.plan change }
+    requires installable { IsInstallable plan.old.plan change }
     ensures entry { IfOk result (λ bytes. history.new ≡ history.old ++ record { call = call; command = command.now } ∷ []) }
     ensures plan { IfOk result (λ bytes. plan.new.plan ≡ installed plan.old.plan change) }
     ensures text { IfOk result (λ bytes. IsTextOf (accepted (Reply.Committed change.version)) bytes) }
