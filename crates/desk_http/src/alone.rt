@@ -43,7 +43,7 @@ impl<'a> Alone<'a> {
 
     /// The board after the desk's calls.
     pub fn into_board(self) -> Board<'a>
-        ensures { result ≡ self.entry.board }
+        ensures board { result ≡ self.entry.board }
     {
         self.board
     }

@@ -43,7 +43,7 @@ pub(crate) fn answer_to<P: DeskPort>(
 }
 
 fn answer_routed<P: DeskPort>(alloc: Global, port: &mut P, routed: &Routed) -> Answer
-    requires { IsRoutedOf (P.start port.old).airport routed.now }
+    requires valid { IsRoutedOf (P.start port.old).airport routed.now }
     ensures start { P.start port.new ≡ P.start port.old }
     ensures made { AnswersFor P.asks (P.start port.old) (P.port port.old) routed.now result (P.port port.new) }
 {
@@ -54,7 +54,7 @@ fn answer_routed<P: DeskPort>(alloc: Global, port: &mut P, routed: &Routed) -> A
 }
 
 fn answer_asked<P: DeskPort>(alloc: Global, port: &mut P, ask: &Ask) -> Answer
-    requires { IsAskOf (P.start port.old).airport ask.now }
+    requires valid { IsAskOf (P.start port.old).airport ask.now }
     ensures start { P.start port.new ≡ P.start port.old }
     ensures made { AnswersFor P.asks (P.start port.old) (P.port port.old) (Routed.Asks ask.now) result (P.port port.new) }
 {

@@ -38,7 +38,7 @@ pub(crate) fn fill<S: Source>(
     buffer: &mut Vec<u8>,
     fields: &mut [HeaderSpan],
 ) -> Filled
-    requires { length fields.old ≡ 64 }
+    requires room { length fields.old ≡ 64 }
     ensures of { FillsAs (S.left source.old) (S.left source.new) buffer.old.items buffer.new.items fields.new result }
     ensures later { S.faults source.old ≤ S.faults source.new }
     ensures fault { result ≡ Filled.SourceFault → Rose (S.faults source.old) (S.faults source.new) }

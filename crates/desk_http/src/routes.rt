@@ -32,7 +32,7 @@ pub enum Routed {
 impl Early {
     /// The reply's whole text.
     pub(crate) fn text(self) -> &'static [u8]
-        ensures { result.now ≡ early_text self }
+        ensures text { result.now ≡ early_text self }
     {
         match self {
             Early::NotJson => fixed::not_json(),

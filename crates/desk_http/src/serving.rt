@@ -54,7 +54,7 @@ fn serve_next<P: DeskPort, S: Source, W: Sink>(
     buffer: &mut Vec<u8>,
     fields: &mut [HeaderSpan],
 ) -> Option<Outcome>
-    requires { length fields.old ≡ 64 }
+    requires room { length fields.old ≡ 64 }
     ensures step { TakesStep P.asks (P.start port.old) (S.left source.old) (S.left source.new) (W.told sink.old) (W.told sink.new)
         (P.port port.old) buffer.old.items result (P.port port.new) buffer.new.items }
     ensures start { P.start port.new ≡ P.start port.old }
@@ -74,7 +74,7 @@ fn serve_next<P: DeskPort, S: Source, W: Sink>(
 
 // How a session ends whose source ended with these bytes unanswered.
 fn end_of(rest: &[u8]) -> Outcome
-    requires { IsPartial rest.now }
+    requires partial { IsPartial rest.now }
     ensures ends { EndsSource rest.now result }
 {
     if are_blank(rest) {
@@ -126,7 +126,7 @@ fn put_reply<W: Sink>(
     closes: bool,
     text: &[u8],
 ) -> Option<Outcome>
-    requires { length ≤ vec_len buffer.old }
+    requires most { length ≤ vec_len buffer.old }
     ensures put { PutsReply (W.told sink.old) (W.told sink.new) text.now closes result }
     ensures left { buffer.new.items ≡ drop length buffer.old.items }
     ensures later { W.faults sink.old ≤ W.faults sink.new }
