@@ -25,7 +25,7 @@ pub(crate) fn visits(alloc: Global) -> Result<Vec<Visit>, AllocError>
 }
 
 fn visit(number: u32, name: &[u8], kind: u16, on: u32, off: u32) -> Visit
-    requires { IsTrue (is_name name.now) }
+    requires name { IsTrue (is_name name.now) }
     ensures is { result ≡ demo_visit number name.now kind on off }
 {
     Visit {
