@@ -17,20 +17,20 @@ pub struct Date {
 pub fn month_day(first: Date, day: u32) -> u32
     requires first { IsFirstDay first }
     requires day { day ≤ 28 }
-    ensures { result ≡ (plan_ymd (ymd_of first) day).2 }
+    ensures value { result ≡ (plan_ymd (ymd_of first) day).2 }
 {
     month_day_of(day_of_plan(civil_of(first), day))
 }
 
 fn month_day_of(date: civil::Date) -> u32
-    ensures { result ≡ date.day }
+    ensures value { result ≡ date.day }
 {
     date.day() as u32
 }
 
 // The same day as a date of the calendar.
 fn civil_of(first: Date) -> civil::Date
-    requires { IsFirstDay first }
+    requires first { IsFirstDay first }
     ensures year { IsBetween (pos 2000) (pos 2099) result.year }
     ensures date { civil_ymd result ≡ ymd_of first }
 {
@@ -45,23 +45,23 @@ fn civil_of(first: Date) -> civil::Date
 }
 
 fn year_number(year: u16) -> i16
-    requires { year ≤ 2099 }
-    ensures { result ≡ pos year }
+    requires year { year ≤ 2099 }
+    ensures value { result ≡ pos year }
 {
     year as i16
 }
 
 pub(crate) fn small(n: u8) -> i8
-    requires { n ≤ 99 }
-    ensures { result ≡ pos n }
+    requires small { n ≤ 99 }
+    ensures value { result ≡ pos n }
 {
     n as i8
 }
 
 // How many days a day of the plan lies after the first.
 fn days_after(day: u32) -> i64
-    requires { day ≤ 28 }
-    ensures { result ≡ pos day -ℤ pos 1 }
+    requires day { day ≤ 28 }
+    ensures value { result ≡ pos day -ℤ pos 1 }
 {
     day as i64 - 1
 }

@@ -20,7 +20,7 @@ pub fn date_in(text: &[u8]) -> Option<Date>
 }
 
 fn is_shape(text: &[u8]) -> bool
-    ensures { result ≡ is_shape text.now }
+    ensures is { result ≡ is_shape text.now }
 {
     text.len() == 10 && text[0] == b'2' && text[1] == b'0' && text[4] == b'-' && text[7] == b'-'
 }
@@ -45,7 +45,7 @@ fn two(a: u8, b: u8) -> Option<u8>
 }
 
 fn digit(b: u8) -> Option<u8>
-    ensures { result ≡ digit_of b }
+    ensures value { result ≡ digit_of b }
 {
     if b >= b'0' && b <= b'9' {
         Some(b - b'0')
@@ -73,8 +73,8 @@ fn checked(year: u8, month: u8, day: u8) -> Option<Date>
 }
 
 fn year_number(n: u8) -> i16
-    requires { n ≤ 99 }
-    ensures { result ≡ pos (2000 + n) }
+    requires small { n ≤ 99 }
+    ensures value { result ≡ pos (2000 + n) }
 {
     2000 + n as i16
 }

@@ -11,17 +11,17 @@ use Rattle.apron_dates.proofs.day.day_of_plan.Goals as goal
 pub returns-in-Ok : goal.returns-in-Ok
 returns-in-Ok c =
     let n = c.days_after.result in
-    let fits : FitsSigned w64 c.days_after.result = omega (arith, signed_arith, c.days_after.ensures) in
+    let fits : FitsSigned w64 c.days_after.result = omega (arith, signed_arith, c.days_after.ensures.value) in
     let only = simp to_z-of_z at c.days.ensures in
     let moved = c.in-Ok.ensures.value ∙ date_add-days c.args.first n c.days.result only in
-    let number : IsPlanDay c.args.first c.args.day c.in-Ok.date = moved ∙ ap (λ z. epoch_day c.args.first +ℤ z) c.days_after.ensures in
+    let number : IsPlanDay c.args.first c.args.day c.in-Ok.date = moved ∙ ap (λ z. epoch_day c.args.first +ℤ z) c.days_after.ensures.value in
     record { number = number; date = plan_ymd_is c.args.first c.in-Ok.date c.args.day c.requires.year c.requires.day number }
 
 pub returns-in-Err : goal.returns-in-Err
 returns-in-Err c =
     let n = c.days_after.result in
-    let fits : FitsSigned w64 c.days_after.result = omega (arith, signed_arith, c.days_after.ensures) in
+    let fits : FitsSigned w64 c.days_after.result = omega (arith, signed_arith, c.days_after.ensures.value) in
     let only = simp to_z-of_z at c.days.ensures in
-    let inside = rw (← c.days_after.ensures) at (plan_day_in c.args.first c.args.day c.requires.year c.requires.day) in
+    let inside = rw (← c.days_after.ensures.value) at (plan_day_in c.args.first c.args.day c.requires.year c.requires.day) in
     let can = (can_add-days c.args.first n c.days.result only).1 inside in
     absurd (false≢true (c.in-Err.ensures.succeeds.1 can))
