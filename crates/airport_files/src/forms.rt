@@ -14,14 +14,14 @@ use toml::{Table, Value};
 
 /// What a table holds at a key.
 pub(crate) fn find<'a>(table: &'a Table, word: &str) -> Option<&'a Value>
-    ensures { option_map (λ v. view v.now) result ≡ get_member word.now (table_view table.now) }
+    ensures value { option_map (λ v. view v.now) result ≡ get_member word.now (table_view table.now) }
 {
     table.get(word)
 }
 
 /// The number at a key: a whole number from 0 to 4294967295.
 pub(crate) fn number_at(table: &Table, word: &str, at: Key) -> Result<u32, WalkFault>
-    ensures { result ≡ at_key number_of at (get_member word.now (table_view table.now)) }
+    ensures value { result ≡ at_key number_of at (get_member word.now (table_view table.now)) }
 {
     match find(table, word) {
         None => Err(WalkFault::Missing(at)),
@@ -31,7 +31,7 @@ pub(crate) fn number_at(table: &Table, word: &str, at: Key) -> Result<u32, WalkF
 
 /// The number that a value is.
 pub(crate) fn number(value: &Value) -> Option<u32>
-    ensures { result ≡ number_of (view value.now) }
+    ensures value { result ≡ number_of (view value.now) }
 {
     match value.as_integer() {
         Some(n) if n >= 0 && n <= 4294967295 => Some(n as u32),
@@ -72,13 +72,13 @@ fn station_name(text: &[u8]) -> Option<Name>
 }
 
 fn is_station(text: &[u8]) -> bool
-    ensures { result ≡ is_station text.now }
+    ensures is { result ≡ is_station text.now }
 {
     text.len() == 3 && are_capitals(text)
 }
 
 fn are_capitals(text: &[u8]) -> bool
-    ensures { result ≡ list_all is_capital text.now }
+    ensures is { result ≡ list_all is_capital text.now }
 {
     text.iter().all(|b| *b >= b'A' && *b <= b'Z')
 }
@@ -106,7 +106,7 @@ fn date(value: &Value) -> Option<Date>
 
 /// The name at a key: 1 to 6 capitals or digits.
 pub(crate) fn name_at(table: &Table, word: &str, at: Key) -> Result<Name, WalkFault>
-    ensures { result ≡ at_key name_of at (get_member word.now (table_view table.now)) }
+    ensures value { result ≡ at_key name_of at (get_member word.now (table_view table.now)) }
 {
     match find(table, word) {
         None => Err(WalkFault::Missing(at)),
@@ -116,7 +116,7 @@ pub(crate) fn name_at(table: &Table, word: &str, at: Key) -> Result<Name, WalkFa
 
 /// The name at a key that may be missing.
 pub(crate) fn name_if_there(table: &Table, word: &str, at: Key) -> Result<Option<Name>, WalkFault>
-    ensures { result ≡ if_there name_of at (get_member word.now (table_view table.now)) }
+    ensures value { result ≡ if_there name_of at (get_member word.now (table_view table.now)) }
 {
     match find(table, word) {
         None => Ok(None),
@@ -128,7 +128,7 @@ pub(crate) fn name_if_there(table: &Table, word: &str, at: Key) -> Result<Option
 }
 
 fn name(value: &Value) -> Option<Name>
-    ensures { result ≡ name_of (view value.now) }
+    ensures value { result ≡ name_of (view value.now) }
 {
     match value.as_str() {
         Some(text) => short_name(text.as_bytes(), 1, 6),
@@ -140,7 +140,7 @@ fn name(value: &Value) -> Option<Name>
 pub(crate) fn short_name(text: &[u8], least: usize, most: usize) -> Option<Name>
     requires least { 1 ≤ least }
     requires most { most ≤ 12 }
-    ensures { result ≡ text_if (is_short_name least most) text.now }
+    ensures value { result ≡ text_if (is_short_name least most) text.now }
 {
     if is_short_name(text, least, most) {
         Name::new(text)
@@ -150,26 +150,26 @@ pub(crate) fn short_name(text: &[u8], least: usize, most: usize) -> Option<Name>
 }
 
 fn is_short_name(text: &[u8], least: usize, most: usize) -> bool
-    ensures { result ≡ is_short_name least most text.now }
+    ensures is { result ≡ is_short_name least most text.now }
 {
     least <= text.len() && text.len() <= most && are_short_bytes(text)
 }
 
 fn are_short_bytes(text: &[u8]) -> bool
-    ensures { result ≡ list_all is_short_byte text.now }
+    ensures is { result ≡ list_all is_short_byte text.now }
 {
     text.iter().all(|b| is_short_byte(*b))
 }
 
 fn is_short_byte(b: u8) -> bool
-    ensures { result ≡ is_short_byte b }
+    ensures is { result ≡ is_short_byte b }
 {
     (b >= b'A' && b <= b'Z') || (b >= b'0' && b <= b'9')
 }
 
 /// The code letter at a key: one of A to F.
 pub(crate) fn letter_at(table: &Table, word: &str, at: Key) -> Result<Letter, WalkFault>
-    ensures { result ≡ at_key letter_of at (get_member word.now (table_view table.now)) }
+    ensures value { result ≡ at_key letter_of at (get_member word.now (table_view table.now)) }
 {
     match find(table, word) {
         None => Err(WalkFault::Missing(at)),
@@ -178,7 +178,7 @@ pub(crate) fn letter_at(table: &Table, word: &str, at: Key) -> Result<Letter, Wa
 }
 
 fn letter(value: &Value) -> Option<Letter>
-    ensures { result ≡ letter_of (view value.now) }
+    ensures value { result ≡ letter_of (view value.now) }
 {
     match value.as_str() {
         Some(text) => letter_named(text.as_bytes()),
@@ -187,7 +187,7 @@ fn letter(value: &Value) -> Option<Letter>
 }
 
 fn letter_named(text: &[u8]) -> Option<Letter>
-    ensures { result ≡ letter_named text.now }
+    ensures value { result ≡ letter_named text.now }
 {
     if text.len() == 1 {
         letter_of_byte(text[0])
@@ -197,7 +197,7 @@ fn letter_named(text: &[u8]) -> Option<Letter>
 }
 
 fn letter_of_byte(b: u8) -> Option<Letter>
-    ensures { result ≡ letter_of_byte b }
+    ensures value { result ≡ letter_of_byte b }
 {
     match b {
         b'A' => Some(Letter::A),

@@ -66,7 +66,7 @@ pub(crate) enum WalkFault {
 impl HeadKey {
     /// The key as the file spells it.
     pub(crate) fn word(self) -> &'static str
-        ensures { result.now ≡ head_word self }
+        ensures text { result.now ≡ head_word self }
     {
         match self {
             HeadKey::Station => "station",
@@ -81,7 +81,7 @@ impl HeadKey {
 impl FrontageKey {
     /// The key as the file spells it.
     pub(crate) fn word(self) -> &'static str
-        ensures { result.now ≡ frontage_word self }
+        ensures text { result.now ≡ frontage_word self }
     {
         match self {
             FrontageKey::Name => "name",
@@ -93,7 +93,7 @@ impl FrontageKey {
 impl StandKey {
     /// The key as the file spells it.
     pub(crate) fn word(self) -> &'static str
-        ensures { result.now ≡ stand_word self }
+        ensures text { result.now ≡ stand_word self }
     {
         match self {
             StandKey::Name => "name",
@@ -109,7 +109,7 @@ impl StandKey {
 impl PairKey {
     /// The key as the file spells it.
     pub(crate) fn word(self) -> &'static str
-        ensures { result.now ≡ pair_word self }
+        ensures text { result.now ≡ pair_word self }
     {
         match self {
             PairKey::A => "a",
@@ -122,7 +122,7 @@ impl PairKey {
 
 /// The text by which a fault names a key, as `airport.tow` or `stand 3.letter`.
 pub(crate) fn key_text(alloc: Global, key: Key) -> Result<Listed<u8>, Memory>
-    ensures { IfOk result (λ text. text ≡ key_text key) }
+    ensures text { IfOk result (λ text. text ≡ key_text key) }
 {
     let text = match key {
         Key::Airport => format!(in alloc; "airport")?,

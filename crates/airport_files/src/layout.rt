@@ -44,7 +44,7 @@ pub(crate) fn layout_of(alloc: Global, document: &Table) -> Result<Layout, WalkF
 }
 
 fn frontages_of(alloc: Global, document: &Table) -> Result<Listed<Frontage>, WalkFault>
-    ensures { Reads result (frontages_of (table_view document.now)) }
+    ensures value { Reads result (frontages_of (table_view document.now)) }
 {
     match find(document, "frontage") {
         None => Ok(Listed::new(alloc)),
@@ -54,7 +54,7 @@ fn frontages_of(alloc: Global, document: &Table) -> Result<Listed<Frontage>, Wal
 }
 
 fn stands_of(alloc: Global, document: &Table) -> Result<Listed<StandRow>, WalkFault>
-    ensures { Reads result (stands_of (table_view document.now)) }
+    ensures value { Reads result (stands_of (table_view document.now)) }
 {
     match find(document, "stand") {
         None => Ok(Listed::new(alloc)),
@@ -64,7 +64,7 @@ fn stands_of(alloc: Global, document: &Table) -> Result<Listed<StandRow>, WalkFa
 }
 
 fn pairs_of(alloc: Global, document: &Table) -> Result<Listed<PairRow>, WalkFault>
-    ensures { Reads result (pairs_of (table_view document.now)) }
+    ensures value { Reads result (pairs_of (table_view document.now)) }
 {
     match find(document, "pair") {
         None => Ok(Listed::new(alloc)),
@@ -74,7 +74,7 @@ fn pairs_of(alloc: Global, document: &Table) -> Result<Listed<PairRow>, WalkFaul
 }
 
 fn rows_from<T: Row>(alloc: Global, array: &Array) -> Result<Listed<T>, WalkFault>
-    ensures { Reads result (rows_from T.read_of 1 (array_view array.now)) }
+    ensures value { Reads result (rows_from T.read_of 1 (array_view array.now)) }
 {
     let mut rows = Listed::new(alloc);
     for (i, value) in array.iter().enumerate() {
@@ -87,13 +87,13 @@ fn rows_from<T: Row>(alloc: Global, array: &Array) -> Result<Listed<T>, WalkFaul
 }
 
 fn are_tables(array: &Array) -> bool
-    ensures { result ≡ are_tables (array_view array.now) }
+    ensures is { result ≡ are_tables (array_view array.now) }
 {
     all_are_tables(array.as_slice())
 }
 
 fn all_are_tables(values: &[Value]) -> bool
-    ensures { result ≡ list_all (λ v. is_table (view v)) values.now }
+    ensures is { result ≡ list_all (λ v. is_table (view v)) values.now }
 {
     values.iter().all(|v| v.is_table())
 }

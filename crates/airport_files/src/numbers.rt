@@ -6,20 +6,20 @@ ghost use Rattle.airport_files.specs.Forms.{is_decimal};
 ghost use Rattle.airport_files.specs.TypeRows.{is_number, number_from};
 
 fn are_decimals(text: &[u8]) -> bool
-    ensures { result ≡ list_all is_decimal text.now }
+    ensures is { result ≡ list_all is_decimal text.now }
 {
     text.iter().all(|b| *b >= b'0' && *b <= b'9')
 }
 
 fn is_number(text: &[u8]) -> bool
-    ensures { result ≡ is_number text.now }
+    ensures is { result ≡ is_number text.now }
 {
     !text.is_empty() && text.len() <= 9 && are_decimals(text)
 }
 
 fn value(digits: &[u8]) -> u32
-    requires { is_number digits.now ≡ true }
-    ensures { result ≡ digits_value 10 digits.now }
+    requires number { is_number digits.now ≡ true }
+    ensures value { result ≡ digits_value 10 digits.now }
 {
     let mut value = 0u32;
     for b in digits {
@@ -30,7 +30,7 @@ fn value(digits: &[u8]) -> u32
 
 /// The number of 1 to 9 digits.
 pub(crate) fn number(text: &[u8]) -> Option<u32>
-    ensures { result ≡ number_from text.now }
+    ensures value { result ≡ number_from text.now }
 {
     if is_number(text) {
         Some(value(text))

@@ -38,8 +38,8 @@ pub enum FileFault {
 /// is named: first of the TOML, then along the keys, then of the records of the type file, then of the
 /// airport that they make; or memory is wanting.
 pub fn read_airport(alloc: Global, airport: &[u8], types: &[u8]) -> Result<Airport, FileFault>
-    requires { length types.now < 2 ^ 31 }
-    ensures { Means result (meaning airport.now types.now) }
+    requires few { length types.now < 2 ^ 31 }
+    ensures value { Means result (meaning airport.now types.now) }
 {
     let layout = layout_in(alloc, airport)?;
     let rows = types_in(alloc, types)?;
@@ -71,7 +71,7 @@ fn layout_from(alloc: Global, table: &Table) -> Result<Layout, FileFault>
 
 // The fault with the text of its key.
 fn named(alloc: Global, fault: WalkFault) -> FileFault
-    ensures { IsNamed fault result }
+    ensures named { IsNamed fault result }
 {
     match fault {
         WalkFault::Missing(key) => match key_text(alloc, key) {
@@ -87,8 +87,8 @@ fn named(alloc: Global, fault: WalkFault) -> FileFault
 }
 
 fn types_in(alloc: Global, types: &[u8]) -> Result<Listed<TypeRow>, FileFault>
-    requires { length types.now < 2 ^ 31 }
-    ensures { Means result (types_in types.now) }
+    requires few { length types.now < 2 ^ 31 }
+    ensures value { Means result (types_in types.now) }
 {
     match read_table(alloc, types) {
         Ok(rows) => Ok(rows),
@@ -98,7 +98,7 @@ fn types_in(alloc: Global, types: &[u8]) -> Result<Listed<TypeRow>, FileFault>
 }
 
 fn parts_of(layout: Layout, types: Listed<TypeRow>) -> AirportParts
-    ensures { result ≡ parts_of layout types }
+    ensures value { result ≡ parts_of layout types }
 {
     let Layout {
         head,
@@ -122,7 +122,7 @@ fn parts_of(layout: Layout, types: Listed<TypeRow>) -> AirportParts
 fn made_of(alloc: Global, parts: AirportParts) -> Result<Airport, FileFault>
     requires station { IsTrue (is_station parts.station) }
     requires first { IsFirstDay parts.first }
-    ensures { Means result (made_of parts) }
+    ensures value { Means result (made_of parts) }
 {
     match Airport::new(alloc, parts) {
         Ok(airport) => Ok(airport),

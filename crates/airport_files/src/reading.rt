@@ -14,7 +14,7 @@ use std::alloc::Global;
 
 /// A reader at the start of a text, with no header row and records of any length.
 pub(crate) fn start(alloc: Global, text: &[u8]) -> Reader<&[u8]>
-    ensures { IsReading (λ b. Some b.now) result st.StartRecord (strip_bom text.now) }
+    ensures start { IsReading (λ b. Some b.now) result st.StartRecord (strip_bom text.now) }
 {
     ReaderBuilder::new()
         .has_headers(false)

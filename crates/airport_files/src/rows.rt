@@ -66,7 +66,7 @@ fn head_in(table: &Table) -> Result<Head, WalkFault>
 }
 
 fn head_number(table: &Table, key: HeadKey) -> Result<u32, WalkFault>
-    ensures { result ≡ head_number (table_view table.now) key }
+    ensures value { result ≡ head_number (table_view table.now) key }
 {
     number_at(table, key.word(), Key::Head(key))
 }
@@ -78,7 +78,7 @@ pub(crate) trait Row: Drop + Sized {
 
     /// Reads the k-th row, counted from 1.
     fn read(alloc: Global, value: &Value, k: usize) -> Result<Self, WalkFault>
-        ensures { Reads result (read_of k (view value.now)) };
+        ensures value { Reads result (read_of k (view value.now)) };
 }
 
 impl Row for Frontage {
@@ -93,7 +93,7 @@ impl Row for Frontage {
 }
 
 fn frontage_in(alloc: Global, table: &Table, k: usize) -> Result<Frontage, WalkFault>
-    ensures { Reads result (frontage_in k (table_view table.now)) }
+    ensures value { Reads result (frontage_in k (table_view table.now)) }
 {
     let name = frontage_name(table, k)?;
     let objects = frontage_objects(alloc, table, k)?;
@@ -101,21 +101,21 @@ fn frontage_in(alloc: Global, table: &Table, k: usize) -> Result<Frontage, WalkF
 }
 
 fn frontage_name(table: &Table, k: usize) -> Result<Name, WalkFault>
-    ensures { result ≡ frontage_name k (table_view table.now) }
+    ensures value { result ≡ frontage_name k (table_view table.now) }
 {
     let at = Key::Frontage(k, FrontageKey::Name);
     name_at(table, FrontageKey::Name.word(), at)
 }
 
 fn frontage_objects(alloc: Global, table: &Table, k: usize) -> Result<Listed<u32>, WalkFault>
-    ensures { Reads result (frontage_objects k (table_view table.now)) }
+    ensures value { Reads result (frontage_objects k (table_view table.now)) }
 {
     let at = Key::Frontage(k, FrontageKey::Objects);
     numbers_at(alloc, table, FrontageKey::Objects.word(), at)
 }
 
 fn numbers_at(alloc: Global, table: &Table, word: &str, at: Key) -> Result<Listed<u32>, WalkFault>
-    ensures { Reads result (numbers_at at (get_member word.now (table_view table.now))) }
+    ensures value { Reads result (numbers_at at (get_member word.now (table_view table.now))) }
 {
     match find(table, word) {
         None => Err(WalkFault::Missing(at)),
@@ -125,7 +125,7 @@ fn numbers_at(alloc: Global, table: &Table, word: &str, at: Key) -> Result<Liste
 }
 
 fn numbers_from(alloc: Global, array: &Array, at: Key) -> Result<Listed<u32>, WalkFault>
-    ensures { Reads result (numbers_from at (array_view array.now)) }
+    ensures value { Reads result (numbers_from at (array_view array.now)) }
 {
     let mut numbers = Listed::new(alloc);
     for value in array {
@@ -151,7 +151,7 @@ impl Row for StandRow {
 }
 
 fn stand_in(table: &Table, k: usize) -> Result<StandRow, WalkFault>
-    ensures { result ≡ stand_in k (table_view table.now) }
+    ensures value { result ≡ stand_in k (table_view table.now) }
 {
     let name = stand_name(table, k, StandKey::Name)?;
     let frontage = stand_name(table, k, StandKey::Frontage)?;
@@ -170,19 +170,19 @@ fn stand_in(table: &Table, k: usize) -> Result<StandRow, WalkFault>
 }
 
 fn stand_name(table: &Table, k: usize, key: StandKey) -> Result<Name, WalkFault>
-    ensures { result ≡ stand_name k (table_view table.now) key }
+    ensures value { result ≡ stand_name k (table_view table.now) key }
 {
     name_at(table, key.word(), Key::Stand(k, key))
 }
 
 fn stand_number(table: &Table, k: usize, key: StandKey) -> Result<u32, WalkFault>
-    ensures { result ≡ stand_number k (table_view table.now) key }
+    ensures value { result ≡ stand_number k (table_view table.now) key }
 {
     number_at(table, key.word(), Key::Stand(k, key))
 }
 
 fn stand_letter(table: &Table, k: usize) -> Result<Letter, WalkFault>
-    ensures { result ≡ stand_letter k (table_view table.now) }
+    ensures value { result ≡ stand_letter k (table_view table.now) }
 {
     letter_at(
         table,
@@ -192,7 +192,7 @@ fn stand_letter(table: &Table, k: usize) -> Result<Letter, WalkFault>
 }
 
 fn stand_half(table: &Table, k: usize) -> Result<Option<Name>, WalkFault>
-    ensures { result ≡ stand_half k (table_view table.now) }
+    ensures value { result ≡ stand_half k (table_view table.now) }
 {
     name_if_there(
         table,
@@ -213,7 +213,7 @@ impl Row for PairRow {
 }
 
 fn pair_in(table: &Table, k: usize) -> Result<PairRow, WalkFault>
-    ensures { result ≡ pair_in k (table_view table.now) }
+    ensures value { result ≡ pair_in k (table_view table.now) }
 {
     let a = pair_name(table, k, PairKey::A)?;
     let la = pair_letter(table, k, PairKey::La)?;
@@ -223,13 +223,13 @@ fn pair_in(table: &Table, k: usize) -> Result<PairRow, WalkFault>
 }
 
 fn pair_name(table: &Table, k: usize, key: PairKey) -> Result<Name, WalkFault>
-    ensures { result ≡ pair_name k (table_view table.now) key }
+    ensures value { result ≡ pair_name k (table_view table.now) key }
 {
     name_at(table, key.word(), Key::Pair(k, key))
 }
 
 fn pair_letter(table: &Table, k: usize, key: PairKey) -> Result<Letter, WalkFault>
-    ensures { result ≡ pair_letter k (table_view table.now) key }
+    ensures value { result ≡ pair_letter k (table_view table.now) key }
 {
     letter_at(table, key.word(), Key::Pair(k, key))
 }

@@ -11,7 +11,7 @@ use csv::ByteRecord;
 
 /// Whether a record is the header.
 pub(crate) fn is_header(row: &ByteRecord) -> bool
-    ensures { result ≡ is_header (fields_of row.now) }
+    ensures is { result ≡ is_header (fields_of row.now) }
 {
     row.len() == 3
         && is_field(row, 0, b"type")
@@ -20,7 +20,7 @@ pub(crate) fn is_header(row: &ByteRecord) -> bool
 }
 
 fn is_field(row: &ByteRecord, i: usize, word: &[u8]) -> bool
-    ensures { result ≡ is_field (fields_of row.now) i word.now }
+    ensures is { result ≡ is_field (fields_of row.now) i word.now }
 {
     match row.get(i) {
         Some(field) => field == word,
@@ -30,13 +30,13 @@ fn is_field(row: &ByteRecord, i: usize, word: &[u8]) -> bool
 
 /// The type of a record, where the record has its form.
 pub(crate) fn row_of(row: &ByteRecord) -> Option<TypeRow>
-    ensures { result ≡ row_of (fields_of row.now) }
+    ensures value { result ≡ row_of (fields_of row.now) }
 {
     if row.len() == 3 { fields_in(row) } else { None }
 }
 
 fn fields_in(row: &ByteRecord) -> Option<TypeRow>
-    ensures { result ≡ fields_in (fields_of row.now) }
+    ensures value { result ≡ fields_in (fields_of row.now) }
 {
     let name = name_in(row, 0)?;
     let span = number_in(row, 1)?;
@@ -45,7 +45,7 @@ fn fields_in(row: &ByteRecord) -> Option<TypeRow>
 }
 
 fn name_in(row: &ByteRecord, i: usize) -> Option<Name>
-    ensures { result ≡ name_in (fields_of row.now) i }
+    ensures value { result ≡ name_in (fields_of row.now) i }
 {
     match row.get(i) {
         Some(field) => short_name(field, 2, 4),
@@ -54,7 +54,7 @@ fn name_in(row: &ByteRecord, i: usize) -> Option<Name>
 }
 
 fn number_in(row: &ByteRecord, i: usize) -> Option<u32>
-    ensures { result ≡ number_in (fields_of row.now) i }
+    ensures value { result ≡ number_in (fields_of row.now) i }
 {
     match row.get(i) {
         Some(field) => number(field),

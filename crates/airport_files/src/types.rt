@@ -42,8 +42,8 @@ fn read_rows(
     row: &mut ByteRecord,
     turns: usize,
 ) -> Result<Listed<TypeRow>, TableFault>
-    requires { turns < 2 ^ 31 }
-    ensures { (s : State) (left : List ℕ) → IsReading (λ b. Some b.now) rdr.old s left
+    requires few { turns < 2 ^ 31 }
+    ensures value { (s : State) (left : List ℕ) → IsReading (λ b. Some b.now) rdr.old s left
         → MatchResult result (λ v. rows_left 2 turns s left ≡ Ok v)
         (λ e. (e ≡ TableFault.Memory) ⊎ (rows_left 2 turns s left ≡ Err e)) }
 {
@@ -64,8 +64,8 @@ fn read_rows(
 
 /// The types of a type file, or its first bad record.
 pub(crate) fn read_table(alloc: Global, text: &[u8]) -> Result<Listed<TypeRow>, TableFault>
-    requires { length text.now < 2 ^ 31 }
-    ensures { MatchResult result (λ v. table_in text.now ≡ Ok v)
+    requires few { length text.now < 2 ^ 31 }
+    ensures value { MatchResult result (λ v. table_in text.now ≡ Ok v)
         (λ e. (e ≡ TableFault.Memory) ⊎ (table_in text.now ≡ Err e)) }
 {
     let mut rdr = start(alloc, text);

@@ -3,4 +3,4 @@ use Rattle.airport_files.proofs.RowWalk.{tables}
 use Rattle.airport_files.proofs.layout.are_tables.Goals as goal
 
 pub returns : goal.returns
-returns c = c.all_are_tables.ensures ∙ rw c.as_slice.ensures.value (tables c.args.array.now.items)
+returns c = record { is = c.all_are_tables.ensures.is ∙ rw c.as_slice.ensures.value (tables c.args.array.now.items) }

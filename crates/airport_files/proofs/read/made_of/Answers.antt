@@ -3,13 +3,15 @@ use Rattle.airport_files.proofs.Meanings.{made_is}
 use Rattle.airport_files.proofs.read.made_of.Goals as goal
 
 pub returns-in-Ok : goal.returns-in-Ok
-returns-in-Ok c = made_is c.args.parts None c.in-Ok.ensures.fault ∙ ap Ok (sym c.in-Ok.ensures.parts)
+returns-in-Ok c = record { value = made_is c.args.parts None c.in-Ok.ensures.fault ∙ ap Ok (sym c.in-Ok.ensures.parts) }
 
 pub returns-in-Err : goal.returns-in-Err
-returns-in-Err c = elim c.in-Err.ensures.fault [
-  | inl memory ↦ inl (c.refused.ensures.memory memory)
-  | inr named ↦ elim c.refused.ensures.named [
-    | inl memory ↦ inl memory
-    | inr same ↦ inr (made_is c.args.parts (Some c.in-Err.fault) named ∙ ap Err (sym same))
-  ]
-]
+returns-in-Err c = record {
+  value = elim c.in-Err.ensures.fault [
+    | inl memory ↦ inl (c.refused.ensures.memory memory)
+    | inr named ↦ elim c.refused.ensures.named [
+      | inl memory ↦ inl memory
+      | inr same ↦ inr (made_is c.args.parts (Some c.in-Err.fault) named ∙ ap Err (sym same))
+    ]
+  ];
+}

@@ -7,20 +7,24 @@ pub returns-in_err-layout : goal.returns-in_err-layout
 unfolding meaning
 returns-in_err-layout c =
     let p = err_from_is_err_and c.from_residual.result c.from_residual.ensures.1 in
-    rw (p.1, p.2) (elim c.in_err-layout.ensures.layout [
-      | inl memory ↦ inl memory
-      | inr meant ↦ inr (rw meant)
-    ])
+    rw (p.1, p.2) (record {
+      value = elim c.in_err-layout.ensures.layout [
+        | inl memory ↦ inl memory
+        | inr meant ↦ inr (rw meant)
+      ];
+    })
 
 pub returns-in_err-rows : goal.returns-in_err-rows
 unfolding meaning
 returns-in_err-rows c =
     let p = err_from_is_err_and c.from_residual-in_err-rows.result c.from_residual-in_err-rows.ensures.1 in
-    rw (p.1, p.2) (elim c.in_err-rows.ensures [
-      | inl memory ↦ inl memory
-      | inr meant ↦ inr (rw (c.in_ok-layout.ensures.layout, meant))
-    ])
+    rw (p.1, p.2) (record {
+      value = elim c.in_err-rows.ensures.value [
+        | inl memory ↦ inl memory
+        | inr meant ↦ inr (rw (c.in_ok-layout.ensures.layout, meant))
+      ];
+    })
 
 pub returns : goal.returns
 unfolding meaning
-returns c = rw (c.in_ok-layout.ensures.layout, c.in_ok-rows.ensures, ← c.parts_of.ensures) c.made_of.ensures
+returns c = record { value = rw (c.in_ok-layout.ensures.layout, c.in_ok-rows.ensures.value, ← c.parts_of.ensures.value) c.made_of.ensures.value }

@@ -15,7 +15,9 @@ pub returns-in_err-objects : goal.returns-in_err-objects
 unfolding frontage_in
 returns-in_err-objects c =
     let p = err_from_is_err_and c.from_residual-in_err-objects.result c.from_residual-in_err-objects.ensures.1 in
-    rw (p.1, p.2) (elim c.in_err-objects.ensures [
-      | inl memory ↦ inl memory
-      | inr read ↦ inr (rw (← c.in_ok-name.ensures, read))
-    ])
+    rw (p.1, p.2) (record {
+      value = elim c.in_err-objects.ensures.value [
+        | inl memory ↦ inl memory
+        | inr read ↦ inr (rw (← c.in_ok-name.ensures.value, read))
+      ];
+    })

@@ -7,7 +7,7 @@ loop-value-preserved c =
     let same = c.deref-value-items.ensures.value in
     let within = rw same at c.loop-value-test.true in
     let at = rw same at c.value-item.is in
-    let read = sym c.number.ensures ∙ c.in-Some.is in
+    let read = sym c.number.ensures.value ∙ c.in-Some.is in
     let items = from_ok c.push.result _ (sym c.is_err.ensures.value ∙ c.if-is_err.false) c.push.ensures.ok in
     let step = step-ok c.args.at c.args.array.now.items c.loop-value.value-index c.value-item.result c.loop-value.numbers c.in-Some.n within at read in
     rw items (sym step ∙ c.loop-value.invariant)
@@ -17,10 +17,10 @@ returns-in_default c =
     let same = c.deref-value-items.ensures.value in
     let within = rw same at c.loop-value-test.true in
     let at = rw same at c.value-item.is in
-    let none = sym c.number.ensures ∙ c.in_default.is in
-    inr (sym c.loop-value.invariant ∙ step-err c.args.at c.args.array.now.items c.loop-value.value-index c.value-item.result c.loop-value.numbers within at none)
+    let none = sym c.number.ensures.value ∙ c.in_default.is in
+    record { value = inr (sym c.loop-value.invariant ∙ step-err c.args.at c.args.array.now.items c.loop-value.value-index c.value-item.result c.loop-value.numbers within at none) }
 
 pub returns : goal.returns
 returns c =
     let past = rw c.deref-value-items.ensures.value at c.loop-value-test.false in
-    sym c.loop-value.invariant ∙ step-end c.args.at c.args.array.now.items c.loop-value.value-index c.loop-value.numbers past
+    record { value = sym c.loop-value.invariant ∙ step-end c.args.at c.args.array.now.items c.loop-value.value-index c.loop-value.numbers past }

@@ -12,12 +12,12 @@ pub returns-then-is_header-clause-ok : goal.returns-then-is_header-clause-ok
 returns-then-is_header-clause-ok c turns s left reading =
     let found = rw c.if-not-branch.false at (c.in_ok-read_row.ensures.ok s left reading) in
     let (p, next, fields, after) = found-some (λ (b : Bor (List ℕ)). Some b.now) c.read_row.new.rdr _ _ found in
-    let good = rw fields at (sym c.is_header.ensures ∙ c.if-is_header.true) in
+    let good = rw fields at (sym c.is_header.ensures.is ∙ c.if-is_header.true) in
     (p.1, p.2, after, header-good turns s left p next good)
 
 pub returns-else-is_header-clause-err : goal.returns-else-is_header-clause-err
 returns-else-is_header-clause-err c turns s left reading =
     let found = rw c.if-not-branch.false at (c.in_ok-read_row.ensures.ok s left reading) in
     let (p, next, fields, after) = found-some (λ (b : Bor (List ℕ)). Some b.now) c.read_row.new.rdr _ _ found in
-    let bad = rw fields at (sym c.is_header.ensures ∙ c.if-is_header.false) in
+    let bad = rw fields at (sym c.is_header.ensures.is ∙ c.if-is_header.false) in
     inr (header-bad turns s left p next bad)
