@@ -53,7 +53,7 @@ pub(crate) fn examine<F: Shelf>(alloc: Global, airport: &str, types: &str, shelf
 
 // What is found where a file isn't given.
 fn unread(fault: ShelfFault, too_long: Finding) -> Finding
-    ensures { result ≡ unread_as fault too_long }
+    ensures value { result ≡ unread_as fault too_long }
 {
     match fault {
         ShelfFault::Failed => Finding::ShelfFault,
@@ -63,7 +63,7 @@ fn unread(fault: ShelfFault, too_long: Finding) -> Finding
 }
 
 fn read(alloc: Global, airport: &[u8], types: &[u8]) -> Finding
-    requires { length types.now < 2 ^ 31 }
+    requires few { length types.now < 2 ^ 31 }
     ensures found { (result ≡ Finding.Memory) ⊎ (result ≡ of_meaning (meaning airport.now types.now)) }
     ensures read { result ≢ Finding.ShelfFault }
 {
@@ -74,7 +74,7 @@ fn read(alloc: Global, airport: &[u8], types: &[u8]) -> Finding
 }
 
 fn fine(airport: &Airport) -> Finding
-    ensures { result ≡ of_meaning (Ok airport.now) }
+    ensures value { result ≡ of_meaning (Ok airport.now) }
 {
     let parts = airport.parts();
     Finding::Fine {

@@ -21,7 +21,7 @@ pub(crate) fn tell<W: Sink>(sink: &mut W, finding: &Finding) -> u8
 }
 
 fn status_of(finding: &Finding) -> u8
-    ensures { result ≡ status_of finding.now }
+    ensures value { result ≡ status_of finding.now }
 {
     match finding {
         Finding::Fine { .. } => 0,
@@ -32,7 +32,7 @@ fn status_of(finding: &Finding) -> u8
 }
 
 fn unwritten_of(finding: &Finding) -> u8
-    ensures { result ≡ unwritten_of finding.now }
+    ensures value { result ≡ unwritten_of finding.now }
 {
     match finding {
         Finding::Fine { .. } => 6,
@@ -129,7 +129,7 @@ fn put_airport_fault<W: Sink>(sink: &mut W, fault: &AirportFault) -> Result<(), 
 }
 
 fn limit_word(limit: Limit) -> &'static str
-    ensures { result.now ≡ limit_word limit }
+    ensures text { result.now ≡ limit_word limit }
 {
     match limit {
         Limit::Days => "days",

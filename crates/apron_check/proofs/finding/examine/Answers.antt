@@ -9,7 +9,7 @@ pub returns-in-Err-clause-found : goal.returns-in-Err-clause-found
 returns-in-Err-clause-found g c =
     let old = c.args.shelf.now in
     let X = RoseBy most (g.F.Shelf.read old) (g.F.Shelf.read c.read_file.new.self) in
-    rw c.unread.ensures
+    rw c.unread.ensures.value
     (airport_unread X c.in-Err.fault (g.F.Shelf.file old c.args.airport.now) (g.F.Shelf.file old c.args.types.now) (λ e. c.in-Err.ensures.too_long (ap Err e)))
 
 pub returns-in-Err-read_file-clause-found : goal.returns-in-Err-read_file-clause-found
@@ -18,7 +18,7 @@ returns-in-Err-read_file-clause-found g c =
     let X = RoseBy most (g.F.Shelf.read c.read_file.new.self) (g.F.Shelf.read c.read_file-2.new.self) in
     let P : Option (List ℕ) → Type 0 = λ file. MatchOption file X (λ b. most < length b) in
     let within : length c.in-Ok.bytes.items ≤ most = omega (arith, c.in-Ok.ensures.within, c.in-Ok.bytes.ok.0) in
-    rw c.unread-in-Err-read_file.ensures
+    rw c.unread-in-Err-read_file.ensures.value
     (types_unread X c.in-Err-read_file.fault (g.F.Shelf.file old c.args.airport.now) (g.F.Shelf.file old c.args.types.now) c.in-Ok.bytes.items c.in-Ok.ensures.whole within
     (λ e. subst P (c.in-Ok.ensures.same c.args.types.now) (c.in-Err-read_file.ensures.too_long (ap Err e))))
 

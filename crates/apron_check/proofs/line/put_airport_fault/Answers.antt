@@ -10,7 +10,7 @@ pub returns-in-BadHalf-clause-bytes : goal.returns-in-BadHalf-clause-bytes
 returns-in-BadHalf-clause-bytes g c = rw (c.in-BadHalf.is, ← c.bytes-in-BadHalf.ensures.value) c.put_both-in-BadHalf.ensures.bytes
 
 pub returns-in-LimitPassed-clause-bytes : goal.returns-in-LimitPassed-clause-bytes
-returns-in-LimitPassed-clause-bytes g c = rw (c.in-LimitPassed.is, ← c.limit_word.ensures, ← c.as_bytes.ensures.value) c.put_both-in-LimitPassed.ensures.bytes
+returns-in-LimitPassed-clause-bytes g c = rw (c.in-LimitPassed.is, ← c.limit_word.ensures.text, ← c.as_bytes.ensures.value) c.put_both-in-LimitPassed.ensures.bytes
 
 pub returns-in-BadSpan-clause-bytes : goal.returns-in-BadSpan-clause-bytes
 returns-in-BadSpan-clause-bytes g c = rw (c.in-BadSpan.is, ← c.bytes-in-BadSpan.ensures.value) c.put_both-in-BadSpan.ensures.bytes
