@@ -4,31 +4,31 @@ ghost use Rattle.std.specs.List.{list_all};
 ghost use Rattle.mvt_grammar.specs.Bytes.{is_capital, is_digit, is_station, two_digits, parted};
 
 pub(crate) fn is_capital(byte: u8) -> bool
-    ensures { result ≡ is_capital byte }
+    ensures is { result ≡ is_capital byte }
 {
     byte.is_ascii_uppercase()
 }
 
 pub(crate) fn is_digit(byte: u8) -> bool
-    ensures { result ≡ is_digit byte }
+    ensures is { result ≡ is_digit byte }
 {
     byte.is_ascii_digit()
 }
 
 pub(crate) fn are_capitals(text: &[u8]) -> bool
-    ensures { result ≡ list_all is_capital text.now }
+    ensures is { result ≡ list_all is_capital text.now }
 {
     text.iter().all(|byte| is_capital(*byte))
 }
 
 pub(crate) fn are_digits(text: &[u8]) -> bool
-    ensures { result ≡ list_all is_digit text.now }
+    ensures is { result ≡ list_all is_digit text.now }
 {
     text.iter().all(|byte| is_digit(*byte))
 }
 
 pub(crate) fn third_is_capital(text: &[u8]) -> bool
-    ensures { result ≡ is_capital (slice_index text.now 2) }
+    ensures is { result ≡ is_capital (slice_index text.now 2) }
 {
     match text.get(2) {
         Some(third) => is_capital(*third),
@@ -38,14 +38,14 @@ pub(crate) fn third_is_capital(text: &[u8]) -> bool
 
 // Three capitals.
 pub(crate) fn is_station(text: &[u8]) -> bool
-    ensures { result ≡ is_station text.now }
+    ensures is { result ≡ is_station text.now }
 {
     text.len() == 3 && are_capitals(text)
 }
 
 // The number that a text of two digits writes.
 pub(crate) fn two_digits(text: &[u8]) -> Option<u8>
-    ensures { result ≡ two_digits text.now }
+    ensures value { result ≡ two_digits text.now }
 {
     if text.len() == 2 && are_digits(text) {
         Some(10 * (text[0] - b'0') + (text[1] - b'0'))

@@ -7,7 +7,7 @@ use crate::bytes::{parted, two_digits};
 
 // DD, the day of a month.
 pub(crate) fn day_of(text: &[u8]) -> Option<u8>
-    ensures { result ≡ day_of text.now }
+    ensures value { result ≡ day_of text.now }
 {
     let day = two_digits(text)?;
     if (1..=31).contains(&day) {
@@ -19,7 +19,7 @@ pub(crate) fn day_of(text: &[u8]) -> Option<u8>
 
 // HHMM, as the minute of the day.
 fn minute_of(text: &[u8]) -> Option<u16>
-    ensures { result ≡ minute_of text.now }
+    ensures value { result ≡ minute_of text.now }
 {
     if text.len() < 2 {
         return None;
@@ -35,7 +35,7 @@ fn minute_of(text: &[u8]) -> Option<u16>
 
 // A time in either form.
 pub(crate) fn clock_of(text: &[u8]) -> Option<Clock>
-    ensures { result ≡ clock_of text.now }
+    ensures value { result ≡ clock_of text.now }
 {
     if text.len() == 6 {
         let day = day_of(&text[..2])?;
@@ -52,7 +52,7 @@ pub(crate) fn clock_of(text: &[u8]) -> Option<Clock>
 
 // A time, or two with a slash between them.
 pub(crate) fn times_of(text: &[u8]) -> Option<(Clock, Option<Clock>)>
-    ensures { result ≡ times_of text.now }
+    ensures value { result ≡ times_of text.now }
 {
     match parted(text, b'/') {
         None => Some((clock_of(text)?, None)),

@@ -10,20 +10,20 @@ use crate::bytes::{are_capitals, are_digits, is_capital, is_digit, third_is_capi
 use apron_base::Name;
 
 fn are_letters_or_digits(text: &[u8]) -> bool
-    ensures { result ≡ list_all is_airline_byte text.now }
+    ensures is { result ≡ list_all is_airline_byte text.now }
 {
     text.iter().all(|byte| is_capital(*byte) || is_digit(*byte))
 }
 
 fn has_capital(text: &[u8]) -> bool
-    ensures { result ≡ list_any is_capital text.now }
+    ensures is { result ≡ list_any is_capital text.now }
 {
     text.iter().any(|byte| is_capital(*byte))
 }
 
 // Three capitals; or two capitals or digits, at least one of them a capital.
 pub(crate) fn is_airline(text: &[u8]) -> bool
-    ensures { result ≡ is_airline text.now }
+    ensures is { result ≡ is_airline text.now }
 {
     match text.len() {
         3 => are_capitals(text),
@@ -34,15 +34,15 @@ pub(crate) fn is_airline(text: &[u8]) -> bool
 
 // One to four digits.
 fn is_number(text: &[u8]) -> bool
-    ensures { result ≡ is_number text.now }
+    ensures is { result ≡ is_number text.now }
 {
     (1..=4).contains(&text.len()) && are_digits(text)
 }
 
 // The number that one to four digits write.
 fn number_of(digits: &[u8]) -> u16
-    requires { IsTrue (is_number digits.now) }
-    ensures { result ≡ value_after 0 digits.now }
+    requires number { IsTrue (is_number digits.now) }
+    ensures value { result ≡ value_after 0 digits.now }
 {
     let mut number = 0;
     for digit in digits {
@@ -52,7 +52,7 @@ fn number_of(digits: &[u8]) -> u16
 }
 
 fn flight_with(airline: &[u8], number: &[u8], suffix: Option<u8>) -> Option<Flight>
-    ensures { result ≡ flight_with airline.now number.now suffix }
+    ensures value { result ≡ flight_with airline.now number.now suffix }
 {
     if is_airline(airline) && is_number(number) {
         Some(Flight {
@@ -66,7 +66,7 @@ fn flight_with(airline: &[u8], number: &[u8], suffix: Option<u8>) -> Option<Flig
 }
 
 fn flight_after(airline: &[u8], text: &[u8]) -> Option<Flight>
-    ensures { result ≡ flight_after airline.now text.now }
+    ensures value { result ≡ flight_after airline.now text.now }
 {
     match text.split_last() {
         Some((last, front)) if is_capital(*last) => flight_with(airline, front, Some(*last)),
@@ -75,7 +75,7 @@ fn flight_after(airline: &[u8], text: &[u8]) -> Option<Flight>
 }
 
 fn airline_len(text: &[u8]) -> usize
-    ensures { result ≡ airline_len text.now }
+    ensures value { result ≡ airline_len text.now }
 {
     if third_is_capital(text) { 3 } else { 2 }
 }

@@ -4,25 +4,25 @@ ghost use Rattle.mvt_grammar.specs.Laws.{ReadingGivesReadable, CanonicalIsReadBa
 
 /// Each message that a text is read as is readable.
 pub fn reading_gives_readable_messages()
-    ensures { ReadingGivesReadable }
+    ensures readable { ReadingGivesReadable }
 {}
 
 /// The canonical text of each readable message is read as that message.
 pub fn canonical_texts_are_read_back()
-    ensures { CanonicalIsReadBack }
+    ensures read { CanonicalIsReadBack }
 {}
 
 /// Two readable messages with one canonical text are equal.
 pub fn canonical_texts_tell_messages_apart()
-    ensures { CanonicalTellsApart }
+    ensures same { CanonicalTellsApart }
 {}
 
 /// A canonical text has at most 85 bytes.
 pub fn canonical_texts_are_short()
-    ensures { CanonicalIsShort }
+    ensures few { CanonicalIsShort }
 {}
 
 /// The canonical text of each flight in its form is read as that flight.
 pub fn flights_are_read_back()
-    ensures { FlightIsReadBack }
+    ensures read { FlightIsReadBack }
 {}

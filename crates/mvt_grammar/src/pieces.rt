@@ -18,7 +18,7 @@ impl<'a> Span<'a> {
 
     // The piece before the first such byte, or the whole, and what is left behind that byte.
     fn cut(self, byte: u8) -> (Span<'a>, Option<Span<'a>>)
-        ensures { cut_at byte (piece_of self.entry) ≡ piece_of result.0 ∷ left_cut byte result.1 }
+        ensures value { cut_at byte (piece_of self.entry) ≡ piece_of result.0 ∷ left_cut byte result.1 }
     {
         match parted(self.text, byte) {
             Some((front, rest)) => {
@@ -39,7 +39,7 @@ impl<'a> Span<'a> {
 
     // The first line, and what is left behind it.
     pub fn line(self) -> (Span<'a>, Option<Span<'a>>)
-        ensures { left_lines (Some self.entry) ≡ piece_of result.0 ∷ left_lines result.1 }
+        ensures value { left_lines (Some self.entry) ≡ piece_of result.0 ∷ left_lines result.1 }
     {
         let (line, left) = self.cut(b'\n');
         let line = Span {
@@ -51,7 +51,7 @@ impl<'a> Span<'a> {
 
     // The first word of what is left of a line, and what is left behind it. None where there is no word.
     pub fn word(line: Option<Span<'a>>) -> Option<(Span<'a>, Option<Span<'a>>)>
-        ensures { MatchOption result (left_words line.entry ≡ [])
+        ensures value { MatchOption result (left_words line.entry ≡ [])
             (λ found. left_words line.entry ≡ piece_of found.0 ∷ left_words found.1) }
     {
         let mut left = line;

@@ -9,13 +9,13 @@ use crate::{Clock, Flight, Mvt};
 use apron_base::Name;
 
 fn is_day_of_month(day: u8) -> bool
-    ensures { IsTrue result ↔ IsDayOfMonth day }
+    ensures is { IsTrue result ↔ IsDayOfMonth day }
 {
     (1..=31).contains(&day)
 }
 
 fn is_clock(clock: &Clock) -> bool
-    ensures { IsTrue result ↔ IsClock clock.now }
+    ensures is { IsTrue result ↔ IsClock clock.now }
 {
     let day = match clock.day {
         Some(day) => is_day_of_month(day),
@@ -27,7 +27,7 @@ fn is_clock(clock: &Clock) -> bool
 /// Whether some text is read as the flight: the airline is three capitals, or two capitals or digits of which at least one
 /// is a capital; the number is below 10,000; the suffix is a capital.
 pub fn is_flight(flight: &Flight) -> bool
-    ensures { IsTrue result ↔ IsFlight flight.now }
+    ensures is { IsTrue result ↔ IsFlight flight.now }
 {
     let suffix = match flight.suffix {
         Some(suffix) => is_capital(suffix),
@@ -37,7 +37,7 @@ pub fn is_flight(flight: &Flight) -> bool
 }
 
 fn are_times(times: &(Clock, Option<Clock>)) -> bool
-    ensures { IsTrue result ↔ AreTimes times.now }
+    ensures is { IsTrue result ↔ AreTimes times.now }
 {
     let second = match &times.1 {
         Some(second) => is_clock(second),
@@ -47,19 +47,19 @@ fn are_times(times: &(Clock, Option<Clock>)) -> bool
 }
 
 fn is_estimate(estimate: &(Clock, Name)) -> bool
-    ensures { IsTrue result ↔ IsEstimate estimate.now }
+    ensures is { IsTrue result ↔ IsEstimate estimate.now }
 {
     is_clock(&estimate.0) && is_station(estimate.1.bytes())
 }
 
 fn is_registration(name: &Name) -> bool
-    ensures { IsTrue result ↔ IsTrue (is_registration name.now) }
+    ensures is { IsTrue result ↔ IsTrue (is_registration name.now) }
 {
     name.bytes().len() <= 10
 }
 
 fn are_times_or_none(times: &Option<(Clock, Option<Clock>)>) -> bool
-    ensures { IsTrue result ↔ IfSome times.now AreTimes }
+    ensures is { IsTrue result ↔ IfSome times.now AreTimes }
 {
     match times {
         Some(times) => are_times(times),
@@ -68,7 +68,7 @@ fn are_times_or_none(times: &Option<(Clock, Option<Clock>)>) -> bool
 }
 
 fn are_estimates(message: &Mvt) -> bool
-    ensures { IsTrue result ↔ (IfSome message.now.ea IsEstimate × IfSome message.now.ed IsClock) }
+    ensures is { IsTrue result ↔ (IfSome message.now.ea IsEstimate × IfSome message.now.ed IsClock) }
 {
     let ea = match &message.ea {
         Some(estimate) => is_estimate(estimate),
@@ -84,7 +84,7 @@ fn are_estimates(message: &Mvt) -> bool
 /// Whether some text is read as the message: days of the month are 1 to 31, minutes of the day below 1440, the number of
 /// the flight below 10,000, and each name has its form.
 pub fn is_readable(message: &Mvt) -> bool
-    ensures { IsTrue result ↔ IsReadable message.now }
+    ensures is { IsTrue result ↔ IsReadable message.now }
 {
     is_flight(&message.flight)
         && is_day_of_month(message.day)

@@ -28,7 +28,7 @@ pub(crate) struct Left<'a> {
 
 // The next mark, and what is left behind it.
 fn next_of<'a>(start: Left<'a>) -> Option<(Mark, Left<'a>)>
-    ensures { MatchOption result (left_marks start.entry ≡ [])
+    ensures value { MatchOption result (left_marks start.entry ≡ [])
         (λ found. left_marks start.entry ≡ found.0 ∷ left_marks found.1) }
 {
     let mut left = start;
@@ -49,7 +49,7 @@ fn next_of<'a>(start: Left<'a>) -> Option<(Mark, Left<'a>)>
 
 // The message with one more element, where it does not have that element yet.
 fn with_element(message: Mvt, at: u32, element: Element) -> Result<Mvt, MvtFault>
-    ensures { result ≡ if has_element message element then Err (MvtFault.Twice at) else Ok (with_element message element) }
+    ensures value { result ≡ if has_element message element then Err (MvtFault.Twice at) else Ok (with_element message element) }
 {
     let mut message = message;
     let had = match element {
@@ -67,7 +67,7 @@ fn with_element(message: Mvt, at: u32, element: Element) -> Result<Mvt, MvtFault
 
 // The message with the elements of what is left to read.
 fn with_elements(heading: Mvt, start: Left<'_>) -> Result<Mvt, MvtFault>
-    ensures { result ≡ with_marks heading (left_marks start.entry) }
+    ensures value { result ≡ with_marks heading (left_marks start.entry) }
 {
     let mut message = heading;
     let mut left = start;
@@ -84,7 +84,7 @@ fn with_elements(heading: Mvt, start: Left<'_>) -> Result<Mvt, MvtFault>
 
 // A registration: a name of at most 10 bytes.
 fn registration_of(text: &[u8]) -> Option<Name>
-    ensures { result ≡ if is_registration text.now then Some text.now else None }
+    ensures value { result ≡ if is_registration text.now then Some text.now else None }
 {
     if text.len() <= 10 {
         Name::new(text)
@@ -94,7 +94,7 @@ fn registration_of(text: &[u8]) -> Option<Name>
 }
 
 fn station_of(text: &[u8]) -> Option<Name>
-    ensures { result ≡ if is_station text.now then Some text.now else None }
+    ensures value { result ≡ if is_station text.now then Some text.now else None }
 {
     if is_station(text) {
         Name::new(text)
@@ -105,7 +105,7 @@ fn station_of(text: &[u8]) -> Option<Name>
 
 // The message without elements that a flight line begins.
 fn heading_of(line: &[u8]) -> Option<Mvt>
-    ensures { result ≡ heading_of line.now }
+    ensures value { result ≡ heading_of line.now }
 {
     let (flight, rest) = parted(line, b'/')?;
     let (day, rest) = parted(rest, b'.')?;
@@ -128,7 +128,7 @@ fn heading_of(line: &[u8]) -> Option<Mvt>
 
 // The lines after the line `MVT`.
 fn after_identifier(text: Span<'_>) -> Result<Option<Span<'_>>, MvtFault>
-    ensures { MatchResult result
+    ensures value { MatchResult result
         (λ left. after_identifier 21 (left_lines (Some text.entry)) ≡ Ok (left_lines left))
         (λ fault. after_identifier 21 (left_lines (Some text.entry)) ≡ Err fault) }
 {
@@ -148,7 +148,7 @@ fn after_identifier(text: Span<'_>) -> Result<Option<Span<'_>>, MvtFault>
 
 // The message without elements, and the lines after the flight line.
 fn after_heading(lines: Option<Span<'_>>) -> Result<(Mvt, Option<Span<'_>>), MvtFault>
-    ensures { MatchResult result
+    ensures value { MatchResult result
         (λ found. after_heading (left_lines lines.entry) ≡ Ok (found.0, left_lines found.1))
         (λ fault. after_heading (left_lines lines.entry) ≡ Err fault) }
 {

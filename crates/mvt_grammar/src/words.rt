@@ -40,7 +40,7 @@ pub(crate) enum Mark {
 
 // One of the four pairs, and no capital after it.
 pub(crate) fn begins_element(text: &[u8]) -> bool
-    ensures { result ≡ begins_element text.now }
+    ensures is { result ≡ begins_element text.now }
 {
     let pair = text.starts_with(b"AD")
         || text.starts_with(b"AA")
@@ -51,8 +51,8 @@ pub(crate) fn begins_element(text: &[u8]) -> bool
 
 // What stands after the pair of letters of an element.
 fn element_kind(word: &[u8]) -> Kind
-    requires { 2 ≤ length word.now }
-    ensures { result ≡ element_kind word.now }
+    requires some { 2 ≤ length word.now }
+    ensures value { result ≡ element_kind word.now }
 {
     let times = &word[2..];
     if word.starts_with(b"AD") {
@@ -79,7 +79,7 @@ fn element_kind(word: &[u8]) -> Kind
 }
 
 fn kind_of(word: &[u8]) -> Kind
-    ensures { result ≡ kind_of word.now }
+    ensures value { result ≡ kind_of word.now }
 {
     if word.starts_with(b"SI") {
         Kind::ReadingEnds
@@ -92,7 +92,7 @@ fn kind_of(word: &[u8]) -> Kind
 
 // The next mark of what is left of a line, and what is left behind it: nothing behind a fault or the end of the reading.
 pub(crate) fn next_mark(line: Option<Span<'_>>) -> Option<(Mark, Option<Span<'_>>)>
-    ensures { MatchOption result (marks_of_words (left_words line.entry) ≡ [])
+    ensures value { MatchOption result (marks_of_words (left_words line.entry) ≡ [])
         (λ found. marks_of_words (left_words line.entry) ≡ found.0 ∷ marks_of_words (left_words found.1)) }
 {
     let (word, left) = Span::word(line)?;

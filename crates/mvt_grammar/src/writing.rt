@@ -10,8 +10,8 @@ use std::alloc::Global;
 
 // Two digits.
 fn push_two(out: &mut Vec<u8>, number: u16) -> Result<(), Memory>
-    requires { number < 100 }
-    ensures { OnOk result (out.new.items ≡ out.old.items ++ two_text number) }
+    requires small { number < 100 }
+    ensures text { OnOk result (out.new.items ≡ out.old.items ++ two_text number) }
 {
     let tens = b'0' + (number / 10) as u8;
     let ones = b'0' + (number % 10) as u8;
@@ -21,8 +21,8 @@ fn push_two(out: &mut Vec<u8>, number: u16) -> Result<(), Memory>
 
 // A number without leading zeros.
 fn push_number(out: &mut Vec<u8>, number: u16) -> Result<(), Memory>
-    requires { number < 10000 }
-    ensures { OnOk result (out.new.items ≡ out.old.items ++ number_text number) }
+    requires small { number < 10000 }
+    ensures text { OnOk result (out.new.items ≡ out.old.items ++ number_text number) }
 {
     if number < 10 {
         out.push(b'0' + number as u8)?;
@@ -40,8 +40,8 @@ fn push_number(out: &mut Vec<u8>, number: u16) -> Result<(), Memory>
 
 /// Writes a flight at the end, its number without leading zeros. After want of memory a part of it may be there.
 pub fn push_flight(out: &mut Vec<u8>, flight: &Flight) -> Result<(), Memory>
-    requires { IsFlight flight.now }
-    ensures { OnOk result (out.new.items ≡ out.old.items ++ flight_text flight.now) }
+    requires valid { IsFlight flight.now }
+    ensures text { OnOk result (out.new.items ≡ out.old.items ++ flight_text flight.now) }
 {
     out.extend_from_slice(flight.airline.bytes())?;
     push_number(out, flight.number)?;
@@ -52,8 +52,8 @@ pub fn push_flight(out: &mut Vec<u8>, flight: &Flight) -> Result<(), Memory>
 }
 
 fn push_clock(out: &mut Vec<u8>, clock: &Clock) -> Result<(), Memory>
-    requires { IsClock clock.now }
-    ensures { OnOk result (out.new.items ≡ out.old.items ++ clock_text clock.now) }
+    requires valid { IsClock clock.now }
+    ensures text { OnOk result (out.new.items ≡ out.old.items ++ clock_text clock.now) }
 {
     if let Some(day) = clock.day {
         push_two(out, u16::from(day))?;
@@ -63,8 +63,8 @@ fn push_clock(out: &mut Vec<u8>, clock: &Clock) -> Result<(), Memory>
 }
 
 fn push_times(out: &mut Vec<u8>, times: &(Clock, Option<Clock>)) -> Result<(), Memory>
-    requires { AreTimes times.now }
-    ensures { OnOk result (out.new.items ≡ out.old.items ++ times_text times.now) }
+    requires valid { AreTimes times.now }
+    ensures text { OnOk result (out.new.items ≡ out.old.items ++ times_text times.now) }
 {
     push_clock(out, &times.0)?;
     if let Some(second) = &times.1 {
@@ -81,7 +81,7 @@ fn push_times_words(
     pair: &[u8],
     times: &Option<(Clock, Option<Clock>)>,
 ) -> Result<u8, Memory>
-    requires { IfSome times.now AreTimes }
+    requires valid { IfSome times.now AreTimes }
     ensures text { OnOk result (out.new.items ≡ out.old.items ++ led gap (times_words pair.now times.now)) }
     ensures next { IfOk result (λ next. next ≡ gap_after gap (times_words pair.now times.now)) }
 {
@@ -97,7 +97,7 @@ fn push_times_words(
 }
 
 fn push_ea_words(out: &mut Vec<u8>, gap: u8, estimate: &Option<(Clock, Name)>) -> Result<u8, Memory>
-    requires { IfSome estimate.now IsEstimate }
+    requires valid { IfSome estimate.now IsEstimate }
     ensures text { OnOk result (out.new.items ≡ out.old.items ++ led gap (ea_words estimate.now)) }
     ensures next { IfOk result (λ next. next ≡ gap_after gap (ea_words estimate.now)) }
 {
@@ -115,8 +115,8 @@ fn push_ea_words(out: &mut Vec<u8>, gap: u8, estimate: &Option<(Clock, Name)>) -
 }
 
 fn push_ed_words(out: &mut Vec<u8>, gap: u8, clock: &Option<Clock>) -> Result<(), Memory>
-    requires { IfSome clock.now IsClock }
-    ensures { OnOk result (out.new.items ≡ out.old.items ++ led gap (ed_words clock.now)) }
+    requires valid { IfSome clock.now IsClock }
+    ensures text { OnOk result (out.new.items ≡ out.old.items ++ led gap (ed_words clock.now)) }
 {
     if let Some(clock) = clock {
         out.push(gap)?;
@@ -128,8 +128,8 @@ fn push_ed_words(out: &mut Vec<u8>, gap: u8, clock: &Option<Clock>) -> Result<()
 
 // The words of all elements, the first behind a line feed.
 fn push_elements(out: &mut Vec<u8>, message: &Mvt) -> Result<(), Memory>
-    requires { IsReadable message.now }
-    ensures { OnOk result (out.new.items ≡ out.old.items ++ led 10 (element_words message.now)) }
+    requires valid { IsReadable message.now }
+    ensures text { OnOk result (out.new.items ≡ out.old.items ++ led 10 (element_words message.now)) }
 {
     let gap = push_times_words(out, b'\n', b"AD", &message.ad)?;
     let gap = push_times_words(out, gap, b"AA", &message.aa)?;
@@ -139,8 +139,8 @@ fn push_elements(out: &mut Vec<u8>, message: &Mvt) -> Result<(), Memory>
 
 // The flight line.
 fn push_heading(out: &mut Vec<u8>, message: &Mvt) -> Result<(), Memory>
-    requires { IsReadable message.now }
-    ensures { OnOk result (out.new.items ≡ out.old.items ++ heading_text message.now) }
+    requires valid { IsReadable message.now }
+    ensures text { OnOk result (out.new.items ≡ out.old.items ++ heading_text message.now) }
 {
     push_flight(out, &message.flight)?;
     out.push(b'/')?;
@@ -155,7 +155,7 @@ fn push_heading(out: &mut Vec<u8>, message: &Mvt) -> Result<(), Memory>
 /// The canonical text of a message: the line `MVT`, the flight line, and, where there is an element, a line with the
 /// elements in the order AD, AA, EA, ED, each line with LF. It is read as the message.
 pub fn write_mvt(alloc: Global, message: &Mvt) -> Result<Listed<u8>, Memory>
-    requires { IsReadable message.now }
+    requires valid { IsReadable message.now }
     ensures text { IfOk result (λ text. text ≡ canonical message.now) }
     ensures length { IfOk result (λ text. length text ≤ 85) }
 {

@@ -18,6 +18,6 @@ loop-mark-preserved c =
     let element = c.in-Found.element in
     let new = c.in_ok-message-in-Found.message in
     let rest = left_marks c.in-Some.rest in
-    let taken = chosen_ok (has_element message element) (Twice at) new (with_element message element) (with_marks (with_element message element) rest) (sym c.in_ok-message-in-Found.was ∙ c.with_element.ensures) in
-    let marks : left_marks c.loop-mark.left ≡ Found at element ∷ rest = c.in-Some.ensures ∙ ap (λ m. m ∷ rest) c.in-Found.is in
+    let taken = chosen_ok (has_element message element) (Twice at) new (with_element message element) (with_marks (with_element message element) rest) (sym c.in_ok-message-in-Found.was ∙ c.with_element.ensures.value) in
+    let marks : left_marks c.loop-mark.left ≡ Found at element ∷ rest = c.in-Some.ensures.value ∙ ap (λ m. m ∷ rest) c.in-Found.is in
     ap (λ m. with_marks m rest) taken.1 ∙ sym taken.0 ∙ sym (ap (with_marks message) marks) ∙ c.loop-mark.invariant

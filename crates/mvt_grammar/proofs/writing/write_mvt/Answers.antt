@@ -11,6 +11,6 @@ returns-clause-text c = let led = canonical-led c.args.message.now in grind (ari
 pub returns-clause-length : goal.returns-clause-length
 returns-clause-length c =
     let led = canonical-led c.args.message.now in
-    let short = length-canonical c.args.message.now c.requires in
+    let short = length-canonical c.args.message.now c.requires.valid in
     let text : c.from_vec.result ≡ canonical c.args.message.now = grind (arith, common_steps, append_assoc) in
     rw text short

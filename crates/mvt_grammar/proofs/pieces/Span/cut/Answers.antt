@@ -6,9 +6,9 @@ use Rattle.mvt_grammar.proofs.pieces.Span.cut.Goals as goal
 pub returns-in-Some : goal.returns-in-Some
 returns-in-Some c =
     let found : parted c.args.byte c.args.self.text.now ≡ Some (c.in-Some.front.now, c.in-Some.rest.now) = sym c.in-Some.ensures.parts in
-    cut_at-some c.args.byte c.args.self.at c.args.self.text.now c.in-Some.front.now c.in-Some.rest.now found
+    record { value = cut_at-some c.args.byte c.args.self.at c.args.self.text.now c.in-Some.front.now c.in-Some.rest.now found }
 
 pub returns-in-None : goal.returns-in-None
 returns-in-None c =
     let none : parted c.args.byte c.args.self.text.now ≡ None = sym c.in-None.ensures.parts in
-    cut_at-none c.args.byte c.args.self.at c.args.self.text.now none
+    record { value = cut_at-none c.args.byte c.args.self.at c.args.self.text.now none }
