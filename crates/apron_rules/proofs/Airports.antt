@@ -11,15 +11,15 @@ use Rattle.apron_rules.specs.declared.parts.Frontage.{Frontage}
 use Rattle.apron_rules.specs.declared.parts.StandRow.{StandRow}
 use Rattle.apron_rules.specs.declared.parts.TypeRow.{TypeRow}
 use Rattle.apron_rules.specs.declared.refusals.Limit.{Limit}
-use Rattle.apron_rules.specs.Names.{is_station}
-use Rattle.apron_rules.specs.Refusals.{unknown_of, bad_half_of, limit_of, bad_span_of, first_reason, later_fault_of, fault_of, unless_kept, is_within, are_objects_kept, number_limit, frontage_limit, stand_limit, type_limit}
+use Rattle.apron_rules.specs.Names.{is_station, frontage_names, stand_names, first_repeated}
+use Rattle.apron_rules.specs.Refusals.{duplicate_of, unknown_of, bad_half_of, limit_of, bad_span_of, first_reason, later_fault_of, fault_of, unless_kept, is_within, are_objects_kept, number_limit, frontage_limit, stand_limit, type_limit}
 use Rattle.apron_rules.specs.Rules.{IsAirport}
 
-left_none : {A : Type 0} (o p : Option A) → option_or o p ≡ None → o ≡ None
+pub left_none : {A : Type 0} (o p : Option A) → option_or o p ≡ None → o ≡ None
 left_none None p h = refl
 left_none (Some x) p h = absurd (cc)
 
-right_none : {A : Type 0} (o p : Option A) → option_or o p ≡ None → p ≡ None
+pub right_none : {A : Type 0} (o p : Option A) → option_or o p ≡ None → p ≡ None
 right_none None p h = h
 right_none (Some x) p h = absurd (cc)
 
@@ -69,6 +69,20 @@ limit_none parts h =
     let later = right_none _ (first_reason (unknown_of parts) (bad_half_of parts) (limit_of parts) (bad_span_of parts)) h in
     let third = right_none _ _ (right_none _ _ later) in
     unmapped _ (limit_of parts) (left_none _ _ third)
+
+-- each name that is looked up is known
+pub unknown_none : (parts : AirportParts) → fault_of parts ≡ None → unknown_of parts ≡ None
+unfolding fault_of later_fault_of
+unknown_none parts h =
+    let later = right_none _ (first_reason (unknown_of parts) (bad_half_of parts) (limit_of parts) (bad_span_of parts)) h in
+    unmapped _ (unknown_of parts) (left_none _ _ later)
+
+-- no name of a stand is there twice
+pub stands_once : (parts : AirportParts) → fault_of parts ≡ None → first_repeated (stand_names parts) ≡ None
+unfolding fault_of
+stands_once parts h =
+    let once = unmapped _ (duplicate_of parts) (left_none _ (later_fault_of parts) h) in
+    left_none (first_repeated (stand_names parts)) _ (right_none (first_repeated (frontage_names parts)) _ once)
 
 within : (low high n : ℕ) → is_within low high n ≡ true → n ≤ high
 within low high n h = grind (arith, nat_tests)

@@ -1,0 +1,250 @@
+// What the stands are linked with, by places from 0 in place of names.
+ghost use Rattle.std.specs.Prelude.{◌≡◌, ◌<◌, ◌||◌, ◌&&◌, ◌==◌, ◌^◌, [], ℕ, Bool, List, length, map, replicate, IfOk, IfErr, OnOk};
+ghost use Rattle.std.specs.List.{list_any};
+ghost use Rattle.apron_rules.specs.declared.links.StandPair.{StandPair};
+ghost use Rattle.apron_rules.specs.declared.parts.TypeRow.{TypeRow};
+ghost use Rattle.apron_rules.specs.Links.{is_place, is_one_place, links_of, whole_of, pairs_at, is_split_at, is_near_at, is_barred, first_rule, is_restricted_at, ArePairs};
+ghost use Rattle.apron_base.specs.Letter.{clearance_of_span};
+ghost use Rattle.apron_rules.specs.Rules.{has_letter};
+
+use crate::names::NameTable;
+use crate::{AirportFault, PairRow, Rule, StandRow, TypeRow};
+use apron_base::{Letter, Listed, StandNo, clearance, letter_of};
+use std::alloc::Global;
+
+/// Where a stand lies, and of which stand it is a half.
+#[derive(Clone, Copy, Debug)]
+pub(crate) struct StandLinks {
+    /// The place of its frontage.
+    pub(crate) frontage: Option<usize>,
+    /// The place of its centreline in centimetres along the frontage.
+    pub(crate) centre: u32,
+    /// The place of the stand of which it is a half, if it is one.
+    pub(crate) whole: Option<usize>,
+}
+
+/// A pair restriction, as one of its two stands sees it.
+#[derive(Clone, Copy, Debug)]
+pub(crate) struct StandPair {
+    /// The place of the other stand.
+    pub(crate) other: usize,
+    /// The least letter of a type on this stand.
+    pub(crate) own: Letter,
+    /// The least letter of a type on the other stand.
+    pub(crate) least: Letter,
+}
+
+/// The links of each stand.
+pub(crate) fn stand_links(
+    alloc: Global,
+    rows: &[StandRow],
+    frontages: &NameTable,
+    stands: &NameTable,
+) -> Result<Vec<StandLinks>, AirportFault>
+    ensures links { IfOk result (λ links. links.items ≡ map (links_of frontages.now stands.now) rows.now) }
+    ensures memory { IfErr result (λ fault. fault ≡ AirportFault.Memory) }
+{
+    match rows
+        .iter()
+        .map(|row| links_of(row, frontages, stands))
+        .collect::<Vec<StandLinks>>(alloc)
+    {
+        Ok(links) => Ok(links),
+        Err(_) => Err(AirportFault::Memory),
+    }
+}
+
+fn links_of(row: &StandRow, frontages: &NameTable, stands: &NameTable) -> StandLinks
+    ensures is { result ≡ links_of frontages.now stands.now row.now }
+{
+    StandLinks {
+        frontage: frontages.place(&row.frontage),
+        centre: row.centre,
+        whole: whole_of(row, stands),
+    }
+}
+
+fn whole_of(row: &StandRow, stands: &NameTable) -> Option<usize>
+    ensures is { result ≡ whole_of stands.now row.now }
+{
+    stands.place(&row.half_of?)
+}
+
+/// The pair restrictions of each stand.
+pub(crate) fn stand_pairs(
+    alloc: Global,
+    rows: &[PairRow],
+    stands: &NameTable,
+    count: usize,
+) -> Result<Vec<Listed<StandPair>>, AirportFault>
+    requires count { count ≡ length stands.now }
+    ensures pairs { IfOk result (λ pairs. ArePairs stands.now rows.now pairs.items) }
+    ensures count { IfOk result (λ pairs. length pairs.items ≡ count) }
+    ensures memory { IfErr result (λ fault. fault ≡ AirportFault.Memory) }
+{
+    let mut pairs = no_pairs(alloc, count)?;
+    for place in 0..rows.len() {
+        add_row(&mut pairs, &rows[place], stands)?;
+    }
+    Ok(pairs)
+}
+
+fn no_pairs(alloc: Global, count: usize) -> Result<Vec<Listed<StandPair>>, AirportFault>
+    ensures empty { IfOk result (λ pairs. pairs.items ≡ replicate count []) }
+    ensures memory { IfErr result (λ fault. fault ≡ AirportFault.Memory) }
+{
+    let mut pairs = Vec::new(alloc);
+    for _stand in 0..count {
+        if pairs.push(Listed::new(alloc)).is_err() {
+            return Err(AirportFault::Memory);
+        }
+    }
+    Ok(pairs)
+}
+
+// Adds a restriction to the lists of its two stands.
+fn add_row(
+    pairs: &mut Vec<Listed<StandPair>>,
+    row: &PairRow,
+    stands: &NameTable,
+) -> Result<(), AirportFault>
+    requires length { length pairs.old.items ≡ length stands.now }
+    ensures length { OnOk result (length pairs.new.items ≡ length pairs.old.items) }
+    ensures added { OnOk result ((s s2 : ℕ) (k l : TypeRow)
+        → list_any (is_barred s2 k l) (pairs_at pairs.new.items s)
+        ≡ (list_any (is_barred s2 k l) (pairs_at pairs.old.items s) || is_restricted_at stands.now s k s2 l row.now)) }
+    ensures memory { IfErr result (λ fault. fault ≡ AirportFault.Memory) }
+{
+    let Some(a) = stands.place(&row.a) else {
+        return Ok(());
+    };
+    let Some(b) = stands.place(&row.b) else {
+        return Ok(());
+    };
+    let of_a = StandPair {
+        other: b,
+        own: row.la,
+        least: row.lb,
+    };
+    let of_b = StandPair {
+        other: a,
+        own: row.lb,
+        least: row.la,
+    };
+    add(pairs, a, of_a)?;
+    add(pairs, b, of_b)
+}
+
+fn add(
+    pairs: &mut Vec<Listed<StandPair>>,
+    place: usize,
+    pair: StandPair,
+) -> Result<(), AirportFault>
+    requires inside { place < length pairs.old.items }
+    ensures length { OnOk result (length pairs.new.items ≡ length pairs.old.items) }
+    ensures added { OnOk result ((test : StandPair → Bool) (s : ℕ)
+        → list_any test (pairs_at pairs.new.items s)
+        ≡ (list_any test (pairs_at pairs.old.items s) || (s == place && test pair))) }
+    ensures memory { IfErr result (λ fault. fault ≡ AirportFault.Memory) }
+{
+    match pairs[place].push(pair) {
+        Ok(()) => Ok(()),
+        Err(_) => Err(AirportFault::Memory),
+    }
+}
+
+/// The first rule by which two stands exclude each other with types k and l on them, from the links of
+/// both and the pair restrictions of the first.
+pub(crate) fn first_rule(
+    s: StandNo,
+    x: &StandLinks,
+    k: &TypeRow,
+    s2: StandNo,
+    y: &StandLinks,
+    l: &TypeRow,
+    pairs: &[StandPair],
+) -> Option<Rule>
+    ensures is { result ≡ first_rule (s.0 == s2.0) (is_split_at s.0 x.now s2.0 y.now) (is_near_at x.now k.now y.now l.now)
+        (list_any (is_barred s2.0 k.now l.now) pairs.now) }
+{
+    if s == s2 {
+        Some(Rule::Same)
+    } else if is_split(s, x, s2, y) {
+        Some(Rule::Split)
+    } else if is_near(x, k, y, l) {
+        Some(Rule::Clearance)
+    } else if is_barred_by_any(pairs, s2, k, l) {
+        Some(Rule::Pair)
+    } else {
+        None
+    }
+}
+
+// Whether one of two stands is a half of the other.
+fn is_split(s: StandNo, x: &StandLinks, s2: StandNo, y: &StandLinks) -> bool
+    ensures is { result ≡ is_split_at s.0 x.now s2.0 y.now }
+{
+    is_place(s2.0 as usize, x.whole) || is_place(s.0 as usize, y.whole)
+}
+
+// Whether two stands are on one frontage, and aircraft of the two types come too near to each other.
+fn is_near(x: &StandLinks, k: &TypeRow, y: &StandLinks, l: &TypeRow) -> bool
+    ensures is { result ≡ is_near_at x.now k.now y.now l.now }
+{
+    let apart = x.centre.abs_diff(y.centre) as u64;
+    let clear = clearance_of(k.span).max(clearance_of(l.span));
+    is_one_place(x.frontage, y.frontage) && 2 * apart < k.span as u64 + l.span as u64 + 2 * clear
+}
+
+// Whether one of a stand's restrictions bars the two types from it and from the other stand at once.
+fn is_barred_by_any(pairs: &[StandPair], other: StandNo, k: &TypeRow, l: &TypeRow) -> bool
+    ensures is { result ≡ list_any (is_barred other.0 k.now l.now) pairs.now }
+{
+    pairs.iter().any(|pair| is_barred_by(pair, other, k, l))
+}
+
+fn is_barred_by(pair: &StandPair, other: StandNo, k: &TypeRow, l: &TypeRow) -> bool
+    ensures is { result ≡ is_barred other.0 k.now l.now pair.now }
+{
+    other.0 as usize == pair.other && has_letter_of(pair.own, k) && has_letter_of(pair.least, l)
+}
+
+fn has_letter_of(least: Letter, k: &TypeRow) -> bool
+    ensures is { result ≡ has_letter least k.now }
+{
+    match letter_of(k.span) {
+        Some(letter) => least <= letter,
+        None => false,
+    }
+}
+
+/// The clearance of a wing span in centimetres, 0 where it has no letter.
+pub(crate) fn clearance_of(span: u32) -> u64
+    ensures is { result ≡ clearance_of_span span }
+    ensures small { result < 2 ^ 32 }
+{
+    match letter_of(span) {
+        Some(letter) => clearance(letter) as u64,
+        None => 0,
+    }
+}
+
+// Whether both were found, at one place.
+fn is_one_place(found: Option<usize>, other: Option<usize>) -> bool
+    ensures is { result ≡ is_one_place found other }
+{
+    match found {
+        Some(place) => is_place(place, other),
+        None => false,
+    }
+}
+
+// Whether this is the place that was found.
+fn is_place(place: usize, found: Option<usize>) -> bool
+    ensures is { result ≡ is_place place found }
+{
+    match found {
+        Some(at) => place == at,
+        None => false,
+    }
+}
