@@ -82,7 +82,7 @@ pub(crate) fn check(
 ) -> Result<(), AirportFault>
     requires frontages { frontages.now ≡ frontage_names parts.now }
     requires stands { stands.now ≡ stand_names parts.now }
-    ensures { Checks result (later_fault_of parts.now) }
+    ensures fault { Checks result (later_fault_of parts.now) }
 {
     let halves = halves(alloc, parts.stands.as_slice())?;
     match later_fault(parts, frontages, stands, &halves) {
@@ -100,7 +100,7 @@ fn later_fault(
     requires frontages { frontages.now ≡ frontage_names parts.now }
     requires stands { stands.now ≡ stand_names parts.now }
     requires halves { AreHalves halves.now parts.now.stands }
-    ensures { result ≡ later_fault_of parts.now }
+    ensures is { result ≡ later_fault_of parts.now }
 {
     if let Some(name) = unknown(parts, frontages, stands) {
         return Some(AirportFault::UnknownName(name));
@@ -120,7 +120,7 @@ fn later_fault(
 fn unknown(parts: &AirportParts, frontages: &NameTable, stands: &NameTable) -> Option<Name>
     requires frontages { frontages.now ≡ frontage_names parts.now }
     requires stands { stands.now ≡ stand_names parts.now }
-    ensures { result ≡ unknown_of parts.now }
+    ensures is { result ≡ unknown_of parts.now }
 {
     match unknown_of_stands(parts.stands.as_slice(), frontages, stands) {
         Some(name) => Some(name),
@@ -129,7 +129,7 @@ fn unknown(parts: &AirportParts, frontages: &NameTable, stands: &NameTable) -> O
 }
 
 fn unknown_of_stands(rows: &[StandRow], frontages: &NameTable, stands: &NameTable) -> Option<Name>
-    ensures { result ≡ first_found (unknown_of_stand frontages.now stands.now) rows.now }
+    ensures is { result ≡ first_found (unknown_of_stand frontages.now stands.now) rows.now }
 {
     match first_unknown_stand(rows, frontages, stands) {
         Some(row) => unknown_of_stand(row, frontages, stands),
@@ -142,14 +142,14 @@ fn first_unknown_stand<'a>(
     frontages: &NameTable,
     stands: &NameTable,
 ) -> Option<&'a StandRow>
-    ensures { option_copied result ≡ find (λ row. is_some (unknown_of_stand frontages.now stands.now row)) rows.now }
+    ensures is { option_copied result ≡ find (λ row. is_some (unknown_of_stand frontages.now stands.now row)) rows.now }
 {
     rows.iter()
         .find(|row| unknown_of_stand(row, frontages, stands).is_some())
 }
 
 fn unknown_of_stand(row: &StandRow, frontages: &NameTable, stands: &NameTable) -> Option<Name>
-    ensures { result ≡ unknown_of_stand frontages.now stands.now row.now }
+    ensures is { result ≡ unknown_of_stand frontages.now stands.now row.now }
 {
     match frontages.unless_known(&row.frontage) {
         Some(name) => Some(name),
@@ -158,7 +158,7 @@ fn unknown_of_stand(row: &StandRow, frontages: &NameTable, stands: &NameTable) -
 }
 
 fn unknown_of_pairs(rows: &[PairRow], stands: &NameTable) -> Option<Name>
-    ensures { result ≡ first_found (unknown_of_pair stands.now) rows.now }
+    ensures is { result ≡ first_found (unknown_of_pair stands.now) rows.now }
 {
     match first_unknown_pair(rows, stands) {
         Some(pair) => unknown_of_pair(pair, stands),
@@ -167,14 +167,14 @@ fn unknown_of_pairs(rows: &[PairRow], stands: &NameTable) -> Option<Name>
 }
 
 fn first_unknown_pair<'a>(rows: &'a [PairRow], stands: &NameTable) -> Option<&'a PairRow>
-    ensures { option_copied result ≡ find (λ pair. is_some (unknown_of_pair stands.now pair)) rows.now }
+    ensures is { option_copied result ≡ find (λ pair. is_some (unknown_of_pair stands.now pair)) rows.now }
 {
     rows.iter()
         .find(|pair| unknown_of_pair(pair, stands).is_some())
 }
 
 fn unknown_of_pair(pair: &PairRow, stands: &NameTable) -> Option<Name>
-    ensures { result ≡ unknown_of_pair stands.now pair.now }
+    ensures is { result ≡ unknown_of_pair stands.now pair.now }
 {
     match stands.unless_known(&pair.a) {
         Some(name) => Some(name),
@@ -195,7 +195,7 @@ fn halves(alloc: Global, rows: &[StandRow]) -> Result<BTreeMap<Name, u64>, Airpo
 }
 
 fn count_half(halves: &mut BTreeMap<Name, u64>, row: &StandRow) -> Result<(), AirportFault>
-    requires { (name : List ℕ) → half_count halves.old name + 1 < 2 ^ 64 }
+    requires few { (name : List ℕ) → half_count halves.old name + 1 < 2 ^ 64 }
     ensures counted { OnOk result ((name : List ℕ)
         → half_count halves.new name ≡ half_count halves.old name + (if is_named row.now.half_of name then 1 else 0)) }
     ensures memory { IfErr result (λ fault. fault ≡ AirportFault.Memory) }
@@ -213,7 +213,7 @@ fn count_half(halves: &mut BTreeMap<Name, u64>, row: &StandRow) -> Result<(), Ai
 fn bad_half(rows: &[StandRow], stands: &NameTable, halves: &BTreeMap<Name, u64>) -> Option<Name>
     requires stands { stands.now ≡ map (λ row. row.name) rows.now }
     requires halves { AreHalves halves.now rows.now }
-    ensures { result ≡ option_map (λ row. row.name) (find (is_bad_half rows.now) rows.now) }
+    ensures is { result ≡ option_map (λ row. row.name) (find (is_bad_half rows.now) rows.now) }
 {
     match first_bad_half(rows, stands, halves) {
         Some(row) => Some(row.name),
@@ -228,7 +228,7 @@ fn first_bad_half<'a>(
 ) -> Option<&'a StandRow>
     requires stands { stands.now ≡ map (λ row. row.name) rows.now }
     requires halves { AreHalves halves.now rows.now }
-    ensures { option_copied result ≡ find (is_bad_half rows.now) rows.now }
+    ensures is { option_copied result ≡ find (is_bad_half rows.now) rows.now }
 {
     rows.iter()
         .find(|row| is_bad_half(rows, stands, halves, row))
@@ -242,7 +242,7 @@ fn is_bad_half(
 ) -> bool
     requires stands { stands.now ≡ map (λ row. row.name) rows.now }
     requires halves { AreHalves halves.now rows.now }
-    ensures { result ≡ is_bad_half rows.now half.now }
+    ensures is { result ≡ is_bad_half rows.now half.now }
 {
     match whole_of(rows, stands, half) {
         Some(whole) => is_bad_whole(half, whole, halves_of(halves, &whole.name)),
@@ -251,8 +251,8 @@ fn is_bad_half(
 }
 
 fn whole_of<'a>(rows: &'a [StandRow], stands: &NameTable, half: &StandRow) -> Option<&'a StandRow>
-    requires { stands.now ≡ map (λ row. row.name) rows.now }
-    ensures { option_copied result ≡ option_and_then (stand_named rows.now) half.now.half_of }
+    requires stands { stands.now ≡ map (λ row. row.name) rows.now }
+    ensures is { option_copied result ≡ option_and_then (stand_named rows.now) half.now.half_of }
 {
     match half.half_of {
         Some(name) => row_named(rows, stands, &name),
@@ -261,8 +261,8 @@ fn whole_of<'a>(rows: &'a [StandRow], stands: &NameTable, half: &StandRow) -> Op
 }
 
 fn row_named<'a>(rows: &'a [StandRow], stands: &NameTable, name: &Name) -> Option<&'a StandRow>
-    requires { stands.now ≡ map (λ row. row.name) rows.now }
-    ensures { option_copied result ≡ stand_named rows.now name.now }
+    requires stands { stands.now ≡ map (λ row. row.name) rows.now }
+    ensures is { option_copied result ≡ stand_named rows.now name.now }
 {
     match stands.place(name) {
         Some(place) => Some(&rows[place]),
@@ -271,19 +271,19 @@ fn row_named<'a>(rows: &'a [StandRow], stands: &NameTable, name: &Name) -> Optio
 }
 
 fn halves_of(halves: &BTreeMap<Name, u64>, name: &Name) -> u64
-    ensures { result ≡ half_count halves.now name.now }
+    ensures is { result ≡ half_count halves.now name.now }
 {
     halves.get(name).copied().unwrap_or(0)
 }
 
 fn is_bad_whole(half: &StandRow, whole: &StandRow, halves: u64) -> bool
-    ensures { result ≡ (is_some whole.now.half_of || not (bytes_eq half.now.frontage whole.now.frontage) || nat_lt 2 halves) }
+    ensures is { result ≡ (is_some whole.now.half_of || not (bytes_eq half.now.frontage whole.now.frontage) || nat_lt 2 halves) }
 {
     whole.half_of.is_some() || !half.frontage.is_same(&whole.frontage) || halves > 2
 }
 
 fn passed_limit(parts: &AirportParts) -> Option<Limit>
-    ensures { result ≡ limit_of parts.now }
+    ensures is { result ≡ limit_of parts.now }
 {
     if let Some(limit) = number_limit(parts) {
         return Some(limit);
@@ -301,13 +301,13 @@ fn passed_limit(parts: &AirportParts) -> Option<Limit>
 }
 
 fn is_within(low: u64, high: u64, n: u64) -> bool
-    ensures { result ≡ is_within low high n }
+    ensures is { result ≡ is_within low high n }
 {
     low <= n && n <= high
 }
 
 fn number_limit(parts: &AirportParts) -> Option<Limit>
-    ensures { result ≡ number_limit parts.now }
+    ensures is { result ≡ number_limit parts.now }
 {
     if !is_within(1, 14, parts.days as u64) {
         return Some(Limit::Days);
@@ -322,7 +322,7 @@ fn number_limit(parts: &AirportParts) -> Option<Limit>
 }
 
 fn frontage_limit(rows: &[Frontage]) -> Option<Limit>
-    ensures { result ≡ frontage_limit rows.now }
+    ensures is { result ≡ frontage_limit rows.now }
 {
     if rows.len() > 50 {
         return Some(Limit::Frontages);
@@ -334,25 +334,25 @@ fn frontage_limit(rows: &[Frontage]) -> Option<Limit>
 }
 
 fn are_all_objects_kept(rows: &[Frontage]) -> bool
-    ensures { result ≡ list_all are_objects_kept rows.now }
+    ensures is { result ≡ list_all are_objects_kept rows.now }
 {
     rows.iter().all(are_objects_kept)
 }
 
 fn are_objects_kept(row: &Frontage) -> bool
-    ensures { result ≡ are_objects_kept row.now }
+    ensures is { result ≡ are_objects_kept row.now }
 {
     row.objects.len() <= 50 && are_places_kept(row.objects.as_slice())
 }
 
 fn are_places_kept(places: &[u32]) -> bool
-    ensures { result ≡ list_all (λ place. nat_le place 1000000) places.now }
+    ensures is { result ≡ list_all (λ place. nat_le place 1000000) places.now }
 {
     places.iter().all(|place| *place <= 1_000_000)
 }
 
 fn stand_limit(rows: &[StandRow]) -> Option<Limit>
-    ensures { result ≡ stand_limit rows.now }
+    ensures is { result ≡ stand_limit rows.now }
 {
     if !is_within(1, 400, rows.len() as u64) {
         return Some(Limit::Stands);
@@ -367,19 +367,19 @@ fn stand_limit(rows: &[StandRow]) -> Option<Limit>
 }
 
 fn are_centres_kept(rows: &[StandRow]) -> bool
-    ensures { result ≡ list_all (λ row. nat_le row.centre 1000000) rows.now }
+    ensures is { result ≡ list_all (λ row. nat_le row.centre 1000000) rows.now }
 {
     rows.iter().all(|row| row.centre <= 1_000_000)
 }
 
 fn are_buffers_kept(rows: &[StandRow]) -> bool
-    ensures { result ≡ list_all (λ row. nat_le row.buffer 240) rows.now }
+    ensures is { result ≡ list_all (λ row. nat_le row.buffer 240) rows.now }
 {
     rows.iter().all(|row| row.buffer <= 240)
 }
 
 fn type_limit(rows: &[TypeRow]) -> Option<Limit>
-    ensures { result ≡ type_limit rows.now }
+    ensures is { result ≡ type_limit rows.now }
 {
     if !is_within(1, 400, rows.len() as u64) {
         return Some(Limit::Types);
@@ -391,13 +391,13 @@ fn type_limit(rows: &[TypeRow]) -> Option<Limit>
 }
 
 fn are_least_kept(rows: &[TypeRow]) -> bool
-    ensures { result ≡ list_all (λ row. is_within 1 600 row.least) rows.now }
+    ensures is { result ≡ list_all (λ row. is_within 1 600 row.least) rows.now }
 {
     rows.iter().all(|row| is_within(1, 600, row.least as u64))
 }
 
 fn bad_span(rows: &[TypeRow]) -> Option<Name>
-    ensures { result ≡ option_map (λ row. row.name) (find (λ row. is_none (letter_for row.span)) rows.now) }
+    ensures is { result ≡ option_map (λ row. row.name) (find (λ row. is_none (letter_for row.span)) rows.now) }
 {
     match first_without_letter(rows) {
         Some(row) => Some(row.name),
@@ -406,7 +406,7 @@ fn bad_span(rows: &[TypeRow]) -> Option<Name>
 }
 
 fn first_without_letter(rows: &[TypeRow]) -> Option<&TypeRow>
-    ensures { option_copied result ≡ find (λ row. is_none (letter_for row.span)) rows.now }
+    ensures is { option_copied result ≡ find (λ row. is_none (letter_for row.span)) rows.now }
 {
     rows.iter().find(|row| letter_of(row.span).is_none())
 }

@@ -50,7 +50,7 @@ impl NameTable {
 
     /// The name, where the table hasn't it.
     pub(crate) fn unless_known(&self, name: &Name) -> Option<Name>
-        ensures { result ≡ unless_known self.now name.now }
+        ensures is { result ≡ unless_known self.now name.now }
     {
         match self.place(name) {
             Some(_) => None,

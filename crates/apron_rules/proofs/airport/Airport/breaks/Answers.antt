@@ -10,4 +10,4 @@ returns c =
     (rw seen at c.requires.s) (rw seen at c.requires.t) (rw seen at c.requires.s2) (rw seen at c.requires.t2)
     c.index-x.result.now c.index-y.result.now c.index-types-t.result c.index-types-t2.result c.index.result.now c.index-x.ensures c.index-y.ensures
     (rw c.as_slice-types.ensures at c.index-types-t.is) (rw c.as_slice-types.ensures at c.index-types-t2.is) c.index.ensures in
-    rw seen (c.first_rule.ensures.is ∙ (rw c.as_slice.ensures rule))
+    record { is = rw seen (c.first_rule.ensures.is ∙ (rw c.as_slice.ensures rule)) }

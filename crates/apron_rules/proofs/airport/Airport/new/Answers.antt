@@ -12,11 +12,11 @@ returns-in_err-names-clause-fault c =
 pub returns-in_err-check-clause-fault : goal.returns-in_err-check-clause-fault
 returns-in_err-check-clause-fault c =
     let p = err_from_is_err_and c.from_residual-in_err-check.result c.from_residual-in_err-check.ensures.1 in
-    rw (p.1, p.2) (later_named c.args.parts c.in_err-check.field-0.0 c.in_ok-names.ensures.fault c.in_err-check.ensures)
+    rw (p.1, p.2) (later_named c.args.parts c.in_err-check.field-0.0 c.in_ok-names.ensures.fault c.in_err-check.ensures.fault)
 
 pub invariant_of-result : goal.invariant_of-result
 invariant_of-result c = record {
-  airport = airport_of c.args.parts c.requires.station c.requires.first (later c.args.parts None c.in_ok-names.ensures.fault c.in_ok-check.ensures);
+  airport = airport_of c.args.parts c.requires.station c.requires.first (later c.args.parts None c.in_ok-names.ensures.fault c.in_ok-check.ensures.fault);
   stands_named = c.in_ok-names.ensures.stands;
   types_named = c.in_ok-names.ensures.types;
   linked = rw (c.in_ok-names.ensures.frontages, c.in_ok-names.ensures.stands, c.as_slice-stands.ensures) at c.in_ok-links.ensures.links;
@@ -25,4 +25,4 @@ invariant_of-result c = record {
 }
 
 pub returns-clause-fault : goal.returns-clause-fault
-returns-clause-fault c = later c.args.parts None c.in_ok-names.ensures.fault c.in_ok-check.ensures
+returns-clause-fault c = later c.args.parts None c.in_ok-names.ensures.fault c.in_ok-check.ensures.fault
