@@ -1,5 +1,5 @@
 // The files of the system as a shelf.
-ghost use Rattle.std.specs.Prelude.{◌≡◌, None};
+ghost use Rattle.std.specs.Prelude.{◌≡◌, ◌+◌, IfOk, IfSome, None, take};
 
 use crate::{Shelf, ShelfFault};
 use std::alloc::Global;
@@ -64,9 +64,16 @@ impl<'a, R: Files> Shelf for FileShelf<'a, R> {
     }
 }
 
-// The bytes of a file, up to one more than the limit.
+// The bytes of the file of this name, up to one more than the limit.
 fn read_up_to<R: Files>(rt: &R, alloc: Global, name: &str, limit: u32) -> io::Result<Vec<u8>> {
     let file = fs::open(rt, name)?;
+    front_of(file, alloc, limit)
+}
+
+// The bytes that a reader gives, up to one more than the limit.
+fn front_of<F: Read + Drop>(file: F, alloc: Global, limit: u32) -> io::Result<Vec<u8>>
+    ensures bytes { IfOk result (λ v. IfSome (F.remaining file) (λ left. v.items ≡ take (limit + 1) left)) }
+{
     let mut bytes = Vec::new(alloc);
     file.take(u64::from(limit) + 1).read_to_end(&mut bytes)?;
     Ok(bytes)
