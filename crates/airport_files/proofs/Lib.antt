@@ -1,6 +1,7 @@
 pub mod Digits
 pub mod Documents
 pub mod Meanings
+pub mod Memories
 pub mod NumberWalk
 pub mod RowWalk
 pub mod TableWalk

@@ -3,6 +3,7 @@
 
 mod forms;
 mod keys;
+mod laws;
 mod layout;
 mod numbers;
 mod read;
@@ -12,4 +13,5 @@ mod text;
 mod type_rows;
 mod types;
 
+pub use laws::files_mean_no_want_of_memory;
 pub use read::{FileFault, read_airport};
