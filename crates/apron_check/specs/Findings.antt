@@ -1,7 +1,8 @@
 -- What is found in the two files of an airport.
-use Rattle.std.specs.Prelude.{◌≡◌, ◌⊎◌, ℕ, List, length, nat_lt, Option, None, Some, Result, Ok, Err, if◌then◌else◌}
+use Rattle.std.specs.Prelude.{◌≡◌, ◌<◌, ◌⊎◌, ℕ, List, length, nat_lt, Option, None, Some, MatchOption, Result, Ok, Err, if◌then◌else◌}
 use Rattle.apron_base.specs.declared.shelf.ShelfFault.{ShelfFault as Unread}
 use Rattle.apron_base.specs.declared.shelf.ShelfFault.TheVariants as unread
+use Rattle.apron_base.specs.Shelves.{RoseBy}
 use Rattle.apron_rules.specs.declared.parts.AirportParts.{AirportParts}
 use Rattle.airport_files.specs.declared.read.FileFault.{FileFault}
 use Rattle.airport_files.specs.Meaning.{meaning}
@@ -37,3 +38,12 @@ IsOfFiles (Some airport) (Some types) found = found ≡ finding_of airport types
 -- the same, unless the shelf failed or memory was wanting
 abbrev pub IsFound : Option (List ℕ) → Option (List ℕ) → Finding → Type 0
 IsFound airport types found = (found ≡ Memory) ⊎ ((found ≡ ShelfFault) ⊎ IsOfFiles airport types found)
+
+-- the file has more than the most bytes; where it isn't told, more were read
+abbrev pub IsLong : Option (List ℕ) → ℕ → ℕ → Type 0
+IsLong file before now = MatchOption file (RoseBy most before now) (λ b. most < length b)
+
+-- a file that is found too long is
+pub record AreLong (airport types : Option (List ℕ)) (before now : ℕ) (found : Finding) : Type 0 where
+  pub long_airport : found ≡ AirportTooLong → IsLong airport before now
+  pub long_types : found ≡ TypesTooLong → IsLong types before now

@@ -1,7 +1,7 @@
 // The check of two files by their names on a shelf.
 ghost use Rattle.std.specs.Prelude.{◌≡◌, ◌≤◌};
 ghost use Rattle.apron_base.specs.Outside.{Rose};
-ghost use Rattle.apron_check.specs.Findings.{IsFound};
+ghost use Rattle.apron_check.specs.Findings.{AreLong, IsFound};
 ghost use Rattle.apron_check.specs.Lines.{Tells};
 ghost use Rattle.apron_check.specs.declared.finding.Finding.{Finding};
 
@@ -22,10 +22,12 @@ pub fn check<F: Shelf, W: Sink>(
     sink: &mut W,
 ) -> u8
     ensures told { (found : Finding) × IsFound (F.file shelf.old airport.now) (F.file shelf.old types.now) found
+        × AreLong (F.file shelf.old airport.now) (F.file shelf.old types.now) (F.read shelf.old) (F.read shelf.new) found
         × Tells (W.told sink.old) (W.told sink.new) (W.faults sink.old) (W.faults sink.new) found result }
     ensures shelf { result ≡ 4 → Rose (F.faults shelf.old) (F.faults shelf.new) }
     ensures write { result ≡ 6 → Rose (W.faults sink.old) (W.faults sink.new) }
     ensures shelf_later { F.faults shelf.old ≤ F.faults shelf.new }
+    ensures more { F.read shelf.old ≤ F.read shelf.new }
     ensures sink_later { W.faults sink.old ≤ W.faults sink.new }
 {
     let found = examine(alloc, airport, types, shelf);

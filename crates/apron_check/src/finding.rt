@@ -2,7 +2,7 @@
 ghost use Rattle.std.specs.Prelude.{◌≡◌, ◌≢◌, ◌≤◌, ◌<◌, ◌^◌, ◌⊎◌, Ok, length};
 ghost use Rattle.apron_base.specs.Outside.{Rose};
 ghost use Rattle.airport_files.specs.Meaning.{meaning};
-ghost use Rattle.apron_check.specs.Findings.{IsFound, of_meaning, unread_as};
+ghost use Rattle.apron_check.specs.Findings.{AreLong, IsFound, of_meaning, unread_as};
 
 use airport_files::{FileFault, read_airport};
 use apron_base::{Shelf, ShelfFault};
@@ -37,8 +37,10 @@ pub enum Finding {
 /// had, and then what they mean together.
 pub(crate) fn examine<F: Shelf>(alloc: Global, airport: &str, types: &str, shelf: &mut F) -> Finding
     ensures found { IsFound (F.file shelf.old airport.now) (F.file shelf.old types.now) result }
+    ensures long { AreLong (F.file shelf.old airport.now) (F.file shelf.old types.now) (F.read shelf.old) (F.read shelf.new) result }
     ensures shelf { result ≡ Finding.ShelfFault → Rose (F.faults shelf.old) (F.faults shelf.new) }
     ensures later { F.faults shelf.old ≤ F.faults shelf.new }
+    ensures more { F.read shelf.old ≤ F.read shelf.new }
 {
     let airport = match shelf.read_file(alloc, airport, MOST) {
         Ok(bytes) => bytes,
