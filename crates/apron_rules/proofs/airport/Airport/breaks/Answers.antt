@@ -9,5 +9,5 @@ returns c =
     let rule = breaks_by_place a.parts a.stands a.types a.links.items a.pairs.items c.self.invariant c.args.s c.args.t c.args.s2 c.args.t2
     (rw seen at c.requires.s) (rw seen at c.requires.t) (rw seen at c.requires.s2) (rw seen at c.requires.t2)
     c.index-x.result.now c.index-y.result.now c.index-types-t.result c.index-types-t2.result c.index.result.now c.index-x.ensures c.index-y.ensures
-    (rw c.as_slice-types.ensures at c.index-types-t.is) (rw c.as_slice-types.ensures at c.index-types-t2.is) c.index.ensures in
-    record { is = rw seen (c.first_rule.ensures.is ∙ (rw c.as_slice.ensures rule)) }
+    (rw c.as_slice-types.ensures.items at c.index-types-t.is) (rw c.as_slice-types.ensures.items at c.index-types-t2.is) c.index.ensures in
+    record { is = rw seen (c.first_rule.ensures.is ∙ (rw c.as_slice.ensures.items rule)) }

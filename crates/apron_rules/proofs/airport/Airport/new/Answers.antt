@@ -19,9 +19,9 @@ invariant_of-result c = record {
   airport = airport_of c.args.parts c.requires.station c.requires.first (later c.args.parts None c.in_ok-names.ensures.fault c.in_ok-check.ensures.fault);
   stands_named = c.in_ok-names.ensures.stands;
   types_named = c.in_ok-names.ensures.types;
-  linked = rw (c.in_ok-names.ensures.frontages, c.in_ok-names.ensures.stands, c.as_slice-stands.ensures) at c.in_ok-links.ensures.links;
-  paired = rw (c.in_ok-names.ensures.stands, c.as_slice.ensures) at c.in_ok-pairs.ensures.pairs;
-  counted = rw c.as_slice-stands.ensures at c.in_ok-pairs.ensures.count;
+  linked = rw (c.in_ok-names.ensures.frontages, c.in_ok-names.ensures.stands, c.as_slice-stands.ensures.items) at c.in_ok-links.ensures.links;
+  paired = rw (c.in_ok-names.ensures.stands, c.as_slice.ensures.items) at c.in_ok-pairs.ensures.pairs;
+  counted = rw c.as_slice-stands.ensures.items at c.in_ok-pairs.ensures.count;
 }
 
 pub returns-clause-fault : goal.returns-clause-fault
