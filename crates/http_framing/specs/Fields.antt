@@ -5,6 +5,8 @@ use Rattle.std.specs.Char.{is_ascii_digit, to_ascii_lowercase}
 use Rattle.std.specs.Str.Parse.{digits_value}
 use Rattle.httparse.specs.Grammar.{RequestHead}
 use Rattle.httparse.specs.Spans.{name_and_value}
+use Rattle.http_framing.specs.declared.fields.FieldNumber.{FieldNumber}
+use Rattle.http_framing.specs.declared.fields.FieldNumber.TheVariants.{Absent, Written, Wrong}
 use Rattle.http_framing.specs.declared.fields.OnlyValue.{OnlyValue}
 use Rattle.http_framing.specs.declared.fields.OnlyValue.TheVariants.{Nothing, One, Many}
 
@@ -34,3 +36,18 @@ IsOnly Many values = 2 ≤ length values
 -- the number that 1 to 10 digits write, and of other texts none
 unfoldable pub number_of : List ℕ → Option ℕ
 number_of v = if nat_le 1 (length v) && nat_le (length v) 10 && list_all is_ascii_digit v then Some (digits_value 10 v) else None
+
+-- the number that a value writes, or that it writes none
+abbrev pub number_written : Option ℕ → FieldNumber
+number_written None = Wrong
+number_written (Some n) = Written n
+
+-- the number that the only one of these values writes
+abbrev pub number_among : List (List ℕ) → FieldNumber
+number_among [] = Absent
+number_among (v ∷ []) = number_written (number_of v)
+number_among (v ∷ w ∷ vs) = Wrong
+
+-- the number that the only field of this name writes
+abbrev pub number_field : List ℕ → List Pair → FieldNumber
+number_field name fields = number_among (values_of name fields)

@@ -1,13 +1,13 @@
 // One field of a head, found by its name.
 ghost use Rattle.std.specs.Prelude.{◌≡◌, map, length, All};
 ghost use Rattle.httparse.specs.Spans.{IsHeaderWithin, header_bytes};
-ghost use Rattle.http_framing.specs.Fields.{is_same_name, values_of, IsOnly, number_of};
+ghost use Rattle.http_framing.specs.Fields.{is_same_name, values_of, IsOnly, number_field, number_of};
 
 use httparse::spans::HeaderSpan;
 
 /// What a search for the value of one field finds.
 #[derive(Clone, Copy, Debug)]
-pub enum OnlyValue<'b> {
+pub(crate) enum OnlyValue<'b> {
     /// No field has the name.
     Nothing,
     /// The value of the one that has.
@@ -16,8 +16,19 @@ pub enum OnlyValue<'b> {
     Many,
 }
 
+/// What the fields of one name say of a number.
+#[derive(Clone, Copy, Debug, PartialEq, Eq)]
+pub enum FieldNumber {
+    /// No field has the name.
+    Absent,
+    /// The only field of the name writes this number, in 1 to 10 digits.
+    Written(u64),
+    /// Two or more fields have the name, or the value of the only one is anything else.
+    Wrong,
+}
+
 /// The value of the only field of a name, in any case, without the white space around it.
-pub fn only_value<'b>(bytes: &'b [u8], fields: &[HeaderSpan], name: &[u8]) -> OnlyValue<'b>
+pub(crate) fn only_value<'b>(bytes: &'b [u8], fields: &[HeaderSpan], name: &[u8]) -> OnlyValue<'b>
     requires fields { All (IsHeaderWithin (length bytes.now)) fields.now }
     ensures value { IsOnly result (values_of name.now (map (header_bytes bytes.now) fields.now)) }
 {
@@ -31,6 +42,21 @@ pub fn only_value<'b>(bytes: &'b [u8], fields: &[HeaderSpan], name: &[u8]) -> On
         }
     }
     found
+}
+
+/// The number that the only field of a name writes.
+pub(crate) fn field_number(bytes: &[u8], fields: &[HeaderSpan], name: &[u8]) -> FieldNumber
+    requires fields { All (IsHeaderWithin (length bytes.now)) fields.now }
+    ensures value { result ≡ number_field name.now (map (header_bytes bytes.now) fields.now) }
+{
+    match only_value(bytes, fields, name) {
+        OnlyValue::Nothing => FieldNumber::Absent,
+        OnlyValue::One(value) => match read_number(value) {
+            Some(number) => FieldNumber::Written(number),
+            None => FieldNumber::Wrong,
+        },
+        OnlyValue::Many => FieldNumber::Wrong,
+    }
 }
 
 /// Whether two names are the same in any case.

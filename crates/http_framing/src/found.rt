@@ -3,10 +3,12 @@ ghost use Rattle.std.specs.Prelude.{◌≡◌, ◌≤◌, List};
 ghost use Rattle.httparse.specs.Spans.{IsSectionWithin};
 ghost use Rattle.httparse.specs.declared.spans.HeaderSpan.{HeaderSpan as FieldSpan};
 ghost use Rattle.http_framing.specs.Closing.{is_closing};
+ghost use Rattle.http_framing.specs.Fields.{number_field, pairs};
 ghost use Rattle.http_framing.specs.Fronts.{found_length, max_request, IsFoundAt, IsFoundIn};
 ghost use Rattle.http_framing.specs.Requests.{Request};
 
 use crate::closing::asks_close;
+use crate::fields::{FieldNumber, field_number};
 use httparse::spans::{HeaderSpan, RequestSpans};
 
 /// Where a whole request lies at the front of a buffer.
@@ -53,6 +55,15 @@ impl Found {
             → IsFoundAt bytes.now fields self.now request → result.now ≡ request.body }
     {
         &bytes[self.spans.len..self.spans.len + self.body]
+    }
+
+    /// The number that the only field of this name, in any case, writes.
+    pub fn number(&self, bytes: &[u8], fields: &[HeaderSpan], name: &[u8]) -> FieldNumber
+        requires inside { IsSectionWithin bytes.now fields.now self.now.spans.len self.now.spans.headers }
+        ensures value { (request : Request)
+            → IsFoundAt bytes.now fields.now self.now request → result ≡ number_field name.now (pairs request.head) }
+    {
+        field_number(bytes, &fields[..self.spans.headers], name)
     }
 
     /// Whether the session ends after the request.

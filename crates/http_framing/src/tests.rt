@@ -193,6 +193,59 @@ fn after_which_request_the_session_ends(rt: HostRuntime) {
     }
 }
 
+// The number that the fields `X-Seen` of a head write.
+fn seen(head: &[u8]) -> Option<FieldNumber> {
+    let mut fields = [EMPTY_HEADER_SPAN; MAX_FIELDS];
+    match front_of(head, &mut fields) {
+        Front::Whole(found) => Some(found.number(head, &fields, b"x-seen")),
+        _ => None,
+    }
+}
+
+#[test]
+fn numbers_that_fields_write(rt: HostRuntime) {
+    let rows: [(&[u8], FieldNumber); 14] = [
+        (b"GET / HTTP/1.1\n\n", FieldNumber::Absent),
+        (b"GET / HTTP/1.1\nX-Seem: 1\n\n", FieldNumber::Absent),
+        (b"GET / HTTP/1.1\nX-Seen: 0\n\n", FieldNumber::Written(0)),
+        (
+            b"GET / HTTP/1.1\nx-sEEN:  12 \n\n",
+            FieldNumber::Written(12),
+        ),
+        (
+            b"GET / HTTP/1.1\nA: b\nX-Seen: 007\nC: 3\n\n",
+            FieldNumber::Written(7),
+        ),
+        (
+            b"GET / HTTP/1.1\nX-Seen: 9999999999\n\n",
+            FieldNumber::Written(9_999_999_999),
+        ),
+        (
+            b"GET / HTTP/1.1\nX-Seen: 00000000001\n\n",
+            FieldNumber::Wrong,
+        ),
+        (b"GET / HTTP/1.1\nX-Seen:\n\n", FieldNumber::Wrong),
+        (b"GET / HTTP/1.1\nX-Seen: +1\n\n", FieldNumber::Wrong),
+        (b"GET / HTTP/1.1\nX-Seen: -1\n\n", FieldNumber::Wrong),
+        (b"GET / HTTP/1.1\nX-Seen: 1 2\n\n", FieldNumber::Wrong),
+        (
+            b"GET / HTTP/1.1\nX-Seen: 1\nX-Seen: 1\n\n",
+            FieldNumber::Wrong,
+        ),
+        (
+            b"GET / HTTP/1.1\nX-Seen: 1\nA: b\nx-seen: 2\n\n",
+            FieldNumber::Wrong,
+        ),
+        (
+            b"GET / HTTP/1.1\nX-Seen: 1\nX-Seen: a\n\n",
+            FieldNumber::Wrong,
+        ),
+    ];
+    for (head, wanted) in rows {
+        assert_eq!(rt; seen(head), Some(wanted));
+    }
+}
+
 #[test]
 fn parts_of_a_request(rt: HostRuntime) {
     let text = b"\r\nPOST /visits?a HTTP/1.1\r\nHost: x\r\nContent-Length: 2\r\n\r\n{}GET";
