@@ -271,6 +271,55 @@ fn refusals_of_the_airport_are_named(rt: HostRuntime) -> Result<(), Fail> {
     Ok(())
 }
 
+// The text with copies of an entry put in behind a mark, each with its number from 1000 on in place of `#`.
+fn with_copies(
+    alloc: Global,
+    text: &str,
+    mark: &str,
+    entry: &str,
+    copies: u16,
+) -> Result<String, AllocError> {
+    let mut rows = String::new(alloc);
+    for k in 0..copies {
+        let number = format!(in alloc; "{}", 1000 + k as u64)?;
+        let row = edited(alloc, entry, ("#", number.as_str()))?;
+        rows.push_str(row.as_str())?;
+    }
+    let behind = format!(in alloc; "{}{}", mark, rows)?;
+    edited(alloc, text, (mark, behind.as_str()))
+}
+
+#[test]
+fn so_many_entries_are_taken_and_no_more(rt: HostRuntime) -> Result<(), Fail> {
+    let alloc = rt.alloc();
+    let frontage = "{ name = \"#\", objects = [] },\n";
+    let stand = "{ name = \"#\", frontage = \"N\", centre = 0, letter = \"A\", buffer = 0 },\n";
+    let pair = "{ a = \"14\", la = \"A\", b = \"15\", lb = \"A\", note = # },\n";
+    for (mark, entry, copies, line) in [
+        ("frontage = [", frontage, 46, OK),
+        ("frontage = [", frontage, 47, "airport: limit frontages\n"),
+        ("stand = [", stand, 387, "ok: 400 stands, 7 types, 3 days\n"),
+        ("stand = [", stand, 388, "airport: limit stands\n"),
+        ("pair = [", pair, 999, OK),
+        ("pair = [", pair, 1000, "airport: limit pairs\n"),
+    ] {
+        let airport = with_copies(alloc, AIRPORT, mark, entry, copies)?;
+        let (status, written) = checked(alloc, airport.as_str(), TYPES, &[], &[])?;
+        assert_eq!(rt; written.as_slice(), line.as_bytes());
+        assert_eq!(rt; status == 0, line.starts_with("ok: "));
+    }
+    for (copies, line) in [
+        (393, "ok: 13 stands, 400 types, 3 days\n"),
+        (394, "airport: limit types\n"),
+    ] {
+        let types = with_copies(alloc, TYPES, "least\n", "#,3580,40\n", copies)?;
+        let (status, written) = checked(alloc, AIRPORT, types.as_str(), &[], &[])?;
+        assert_eq!(rt; written.as_slice(), line.as_bytes());
+        assert_eq!(rt; status == 0, line.starts_with("ok: "));
+    }
+    Ok(())
+}
+
 #[test]
 fn of_two_faults_the_earlier_is_named(rt: HostRuntime) -> Result<(), Fail> {
     let alloc = rt.alloc();
