@@ -68,7 +68,7 @@ pub(crate) fn is_named(text: &[u8], name: &[u8]) -> bool
 
 /// The number that 1 to 10 digits write. None where the value is anything else.
 #[tactic(auto, unfolding(crate::specs::Fields::number_of))]
-pub(crate) fn read_number(value: &[u8]) -> Option<u64>
+pub fn read_number(value: &[u8]) -> Option<u64>
     ensures value { result ≡ number_of value.now }
 {
     if value.is_empty() || value.len() > 10 {

@@ -15,7 +15,7 @@ mod laws;
 
 pub use blank::are_blank;
 pub use bodies::{MAX_BODY, Refusal};
-pub use fields::FieldNumber;
+pub use fields::{FieldNumber, read_number};
 pub use found::Found;
 pub use front::{Front, MAX_FIELDS, MAX_HEAD, front_of};
 pub use laws::{more_bytes_change_no_request, requests_have_one_reading};
