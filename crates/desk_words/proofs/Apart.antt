@@ -5,8 +5,10 @@ use Rattle.std.specs.Cmp.Lexicographic.{bytes_decides}
 use Rattle.std.proofs.lemmas.List.Elements.{All-cons, All-nil}
 use Rattle.std.proofs.lemmas.List.Kept.{AllPairs-cons}
 use Rattle.serde_json.proofs.OnLiterals.{serde_json_on_literals}
+use Rattle.apron_rules.specs.declared.parts.AirportParts.{AirportParts}
+use Rattle.plan_core.specs.declared.visits.EditFault.TheVariants.{UnknownVisit, NoSuchPart, Unfit, Clash, Memory}
 use Rattle.desk_words.specs.declared.replies.Reply.{Reply}
-use Rattle.desk_words.specs.declared.replies.Reply.TheVariants.{Committed, Edit}
+use Rattle.desk_words.specs.declared.replies.Reply.TheVariants.{Committed, Version, Visit as AVisit, NoVisit, Ahead, Full, Edit}
 use Rattle.desk_words.specs.Replies.{reply_text}
 use Rattle.desk_words.specs.Fixed.{fixed_texts, no_memory_text, keeper_fault_text, not_json_text, unbuilt_text, bad_head_text}
 
@@ -58,9 +60,27 @@ of_no_code : (a p q r s t : List ℕ)
 of_no_code a p q r s t ap aq ar as_ at =
     by_code a p (q ∷ r ∷ s ∷ t ∷ []) ap (by_code a q (r ∷ s ∷ t ∷ []) aq (by_code a r (s ∷ t ∷ []) ar (by_code a s (t ∷ []) as_ (by_code a t [] at (none a)))))
 
-pub reply_apart : (reply : Reply) → All (λ text. reply_text reply ≢ text) fixed_texts
+pub reply_apart : (airport : AirportParts) (reply : Reply) → All (λ text. reply_text airport reply ≢ text) fixed_texts
 unfolding digits serde_json_on_literals reply_text no_memory_text keeper_fault_text not_json_text unbuilt_text bad_head_text
-reply_apart (Committed version) =
-    of_no_code (reply_text (Committed version)) no_memory_text keeper_fault_text not_json_text unbuilt_text bad_head_text refl refl refl refl refl
-reply_apart (Edit fault version) =
-    of_no_code (reply_text (Edit fault version)) no_memory_text keeper_fault_text not_json_text unbuilt_text bad_head_text refl refl refl refl refl
+reply_apart airport (Committed entry version) =
+    of_no_code (reply_text airport (Committed entry version)) no_memory_text keeper_fault_text not_json_text unbuilt_text bad_head_text refl refl refl refl refl
+reply_apart airport (Version version) =
+    of_no_code (reply_text airport (Version version)) no_memory_text keeper_fault_text not_json_text unbuilt_text bad_head_text refl refl refl refl refl
+reply_apart airport (AVisit visit version) =
+    of_no_code (reply_text airport (AVisit visit version)) no_memory_text keeper_fault_text not_json_text unbuilt_text bad_head_text refl refl refl refl refl
+reply_apart airport (NoVisit version) =
+    of_no_code (reply_text airport (NoVisit version)) no_memory_text keeper_fault_text not_json_text unbuilt_text bad_head_text refl refl refl refl refl
+reply_apart airport (Ahead version) =
+    of_no_code (reply_text airport (Ahead version)) no_memory_text keeper_fault_text not_json_text unbuilt_text bad_head_text refl refl refl refl refl
+reply_apart airport (Full version) =
+    of_no_code (reply_text airport (Full version)) no_memory_text keeper_fault_text not_json_text unbuilt_text bad_head_text refl refl refl refl refl
+reply_apart airport (Edit (UnknownVisit k) version) =
+    of_no_code (reply_text airport (Edit (UnknownVisit k) version)) no_memory_text keeper_fault_text not_json_text unbuilt_text bad_head_text refl refl refl refl refl
+reply_apart airport (Edit (NoSuchPart k) version) =
+    of_no_code (reply_text airport (Edit (NoSuchPart k) version)) no_memory_text keeper_fault_text not_json_text unbuilt_text bad_head_text refl refl refl refl refl
+reply_apart airport (Edit (Unfit k by) version) =
+    of_no_code (reply_text airport (Edit (Unfit k by) version)) no_memory_text keeper_fault_text not_json_text unbuilt_text bad_head_text refl refl refl refl refl
+reply_apart airport (Edit (Clash clash) version) =
+    of_no_code (reply_text airport (Edit (Clash clash) version)) no_memory_text keeper_fault_text not_json_text unbuilt_text bad_head_text refl refl refl refl refl
+reply_apart airport (Edit Memory version) =
+    of_no_code (reply_text airport (Edit Memory version)) no_memory_text keeper_fault_text not_json_text unbuilt_text bad_head_text refl refl refl refl refl

@@ -1,3 +1,4 @@
 pub mod Apart
 pub mod Floats
 pub mod Heads
+pub mod Names

@@ -25,10 +25,16 @@ pub struct Entry {
 #[derive(Debug, Drop)]
 pub enum What {
     Change(Command),
+    /// The plan's version.
+    Version,
+    /// The visit of this number.
+    Visit(u32),
 }
 
 /// What a desk asks with one request.
 #[derive(Debug, Drop)]
 pub struct Ask {
+    /// The greatest version of the plan that the desk has seen, as it says: 0 where it says none.
+    pub seen: u32,
     pub what: What,
 }

@@ -1,9 +1,10 @@
 // Laws of the texts: no two causes are answered alike by chance.
 ghost use Rattle.std.specs.Prelude.{◌≢◌, All, AllPairs};
+ghost use Rattle.apron_rules.specs.declared.parts.AirportParts.{AirportParts};
 ghost use Rattle.desk_words.specs.declared.replies.Reply.{Reply};
 ghost use Rattle.desk_words.specs.Fixed.{fixed_texts};
 ghost use Rattle.desk_words.specs.Replies.{reply_text};
-ghost use Rattle.desk_words.specs.Spelt.{CommittedIsSpelt, UnfitIsSpelt, ClashIsSpelt};
+ghost use Rattle.desk_words.specs.Spelt.{CommittedIsSpelt, VisitIsSpelt, UnfitIsSpelt, ClashIsSpelt};
 
 /// No two of the fixed texts are the same.
 pub fn fixed_texts_differ()
@@ -12,12 +13,13 @@ pub fn fixed_texts_differ()
 
 /// No reply has a fixed text.
 pub fn no_reply_is_fixed()
-    ensures apart { (reply : Reply) → All (λ text. reply_text reply ≢ text) fixed_texts }
+    ensures apart { (airport : AirportParts) (reply : Reply) → All (λ text. reply_text airport reply ≢ text) fixed_texts }
 {}
 
 /// Some replies are spelt so.
 pub fn replies_are_spelt()
     ensures committed { CommittedIsSpelt }
+    ensures visit { VisitIsSpelt }
     ensures unfit { UnfitIsSpelt }
     ensures clash { ClashIsSpelt }
 {}

@@ -6,12 +6,16 @@ use Rattle.desk_words.proofs.laws.replies_are_spelt.Goals as goal
 
 pub returns-clause-committed : goal.returns-clause-committed
 unfolding digits serde_json_on_literals reply_text
-returns-clause-committed c = refl
+returns-clause-committed c = λ airport. refl
+
+pub returns-clause-visit : goal.returns-clause-visit
+unfolding digits serde_json_on_literals reply_text
+returns-clause-visit c = refl
 
 pub returns-clause-unfit : goal.returns-clause-unfit
 unfolding digits serde_json_on_literals reply_text
-returns-clause-unfit c = refl
+returns-clause-unfit c = λ airport. refl
 
 pub returns-clause-clash : goal.returns-clause-clash
 unfolding digits serde_json_on_literals reply_text
-returns-clause-clash c = refl
+returns-clause-clash c = λ airport. refl

@@ -6,6 +6,7 @@ use Rattle.desk_words.proofs.replies.reply_bytes.Goals as goal
 pub returns : goal.returns
 unfolding reply_text
 returns c = record {
-  text = IfOk-weaker c.text.result _ (λ bytes. bytes ≡ reply_text c.args.reply.now)
-      (λ bytes h. rw (c.status.ensures.is, c.as_slice.ensures.value, c.in_ok-body.ensures.text) at h) c.text.ensures.text;
+  text = IfOk-weaker c.text.result _ (λ bytes. bytes ≡ reply_text c.args.airport.now c.args.reply.now)
+      (λ bytes h. rw (c.status.ensures.is, c.version.ensures.is, c.as_slice.ensures.value, c.in_ok-body.ensures.text, c.parts.ensures.value) at h)
+      c.text.ensures.text;
 }
