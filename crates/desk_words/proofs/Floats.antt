@@ -15,7 +15,7 @@ use Rattle.plan_core.specs.declared.visits.Part.{Part}
 use Rattle.plan_core.specs.declared.visits.Place.{Place}
 use Rattle.plan_core.specs.declared.visits.Place.TheVariants.{Unplaced, Planned, Actual}
 use Rattle.plan_core.specs.declared.visits.Visit.{Visit}
-use Rattle.plan_core.specs.declared.visits.EditFault.TheVariants.{UnknownVisit, NoSuchPart, Unfit, Clash, Memory}
+use Rattle.plan_core.specs.declared.visits.EditFault.TheVariants.{UnknownVisit, Overtaken, NoSuchPart, Unfit, Clash, Memory}
 use Rattle.desk_words.specs.declared.replies.Reply.{Reply}
 use Rattle.desk_words.specs.declared.replies.Reply.TheVariants.{Committed, Version, Visit as AVisit, NoVisit, Ahead, Full, Edit}
 use Rattle.desk_words.specs.Replies.{name_data, stand_data, type_data, bump_data, place_bump_data, place_stand_data, stay_data, visit_data, reply_data}
@@ -74,6 +74,7 @@ reply_has_none airport (NoVisit version) = refl
 reply_has_none airport (Ahead version) = refl
 reply_has_none airport (Full version) = refl
 reply_has_none airport (Edit (UnknownVisit k) version) = refl
+reply_has_none airport (Edit (Overtaken k n edited) version) = refl
 reply_has_none airport (Edit (NoSuchPart k) version) = refl
 reply_has_none airport (Edit (Unfit k Letter) version) = refl
 reply_has_none airport (Edit (Unfit k (Object j)) version) = refl

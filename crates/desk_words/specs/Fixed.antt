@@ -24,6 +24,10 @@ keeper_fault_text = error_text 503 (codes "keeper")
 unfoldable pub not_json_text : List ℕ
 not_json_text = error_text 400 (codes "json")
 
+-- the version that was seen is told twice, or is no number
+unfoldable pub bad_seen_text : List ℕ
+bad_seen_text = error_text 400 (codes "seen")
+
 -- there is no such method, target or edit yet
 unfoldable pub unbuilt_text : List ℕ
 unbuilt_text = error_text 400 (codes "unbuilt")
@@ -34,4 +38,4 @@ bad_head_text = text_of 400 (codes "Connection: close" ∷ []) (compact_text (er
 
 -- all of them
 abbrev pub fixed_texts : List (List ℕ)
-fixed_texts = no_memory_text ∷ keeper_fault_text ∷ not_json_text ∷ unbuilt_text ∷ bad_head_text ∷ []
+fixed_texts = no_memory_text ∷ keeper_fault_text ∷ not_json_text ∷ bad_seen_text ∷ unbuilt_text ∷ bad_head_text ∷ []

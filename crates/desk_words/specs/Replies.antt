@@ -6,6 +6,7 @@ use Rattle.serde_json.specs.Written.{compact_text}
 use Rattle.apron_base.specs.declared.numbers.PartId.{PartId}
 use Rattle.apron_base.specs.declared.numbers.StandNo.{StandNo}
 use Rattle.apron_base.specs.declared.numbers.TypeNo.{TypeNo}
+use Rattle.apron_base.specs.declared.numbers.VisitNo.{VisitNo}
 use Rattle.apron_rules.specs.declared.parts.AirportParts.{AirportParts}
 use Rattle.apron_rules.specs.Rules.{stand_at, type_at}
 use Rattle.apron_rules.specs.declared.rules.Rule.{Rule}
@@ -22,7 +23,7 @@ use Rattle.plan_core.specs.declared.visits.Place.{Place}
 use Rattle.plan_core.specs.declared.visits.Place.TheVariants.{Unplaced, Planned, Actual}
 use Rattle.plan_core.specs.declared.visits.Visit.{Visit}
 use Rattle.plan_core.specs.declared.visits.EditFault.{EditFault}
-use Rattle.plan_core.specs.declared.visits.EditFault.TheVariants.{UnknownVisit, NoSuchPart, Unfit, Clash, Memory}
+use Rattle.plan_core.specs.declared.visits.EditFault.TheVariants.{UnknownVisit, Overtaken, NoSuchPart, Unfit, Clash, Memory}
 use Rattle.desk_words.specs.declared.replies.Reply.{Reply}
 use Rattle.desk_words.specs.declared.replies.Reply.TheVariants.{Committed, Version, Visit as AVisit, NoVisit, Ahead, Full, Edit}
 use Rattle.desk_words.specs.Texts.{text_of}
@@ -41,6 +42,15 @@ edit_data k error version =
     object (member (codes "edit") (whole k)
     (member (codes "error") (string error)
     (member (codes "version") (whole version) no_members)))
+
+-- {"edit":K,"edited":E,"error":"overtaken","version":V,"visit":N}
+abbrev pub overtaken_data : ℕ → VisitNo → ℕ → ℕ → Data
+overtaken_data k n edited version =
+    object (member (codes "edit") (whole k)
+    (member (codes "edited") (whole edited)
+    (member (codes "error") (string (codes "overtaken"))
+    (member (codes "version") (whole version)
+    (member (codes "visit") (whole n.0) no_members)))))
 
 -- "letter" or {"object":K}
 abbrev pub by_data : UnfitBy → Data
@@ -83,6 +93,7 @@ refused_data error version = object (member (codes "error") (string error) (memb
 -- why a commit was refused; want of memory isn't said here
 abbrev pub fault_data : EditFault → ℕ → Data
 fault_data (UnknownVisit k) version = edit_data k (codes "unknown") version
+fault_data (Overtaken k n edited) version = overtaken_data k n edited version
 fault_data (NoSuchPart k) version = edit_data k (codes "part") version
 fault_data (Unfit k by) version = unfit_data by k version
 fault_data (Clash clash) version = clash_data clash version
@@ -167,6 +178,7 @@ reply_data airport (Edit fault version) = fault_data fault version
 -- the code for why a commit was refused
 abbrev pub fault_code : EditFault → ℕ
 fault_code (UnknownVisit k) = 422
+fault_code (Overtaken k n edited) = 409
 fault_code (NoSuchPart k) = 422
 fault_code (Unfit k by) = 422
 fault_code (Clash clash) = 422

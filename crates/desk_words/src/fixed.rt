@@ -1,6 +1,6 @@
 // Replies whose text is a constant. They take no memory.
 ghost use Rattle.std.specs.Prelude.{◌≡◌};
-ghost use Rattle.desk_words.specs.Fixed.{no_memory_text, keeper_fault_text, not_json_text, unbuilt_text, bad_head_text};
+ghost use Rattle.desk_words.specs.Fixed.{no_memory_text, keeper_fault_text, not_json_text, bad_seen_text, unbuilt_text, bad_head_text};
 
 /// Memory is wanting.
 pub fn no_memory() -> &'static [u8]
@@ -21,6 +21,13 @@ pub fn not_json() -> &'static [u8]
     ensures text { result.now ≡ not_json_text }
 {
     b"HTTP/1.1 400 Bad Request\r\nContent-Type: application/json\r\nContent-Length: 16\r\n\r\n{\"error\":\"json\"}"
+}
+
+/// The version that the desk has seen is told twice, or is no number of 32 bits.
+pub fn bad_seen() -> &'static [u8]
+    ensures text { result.now ≡ bad_seen_text }
+{
+    b"HTTP/1.1 400 Bad Request\r\nContent-Type: application/json\r\nContent-Length: 16\r\n\r\n{\"error\":\"seen\"}"
 }
 
 /// There is no such method, target or edit yet.

@@ -58,6 +58,7 @@ fn fault_status(fault: EditFault) -> StatusCode
     ensures is { result ≡ fault_code fault }
 {
     match fault {
+        EditFault::Overtaken { .. } => StatusCode::CONFLICT,
         EditFault::UnknownVisit { .. }
         | EditFault::NoSuchPart { .. }
         | EditFault::Unfit { .. }
@@ -261,6 +262,19 @@ fn fault_value(alloc: Global, fault: EditFault, version: u32) -> Result<Value, A
     match fault {
         EditFault::UnknownVisit { edit } => {
             json!(in alloc; {"edit": edit, "error": "unknown", "version": version})
+        }
+        EditFault::Overtaken {
+            edit,
+            visit,
+            edited,
+        } => {
+            json!(in alloc; {
+                "edit": edit,
+                "edited": edited,
+                "error": "overtaken",
+                "version": version,
+                "visit": visit.0
+            })
         }
         EditFault::NoSuchPart { edit } => {
             json!(in alloc; {"edit": edit, "error": "part", "version": version})

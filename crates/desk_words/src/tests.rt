@@ -1,5 +1,5 @@
 // Each reply, byte for byte.
-use crate::fixed::{bad_head, keeper_fault, no_memory, not_json, unbuilt};
+use crate::fixed::{bad_head, bad_seen, keeper_fault, no_memory, not_json, unbuilt};
 use crate::replies::{Reply, reply_bytes};
 use apron_base::{Name, PartId, StandNo, TypeNo, VisitNo};
 use apron_rules::{Airport, Clash, Rule, UnfitBy};
@@ -187,6 +187,18 @@ fn refused_edits_are_these_bytes(rt: HostRuntime) -> Result<(), Fail> {
         ),
         (
             Reply::Edit {
+                fault: EditFault::Overtaken {
+                    edit: 3,
+                    visit: VisitNo(12),
+                    edited: 8,
+                },
+                version: 10,
+            },
+            "HTTP/1.1 409 Conflict\r\nContent-Type: application/json\r\nContent-Length: 65\r\nX-Version: 10",
+            r#"{"edit":3,"edited":8,"error":"overtaken","version":10,"visit":12}"#,
+        ),
+        (
+            Reply::Edit {
                 fault: EditFault::NoSuchPart { edit: 64 },
                 version: 9,
             },
@@ -332,7 +344,7 @@ fn visits_are_these_bytes(rt: HostRuntime) -> Result<(), Fail> {
 
 #[test]
 fn fixed_replies_are_these_bytes(rt: HostRuntime) {
-    let rows: [(&[u8], &[u8]); 5] = [
+    let rows: [(&[u8], &[u8]); 6] = [
         (
             no_memory(),
             b"HTTP/1.1 507 Insufficient Storage\r\nContent-Type: application/json\r\nContent-Length: 18\r\n\r\n{\"error\":\"memory\"}",
@@ -344,6 +356,10 @@ fn fixed_replies_are_these_bytes(rt: HostRuntime) {
         (
             not_json(),
             b"HTTP/1.1 400 Bad Request\r\nContent-Type: application/json\r\nContent-Length: 16\r\n\r\n{\"error\":\"json\"}",
+        ),
+        (
+            bad_seen(),
+            b"HTTP/1.1 400 Bad Request\r\nContent-Type: application/json\r\nContent-Length: 16\r\n\r\n{\"error\":\"seen\"}",
         ),
         (
             unbuilt(),
