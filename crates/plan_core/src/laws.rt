@@ -1,5 +1,5 @@
 // Laws of plans and commits.
-ghost use Rattle.std.specs.Prelude.{◌≡◌, ◌≢◌, List};
+ghost use Rattle.std.specs.Prelude.{◌≡◌, ◌≢◌, ℕ, List};
 ghost use Rattle.apron_rules.specs.declared.parts.AirportParts.{AirportParts};
 ghost use Rattle.apron_rules.specs.Clash.{IsOfOnePart};
 ghost use Rattle.plan_core.specs.declared.visits.Edit.{Edit};
@@ -18,9 +18,9 @@ pub fn slots_are_of_one_part()
 /// Want of memory aside, there is one answer to the edits of a commit: they are refused by one fault,
 /// and not where they apply and leave a sound plan.
 pub fn answer_is_one()
-    ensures refusal { (airport : AirportParts) (visits : List Visit) (edits : List Edit) (fault other : EditFault)
+    ensures refusal { (airport : AirportParts) (visits : List Visit) (base : ℕ) (edits : List Edit) (fault other : EditFault)
         → IsNumbered visits → fault ≢ Memory → other ≢ Memory
-        → Refuses airport visits edits fault → Refuses airport visits edits other → fault ≡ other }
-    ensures either { (airport : AirportParts) (visits : List Visit) (edits : List Edit) (new : List Visit) (fault : EditFault)
-        → fault ≢ Memory → Rebases airport visits edits new → ¬ (Refuses airport visits edits fault) }
+        → Refuses airport visits base edits fault → Refuses airport visits base edits other → fault ≡ other }
+    ensures either { (airport : AirportParts) (visits : List Visit) (base : ℕ) (edits : List Edit) (new : List Visit) (fault : EditFault)
+        → fault ≢ Memory → Rebases airport visits base edits new → ¬ (Refuses airport visits base edits fault) }
 {}

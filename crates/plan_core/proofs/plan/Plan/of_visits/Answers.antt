@@ -6,7 +6,7 @@ use Rattle.plan_core.proofs.plan.Plan.of_visits.Goals as goal
 
 pub invariant_of-result : goal.invariant_of-result
 invariant_of-result c =
-    let P : AirportParts → Type 0 = λ a. IsPlan (record { airport = a; visits = c.args.visits.items; version = 0 }) in
+    let P : AirportParts → Type 0 = λ a. IsPlan (record { airport = a; visits = c.args.visits.items; drafts = c.none.result.kept; version = 0 }) in
     subst P (sym c.of.ensures) (record {
       each = c.requires.each;
       numbered = c.requires.numbered;
