@@ -13,8 +13,8 @@ use Rattle.history_core.specs.History.{AreAccepted, IsAccepted, IsLegal, IsSound
 
 -- the plan after an accepted command is sound
 command_sound : (plan : PlanState) (command : Command) → IsAccepted plan command → IsSoundPlan (after_command plan command)
-command_sound plan (Commit desk draft base edits) (visits, rebases) =
-    subst (λ (r : Result (List Visit) EditFault). IsSoundPlan (committed_if plan edits r)) (sym rebases.apply)
+command_sound plan (Commit desk draft base edits) (new, (visits, rebases), room) =
+    subst (λ (r : Result (List Visit) EditFault). IsSoundPlan (committed_if plan desk draft edits r)) (sym rebases.apply)
     (subst (λ slots. IsFirstClash plan.airport slots None) (sym (stamped_slots plan.airport (plan.version + 1) edits visits)) rebases.sound)
 
 pub legal_sound : (start : PlanState) (history : List Entry) → IsSoundPlan start → AreAccepted start history → IsSoundPlan (replay start history)

@@ -1,5 +1,5 @@
 -- A history that grows by an accepted command.
-use Rattle.std.proofs.Common.{◌≡◌, ◌∙◌, List, [], ◌∷◌, ◌++◌, refl, sym, subst, Result, Ok, Err}
+use Rattle.std.proofs.Common.{◌≡◌, ◌∙◌, ℕ, List, [], ◌∷◌, ◌++◌, refl, sym, subst, Result, Ok, Err}
 use Rattle.apron_rules.specs.declared.parts.AirportParts.{AirportParts}
 use Rattle.plan_core.specs.declared.visits.Visit.{Visit}
 use Rattle.plan_core.specs.declared.visits.Edit.{Edit}
@@ -16,12 +16,13 @@ pub replay-push : (start : PlanState) (history : List Entry) (entry : Entry) →
 replay-push start [] entry = refl
 replay-push start (e ∷ history) entry = replay-push (after_command start e.command) history entry
 
-committed_airport : (plan : PlanState) (edits : List Edit) (visits : Result (List Visit) EditFault) → (committed_if plan edits visits).airport ≡ plan.airport
-committed_airport plan edits (Ok visits) = refl
-committed_airport plan edits (Err fault) = refl
+committed_airport : (plan : PlanState) (desk : List ℕ) (draft : ℕ) (edits : List Edit) (visits : Result (List Visit) EditFault)
+    → (committed_if plan desk draft edits visits).airport ≡ plan.airport
+committed_airport plan desk draft edits (Ok visits) = refl
+committed_airport plan desk draft edits (Err fault) = refl
 
 command_airport : (plan : PlanState) (command : Command) → (after_command plan command).airport ≡ plan.airport
-command_airport plan (Commit desk draft base edits) = committed_airport plan edits (edited plan.airport plan.visits edits)
+command_airport plan (Commit desk draft base edits) = committed_airport plan desk draft edits (edited plan.airport plan.visits base edits)
 
 -- the airport of a plan stays
 pub replay-airport : (start : PlanState) (history : List Entry) → (replay start history).airport ≡ start.airport

@@ -4,7 +4,7 @@ use Rattle.apron_base.specs.Histories.{Rises}
 use Rattle.apron_rules.specs.declared.parts.AirportParts.{AirportParts}
 use Rattle.plan_core.specs.PlanState.{PlanState}
 use Rattle.desk_words.specs.declared.asks.Entry.{Entry}
-use Rattle.history_core.specs.History.{AreAccepted, call_of, replay}
+use Rattle.history_core.specs.History.{AreAccepted, call_of, most_entries, replay}
 
 -- the plan that its history began with, its history, and the least number of its next call
 pub record BoardState : Type 0 where
@@ -19,3 +19,4 @@ pub record IsBoard (airport : AirportParts) (plan start : PlanState) (history : 
   pub accepted : AreAccepted start history
   pub numbers : Rises call_of 1 next history
   pub few : next ≤ 2 ^ 62
+  pub most : plan.version ≤ most_entries

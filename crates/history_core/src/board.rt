@@ -45,9 +45,9 @@ impl<'a> Board<'a> {
         requires each { All (IsWellFormed airport.now) visits.items }
         requires numbered { IsNumbered visits.items }
         requires unplaced { All IsUnplaced visits.items }
-        ensures is { result ≡ record { start = record { airport = airport.now; visits = visits.items; version = 0 }; history = []; next = 1 } }
+        ensures is { result ≡ record { start = record { airport = airport.now; visits = visits.items; drafts = []; version = 0 }; history = []; next = 1 } }
     {
-        let plan = Plan::of_visits(airport, visits);
+        let plan = Plan::of_visits(alloc, airport, visits);
         let start = Snapshot::of(&plan);
         Board {
             airport,
@@ -109,7 +109,7 @@ impl<'a> Board<'a> {
             &mut self.plan,
             &mut self.history,
             call,
-            &ask.what,
+            ask,
         );
         self.next = call + 1;
         acted

@@ -10,6 +10,9 @@ pub act-acted-requires-clause-airport : goal.act-acted-requires-clause-airport
 act-acted-requires-clause-airport c =
     board_airport c.self.inside.airport.now c.self.inside.plan.plan c.self.inside.start.value.plan c.self.inside.history c.self.inside.next c.self.invariant
 
+pub act-acted-requires-clause-most : goal.act-acted-requires-clause-most
+act-acted-requires-clause-most c = c.self.invariant.most
+
 pub act-acted-requires-clause-valid : goal.act-acted-requires-clause-valid
 act-acted-requires-clause-valid c =
     let at_start : IsAskOf c.self.inside.start.value.plan.airport c.args.ask.now =
@@ -21,7 +24,7 @@ board : (c : goal.After-self-1)
     → IsBoard c.self.inside.airport.now c.act-acted.new.plan.plan c.self.inside.start.value.plan c.act-acted.new.history (c.args.call + 1)
 board c =
     act_board c.self.inside.airport.now c.self.inside.plan.plan c.act-acted.new.plan.plan c.self.inside.start.value.plan c.self.inside.history c.act-acted.new.history
-    c.self.inside.next c.args.call c.args.ask.now.what c.act-acted.result c.self.invariant
+    c.self.inside.next c.args.call c.args.ask.now c.act-acted.result c.self.invariant
     (subst (λ (b : BoardState). IsAskOf b.start.airport c.args.ask.now) (sym c.self.view_is) c.requires.valid)
     (subst (λ (b : BoardState). b.next ≤ c.args.call) (sym c.self.view_is) c.requires.next) c.requires.last c.act-acted.ensures.acts
 
@@ -43,4 +46,4 @@ returns-clause-acts c =
 
 pub returns-clause-free : goal.returns-clause-free
 returns-clause-free c =
-    act_free c.self.inside.plan.plan c.act-acted.new.plan.plan c.self.inside.history c.act-acted.new.history c.args.call c.args.ask.now.what c.act-acted.result c.act-acted.ensures.acts
+    act_free c.self.inside.plan.plan c.act-acted.new.plan.plan c.self.inside.history c.act-acted.new.history c.args.call c.args.ask.now c.act-acted.result c.act-acted.ensures.acts
