@@ -6,6 +6,7 @@ use Rattle.std.proofs.lemmas.List.Elements.{All-append, All-from_recursion}
 use Rattle.apron_base.specs.declared.outside.Outcome.{Outcome}
 use Rattle.apron_base.specs.declared.outside.Outcome.TheVariants.{Ended, Closed, Cut, Malformed, Limit, ReadFault, WriteFault, Spent, Memory}
 use Rattle.apron_base.proofs.Known.{appends_both, consumes_both}
+use Rattle.apron_rules.specs.declared.parts.AirportParts.{AirportParts}
 use Rattle.plan_core.specs.PlanState.{PlanState}
 use Rattle.http_framing.specs.declared.bodies.Refusal.{Refusal}
 use Rattle.http_framing.specs.Closing.{is_closing}
@@ -27,15 +28,16 @@ runs_push step old mid new (r ∷ requests) (x ∷ answers) request answer h s =
 runs_push step old mid new [] (x ∷ answers) request answer h s = absurd h
 runs_push step old mid new (r ∷ requests) [] request answer h s = absurd h
 
-pub texts_of-push : (sents : List Sent) (sent : Sent) → texts_of (sents ++ sent ∷ []) ≡ texts_of sents ++ sent_text sent
-texts_of-push [] sent = append-nil (sent_text sent)
-texts_of-push (x ∷ sents) sent = let rest : texts_of (sents ++ sent ∷ []) ≡ texts_of sents ++ sent_text sent = texts_of-push sents sent in rw (rest, append_assoc) refl
+pub texts_of-push : (airport : AirportParts) (sents : List Sent) (sent : Sent) → texts_of airport (sents ++ sent ∷ []) ≡ texts_of airport sents ++ sent_text airport sent
+texts_of-push airport [] sent = append-nil (sent_text airport sent)
+texts_of-push airport (x ∷ sents) sent =
+    let rest : texts_of airport (sents ++ sent ∷ []) ≡ texts_of airport sents ++ sent_text airport sent = texts_of-push airport sents sent in rw (rest, append_assoc) refl
 
 consumes_none : (left : Option (List ℕ)) → Consumes left left []
 consumes_none None = tt
 consumes_none (Some xs) = refl
 
-appends_none : (told : Option (List ℕ)) → Appends told told []
+pub appends_none : (told : Option (List ℕ)) → Appends told told []
 appends_none None = tt
 appends_none (Some xs) = sym (append-nil xs)
 
@@ -76,7 +78,7 @@ module _ (Asked : PlanState → PortState → Ask → Given → PortState → Ty
   -- one more request was answered
   serves_next : (left0 left1 told0 told1 told2 : Option (List ℕ)) (old mid new : PortState) (rest more : List ℕ) (request : Request) (sent : Sent) (count : ℕ)
       → SoFar Asked start left0 left1 told0 told1 old mid rest count → HasRequest rest request more → is_closing request.head ≡ false
-      → Sends Asked start mid request sent new → Appends told1 told2 (sent_text sent)
+      → Sends Asked start mid request sent new → Appends told1 told2 (sent_text start.airport sent)
       → SoFar Asked start left0 left1 told0 told2 old new more (count + 1)
   serves_next left0 left1 told0 told1 told2 old mid new rest more request sent count h f stays s a = record {
     taken = h.taken;
@@ -85,7 +87,7 @@ module _ (Asked : PlanState → PortState → Ask → Given → PortState → Ty
     consumed = h.consumed;
     splits = splits_push h.taken rest more h.requests request h.splits f;
     runs = runs_push (Sends Asked start) old mid new h.requests h.sents request sent h.runs s;
-    appended = rw (texts_of-push h.sents sent) (appends_both told0 told1 told2 (texts_of h.sents) (sent_text sent) h.appended a);
+    appended = rw (texts_of-push start.airport h.sents sent) (appends_both told0 told1 told2 (texts_of start.airport h.sents) (sent_text start.airport sent) h.appended a);
     counted = length-append h.requests (request ∷ []) ∙ ap (λ n. n + 1) h.counted;
     stay = stay_push h.requests request h.stay stays;
   }
@@ -100,7 +102,7 @@ module _ (Asked : PlanState → PortState → Ask → Given → PortState → Ty
     consumed = h.consumed;
     splits = h.splits;
     runs = h.runs;
-    appended = subst (Appends told0 told2) (append-nil (texts_of h.sents)) (appends_both told0 told1 told2 (texts_of h.sents) [] h.appended a);
+    appended = subst (Appends told0 told2) (append-nil (texts_of start.airport h.sents)) (appends_both told0 told1 told2 (texts_of start.airport h.sents) [] h.appended a);
     counted = h.counted;
     stay = h.stay;
   }
@@ -109,14 +111,14 @@ module _ (Asked : PlanState → PortState → Ask → Given → PortState → Ty
   ends : (left0 left1 told0 told1 : Option (List ℕ)) (old served new : PortState) (rest : List ℕ) (count : ℕ) (outcome : Outcome)
       → SoFar Asked start left0 left1 told0 told1 old served rest count
       → ((requests : List Request) (sents : List Sent) → All IsOpen requests → length requests ≡ count
-      → EndsAs Asked start outcome left1 requests sents rest (texts_of sents) served new)
+      → EndsAs Asked start outcome left1 requests sents rest (texts_of start.airport sents) served new)
       → SessionOf Asked start left0 left1 told0 told1 old new outcome
   ends left0 left1 told0 told1 old served new rest count outcome h e = record {
     taken = h.taken;
     requests = h.requests;
     sents = h.sents;
     rest = rest;
-    written = texts_of h.sents;
+    written = texts_of start.airport h.sents;
     served = served;
     consumed = h.consumed;
     splits = h.splits;
@@ -128,19 +130,19 @@ module _ (Asked : PlanState → PortState → Ask → Given → PortState → Ty
   -- it ends after a request that closes it
   closes_after : (left0 left1 told0 told1 told2 : Option (List ℕ)) (old mid new : PortState) (rest more : List ℕ) (request : Request) (sent : Sent) (count : ℕ)
       → SoFar Asked start left0 left1 told0 told1 old mid rest count → count < most_requests → HasRequest rest request more → is_closing request.head ≡ true
-      → Sends Asked start mid request sent new → Appends told1 told2 (sent_text sent)
+      → Sends Asked start mid request sent new → Appends told1 told2 (sent_text start.airport sent)
       → SessionOf Asked start left0 left1 told0 told2 old new Closed
   closes_after left0 left1 told0 told1 told2 old mid new rest more request sent count h few f closing s a = record {
     taken = h.taken;
     requests = h.requests ++ request ∷ [];
     sents = h.sents ++ sent ∷ [];
     rest = more;
-    written = texts_of (h.sents ++ sent ∷ []);
+    written = texts_of start.airport (h.sents ++ sent ∷ []);
     served = new;
     consumed = h.consumed;
     splits = splits_push h.taken rest more h.requests request h.splits f;
     runs = runs_push (Sends Asked start) old mid new h.requests h.sents request sent h.runs s;
-    appended = rw (texts_of-push h.sents sent) (appends_both told0 told1 told2 (texts_of h.sents) (sent_text sent) h.appended a);
+    appended = rw (texts_of-push start.airport h.sents sent) (appends_both told0 told1 told2 (texts_of start.airport h.sents) (sent_text start.airport sent) h.appended a);
     ends = (
       record { before = h.requests; last = request; are = refl; going = record { stay = h.stay; few = let n = h.counted in omega arith }; closing = closing },
       refl,
@@ -151,19 +153,19 @@ module _ (Asked : PlanState → PortState → Ask → Given → PortState → Ty
   -- it ends with a reply that was cut
   cuts_reply : (left0 left1 told0 told1 told2 : Option (List ℕ)) (old mid new : PortState) (rest more : List ℕ) (request : Request) (sent : Sent) (count n : ℕ)
       → SoFar Asked start left0 left1 told0 told1 old mid rest count → count < most_requests → HasRequest rest request more
-      → Sends Asked start mid request sent new → Appends told1 told2 (take n (sent_text sent))
+      → Sends Asked start mid request sent new → Appends told1 told2 (take n (sent_text start.airport sent))
       → SessionOf Asked start left0 left1 told0 told2 old new WriteFault
   cuts_reply left0 left1 told0 told1 told2 old mid new rest more request sent count n h few f s a = record {
     taken = h.taken;
     requests = h.requests ++ request ∷ [];
     sents = h.sents ++ sent ∷ [];
     rest = more;
-    written = texts_of h.sents ++ take n (sent_text sent);
+    written = texts_of start.airport h.sents ++ take n (sent_text start.airport sent);
     served = new;
     consumed = h.consumed;
     splits = splits_push h.taken rest more h.requests request h.splits f;
     runs = runs_push (Sends Asked start) old mid new h.requests h.sents request sent h.runs s;
-    appended = appends_both told0 told1 told2 (texts_of h.sents) (take n (sent_text sent)) h.appended a;
+    appended = appends_both told0 told1 told2 (texts_of start.airport h.sents) (take n (sent_text start.airport sent)) h.appended a;
     ends = (
       inl (record {
         before = h.requests;
@@ -189,12 +191,12 @@ module _ (Asked : PlanState → PortState → Ask → Given → PortState → Ty
     requests = h.requests;
     sents = h.sents;
     rest = rest;
-    written = texts_of h.sents ++ refusal_text why;
+    written = texts_of start.airport h.sents ++ refusal_text why;
     served = new;
     consumed = h.consumed;
     splits = h.splits;
     runs = h.runs;
-    appended = appends_both told0 told1 told2 (texts_of h.sents) (refusal_text why) h.appended a;
+    appended = appends_both told0 told1 told2 (texts_of start.airport h.sents) (refusal_text why) h.appended a;
     ends = (record { stay = h.stay; few = let n = h.counted in omega arith }, (why, f, refl), refl);
   }
 
@@ -207,12 +209,12 @@ module _ (Asked : PlanState → PortState → Ask → Given → PortState → Ty
     requests = h.requests;
     sents = h.sents;
     rest = rest;
-    written = texts_of h.sents ++ take n (refusal_text why);
+    written = texts_of start.airport h.sents ++ take n (refusal_text why);
     served = new;
     consumed = h.consumed;
     splits = h.splits;
     runs = h.runs;
-    appended = appends_both told0 told1 told2 (texts_of h.sents) (take n (refusal_text why)) h.appended a;
+    appended = appends_both told0 told1 told2 (texts_of start.airport h.sents) (take n (refusal_text why)) h.appended a;
     ends = (
       inr (record { going = record { stay = h.stay; few = let m = h.counted in omega arith }; why = why; malformed = f; count = n; bytes = refl }),
       refl,

@@ -59,7 +59,7 @@ pub record IsExhausted (before after : PortState) : Type 0 where
 
 -- what an act shows of an ask, where `asks` says what the port gives and becomes
 abbrev pub ShowsAsk : (PlanState → PortState → Ask → Given → PortState → Type 0) → PlanState → PortState → Ask → Acted → PortState → Type 0
-ShowsAsk asks start before ask (Replied bytes) after = (given : Given) × ShowsAs (Replied bytes) given × asks start before ask given after
-ShowsAsk asks start before ask NoMemory after = (given : Given) × ShowsAs NoMemory given × asks start before ask given after
-ShowsAsk asks start before ask Fault after = (given : Given) × ShowsAs Fault given × asks start before ask given after
+ShowsAsk asks start before ask (Replied bytes) after = (given : Given) × ShowsAs start.airport (Replied bytes) given × asks start before ask given after
+ShowsAsk asks start before ask NoMemory after = (given : Given) × ShowsAs start.airport NoMemory given × asks start before ask given after
+ShowsAsk asks start before ask Fault after = (given : Given) × ShowsAs start.airport Fault given × asks start before ask given after
 ShowsAsk asks start before ask Spent after = IsExhausted before after

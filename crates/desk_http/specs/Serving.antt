@@ -47,8 +47,8 @@ FillsAs left0 left1 old new fields filled =
 module _ (Asked : PlanState → PortState → Ask → Given → PortState → Type 0) (start : PlanState) where
   -- what is made of what a request asks: the bytes of what is sent for it, or why nothing is
   abbrev pub AnswersFor : PortState → Routed → Answer → PortState → Type 0
-  AnswersFor before routed (Text bytes) after = (sent : Sent) × SendsFor Asked start before routed sent after × (bytes ≡ sent_text sent)
-  AnswersFor before routed (Fixed bytes) after = (sent : Sent) × SendsFor Asked start before routed sent after × (bytes.now ≡ sent_text sent)
+  AnswersFor before routed (Text bytes) after = (sent : Sent) × SendsFor Asked start before routed sent after × (bytes ≡ sent_text start.airport sent)
+  AnswersFor before routed (Fixed bytes) after = (sent : Sent) × SendsFor Asked start before routed sent after × (bytes.now ≡ sent_text start.airport sent)
   AnswersFor before routed Exhausted after = FindsExhaustedFor Asked start before routed after
   AnswersFor before routed NoMemory after = after ≡ before
 
@@ -56,13 +56,13 @@ module _ (Asked : PlanState → PortState → Ask → Given → PortState → Ty
   abbrev pub ServesFront : Option (List ℕ) → Option (List ℕ) → PortState → List ℕ → Option Outcome → PortState → List ℕ → Type 0
   ServesFront told0 told1 before bytes None after left =
       (request : Request) × HasRequest bytes request left × (is_closing request.head ≡ false)
-      × (sent : Sent) × Sends Asked start before request sent after × Appends told0 told1 (sent_text sent)
+      × (sent : Sent) × Sends Asked start before request sent after × Appends told0 told1 (sent_text start.airport sent)
   ServesFront told0 told1 before bytes (Some Closed) after left =
       (request : Request) × HasRequest bytes request left × (is_closing request.head ≡ true)
-      × (sent : Sent) × Sends Asked start before request sent after × Appends told0 told1 (sent_text sent)
+      × (sent : Sent) × Sends Asked start before request sent after × Appends told0 told1 (sent_text start.airport sent)
   ServesFront told0 told1 before bytes (Some WriteFault) after left =
       (request : Request) × HasRequest bytes request left
-      × (sent : Sent) × Sends Asked start before request sent after × (count : ℕ) × Appends told0 told1 (take count (sent_text sent))
+      × (sent : Sent) × Sends Asked start before request sent after × (count : ℕ) × Appends told0 told1 (take count (sent_text start.airport sent))
   ServesFront told0 told1 before bytes (Some Spent) after left =
       (request : Request) × (more : List ℕ) × HasRequest bytes request more × FindsExhausted Asked start before request after × Appends told0 told1 []
   ServesFront told0 told1 before bytes (Some Memory) after left = (after ≡ before) × Appends told0 told1 []
@@ -101,7 +101,7 @@ module _ (Asked : PlanState → PortState → Ask → Given → PortState → Ty
     pub consumed : Consumes left0 left1 taken
     pub splits : Splits taken requests rest
     pub runs : Runs (Sends Asked start) old requests sents new
-    pub appended : Appends told0 told1 (texts_of sents)
+    pub appended : Appends told0 told1 (texts_of start.airport sents)
     pub counted : length requests ≡ count
     pub stay : All IsOpen requests
 

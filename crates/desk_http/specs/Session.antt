@@ -4,6 +4,7 @@ use Rattle.std.specs.List.{flat_map}
 use Rattle.std.specs.Io.KnownBytes.{Appends, Consumes, IsAtEnd}
 use Rattle.apron_base.specs.declared.outside.Outcome.{Outcome}
 use Rattle.apron_base.specs.declared.outside.Outcome.TheVariants.{Ended, Closed, Cut, Malformed, Limit, ReadFault, WriteFault, Spent, Memory}
+use Rattle.apron_rules.specs.declared.parts.AirportParts.{AirportParts}
 use Rattle.plan_core.specs.PlanState.{PlanState}
 use Rattle.http_framing.specs.declared.bodies.Refusal.{Refusal}
 use Rattle.http_framing.specs.declared.bodies.Refusal.TheVariants.{Head, Encoding, Large, Length}
@@ -26,13 +27,13 @@ pub data Sent : Type 0 where
   given : Given → Sent
 
 -- the bytes of what is sent
-abbrev pub sent_text : Sent → List ℕ
-sent_text (at_once reply) = early_text reply
-sent_text (given answer) = given_text answer
+abbrev pub sent_text : AirportParts → Sent → List ℕ
+sent_text airport (at_once reply) = early_text reply
+sent_text airport (given answer) = given_text airport answer
 
 -- the bytes of all that is sent
-abbrev pub texts_of : List Sent → List ℕ
-texts_of sents = flat_map sent_text sents
+abbrev pub texts_of : AirportParts → List Sent → List ℕ
+texts_of airport sents = flat_map (sent_text airport) sents
 
 -- the bytes of the reply to a request that is refused
 abbrev pub refusal_text : Refusal → List ℕ
@@ -59,7 +60,7 @@ pub record Close (requests : List Request) : Type 0 where
   pub closing : is_closing last.head ≡ true
 
 -- all replies are written whole but the last, of which a front is
-pub record CutsReply (requests : List Request) (sents : List Sent) (written : List ℕ) : Type 0 where
+pub record CutsReply (airport : AirportParts) (requests : List Request) (sents : List Sent) (written : List ℕ) : Type 0 where
   pub before : List Request
   pub last : Request
   pub are : requests ≡ before ++ last ∷ []
@@ -68,15 +69,15 @@ pub record CutsReply (requests : List Request) (sents : List Sent) (written : Li
   pub sent : Sent
   pub sents_are : sents ≡ whole ++ sent ∷ []
   pub count : ℕ
-  pub bytes : written ≡ texts_of whole ++ take count (sent_text sent)
+  pub bytes : written ≡ texts_of airport whole ++ take count (sent_text airport sent)
 
 -- all replies are written whole, and of the reply to a request that is refused a front is
-pub record CutsRefusal (requests : List Request) (sents : List Sent) (rest written : List ℕ) : Type 0 where
+pub record CutsRefusal (airport : AirportParts) (requests : List Request) (sents : List Sent) (rest written : List ℕ) : Type 0 where
   pub going : GoOn requests
   pub why : Refusal
   pub malformed : IsMalformed rest why
   pub count : ℕ
-  pub bytes : written ≡ texts_of sents ++ take count (refusal_text why)
+  pub bytes : written ≡ texts_of airport sents ++ take count (refusal_text why)
 
 -- `Asked` says what the port gives for an ask and what it becomes, and `start` is the plan that its history began with
 module _ (Asked : PlanState → PortState → Ask → Given → PortState → Type 0) (start : PlanState) where
@@ -103,24 +104,24 @@ module _ (Asked : PlanState → PortState → Ask → Given → PortState → Ty
   -- How a session ended: what is left of the bytes taken, what was written, and the port after the last answer and in the end.
   abbrev pub EndsAs : Outcome → Option (List ℕ) → List Request → List Sent → List ℕ → List ℕ → PortState → PortState → Type 0
   EndsAs Ended left requests sents rest written served new =
-      GoOn requests × Ends rest ended × IsAtEnd left × (written ≡ texts_of sents) × (new ≡ served)
+      GoOn requests × Ends rest ended × IsAtEnd left × (written ≡ texts_of start.airport sents) × (new ≡ served)
   EndsAs Cut left requests sents rest written served new =
-      GoOn requests × Ends rest cut × IsAtEnd left × (written ≡ texts_of sents) × (new ≡ served)
+      GoOn requests × Ends rest cut × IsAtEnd left × (written ≡ texts_of start.airport sents) × (new ≡ served)
   EndsAs Closed left requests sents rest written served new =
-      Close requests × (written ≡ texts_of sents) × (new ≡ served)
+      Close requests × (written ≡ texts_of start.airport sents) × (new ≡ served)
   EndsAs Malformed left requests sents rest written served new =
-      GoOn requests × ((why : Refusal) × IsMalformed rest why × (written ≡ texts_of sents ++ refusal_text why)) × (new ≡ served)
+      GoOn requests × ((why : Refusal) × IsMalformed rest why × (written ≡ texts_of start.airport sents ++ refusal_text why)) × (new ≡ served)
   EndsAs Limit left requests sents rest written served new =
-      All IsOpen requests × (length requests ≡ most_requests) × (written ≡ texts_of sents) × (new ≡ served)
+      All IsOpen requests × (length requests ≡ most_requests) × (written ≡ texts_of start.airport sents) × (new ≡ served)
   EndsAs ReadFault left requests sents rest written served new =
-      GoOn requests × IsPartial rest × (written ≡ texts_of sents) × (new ≡ served)
+      GoOn requests × IsPartial rest × (written ≡ texts_of start.airport sents) × (new ≡ served)
   EndsAs WriteFault left requests sents rest written served new =
-      (CutsReply requests sents written ⊎ CutsRefusal requests sents rest written) × (new ≡ served)
+      (CutsReply start.airport requests sents written ⊎ CutsRefusal start.airport requests sents rest written) × (new ≡ served)
   EndsAs Spent left requests sents rest written served new =
       GoOn requests × ((request : Request) × (more : List ℕ) × HasRequest rest request more × FindsExhausted served request new)
-      × (written ≡ texts_of sents)
+      × (written ≡ texts_of start.airport sents)
   EndsAs Memory left requests sents rest written served new =
-      GoOn requests × (written ≡ texts_of sents) × (new ≡ served)
+      GoOn requests × (written ≡ texts_of start.airport sents) × (new ≡ served)
 
   -- A session took these bytes from the source, answered the requests at their front, one after another, and handed on these bytes.
   pub record SessionOf (left0 left1 told0 told1 : Option (List ℕ)) (old new : PortState) (outcome : Outcome) : Type 0 where

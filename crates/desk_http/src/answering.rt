@@ -9,6 +9,7 @@ use crate::routes::{Routed, route};
 use apron_base::{Acted, Listed, Memory};
 use desk_words::asks::Ask;
 use desk_words::fixed;
+use http_framing::FieldNumber;
 use std::alloc::Global;
 
 /// What is made of a request.
@@ -24,19 +25,20 @@ pub(crate) enum Answer {
     NoMemory,
 }
 
-/// Answers a request of this method, target and body.
+/// Answers a request of this method, target, number of the field X-Seen, and body.
 pub(crate) fn answer_to<P: DeskPort>(
     alloc: Global,
     port: &mut P,
     method: &[u8],
     target: &[u8],
+    seen: FieldNumber,
     body: &[u8],
 ) -> Answer
     ensures start { P.start port.new ≡ P.start port.old }
     ensures made { AnswersFor P.asks (P.start port.old) (P.port port.old)
-        (routed_parts (P.start port.old).airport method.now target.now body.now) result (P.port port.new) }
+        (routed_parts (P.start port.old).airport method.now target.now seen body.now) result (P.port port.new) }
 {
-    match route(alloc, port.airport(), method, target, body) {
+    match route(alloc, port.airport(), method, target, seen, body) {
         Ok(routed) => answer_routed(alloc, port, &routed),
         Err(Memory) => Answer::NoMemory,
     }

@@ -107,6 +107,7 @@ fn serve_front<P: DeskPort, W: Sink>(
         port,
         found.method(bytes),
         found.target(bytes),
+        found.number(bytes, fields, b"x-seen"),
         found.body(bytes),
     );
     let length = found.length();
