@@ -10,6 +10,7 @@ use Rattle.history_core.specs.History.{IsLegal}
 use Rattle.desk_http.specs.Alone.{AloneAsks}
 use Rattle.desk_http.specs.Ports.{PortState}
 use Rattle.desk_http.specs.Session.{Close, EndsAs, Sent, texts_of}
+use Rattle.apron_rules.specs.Demo.{demo_airport}
 use Rattle.apron_run.specs.Demo.{demo_plan}
 use Rattle.apron_run.specs.Run.{AllSound, EndsInput, Headline, IsStopped, IsWholeStatus, RunsDemo, ServesDemo, ending_text, status_of, status_of_ending}
 
@@ -27,7 +28,7 @@ taken_all input (Some more) taken h e = h ∙ (ap (λ m. taken ++ m) e ∙ appen
 record ReadsAll (input : List ℕ) (requests : List Request) (sents : List Sent) (written : List ℕ) (served new : PortState) (status : ℕ) : Type 0 where
   pub ending : Ending
   pub reads : Requests input requests ending
-  pub bytes : written ≡ texts_of sents ++ ending_text ending
+  pub bytes : written ≡ texts_of demo_airport sents ++ ending_text ending
   pub same : new ≡ served
   pub status_is : status ≡ status_of_ending ending
 
@@ -46,7 +47,7 @@ reads_or_stops input left taken Ended requests sents rest written served new c s
     inl (record {
       ending = ended;
       reads = subst (λ i. Requests i requests ended) (sym all) (requests_of taken rest requests ended s going.stay last);
-      bytes = bytes ∙ sym (append-nil (texts_of sents));
+      bytes = bytes ∙ sym (append-nil (texts_of demo_airport sents));
       same = same;
       status_is = refl;
     })
@@ -55,7 +56,7 @@ reads_or_stops input left taken Cut requests sents rest written served new c s n
     inl (record {
       ending = cut;
       reads = subst (λ i. Requests i requests cut) (sym all) (requests_of taken rest requests cut s going.stay last);
-      bytes = bytes ∙ sym (append-nil (texts_of sents));
+      bytes = bytes ∙ sym (append-nil (texts_of demo_airport sents));
       same = same;
       status_is = refl;
     })
@@ -64,7 +65,7 @@ reads_or_stops input left taken Closed requests sents rest written served new c 
     inl (record {
       ending = closed;
       reads = subst (λ i. Requests i requests closed) (sym front.1) (closed_reads (taken ++ front.0) (rest ++ front.0) requests (splits_more taken front.0 rest requests s) close);
-      bytes = bytes ∙ sym (append-nil (texts_of sents));
+      bytes = bytes ∙ sym (append-nil (texts_of demo_airport sents));
       same = same;
       status_is = refl;
     })

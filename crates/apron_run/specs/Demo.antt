@@ -29,7 +29,7 @@ four_visits =
     ∷ demo_visit 4 (codes "V4") 6 600 660 ∷ []
 
 abbrev pub demo_plan : PlanState
-demo_plan = record { airport = demo_airport; visits = four_visits; version = 0 }
+demo_plan = record { airport = demo_airport; visits = four_visits; drafts = []; version = 0 }
 
 -- a desk that has seen nothing and asked nothing
 abbrev pub fresh_port : PortState

@@ -12,6 +12,7 @@ use Rattle.desk_http.specs.Ports.{PortState}
 use Rattle.desk_http.specs.Alone.{AloneAsks, numbers_from}
 use Rattle.desk_http.specs.Runs.{Runs}
 use Rattle.desk_http.specs.Session.{Sent, Sends, SessionOf, most_requests, refusal_text, texts_of}
+use Rattle.apron_rules.specs.Demo.{demo_airport}
 use Rattle.apron_run.specs.Demo.{demo_plan, fresh_port}
 use Rattle.apron_check.specs.Findings.{IsFound}
 use Rattle.apron_check.specs.Lines.{Tells}
@@ -115,9 +116,10 @@ abbrev pub IsWholeStatus : ℕ → Type 0
 IsWholeStatus status = (status ≡ 0) ⊎ ((status ≡ 10) ⊎ (status ≡ 13))
 
 -- The headline: the whole input is its requests and its ending, and the output is the replies, in order, of one legal history that
--- begins with the four visits. A commit is accepted only where its edits apply to the plan as it then is and leave no clash, and is refused
--- only for the first cause why they don't; its one other reply is that memory is wanting, which changes nothing. No reply says that an
--- append failed. Each front of the history makes a sound plan.
+-- begins with the four visits. A commit is accepted only where it was not made over a later version, its draft is new, its edits apply to the
+-- plan as it then is and leave no clash, and the history takes one more entry. A draft that came before is told its version, and any other
+-- is refused for the first cause why it isn't accepted. A question is told what the plan then is. The one other reply is that memory is
+-- wanting, which changes nothing. No reply says that an append failed. Each front of the history makes a sound plan.
 pub record Headline (input output : List ℕ) (status : ℕ) : Type 0 where
   pub requests : List Request
   pub ending : Ending
@@ -125,7 +127,7 @@ pub record Headline (input output : List ℕ) (status : ℕ) : Type 0 where
   pub new : PortState
   pub reads : Requests input requests ending
   pub runs : Runs (Sends AloneAsks demo_plan) fresh_port requests sents new
-  pub bytes : output ≡ texts_of sents ++ ending_text ending
+  pub bytes : output ≡ texts_of demo_airport sents ++ ending_text ending
   pub status_is : status ≡ status_of_ending ending
   pub legal : IsLegal demo_plan new.seen
   pub sound : AllSound new.seen
