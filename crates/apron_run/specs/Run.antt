@@ -14,7 +14,7 @@ use Rattle.desk_http.specs.Runs.{Runs}
 use Rattle.desk_http.specs.Session.{Sent, Sends, SessionOf, most_requests, refusal_text, texts_of}
 use Rattle.apron_rules.specs.Demo.{demo_airport}
 use Rattle.apron_run.specs.Demo.{demo_plan, fresh_port}
-use Rattle.apron_check.specs.Findings.{IsFound}
+use Rattle.apron_check.specs.Findings.{AreLong, IsFound}
 use Rattle.apron_check.specs.Lines.{Tells}
 use Rattle.apron_check.specs.declared.finding.Finding.{Finding}
 use Rattle.apron_run.specs.Words.{help_text, usage_text, version_text, word_at}
@@ -69,17 +69,29 @@ abbrev pub PrintsText : List ℕ → Option (List ℕ) → Option (List ℕ) →
 PrintsText text told0 told1 faults0 faults1 status =
     ((status ≡ 0) × Appends told0 told1 text) ⊎ ((status ≡ 6) × ((count : ℕ) × Appends told0 told1 (take count text)) × Rose faults0 faults1)
 
--- the line that tells what is in the airport file and the type file was written, with the status that goes with it
-abbrev pub ChecksFiles : Option (List ℕ) → Option (List ℕ) → Option (List ℕ) → Option (List ℕ) → ℕ → ℕ → ℕ → Type 0
-ChecksFiles airport types told0 told1 faults0 faults1 status = (found : Finding) × IsFound airport types found × Tells told0 told1 faults0 faults1 found status
+-- The line that tells what is in the airport file and the type file of these names was written, or a front of it where the sink failed, with
+-- the status that goes with it: what the two files mean, where the shelf tells them; that a file is longer than it may be, as it then is, or so
+-- many bytes were read; that the shelf failed; or that memory was wanting.
+abbrev pub ChecksFiles : Option (List ℕ) → Option (List ℕ) → ℕ → ℕ → Option (List ℕ) → Option (List ℕ) → ℕ → ℕ → ℕ → Type 0
+ChecksFiles airport types read0 read1 told0 told1 faults0 faults1 status =
+    (found : Finding) × IsFound airport types found × AreLong airport types read0 read1 found × Tells told0 told1 faults0 faults1 found status
 
--- what the program does for what its words ask for, where the shelf has these files
-abbrev pub RunsForm : Form → List (List ℕ) → (List ℕ → Option (List ℕ)) → Option (List ℕ) → Option (List ℕ) → Option (List ℕ) → Option (List ℕ) → ℕ → ℕ → ℕ → Type 0
-RunsForm DeskDemo words files left0 left1 told0 told1 faults0 faults1 status = RunsDemo left0 left1 told0 told1 status
-RunsForm Check words files left0 left1 told0 told1 faults0 faults1 status = ChecksFiles (files (word_at 1 words)) (files (word_at 2 words)) told0 told1 faults0 faults1 status
-RunsForm Help words files left0 left1 told0 told1 faults0 faults1 status = PrintsText help_text told0 told1 faults0 faults1 status
-RunsForm Version words files left0 left1 told0 told1 faults0 faults1 status = PrintsText version_text told0 told1 faults0 faults1 status
-RunsForm Faulty words files left0 left1 told0 told1 faults0 faults1 status = Prints usage_text told0 told1 faults0 faults1 × (status ≡ 2)
+-- what is done with the shelf's files: only the check does anything with them
+abbrev pub ChecksForm : Form → List (List ℕ) → (List ℕ → Option (List ℕ)) → ℕ → ℕ → Option (List ℕ) → Option (List ℕ) → ℕ → ℕ → ℕ → Type 0
+ChecksForm DeskDemo words files read0 read1 told0 told1 faults0 faults1 status = Unit {0}
+ChecksForm Check words files read0 read1 told0 told1 faults0 faults1 status =
+    ChecksFiles (files (word_at 1 words)) (files (word_at 2 words)) read0 read1 told0 told1 faults0 faults1 status
+ChecksForm Help words files read0 read1 told0 told1 faults0 faults1 status = Unit {0}
+ChecksForm Version words files read0 read1 told0 told1 faults0 faults1 status = Unit {0}
+ChecksForm Faulty words files read0 read1 told0 told1 faults0 faults1 status = Unit {0}
+
+-- what the program does for what its words ask for; the check's part stands in `ChecksForm`
+abbrev pub RunsForm : Form → Option (List ℕ) → Option (List ℕ) → Option (List ℕ) → Option (List ℕ) → ℕ → ℕ → ℕ → Type 0
+RunsForm DeskDemo left0 left1 told0 told1 faults0 faults1 status = RunsDemo left0 left1 told0 told1 status
+RunsForm Check left0 left1 told0 told1 faults0 faults1 status = Unit {0}
+RunsForm Help left0 left1 told0 told1 faults0 faults1 status = PrintsText help_text told0 told1 faults0 faults1 status
+RunsForm Version left0 left1 told0 told1 faults0 faults1 status = PrintsText version_text told0 told1 faults0 faults1 status
+RunsForm Faulty left0 left1 told0 told1 faults0 faults1 status = Prints usage_text told0 told1 faults0 faults1 × (status ≡ 2)
 
 -- only the demo reads the source
 abbrev pub KeepsSource : {S : Type 0} → Form → S → S → Type 0
@@ -116,10 +128,12 @@ abbrev pub IsWholeStatus : ℕ → Type 0
 IsWholeStatus status = (status ≡ 0) ⊎ ((status ≡ 10) ⊎ (status ≡ 13))
 
 -- The headline: the whole input is its requests and its ending, and the output is the replies, in order, of one legal history that
--- begins with the four visits. A commit is accepted only where it was not made over a later version, its draft is new, its edits apply to the
--- plan as it then is and leave no clash, and the history takes one more entry. A draft that came before is told its version, and any other
--- is refused for the first cause why it isn't accepted. A question is told what the plan then is. The one other reply is that memory is
--- wanting, which changes nothing. No reply says that an append failed. Each front of the history makes a sound plan.
+-- begins with the four visits. A request that asks nothing of the plan has its fixed reply. An ask that has seen a later version than the plan's
+-- is told that it is ahead. Any other commit is accepted exactly where it was not made over a later version, its draft is new, its edits apply
+-- to the plan as it then is and leave no clash, and the history takes one more entry; a draft that came before is told the version that it made,
+-- and any other is refused for the first cause against it. A question is told what the plan then is. In the place of each of these replies
+-- there may be the one that memory is wanting, and then nothing has changed. No reply says that an append failed. Each front of the history
+-- makes a sound plan.
 pub record Headline (input output : List ℕ) (status : ℕ) : Type 0 where
   pub requests : List Request
   pub ending : Ending

@@ -2,7 +2,7 @@
 ghost use Rattle.std.specs.Prelude.{◌≡◌, ◌≤◌, ◌↔◌};
 ghost use Rattle.apron_base.specs.Outside.{Rose};
 ghost use Rattle.apron_run.specs.Demo.{demo_plan, fresh_port};
-ghost use Rattle.apron_run.specs.Run.{KeepsShelf, KeepsSource, Prints, PrintsText, RunsDemo, RunsForm, TellsHeadline, TiesStatus, status_of};
+ghost use Rattle.apron_run.specs.Run.{ChecksForm, KeepsShelf, KeepsSource, Prints, PrintsText, RunsDemo, RunsForm, TellsHeadline, TiesStatus, status_of};
 ghost use Rattle.apron_run.specs.Words.{form_of, usage_text};
 
 use crate::demo::visits;
@@ -39,7 +39,9 @@ pub fn run<F: Shelf, S: Source, W: Sink>(
     sink: &mut W,
 ) -> u8
     ensures headline { TellsHeadline (form_of words.now) (S.left source.old) (W.told sink.old) (W.told sink.new) result }
-    ensures of { RunsForm (form_of words.now) words.now (F.file shelf.old) (S.left source.old) (S.left source.new)
+    ensures of { RunsForm (form_of words.now) (S.left source.old) (S.left source.new) (W.told sink.old) (W.told sink.new)
+        (W.faults sink.old) (W.faults sink.new) result }
+    ensures checks { ChecksForm (form_of words.now) words.now (F.file shelf.old) (F.read shelf.old) (F.read shelf.new)
         (W.told sink.old) (W.told sink.new) (W.faults sink.old) (W.faults sink.new) result }
     ensures status { TiesStatus (form_of words.now) (S.left source.old) result }
     ensures usage { (result ≡ 2) ↔ (form_of words.now ≡ Form.Faulty) }
@@ -49,6 +51,7 @@ pub fn run<F: Shelf, S: Source, W: Sink>(
     ensures shelf_kept { KeepsShelf (form_of words.now) shelf.old shelf.new }
     ensures source_kept { KeepsSource (form_of words.now) source.old source.new }
     ensures shelf_later { F.faults shelf.old ≤ F.faults shelf.new }
+    ensures shelf_more { F.read shelf.old ≤ F.read shelf.new }
     ensures source_later { S.faults source.old ≤ S.faults source.new }
     ensures sink_later { W.faults sink.old ≤ W.faults sink.new }
 {

@@ -22,7 +22,7 @@ pub enum Early {
     BadSeen,
     /// The body is not of the form of its route.
     NotJson,
-    /// The method, the target or an edit is not built.
+    /// The method, the target or an edit is not built, or the airport has no such stand.
     Unbuilt,
 }
 

@@ -16,7 +16,7 @@ error_text code error = text_of code [] (compact_text (error_data error))
 unfoldable pub no_memory_text : List ℕ
 no_memory_text = error_text 507 (codes "memory")
 
--- the keeper of the plan can't go on
+-- the commit could be accepted, and could not be kept
 unfoldable pub keeper_fault_text : List ℕ
 keeper_fault_text = error_text 503 (codes "keeper")
 
@@ -24,11 +24,11 @@ keeper_fault_text = error_text 503 (codes "keeper")
 unfoldable pub not_json_text : List ℕ
 not_json_text = error_text 400 (codes "json")
 
--- the version that was seen is told twice, or is no number
+-- the version that was seen is told twice, or by no number of 1 to 10 digits and 32 bits
 unfoldable pub bad_seen_text : List ℕ
 bad_seen_text = error_text 400 (codes "seen")
 
--- there is no such method, target or edit yet
+-- there is no such method, target or edit yet, or no such stand
 unfoldable pub unbuilt_text : List ℕ
 unbuilt_text = error_text 400 (codes "unbuilt")
 

@@ -23,14 +23,14 @@ pub fn not_json() -> &'static [u8]
     b"HTTP/1.1 400 Bad Request\r\nContent-Type: application/json\r\nContent-Length: 16\r\n\r\n{\"error\":\"json\"}"
 }
 
-/// The version that the desk has seen is told twice, or is no number of 32 bits.
+/// The version that the desk has seen is told twice, or by no number of 1 to 10 digits and 32 bits.
 pub fn bad_seen() -> &'static [u8]
     ensures text { result.now ≡ bad_seen_text }
 {
     b"HTTP/1.1 400 Bad Request\r\nContent-Type: application/json\r\nContent-Length: 16\r\n\r\n{\"error\":\"seen\"}"
 }
 
-/// There is no such method, target or edit yet.
+/// There is no such method, target or edit yet, or the airport has no such stand.
 pub fn unbuilt() -> &'static [u8]
     ensures text { result.now ≡ unbuilt_text }
 {

@@ -1,4 +1,4 @@
-// Laws of the texts: no two causes are answered alike by chance.
+// Laws of the texts: no two fixed ones are alike, and no reply has one.
 ghost use Rattle.std.specs.Prelude.{◌≢◌, All, AllPairs};
 ghost use Rattle.apron_rules.specs.declared.parts.AirportParts.{AirportParts};
 ghost use Rattle.desk_words.specs.declared.replies.Reply.{Reply};

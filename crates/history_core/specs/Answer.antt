@@ -86,7 +86,7 @@ abbrev pub visit_reply : Option Visit → ℕ → Reply
 visit_reply None version = NoVisit version
 visit_reply (Some visit) version = ToldVisit visit version
 
--- what is told of a plan
+-- what is given for what is asked, and the history after it: a question changes nothing
 abbrev pub GivesWhat : PlanState → List Entry → ℕ → What → Given → List Entry → Type 0
 GivesWhat start before call (Change command) given after = GivesTo start before call command given after
 GivesWhat start before call AskVersion given after =

@@ -38,7 +38,8 @@ latest_end airport t = plan_end airport + 3 * least_of airport t + 2 * airport.t
 abbrev pub IsEarlyIfShort : AirportParts → TypeNo → Part → Type 0
 IsEarlyIfShort airport t part = part.to < part.from + least_of airport t → part.to < plan_end airport
 
--- live, a type and stands of the airport, one to three parts that follow one another, none short at the plan's end, and none actual before the visit is on block
+-- live, a type and stands of the airport, one to three parts that follow one another, none ending later than three least parts of the type with
+-- two tows after the plan, none short at the plan's end, and none actual before the visit is on block
 pub record IsWellFormed (airport : AirportParts) (visit : Visit) : Type 0 where
   pub kind : visit.kind.0 < length airport.types
   pub some : 1 ≤ length visit.parts
