@@ -226,13 +226,12 @@ fn rebase_uncounted(
     requires some { 1 ≤ length edits.now }
     requires few { length edits.now ≤ 64 }
     requires stands { All (IsEditOf airport.now) edits.now }
-    requires version { plan.now.plan.version + 1 < 2 ^ 32 - 1 }
     requires draft { draft_version plan.now.plan.drafts desk.now draft ≡ None }
     requires base { base ≤ plan.now.plan.version }
     ensures ok { IfOk result (λ change. (new : List Visit) × Rebases airport.now plan.now.plan.visits base edits.now new
         × (put_in plan.now.plan.visits change.visits ≡ stamped (plan.now.plan.version + 1) edits.now new)) }
     ensures draft { IfOk result (λ change. change.draft ≡ Some (record { desk = desk.now; draft = draft })) }
-    ensures fits { IfOk result (λ change. IsInstallable plan.now.plan change) }
+    ensures fits { IfOk result (λ change. plan.now.plan.version + 1 < 2 ^ 32 - 1 → IsInstallable plan.now.plan change) }
     ensures err { IfErr result (λ fault. Refuses airport.now plan.now.plan.visits base edits.now fault) }
 {
     rebase_from::<Brand>(
@@ -261,7 +260,6 @@ fn rebase_from<L: Ledger>(
     requires some { 1 ≤ length edits.now }
     requires few { length edits.now ≤ 64 }
     requires stands { All (IsEditOf airport.now) edits.now }
-    requires version { plan.now.plan.version + 1 < 2 ^ 32 - 1 }
     requires draft { draft_version plan.now.plan.drafts desk.now draft ≡ None }
     requires base { base ≤ plan.now.plan.version }
     requires name { blank.name ≡ L.name }
@@ -270,7 +268,7 @@ fn rebase_from<L: Ledger>(
     ensures ok { IfOk result (λ change. (new : List Visit) × Rebases airport.now plan.now.plan.visits base edits.now new
         × (put_in plan.now.plan.visits change.visits ≡ stamped (plan.now.plan.version + 1) edits.now new)) }
     ensures draft { IfOk result (λ change. change.draft ≡ Some (record { desk = desk.now; draft = draft })) }
-    ensures fits { IfOk result (λ change. IsInstallable plan.now.plan change) }
+    ensures fits { IfOk result (λ change. plan.now.plan.version + 1 < 2 ^ 32 - 1 → IsInstallable plan.now.plan change) }
     ensures err { IfErr result (λ fault. Refuses airport.now plan.now.plan.visits base edits.now fault) }
 {
     let mut steps = Steps::<L>::new(blank);

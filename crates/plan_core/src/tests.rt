@@ -1,8 +1,9 @@
 // Commits on the built-in airport, one after another.
-ghost use Rattle.std.specs.Prelude.{◌≡◌, ◌≤◌, ◌<◌, ◌+◌, ◌-◌, ◌^◌, ◌∷◌, [], All, IfOk, OnErr, None, false, length, codes};
+ghost use Rattle.std.specs.Prelude.{◌≡◌, ◌≤◌, ◌↔◌, IsTrue, ◌<◌, ◌+◌, ◌-◌, ◌^◌, ◌∷◌, [], All, IfOk, OnErr, None, false, length, codes};
 ghost use Rattle.apron_rules.specs.Demo.{demo_airport};
 ghost use Rattle.plan_core.specs.declared.visits.End.TheVariants.{Live};
 ghost use Rattle.plan_core.specs.declared.visits.Place.TheVariants.{Unplaced};
+ghost use Rattle.plan_core.specs.Drafts.{draft_version};
 ghost use Rattle.plan_core.specs.PlanState.{installed};
 ghost use Rattle.plan_core.specs.Rebase.{IsEditOf};
 ghost use Rattle.plan_core.specs.WellFormed.{IsUnplaced, IsWellFormed};
@@ -62,17 +63,22 @@ fn begin(alloc: Global, airport: &Airport) -> Result<Plan, AllocError>
             visit(4, 6, 600, 660),
         ],
     )?;
-    Ok(Plan::of_visits(airport, visits))
+    Ok(Plan::of_visits(alloc, airport, visits))
 }
 
 fn commit<L: Ledger>(
     alloc: Global,
     airport: &Airport,
     plan: &mut Plan,
+    desk: &Name,
+    draft: u32,
+    base: u32,
     edits: &[Edit],
     blank: Blank,
 ) -> Result<u32, EditFault>
     requires airport { airport.now ≡ plan.old.plan.airport }
+    requires draft { draft_version plan.old.plan.drafts desk.now draft ≡ None }
+    requires base { base ≤ plan.old.plan.version }
     requires some { 1 ≤ length edits.now }
     requires few { length edits.now ≤ 64 }
     requires stands { All (IsEditOf airport.now) edits.now }
@@ -81,13 +87,52 @@ fn commit<L: Ledger>(
     requires parts { blank.parts ≡ L.parts }
     requires whole { 0 < L.parts }
     ensures airport { plan.new.plan.airport ≡ plan.old.plan.airport }
-    ensures version { plan.new.plan.version ≤ plan.old.plan.version + 1 }
 {
     let mut steps = Steps::<L>::new(blank);
-    let change = plan.rebase(alloc, airport, edits, &mut steps)?;
+    let change = plan.rebase(alloc, airport, desk, draft, base, edits, &mut steps)?;
     plan.reserve(&change)?;
     plan.install(change);
     Ok(plan.version())
+}
+
+// A draft's number, its base, its edits, and the answer that its commit must get.
+type Row<'a> = (u32, u32, &'a [Edit], Result<u32, EditFault>);
+
+fn is_of_demo(edits: &[Edit]) -> bool
+    ensures stands { IsTrue result → All (IsEditOf demo_airport) edits.now }
+{
+    edits.iter().all(is_edit_of_demo)
+}
+
+fn is_edit_of_demo(edit: &Edit) -> bool
+    ensures stand { IsTrue result ↔ IsEditOf demo_airport edit.now }
+{
+    match *edit {
+        Edit::Put { stand, .. } => stand.0 < 6,
+    }
+}
+
+// Commits a new draft, over a version that the plan has had: None where it isn't one.
+fn ask(
+    alloc: Global,
+    airport: &Airport,
+    plan: &mut Plan,
+    desk: &Name,
+    draft: u32,
+    base: u32,
+    edits: &[Edit],
+) -> Option<Result<u32, EditFault>>
+    requires demo { airport.now ≡ demo_airport }
+    requires airport { airport.now ≡ plan.old.plan.airport }
+    ensures airport { plan.new.plan.airport ≡ plan.old.plan.airport }
+{
+    let few = !edits.is_empty() && edits.len() <= 64 && is_of_demo(edits);
+    let fits = base <= plan.version() && plan.version() < 1000;
+    if !few || !fits || plan.draft(desk, draft).is_some() {
+        return None;
+    }
+    let blank = Blank::new(1);
+    Some(commit::<Brand>(alloc, airport, plan, desk, draft, base, edits, blank))
 }
 
 fn put(visit: u32, part: u8, stand: u16) -> Edit
@@ -100,11 +145,20 @@ fn put(visit: u32, part: u8, stand: u16) -> Edit
     }
 }
 
+fn overtaken(edit: u8, visit: u32, edited: u32) -> EditFault {
+    EditFault::Overtaken {
+        edit,
+        visit: VisitNo(visit),
+        edited,
+    }
+}
+
 #[test]
 fn commits_are_accepted_or_refused_by_the_first_cause(rt: HostRuntime) -> Result<(), Fail> {
     let alloc = rt.alloc();
     let airport = Airport::demo(alloc)?;
     let mut plan = begin(alloc, &airport)?;
+    let desk = Name::literal(b"D1");
     let clash = Clash {
         minute: 650,
         a: PartId {
@@ -121,37 +175,88 @@ fn commits_are_accepted_or_refused_by_the_first_cause(rt: HostRuntime) -> Result
         edit: 1,
         by: UnfitBy::Letter,
     };
-    let got = commit::<Brand>(alloc, &airport, &mut plan, &[put(1, 1, 0)], Blank::new(1));
-    assert_eq!(rt; got, Ok(1));
-    let got = commit::<Brand>(alloc, &airport, &mut plan, &[put(2, 1, 1)], Blank::new(1));
-    assert_eq!(rt; got, Ok(2));
-    let got = commit::<Brand>(alloc, &airport, &mut plan, &[put(3, 1, 2)], Blank::new(1));
-    assert_eq!(rt; got, Err(EditFault::Clash(clash)));
-    let got = commit::<Brand>(alloc, &airport, &mut plan, &[put(4, 1, 0)], Blank::new(1));
-    assert_eq!(rt; got, Err(unfit));
-    let got = commit::<Brand>(
-        alloc,
-        &airport,
-        &mut plan,
-        &[put(1, 1, 3), put(9, 1, 0), put(1, 2, 0)],
-        Blank::new(1),
-    );
-    assert_eq!(rt; got, Err(EditFault::UnknownVisit { edit: 2 }));
-    let got = commit::<Brand>(alloc, &airport, &mut plan, &[put(1, 2, 0)], Blank::new(1));
-    assert_eq!(rt; got, Err(EditFault::NoSuchPart { edit: 1 }));
-    let got = commit::<Brand>(
-        alloc,
-        &airport,
-        &mut plan,
-        &[put(2, 1, 3), put(3, 1, 1)],
-        Blank::new(1),
-    );
-    assert_eq!(rt; got, Ok(3));
+    let rows: [Row; 7] = [
+        (1, 0, &[put(1, 1, 0)], Ok(1)),
+        (2, 1, &[put(2, 1, 1)], Ok(2)),
+        (3, 2, &[put(3, 1, 2)], Err(EditFault::Clash(clash))),
+        (3, 2, &[put(4, 1, 0)], Err(unfit)),
+        (
+            3,
+            2,
+            &[put(1, 1, 3), put(9, 1, 0), put(1, 2, 0)],
+            Err(EditFault::UnknownVisit { edit: 2 }),
+        ),
+        (
+            3,
+            2,
+            &[put(1, 2, 0)],
+            Err(EditFault::NoSuchPart { edit: 1 }),
+        ),
+        (3, 2, &[put(2, 1, 3), put(3, 1, 1)], Ok(3)),
+    ];
+    for (draft, base, edits, answer) in rows {
+        let got = ask(alloc, &airport, &mut plan, &desk, draft, base, edits);
+        assert_eq!(rt; got, Some(answer));
+    }
     let last = plan
         .visits()
         .iter()
         .filter(|visit| visit.edited == 3)
         .count();
     assert_eq!(rt; last, 2);
+    Ok(())
+}
+
+#[test]
+fn an_edit_is_overtaken_where_its_visit_was_edited_after_the_base(
+    rt: HostRuntime,
+) -> Result<(), Fail> {
+    let alloc = rt.alloc();
+    let airport = Airport::demo(alloc)?;
+    let mut plan = begin(alloc, &airport)?;
+    let desk = Name::literal(b"D1");
+    let rows: [Row; 11] = [
+        (1, 0, &[put(1, 1, 0)], Ok(1)),
+        (2, 0, &[put(2, 1, 1)], Ok(2)),
+        (3, 0, &[put(1, 1, 3)], Err(overtaken(1, 1, 1))),
+        (3, 1, &[put(1, 1, 3)], Ok(3)),
+        (4, 3, &[put(2, 1, 0)], Ok(4)),
+        (5, 4, &[put(2, 1, 1), put(2, 1, 0)], Ok(5)),
+        (6, 4, &[put(1, 1, 1), put(2, 1, 1)], Err(overtaken(2, 2, 5))),
+        (6, 4, &[put(2, 9, 0)], Err(overtaken(1, 2, 5))),
+        (
+            6,
+            4,
+            &[put(9, 1, 0)],
+            Err(EditFault::UnknownVisit { edit: 1 }),
+        ),
+        (6, 5, &[put(4, 1, 5)], Ok(6)),
+        (7, 5, &[put(4, 1, 0)], Err(overtaken(1, 4, 6))),
+    ];
+    for (draft, base, edits, answer) in rows {
+        let got = ask(alloc, &airport, &mut plan, &desk, draft, base, edits);
+        assert_eq!(rt; got, Some(answer));
+    }
+    Ok(())
+}
+
+#[test]
+fn a_draft_is_found_by_its_desk_and_its_number_once_it_is_a_commit(
+    rt: HostRuntime,
+) -> Result<(), Fail> {
+    let alloc = rt.alloc();
+    let airport = Airport::demo(alloc)?;
+    let mut plan = begin(alloc, &airport)?;
+    let (first, second) = (Name::literal(b"D1"), Name::literal(b"D2"));
+    assert_eq!(rt; plan.draft(&first, 1), None);
+    let _ = ask(alloc, &airport, &mut plan, &first, 1, 0, &[put(1, 1, 0)]);
+    assert_eq!(rt; plan.draft(&first, 1), Some(1));
+    assert_eq!(rt; plan.draft(&second, 1), None);
+    assert_eq!(rt; plan.draft(&first, 2), None);
+    let _ = ask(alloc, &airport, &mut plan, &second, 1, 1, &[put(2, 1, 1)]);
+    assert_eq!(rt; plan.draft(&second, 1), Some(2));
+    assert_eq!(rt; plan.draft(&first, 1), Some(1));
+    let _ = ask(alloc, &airport, &mut plan, &second, 2, 0, &[put(1, 1, 3)]);
+    assert_eq!(rt; plan.draft(&second, 2), None);
     Ok(())
 }
