@@ -1,5 +1,5 @@
 -- What a legal history has: a sound plan, and legal fronts.
-use Rattle.std.proofs.Common.{◌≤◌, ◌+◌, ◌^◌, ℕ, List, [], ◌∷◌, ◌++◌, None, sym, subst, arith, Result}
+use Rattle.std.proofs.Common.{◌≡◌, ◌≤◌, ◌+◌, ◌^◌, ℕ, List, [], ◌∷◌, ◌++◌, None, length, refl, sym, subst, arith, Result}
 use Rattle.apron_base.specs.Histories.{Rises}
 use Rattle.apron_rules.specs.Clash.{IsFirstClash}
 use Rattle.plan_core.specs.declared.visits.Visit.{Visit}
@@ -20,6 +20,19 @@ command_sound plan (Commit desk draft base edits) (new, (visits, rebases), room)
 pub legal_sound : (start : PlanState) (history : List Entry) → IsSoundPlan start → AreAccepted start history → IsSoundPlan (replay start history)
 legal_sound start [] sound h = sound
 legal_sound start (e ∷ history) sound h = legal_sound (after_command start e.command) history (command_sound start e.command h.1) h.2
+
+-- an accepted command makes the next version
+command_version : (plan : PlanState) (command : Command) → IsAccepted plan command → (after_command plan command).version ≡ plan.version + 1
+command_version plan (Commit desk draft base edits) (new, (visits, rebases), room) =
+    subst (λ (r : Result (List Visit) EditFault). (committed_if plan desk draft edits r).version ≡ plan.version + 1) (sym rebases.apply) refl
+
+pub versions_count : (start : PlanState) (history : List Entry) → AreAccepted start history → (replay start history).version ≡ start.version + length history
+versions_count start [] h = omega arith
+versions_count start (e ∷ history) h =
+    let one : (after_command start e.command).version ≡ start.version + 1 = command_version start e.command h.1 in
+    let rest : (replay (after_command start e.command) history).version ≡ (after_command start e.command).version + length history =
+    versions_count (after_command start e.command) history h.2 in
+    omega arith
 
 front_accepted : (start : PlanState) (front back : List Entry) → AreAccepted start (front ++ back) → AreAccepted start front
 front_accepted start [] back h = tt

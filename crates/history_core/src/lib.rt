@@ -6,4 +6,7 @@ mod commits;
 mod laws;
 
 pub use board::Board;
-pub use laws::{fronts_of_legal_histories_are_legal, legal_histories_make_sound_plans};
+pub use laws::{
+    entries_of_legal_histories_make_versions, fronts_of_legal_histories_are_legal,
+    legal_histories_make_sound_plans,
+};
