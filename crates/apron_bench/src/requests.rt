@@ -13,15 +13,23 @@ pub(crate) enum Mix {
 /// So many commits, one after another.
 pub(crate) fn commits(alloc: Global, mix: Mix, times: u32) -> Result<Vec<u8>, AllocError> {
     let mut requests = Vec::new(alloc);
-    for base in 0..times {
-        let commit = commit(alloc, edit(mix, base), base)?;
+    for before in 0..times {
+        let commit = commit(alloc, mix, before)?;
         requests.extend_from_slice(commit.as_bytes())?;
     }
     Ok(requests)
 }
 
-fn edit(mix: Mix, base: u32) -> &'static str {
-    match (mix, base % 2) {
+// The plan's version once so many commits of the mix were answered.
+fn version(mix: Mix, answered: u32) -> u32 {
+    match mix {
+        Mix::AllAccepted => answered,
+        Mix::HalfRefused => answered.div_ceil(2),
+    }
+}
+
+fn edit(mix: Mix, before: u32) -> &'static str {
+    match (mix, before % 2) {
         (Mix::AllAccepted, 0) => r#"{"put":{"visit":1,"part":1,"stand":"N1"}}"#,
         (Mix::AllAccepted, _) => r#"{"put":{"visit":1,"part":1,"stand":"N2"}}"#,
         (Mix::HalfRefused, 0) => r#"{"put":{"visit":2,"part":1,"stand":"N2"}}"#,
@@ -29,8 +37,11 @@ fn edit(mix: Mix, base: u32) -> &'static str {
     }
 }
 
-fn commit(alloc: Global, edit: &str, base: u32) -> Result<String, AllocError> {
-    let draft = base.saturating_add(1);
+// The commit that comes after so many others. It is made over the plan as they leave it.
+fn commit(alloc: Global, mix: Mix, before: u32) -> Result<String, AllocError> {
+    let draft = before.saturating_add(1);
+    let base = version(mix, before);
+    let edit = edit(mix, before);
     let body = format!(in alloc;
         "{{\"desk\":\"D\",\"draft\":{draft},\"base\":{base},\"edits\":[{edit}]}}"
     )?;
