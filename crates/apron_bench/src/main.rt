@@ -33,17 +33,15 @@ fn in_pieces(alloc: Global, bytes: Vec<u8>) -> Result<SteadySource, Memory> {
     Ok(SteadySource::new(bytes, pieces))
 }
 
-// Has so many commits answered, and prints how many were accepted and how many a second.
+// Has so many commits answered, and prints how many were accepted, how many a second, and how long
+// the first and the last thousand took.
 fn measure(rt: &HostRuntime, name: &str, mix: Mix, times: u32) -> io::Result<()> {
     let alloc: Global = rt.alloc();
     let (Ok(words), Ok(mut source)) = (words(alloc), in_pieces(alloc, commits(alloc, mix, times)?))
     else {
         return Err(io::Error::from(io::ErrorKind::OutOfMemory));
     };
-    let mut replies = Replies {
-        accepted: 0,
-        refused: 0,
-    };
+    let mut replies = Replies::new(rt, times);
     let start = Instant::now(rt)?;
     let status = run(
         alloc,
@@ -52,14 +50,29 @@ fn measure(rt: &HostRuntime, name: &str, mix: Mix, times: u32) -> io::Result<()>
         &mut source,
         &mut replies,
     );
-    let micros = u64::try_from(start.elapsed(rt)?.as_micros())
-        .unwrap_or(u64::MAX)
-        .max(1);
-    let Replies { accepted, refused } = replies;
+    let end = Instant::now(rt)?;
+    let micros = microseconds(start, end).max(1);
+    let Replies {
+        accepted,
+        refused,
+        first,
+        last,
+        ..
+    } = replies;
     let rate = accepted.saturating_add(refused).saturating_mul(1_000_000) / micros;
     println!(rt;
         "{name}: status {status}, {accepted} accepted, {refused} refused, {rate} requests a second"
-    )
+    )?;
+    let (Some(first), Some(last)) = (first, last) else {
+        return Ok(());
+    };
+    let first = microseconds(start, first);
+    let last = microseconds(last, end);
+    println!(rt; "{name}: the first thousand took {first} microseconds, the last thousand {last}")
+}
+
+fn microseconds(start: Instant, end: Instant) -> u64 {
+    u64::try_from(end.duration_since(start).as_micros()).unwrap_or(u64::MAX)
 }
 
 fn main(rt: HostRuntime) -> io::Result<()> {
@@ -70,7 +83,7 @@ fn main(rt: HostRuntime) -> io::Result<()> {
     };
     if times == 0 {
         return println!(rt;
-            "apron_bench TIMES answers so many commits, at most 1000000, and then as many of which every second clashes"
+            "apron_bench TIMES answers so many commits, at most 200000, and then as many of which every second clashes"
         );
     }
     measure(&rt, "all accepted", Mix::AllAccepted, times)?;

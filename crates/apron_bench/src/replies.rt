@@ -1,19 +1,53 @@
-// A sink that counts the replies.
+// A sink that counts the replies, and notes when the first and the last thousand of them came.
 ghost use Rattle.std.specs.Prelude.{None, IsOk};
 ghost use Rattle.apron_base.specs.Outside.{HasCause, Puts};
 
 use apron_base::{Failed, Sink};
+use std::time::Instant;
 
-/// How many replies there were, by their status.
-#[derive(Clone, Copy, Debug)]
-pub(crate) struct Replies {
+const THOUSAND: u64 = 1000;
+
+/// How many replies there were, by their status, and when some of them had come.
+#[derive(Drop)]
+pub(crate) struct Replies<'a> {
+    clock: &'a HostRuntime,
+    // How many there are to be.
+    times: u64,
     /// Those of status 200.
     pub(crate) accepted: u64,
     /// The others.
     pub(crate) refused: u64,
+    /// When the first thousand had come.
+    pub(crate) first: Option<Instant>,
+    /// When all but the last thousand had come.
+    pub(crate) last: Option<Instant>,
 }
 
-impl Sink for Replies {
+impl<'a> Replies<'a> {
+    /// None yet, of so many.
+    pub(crate) fn new(clock: &'a HostRuntime, times: u32) -> Replies<'a> {
+        Replies {
+            clock,
+            times: times as u64,
+            accepted: 0,
+            refused: 0,
+            first: None,
+            last: None,
+        }
+    }
+
+    fn note_time(&mut self) {
+        let count = self.accepted.saturating_add(self.refused);
+        if count == THOUSAND {
+            self.first = Instant::now(self.clock).ok();
+        }
+        if count.saturating_add(THOUSAND) == self.times {
+            self.last = Instant::now(self.clock).ok();
+        }
+    }
+}
+
+impl<'a> Sink for Replies<'a> {
     ghost told = { λ _. None };
 
     ghost faults = { λ _. 0 };
@@ -28,6 +62,7 @@ impl Sink for Replies {
         } else {
             self.refused = self.refused.saturating_add(1);
         }
+        self.note_time();
         Ok(())
     }
 }
