@@ -50,20 +50,20 @@ fn measure(rt: &HostRuntime, name: &str, mix: Mix, times: u32) -> io::Result<()>
         &mut source,
         &mut replies,
     );
-    let end = Instant::now(rt)?;
-    let micros = microseconds(start, end).max(1);
+    let micros = microseconds(start, Instant::now(rt)?).max(1);
     let Replies {
         accepted,
         refused,
         first,
         last,
+        end,
         ..
     } = replies;
     let rate = accepted.saturating_add(refused).saturating_mul(1_000_000) / micros;
     println!(rt;
         "{name}: status {status}, {accepted} accepted, {refused} refused, {rate} requests a second"
     )?;
-    let (Some(first), Some(last)) = (first, last) else {
+    let (Some(first), Some(last), Some(end)) = (first, last, end) else {
         return Ok(());
     };
     let first = microseconds(start, first);

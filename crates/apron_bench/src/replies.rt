@@ -21,6 +21,8 @@ pub(crate) struct Replies<'a> {
     pub(crate) first: Option<Instant>,
     /// When all but the last thousand had come.
     pub(crate) last: Option<Instant>,
+    /// When all had come.
+    pub(crate) end: Option<Instant>,
 }
 
 impl<'a> Replies<'a> {
@@ -33,6 +35,7 @@ impl<'a> Replies<'a> {
             refused: 0,
             first: None,
             last: None,
+            end: None,
         }
     }
 
@@ -43,6 +46,9 @@ impl<'a> Replies<'a> {
         }
         if count.saturating_add(THOUSAND) == self.times {
             self.last = Instant::now(self.clock).ok();
+        }
+        if count == self.times {
+            self.end = Instant::now(self.clock).ok();
         }
     }
 }
