@@ -1,9 +1,9 @@
 -- The built-in visits, and the plan and the port that they begin with.
 use Rattle.std.specs.Prelude.{ℕ, List, [], ◌∷◌, None, false, codes}
 use Rattle.apron_rules.specs.Demo.{demo_airport}
-use Rattle.plan_core.specs.declared.visits.Visit.{Visit}
-use Rattle.plan_core.specs.declared.visits.Place.TheVariants.{Unplaced}
-use Rattle.plan_core.specs.declared.visits.End.TheVariants.{Live}
+use Rattle.visit_book.specs.declared.visits.Visit.{Visit}
+use Rattle.visit_book.specs.declared.visits.Place.TheVariants.{Unplaced}
+use Rattle.visit_book.specs.declared.visits.End.TheVariants.{Live}
 use Rattle.plan_core.specs.PlanState.{PlanState}
 use Rattle.desk_http.specs.Ports.{PortState}
 

@@ -4,9 +4,8 @@ ghost use Rattle.apron_base.specs.Name.{is_name};
 ghost use Rattle.apron_run.specs.Demo.{demo_visit, four_visits};
 
 use apron_base::{Name, TypeNo, VisitNo};
-use plan_core::Parts;
-use plan_core::visits::{End, Part, Place, Visit};
 use std::alloc::{AllocError, Global};
+use visit_book::{End, Part, Parts, Place, Visit};
 
 /// Three visits of type A320 and one of type X360, all on the first day, class 3 and unplaced.
 pub(crate) fn visits(alloc: Global) -> Result<Vec<Visit>, AllocError>

@@ -4,8 +4,8 @@ use Rattle.std.specs.Option.{option_map, option_and_then}
 use Rattle.std.specs.Str.{bytes_eq}
 use Rattle.apron_base.specs.declared.numbers.StandNo.{StandNo}
 use Rattle.apron_rules.specs.declared.parts.AirportParts.{AirportParts}
-use Rattle.plan_core.specs.declared.visits.Edit.{Edit}
-use Rattle.plan_core.specs.declared.visits.Edit.TheVariants.{Put}
+use Rattle.visit_book.specs.declared.visits.Edit.{Edit}
+use Rattle.visit_book.specs.declared.visits.Edit.TheVariants.{Put}
 use Rattle.http_framing.specs.Fields.{number_field, number_of, pairs}
 use Rattle.http_framing.specs.Requests.{Request}
 use Rattle.http_framing.specs.declared.fields.FieldNumber.{FieldNumber}

@@ -12,8 +12,8 @@ use desk_bodies::{BodyFault, CommitText, EditText, read_commit};
 use desk_words::asks::{Ask, Command, What};
 use desk_words::fixed;
 use http_framing::{FieldNumber, read_number};
-use plan_core::visits::Edit;
 use std::alloc::Global;
+use visit_book::Edit;
 
 /// A reply that is fixed before the plan is consulted.
 #[derive(Clone, Copy, Debug, PartialEq, Eq)]

@@ -10,12 +10,12 @@ use Rattle.apron_rules.specs.declared.parts.StandRow.{StandRow}
 use Rattle.apron_rules.specs.declared.parts.TypeRow.{TypeRow}
 use Rattle.apron_rules.specs.Rules.{stand_at, type_at}
 use Rattle.apron_rules.specs.declared.rules.UnfitBy.TheVariants.{Letter, Object}
-use Rattle.plan_core.specs.declared.visits.Bump.{Bump}
-use Rattle.plan_core.specs.declared.visits.Part.{Part}
-use Rattle.plan_core.specs.declared.visits.Place.{Place}
-use Rattle.plan_core.specs.declared.visits.Place.TheVariants.{Unplaced, Planned, Actual}
-use Rattle.plan_core.specs.declared.visits.Visit.{Visit}
-use Rattle.plan_core.specs.declared.visits.EditFault.TheVariants.{UnknownVisit, Overtaken, NoSuchPart, Unfit, Clash, Memory}
+use Rattle.visit_book.specs.declared.visits.Bump.{Bump}
+use Rattle.visit_book.specs.declared.visits.Part.{Part}
+use Rattle.visit_book.specs.declared.visits.Place.{Place}
+use Rattle.visit_book.specs.declared.visits.Place.TheVariants.{Unplaced, Planned, Actual}
+use Rattle.visit_book.specs.declared.visits.Visit.{Visit}
+use Rattle.visit_book.specs.declared.visits.EditFault.TheVariants.{UnknownVisit, Overtaken, NoSuchPart, Unfit, Clash, Memory}
 use Rattle.desk_words.specs.declared.replies.Reply.{Reply}
 use Rattle.desk_words.specs.declared.replies.Reply.TheVariants.{Committed, Version, Visit as AVisit, NoVisit, Ahead, Full, Edit}
 use Rattle.desk_words.specs.Replies.{name_data, stand_data, type_data, bump_data, place_bump_data, place_stand_data, stay_data, visit_data, reply_data}

@@ -14,16 +14,16 @@ use Rattle.apron_rules.specs.declared.rules.Rule.TheVariants.{Same, Split, Clear
 use Rattle.apron_rules.specs.declared.rules.UnfitBy.{UnfitBy}
 use Rattle.apron_rules.specs.declared.rules.UnfitBy.TheVariants.{Letter, Object}
 use Rattle.apron_rules.specs.declared.rules.Clash.{Clash as TheClash}
-use Rattle.plan_core.specs.WellFormed.{is_actual}
-use Rattle.plan_core.specs.declared.visits.Bump.{Bump}
-use Rattle.plan_core.specs.declared.visits.End.{End}
-use Rattle.plan_core.specs.declared.visits.End.TheVariants.{Live, Gone, Cancelled}
-use Rattle.plan_core.specs.declared.visits.Part.{Part}
-use Rattle.plan_core.specs.declared.visits.Place.{Place}
-use Rattle.plan_core.specs.declared.visits.Place.TheVariants.{Unplaced, Planned, Actual}
-use Rattle.plan_core.specs.declared.visits.Visit.{Visit}
-use Rattle.plan_core.specs.declared.visits.EditFault.{EditFault}
-use Rattle.plan_core.specs.declared.visits.EditFault.TheVariants.{UnknownVisit, Overtaken, NoSuchPart, Unfit, Clash, Memory}
+use Rattle.visit_book.specs.WellFormed.{is_actual}
+use Rattle.visit_book.specs.declared.visits.Bump.{Bump}
+use Rattle.visit_book.specs.declared.visits.End.{End}
+use Rattle.visit_book.specs.declared.visits.End.TheVariants.{Live, Gone, Cancelled}
+use Rattle.visit_book.specs.declared.visits.Part.{Part}
+use Rattle.visit_book.specs.declared.visits.Place.{Place}
+use Rattle.visit_book.specs.declared.visits.Place.TheVariants.{Unplaced, Planned, Actual}
+use Rattle.visit_book.specs.declared.visits.Visit.{Visit}
+use Rattle.visit_book.specs.declared.visits.EditFault.{EditFault}
+use Rattle.visit_book.specs.declared.visits.EditFault.TheVariants.{UnknownVisit, Overtaken, NoSuchPart, Unfit, Clash, Memory}
 use Rattle.desk_words.specs.declared.replies.Reply.{Reply}
 use Rattle.desk_words.specs.declared.replies.Reply.TheVariants.{Committed, Version, Visit as AVisit, NoVisit, Ahead, Full, Edit}
 use Rattle.desk_words.specs.Texts.{text_of}

@@ -5,11 +5,11 @@ use Rattle.apron_rules.specs.Demo.{demo_airport}
 use Rattle.apron_rules.specs.declared.rules.Rule.TheVariants.{Clearance}
 use Rattle.apron_rules.specs.declared.rules.UnfitBy.TheVariants.{Object}
 use Rattle.apron_rules.specs.declared.rules.Clash.{Clash as TheClash}
-use Rattle.plan_core.specs.declared.visits.End.TheVariants.{Live}
-use Rattle.plan_core.specs.declared.visits.Part.{Part}
-use Rattle.plan_core.specs.declared.visits.Place.TheVariants.{Planned}
-use Rattle.plan_core.specs.declared.visits.Visit.{Visit}
-use Rattle.plan_core.specs.declared.visits.EditFault.TheVariants.{Unfit, Clash}
+use Rattle.visit_book.specs.declared.visits.End.TheVariants.{Live}
+use Rattle.visit_book.specs.declared.visits.Part.{Part}
+use Rattle.visit_book.specs.declared.visits.Place.TheVariants.{Planned}
+use Rattle.visit_book.specs.declared.visits.Visit.{Visit}
+use Rattle.visit_book.specs.declared.visits.EditFault.TheVariants.{Unfit, Clash}
 use Rattle.desk_words.specs.declared.replies.Reply.TheVariants.{Committed, Visit as AVisit, Edit}
 use Rattle.desk_words.specs.Replies.{reply_text}
 

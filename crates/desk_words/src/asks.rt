@@ -1,6 +1,6 @@
 // What may be asked of the keeper of the plan.
 use apron_base::{Listed, Name};
-use plan_core::visits::Edit;
+use visit_book::Edit;
 
 /// What may change the plan.
 #[derive(Debug, Drop)]

@@ -10,9 +10,9 @@ ghost use Rattle.desk_words.specs.Replies.{reply_data, fault_code, code_of, show
 use apron_base::{Listed, Memory, PartId, StandNo, TypeNo};
 use apron_rules::{Airport, AirportParts, Clash, Rule, UnfitBy};
 use http::StatusCode;
-use plan_core::visits::{Bump, EditFault, End, Part, Place, Visit};
 use serde_json::{Value, json};
 use std::alloc::{AllocError, Global};
+use visit_book::{Bump, EditFault, End, Part, Place, Visit};
 
 /// What came of what was asked. Each version is the plan's as the ask was answered.
 #[derive(Clone, Copy, Debug, PartialEq, Eq)]

@@ -3,10 +3,9 @@ use crate::fixed::{bad_head, bad_seen, keeper_fault, no_memory, not_json, unbuil
 use crate::replies::{Reply, reply_bytes};
 use apron_base::{Name, PartId, StandNo, TypeNo, VisitNo};
 use apron_rules::{Airport, Clash, Rule, UnfitBy};
-use plan_core::Parts;
-use plan_core::visits::{Bump, EditFault, End, Part, Place, Visit};
 use std::alloc::Global;
 use std::test::Fail;
+use visit_book::{Bump, EditFault, End, Part, Parts, Place, Visit};
 
 // The reply's text at the built-in airport, in two pieces that the rows write beside each other.
 fn has_text(alloc: Global, airport: &Airport, reply: &Reply, head: &str, body: &str) -> bool {

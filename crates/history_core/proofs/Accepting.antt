@@ -4,9 +4,9 @@ use Rattle.apron_base.specs.Histories.{Rises}
 use Rattle.apron_base.specs.declared.outside.Acted.{Acted}
 use Rattle.apron_base.specs.declared.outside.Acted.TheVariants.{Reply as Replied, Memory as NoMemory, Fault, Spent}
 use Rattle.apron_rules.specs.declared.parts.AirportParts.{AirportParts}
-use Rattle.plan_core.specs.declared.visits.Edit.{Edit}
-use Rattle.plan_core.specs.declared.visits.EditFault.{EditFault}
-use Rattle.plan_core.specs.declared.visits.Visit.{Visit}
+use Rattle.visit_book.specs.declared.visits.Edit.{Edit}
+use Rattle.visit_book.specs.declared.visits.EditFault.{EditFault}
+use Rattle.visit_book.specs.declared.visits.Visit.{Visit}
 use Rattle.plan_core.specs.PlanState.{PlanState}
 use Rattle.plan_core.specs.Rebase.{visit_at}
 use Rattle.desk_words.specs.declared.asks.Command.{Command}

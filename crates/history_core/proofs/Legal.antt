@@ -2,8 +2,8 @@
 use Rattle.std.proofs.Common.{◌≡◌, ◌≤◌, ◌+◌, ◌^◌, ℕ, List, [], ◌∷◌, ◌++◌, None, length, refl, sym, subst, arith, Result}
 use Rattle.apron_base.specs.Histories.{Rises}
 use Rattle.apron_rules.specs.Clash.{IsFirstClash}
-use Rattle.plan_core.specs.declared.visits.Visit.{Visit}
-use Rattle.plan_core.specs.declared.visits.EditFault.{EditFault}
+use Rattle.visit_book.specs.declared.visits.Visit.{Visit}
+use Rattle.visit_book.specs.declared.visits.EditFault.{EditFault}
 use Rattle.plan_core.specs.PlanState.{PlanState}
 use Rattle.plan_core.proofs.Changed.{stamped_slots}
 use Rattle.desk_words.specs.declared.asks.Command.{Command}

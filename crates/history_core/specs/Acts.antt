@@ -3,8 +3,8 @@ use Rattle.std.specs.Prelude.{◌≡◌, ◌≢◌, ℕ, Bool, true, false, nat_
 use Rattle.apron_base.specs.declared.outside.Acted.{Acted}
 use Rattle.apron_base.specs.declared.outside.Acted.TheVariants.{Reply as Replied, Memory as NoMemory, Fault, Spent}
 use Rattle.apron_rules.specs.declared.parts.AirportParts.{AirportParts}
-use Rattle.plan_core.specs.declared.visits.EditFault.{EditFault}
-use Rattle.plan_core.specs.declared.visits.EditFault.TheVariants.{Memory}
+use Rattle.visit_book.specs.declared.visits.EditFault.{EditFault}
+use Rattle.visit_book.specs.declared.visits.EditFault.TheVariants.{Memory}
 use Rattle.plan_core.specs.PlanState.{PlanState}
 use Rattle.plan_core.specs.Rebase.{visit_at}
 use Rattle.desk_words.specs.declared.replies.Reply.{Reply}

@@ -2,9 +2,9 @@
 use Rattle.std.specs.Prelude.{◌≡◌, ◌≢◌, ◌≤◌, ◌<◌, ◌+◌, ℕ, Bool, true, false, nat_lt, List, [], ◌∷◌, ◌++◌, Option, None, Some}
 use Rattle.apron_base.specs.declared.outside.Acted.{Acted}
 use Rattle.apron_base.specs.declared.outside.Acted.TheVariants.{Reply as Replied, Memory as NoMemory, Fault, Spent}
-use Rattle.plan_core.specs.declared.visits.EditFault.TheVariants.{Memory}
+use Rattle.visit_book.specs.declared.visits.EditFault.TheVariants.{Memory}
 use Rattle.apron_rules.specs.declared.parts.AirportParts.{AirportParts}
-use Rattle.plan_core.specs.declared.visits.Visit.{Visit}
+use Rattle.visit_book.specs.declared.visits.Visit.{Visit}
 use Rattle.plan_core.specs.Drafts.{draft_version}
 use Rattle.plan_core.specs.PlanState.{PlanState}
 use Rattle.plan_core.specs.Rebase.{Refuses, visit_at}

@@ -2,13 +2,13 @@
 use Rattle.std.specs.Prelude.{◌≡◌, ◌+◌, ◌^◌, ◌≤◌, ◌<◌, ℕ, List, [], ◌∷◌, ◌++◌, length, All, None, Result, Ok, Err}
 use Rattle.apron_base.specs.Histories.{Rises}
 use Rattle.apron_rules.specs.declared.parts.AirportParts.{AirportParts}
-use Rattle.plan_core.specs.declared.visits.Edit.{Edit}
-use Rattle.plan_core.specs.declared.visits.EditFault.{EditFault}
-use Rattle.plan_core.specs.declared.visits.Visit.{Visit}
+use Rattle.visit_book.specs.declared.visits.Edit.{Edit}
+use Rattle.visit_book.specs.declared.visits.EditFault.{EditFault}
+use Rattle.visit_book.specs.declared.visits.Visit.{Visit}
 use Rattle.apron_rules.specs.Clash.{IsFirstClash}
 use Rattle.plan_core.specs.Drafts.{draft_version}
 use Rattle.plan_core.specs.PlanState.{PlanState}
-use Rattle.plan_core.specs.Slots.{slots_of}
+use Rattle.visit_book.specs.Slots.{slots_of}
 use Rattle.plan_core.specs.Rebase.{IsEditOf, Rebases, edited, stamped}
 use Rattle.desk_words.specs.declared.asks.Command.{Command}
 use Rattle.desk_words.specs.declared.asks.Command.TheVariants.{Commit}

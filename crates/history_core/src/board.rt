@@ -1,7 +1,7 @@
 // The board.
 ghost use Rattle.std.specs.Prelude.{◌≡◌, ◌≤◌, ◌<◌, ◌+◌, ◌^◌, [], All};
 ghost use Rattle.plan_core.specs.PlanState.{IsNumbered};
-ghost use Rattle.plan_core.specs.WellFormed.{IsUnplaced, IsWellFormed};
+ghost use Rattle.visit_book.specs.WellFormed.{IsUnplaced, IsWellFormed};
 ghost use Rattle.apron_base.specs.Histories.{Rises};
 ghost use Rattle.history_core.specs.History.{IsAskOf, IsLegal, call_of, replay};
 ghost use Rattle.history_core.specs.Answer.{ActsAs};
@@ -12,10 +12,10 @@ use apron_base::{Acted, Listed};
 use apron_rules::Airport;
 use desk_words::asks::{Ask, Entry};
 use plan_core::Plan;
-use plan_core::visits::Visit;
 use std::alloc::Global;
 use std::marker::Model;
 use std::snapshot::Snapshot;
+use visit_book::Visit;
 
 /// The plan of one airport with the history of accepted commands that made it.
 ///

@@ -1,6 +1,6 @@
 // What an ask does to a plan with its history.
 ghost use Rattle.std.specs.Prelude.{◌≡◌, ◌≢◌, false, ◌≤◌, ◌<◌, ◌+◌, ◌-◌, ◌^◌, ◌++◌, ◌∷◌, [], List, All, IfOk, IfErr, None, OnErr, Some, length, option_copied};
-ghost use Rattle.plan_core.specs.declared.visits.Visit.{Visit};
+ghost use Rattle.visit_book.specs.declared.visits.Visit.{Visit};
 ghost use Rattle.plan_core.specs.Drafts.{draft_version};
 ghost use Rattle.plan_core.specs.PlanState.{IsInstallable, installed, put_in};
 ghost use Rattle.plan_core.specs.Rebase.{IsEditOf, Rebases, Refuses, has_number, stamped, visit_at};
@@ -13,11 +13,11 @@ use apron_base::{Acted, Listed, Memory, Name, Steps};
 use apron_rules::Airport;
 use desk_words::asks::{Ask, Command, Entry, What};
 use desk_words::replies::{Reply, reply_bytes};
-use plan_core::visits::{Edit, EditFault, Visit};
 use plan_core::{Change, Plan};
 use std::alloc::Global;
 use std::marker::Brand;
 use std::sync::ledger::{Blank, Ledger};
+use visit_book::{Edit, EditFault, Visit};
 
 // The most entries of a history.
 const MOST_ENTRIES: u32 = 200_000;

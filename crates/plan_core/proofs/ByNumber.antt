@@ -7,7 +7,7 @@ use Rattle.std.proofs.lemmas.Bool.Decides.{nat_tests}
 use Rattle.std.proofs.lemmas.List.Folds.{find_at}
 use Rattle.std.proofs.lemmas.Option.{slice_get-get_or, slice_get_past}
 use Rattle.apron_base.specs.declared.numbers.VisitNo.{VisitNo}
-use Rattle.plan_core.specs.declared.visits.Visit.{Visit}
+use Rattle.visit_book.specs.declared.visits.Visit.{Visit}
 use Rattle.plan_core.specs.PlanState.{IsNumberedAbove}
 use Rattle.plan_core.specs.Rebase.{has_number, visit_at, with_visit, newest, replaced}
 

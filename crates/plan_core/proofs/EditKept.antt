@@ -10,14 +10,14 @@ use Rattle.apron_base.specs.declared.numbers.VisitNo.{VisitNo}
 use Rattle.apron_rules.specs.declared.parts.AirportParts.{AirportParts}
 use Rattle.apron_rules.specs.declared.rules.UnfitBy.{UnfitBy}
 use Rattle.apron_rules.specs.Rules.{unfit_of}
-use Rattle.plan_core.specs.declared.visits.Visit.{Visit}
-use Rattle.plan_core.specs.declared.visits.Part.{Part}
-use Rattle.plan_core.specs.WellFormed.{IsEarlyIfShort, IsPlaceOf, IsSpaced, IsWellFormed, is_actual, latest_end}
-use Rattle.plan_core.specs.declared.visits.Edit.{Edit}
-use Rattle.plan_core.specs.declared.visits.Edit.TheVariants.{Put}
-use Rattle.plan_core.specs.declared.visits.EditFault.{EditFault}
-use Rattle.plan_core.specs.declared.visits.EditFault.TheVariants.{Overtaken}
-use Rattle.plan_core.specs.PartFields.{part_at}
+use Rattle.visit_book.specs.declared.visits.Visit.{Visit}
+use Rattle.visit_book.specs.declared.visits.Part.{Part}
+use Rattle.visit_book.specs.WellFormed.{IsEarlyIfShort, IsPlaceOf, IsSpaced, IsWellFormed, is_actual, latest_end}
+use Rattle.visit_book.specs.declared.visits.Edit.{Edit}
+use Rattle.visit_book.specs.declared.visits.Edit.TheVariants.{Put}
+use Rattle.visit_book.specs.declared.visits.EditFault.{EditFault}
+use Rattle.visit_book.specs.declared.visits.EditFault.TheVariants.{Overtaken}
+use Rattle.visit_book.specs.PartFields.{part_at}
 use Rattle.plan_core.specs.Rebase.{has_number, visit_at, planned_on, with_part, with_visit, put_if_fit, put_part, put_visit, with_result, put_found, after_edit, IsEditOf, newest, replaced}
 use Rattle.plan_core.proofs.ByNumber.{with_visit_at}
 

@@ -7,7 +7,7 @@ use Rattle.apron_base.specs.declared.numbers.TypeNo.{TypeNo}
 use Rattle.apron_rules.specs.declared.parts.AirportParts.{AirportParts}
 use Rattle.apron_rules.specs.declared.parts.TypeRow.{TypeRow}
 use Rattle.apron_rules.specs.Rules.{IsAirport, least_of, least_of_row}
-use Rattle.plan_core.specs.WellFormed.{latest_end}
+use Rattle.visit_book.specs.WellFormed.{latest_end}
 
 least_small_by : (types : List TypeRow) (i : ℕ) → AllByRecursion (λ row. row.least ≤ 600) types → least_of_row (slice_get types i) ≤ 600
 least_small_by [] i h = omega arith

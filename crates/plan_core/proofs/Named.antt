@@ -7,13 +7,13 @@ use Rattle.apron_base.specs.declared.numbers.VisitNo.{VisitNo}
 use Rattle.apron_rules.specs.declared.parts.AirportParts.{AirportParts}
 use Rattle.apron_rules.specs.declared.rules.Clash.{Clash}
 use Rattle.apron_rules.specs.Clash.{IsFirstClash}
-use Rattle.plan_core.specs.declared.visits.Visit.{Visit}
-use Rattle.plan_core.specs.declared.visits.Edit.{Edit}
-use Rattle.plan_core.specs.declared.visits.Edit.TheVariants.{Put}
-use Rattle.plan_core.specs.declared.visits.EditFault.{EditFault}
+use Rattle.visit_book.specs.declared.visits.Visit.{Visit}
+use Rattle.visit_book.specs.declared.visits.Edit.{Edit}
+use Rattle.visit_book.specs.declared.visits.Edit.TheVariants.{Put}
+use Rattle.visit_book.specs.declared.visits.EditFault.{EditFault}
 use Rattle.plan_core.specs.PlanState.{IsNumbered, IsNumberedAbove}
 use Rattle.plan_core.specs.Rebase.{has_number, visit_at, put_visit, with_result, put_found, after_edit, after_edits, edited, is_of_visit, is_edited, named_visits, newest, replaced}
-use Rattle.plan_core.specs.Slots.{slots_of}
+use Rattle.visit_book.specs.Slots.{slots_of}
 use Rattle.plan_core.proofs.ByNumber.{found_number, only, only_found, only_with}
 use Rattle.plan_core.proofs.Changed.{Follows, edits_follow, follows_numbered, put_number}
 

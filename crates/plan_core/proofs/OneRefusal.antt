@@ -4,12 +4,12 @@ use Rattle.apron_rules.specs.declared.parts.AirportParts.{AirportParts}
 use Rattle.apron_rules.specs.declared.rules.Clash.{Clash}
 use Rattle.apron_rules.specs.Clash.{IsFirstClash}
 use Rattle.apron_rules.proofs.Unique.{first_unique}
-use Rattle.plan_core.specs.declared.visits.Visit.{Visit}
-use Rattle.plan_core.specs.declared.visits.Edit.{Edit}
-use Rattle.plan_core.specs.declared.visits.EditFault.{EditFault}
-use Rattle.plan_core.specs.declared.visits.EditFault.TheVariants.{UnknownVisit, Overtaken, NoSuchPart, Unfit, Clash as ByClash, Memory}
+use Rattle.visit_book.specs.declared.visits.Visit.{Visit}
+use Rattle.visit_book.specs.declared.visits.Edit.{Edit}
+use Rattle.visit_book.specs.declared.visits.EditFault.{EditFault}
+use Rattle.visit_book.specs.declared.visits.EditFault.TheVariants.{UnknownVisit, Overtaken, NoSuchPart, Unfit, Clash as ByClash, Memory}
 use Rattle.plan_core.specs.PlanState.{IsNumbered}
-use Rattle.plan_core.specs.Slots.{slots_of}
+use Rattle.visit_book.specs.Slots.{slots_of}
 use Rattle.plan_core.specs.Rebase.{Rebases, Refuses, edited, is_edited}
 use Rattle.plan_core.proofs.Changed.{edits_follow, follows_numbered}
 use Rattle.plan_core.proofs.OneSlot.{slots_one}

@@ -9,12 +9,12 @@ use Rattle.apron_base.specs.declared.numbers.VisitNo.{VisitNo}
 use Rattle.apron_base.specs.declared.slot.Slot.{Slot}
 use Rattle.apron_rules.specs.declared.parts.AirportParts.{AirportParts}
 use Rattle.apron_rules.specs.Clash.{IsOfOnePart}
-use Rattle.plan_core.specs.declared.visits.Part.{Part}
-use Rattle.plan_core.specs.declared.visits.Visit.{Visit}
-use Rattle.plan_core.specs.declared.visits.Place.{Place}
-use Rattle.plan_core.specs.declared.visits.Place.TheVariants.{Unplaced, Planned, Actual}
+use Rattle.visit_book.specs.declared.visits.Part.{Part}
+use Rattle.visit_book.specs.declared.visits.Visit.{Visit}
+use Rattle.visit_book.specs.declared.visits.Place.{Place}
+use Rattle.visit_book.specs.declared.visits.Place.TheVariants.{Unplaced, Planned, Actual}
 use Rattle.plan_core.specs.PlanState.{IsNumbered, IsNumberedAbove}
-use Rattle.plan_core.specs.Slots.{slots_at, slots_from, slots_of, slots_of_visit}
+use Rattle.visit_book.specs.Slots.{slots_at, slots_from, slots_of, slots_of_visit}
 
 abbrev part_of : VisitNo → ℕ → PartId
 part_of n k = record { visit = n; part = k }

@@ -2,12 +2,12 @@
 ghost use Rattle.std.specs.Prelude.{◌≡◌, ◌≢◌, ℕ, List};
 ghost use Rattle.apron_rules.specs.declared.parts.AirportParts.{AirportParts};
 ghost use Rattle.apron_rules.specs.Clash.{IsOfOnePart};
-ghost use Rattle.plan_core.specs.declared.visits.Edit.{Edit};
-ghost use Rattle.plan_core.specs.declared.visits.EditFault.{EditFault};
-ghost use Rattle.plan_core.specs.declared.visits.EditFault.TheVariants.{Memory};
-ghost use Rattle.plan_core.specs.declared.visits.Visit.{Visit};
+ghost use Rattle.visit_book.specs.declared.visits.Edit.{Edit};
+ghost use Rattle.visit_book.specs.declared.visits.EditFault.{EditFault};
+ghost use Rattle.visit_book.specs.declared.visits.EditFault.TheVariants.{Memory};
+ghost use Rattle.visit_book.specs.declared.visits.Visit.{Visit};
 ghost use Rattle.plan_core.specs.PlanState.{IsNumbered};
-ghost use Rattle.plan_core.specs.Slots.{slots_of};
+ghost use Rattle.visit_book.specs.Slots.{slots_of};
 ghost use Rattle.plan_core.specs.Rebase.{Rebases, Refuses};
 
 /// Each part of visits that are numbered in order has one slot at most, so there is one first clash.

@@ -1,14 +1,13 @@
 // Commits on the built-in airport, one after another.
 ghost use Rattle.std.specs.Prelude.{◌≡◌, ◌≤◌, ◌↔◌, IsTrue, ◌<◌, ◌+◌, ◌-◌, ◌^◌, ◌∷◌, [], All, IfOk, OnErr, None, false, length, codes};
 ghost use Rattle.apron_rules.specs.Demo.{demo_airport};
-ghost use Rattle.plan_core.specs.declared.visits.End.TheVariants.{Live};
-ghost use Rattle.plan_core.specs.declared.visits.Place.TheVariants.{Unplaced};
+ghost use Rattle.visit_book.specs.declared.visits.End.TheVariants.{Live};
+ghost use Rattle.visit_book.specs.declared.visits.Place.TheVariants.{Unplaced};
 ghost use Rattle.plan_core.specs.Drafts.{draft_version};
 ghost use Rattle.plan_core.specs.PlanState.{installed};
 ghost use Rattle.plan_core.specs.Rebase.{IsEditOf};
-ghost use Rattle.plan_core.specs.WellFormed.{IsUnplaced, IsWellFormed};
+ghost use Rattle.visit_book.specs.WellFormed.{IsUnplaced, IsWellFormed};
 
-use crate::visits::{Edit, EditFault, End, Part, Place, Visit};
 use crate::{Parts, Plan};
 use apron_base::{Name, PartId, StandNo, Steps, TypeNo, VisitNo};
 use apron_rules::{Airport, Clash, Rule, UnfitBy};
@@ -16,6 +15,7 @@ use std::alloc::{AllocError, Global};
 use std::marker::Brand;
 use std::sync::ledger::{Blank, Ledger};
 use std::test::Fail;
+use visit_book::{Edit, EditFault, End, Part, Place, Visit};
 
 fn visit(number: u32, kind: u16, on: u32, off: u32) -> Visit
     ensures is { result ≡ record {

@@ -3,8 +3,8 @@ use Rattle.std.specs.Prelude.{IfErr, OnOk, position, slice_index_or, slice_set}
 use Rattle.apron_base.specs.declared.numbers.StandNo.{StandNo}
 use Rattle.apron_base.specs.declared.numbers.VisitNo.{VisitNo}
 use Rattle.apron_rules.specs.declared.parts.AirportParts.{AirportParts}
-use Rattle.plan_core.specs.declared.visits.EditFault.{EditFault}
-use Rattle.plan_core.specs.declared.visits.Visit.{Visit}
+use Rattle.visit_book.specs.declared.visits.EditFault.{EditFault}
+use Rattle.visit_book.specs.declared.visits.Visit.{Visit}
 use Rattle.plan_core.specs.Rebase.{has_number, put_found, put_visit, visit_at}
 use Rattle.plan_core.proofs.ByNumber.{found_at, not_found, with_visit_found}
 use Rattle.plan_core.proofs.rebase.put_found.Goals as goal

@@ -1,5 +1,5 @@
 use Rattle.std.proofs.Common.{subst, sym}
-use Rattle.plan_core.specs.WellFormed.{IsWellFormed}
+use Rattle.visit_book.specs.WellFormed.{IsWellFormed}
 use Rattle.plan_core.proofs.EditKept.{newest_keeps}
 use Rattle.plan_core.proofs.slots.slots_of_all.Goals as goal
 

@@ -3,11 +3,11 @@ use Rattle.std.specs.Prelude.{◌≡◌, ◌≤◌, ◌<◌, ◌+◌, ◌*◌, �
 use Rattle.apron_base.specs.declared.numbers.TypeNo.{TypeNo}
 use Rattle.apron_rules.specs.declared.parts.AirportParts.{AirportParts}
 use Rattle.apron_rules.specs.Rules.{least_of}
-use Rattle.plan_core.specs.declared.visits.Visit.{Visit}
-use Rattle.plan_core.specs.declared.visits.Part.{Part}
-use Rattle.plan_core.specs.declared.visits.End.TheVariants.{Live}
-use Rattle.plan_core.specs.declared.visits.Place.{Place}
-use Rattle.plan_core.specs.declared.visits.Place.TheVariants.{Unplaced, Planned, Actual}
+use Rattle.visit_book.specs.declared.visits.Visit.{Visit}
+use Rattle.visit_book.specs.declared.visits.Part.{Part}
+use Rattle.visit_book.specs.declared.visits.End.TheVariants.{Live}
+use Rattle.visit_book.specs.declared.visits.Place.{Place}
+use Rattle.visit_book.specs.declared.visits.Place.TheVariants.{Unplaced, Planned, Actual}
 
 -- the place is no stand, or a stand of the airport
 abbrev pub IsPlaceOf : AirportParts → Place → Type 0

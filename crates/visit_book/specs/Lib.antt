@@ -1,0 +1,3 @@
+pub mod PartFields
+pub mod WellFormed
+pub mod Slots
