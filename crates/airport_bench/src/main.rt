@@ -9,13 +9,11 @@ mod rules;
 use crate::limits::{airport_file, type_file};
 use crate::rules::{Count, count_of};
 use airport_files::read_airport;
-use apron_base::{FileShelf, Shelf};
+use apron_base::FileShelf;
+use apron_check::MAX_FILE;
 use apron_rules::Airport;
 use std::time::{Duration, Instant};
 use std::{env, io};
-
-// The most bytes of a file.
-const MOST: u32 = 1_048_576;
 
 // A duration in microseconds, at least 1.
 fn micros(duration: Duration) -> u64 {
@@ -28,7 +26,7 @@ fn micros(duration: Duration) -> u64 {
 fn measure_reading(rt: &HostRuntime, times: u64) -> io::Result<()> {
     let airport = airport_file(rt.alloc())?;
     let types = type_file(rt.alloc())?;
-    if types.len() > MOST as usize {
+    if types.len() > MAX_FILE as usize {
         return Err(io::Error::from(io::ErrorKind::InvalidData));
     }
     let start = Instant::now(rt)?;
@@ -55,13 +53,7 @@ fn measure_rules(rt: &HostRuntime, airport: &Airport) -> io::Result<()> {
 // The airport of the two files of these names.
 fn airport_of(rt: &HostRuntime, airport: &str, types: &str) -> io::Result<Airport> {
     let mut shelf = FileShelf::new(rt);
-    let (Ok(airport), Ok(types)) = (
-        shelf.read_file(rt.alloc(), airport, MOST),
-        shelf.read_file(rt.alloc(), types, MOST),
-    ) else {
-        return Err(io::Error::from(io::ErrorKind::NotFound));
-    };
-    match read_airport(rt.alloc(), airport.as_slice(), types.as_slice()) {
+    match apron_check::airport_of(rt.alloc(), airport, types, &mut shelf) {
         Ok(airport) => Ok(airport),
         Err(_) => Err(io::Error::from(io::ErrorKind::InvalidData)),
     }

@@ -1,4 +1,3 @@
-pub mod Digits
 pub mod Documents
 pub mod Meanings
 pub mod Memories

@@ -195,7 +195,7 @@ reason made h (Some x) = λ p. h x cc
 fault-reason : (parts : AirportParts) → IsReason (fault_of parts)
 unfolding fault_of later_fault_of
 fault-reason parts =
-    either _ _ (reason refused.DuplicateName (λ x p. cc) (duplicate_of parts)) (either _ _ (reason refused.UnknownName (λ x p. cc) (unknown_of parts)) (either _ _ (reason refused.BadHalf (λ x p. cc) (bad_half_of parts)) (either _ _ (reason refused.LimitPassed (λ x p. cc) (limit_of parts)) (reason refused.BadSpan (λ x p. cc) (bad_span_of parts)))))
+    either _ _ (reason refused.DuplicateName (λ x p. cc) (duplicate_of parts)) (either _ _ (reason refused.UnknownName (λ x p. cc) (unknown_of parts)) (either _ _ (reason refused.BadHalf (λ x p. cc) (bad_half_of parts)) (either _ _ (reason refused.LimitPassed (λ x p. cc) (limit_of parts)) (either _ _ (reason refused.BadSpan (λ x p. cc) (bad_span_of parts)) (λ p. cc)))))
 
 said_unless : (parts : AirportParts) (fault : Option AirportFault) → IsReason fault → IsSaid (unless_refused parts fault)
 said_unless parts None h = (λ p. cc, λ p. cc)

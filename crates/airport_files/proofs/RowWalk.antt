@@ -9,7 +9,7 @@ use Rattle.toml.specs.View.{view, items_view}
 use Rattle.toml.proofs.Views.{items_view-drop}
 use Rattle.airport_files.specs.declared.keys.WalkFault.{WalkFault}
 use Rattle.airport_files.specs.declared.keys.WalkFault.TheVariants.{Memory}
-use Rattle.airport_files.specs.Rows.{◌>>=◌}
+use Rattle.apron_base.specs.ResultChain.{◌>>=◌}
 use Rattle.airport_files.specs.Layout.{is_table, are_tables, rows_from}
 
 -- the rows found so far, and those of the rest

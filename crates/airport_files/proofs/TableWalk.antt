@@ -11,7 +11,8 @@ use Rattle.airport_files.specs.declared.types.TableFault.{TableFault}
 use Rattle.airport_files.specs.declared.types.TableFault.TheVariants.{BadRow}
 use Rattle.airport_files.specs.TypeRows.{is_header, row_of}
 use Rattle.airport_files.specs.Reading.{IsReading, Found}
-use Rattle.airport_files.specs.Table.{◌>>=◌, rows_from, table_of, rows_left, table_from}
+use Rattle.apron_base.specs.ResultChain.{◌>>=◌}
+use Rattle.airport_files.specs.Table.{rows_from, table_of, rows_left, table_from}
 
 -- the rows found so far, and those of the rest
 abbrev pub joined : List TypeRow → Result (List TypeRow) TableFault → Result (List TypeRow) TableFault

@@ -7,16 +7,20 @@ use Rattle.apron_base.specs.declared.letter.Letter.TheVariants.{A, B, C, D, E, F
 use Rattle.apron_dates.specs.Dates.{read_date}
 use Rattle.apron_dates.specs.declared.day.Date.{Date}
 use Rattle.apron_rules.specs.Names.{is_station}
+use Rattle.airport_files.specs.declared.forms.TheConstants.{MAX_NAME}
 use Rattle.airport_files.specs.declared.keys.Key.{Key}
 use Rattle.airport_files.specs.declared.keys.WalkFault.{WalkFault}
 use Rattle.airport_files.specs.declared.keys.WalkFault.TheVariants.{Missing, Wrong}
 
+-- a capital
 abbrev pub is_capital : ℕ → Bool
 is_capital b = nat_le 65 b && nat_le b 90
 
+-- a digit
 abbrev pub is_decimal : ℕ → Bool
 is_decimal b = nat_le 48 b && nat_le b 57
 
+-- a capital or a digit
 abbrev pub is_short_byte : ℕ → Bool
 is_short_byte b = is_capital b || is_decimal b
 
@@ -24,12 +28,13 @@ is_short_byte b = is_capital b || is_decimal b
 abbrev pub is_short_name : ℕ → ℕ → List ℕ → Bool
 is_short_name least most text = nat_le least (length text) && nat_le (length text) most && list_all is_short_byte text
 
+-- the text, where it passes the test
 abbrev pub text_if : (List ℕ → Bool) → List ℕ → Option (List ℕ)
 text_if test text = if test text then Some text else None
 
 -- a name of 1 to 6 capitals or digits
 abbrev pub name_of : Data → Option (List ℕ)
-name_of d = option_and_then (text_if (is_short_name 1 6)) (as_str d)
+name_of d = option_and_then (text_if (is_short_name 1 MAX_NAME)) (as_str d)
 
 -- three capitals
 abbrev pub station_of : Data → Option (List ℕ)
@@ -39,6 +44,7 @@ station_of d = option_and_then (text_if is_station) (as_str d)
 abbrev pub date_of : Data → Option Date
 date_of d = option_and_then read_date (as_str d)
 
+-- the code letter of a byte
 abbrev pub letter_of_byte : ℕ → Option Letter
 letter_of_byte b =
     if b == 65 then Some A
@@ -48,6 +54,7 @@ letter_of_byte b =
     else (if b == 69 then Some E
     else (if b == 70 then Some F else None)))))
 
+-- the code letter that a text names
 abbrev pub letter_named : List ℕ → Option Letter
 letter_named text = if length text == 1 then letter_of_byte (slice_index text 0) else None
 
@@ -55,6 +62,7 @@ letter_named text = if length text == 1 then letter_of_byte (slice_index text 0)
 abbrev pub letter_of : Data → Option Letter
 letter_of d = option_and_then letter_named (as_str d)
 
+-- a whole number that 32 bits hold
 abbrev pub in_u32 : ℤ → Option ℕ
 in_u32 (pos n) = if nat_lt n (2 ^ 32) then Some n else None
 in_u32 (negsuc n) = None
@@ -73,6 +81,7 @@ abbrev pub at_key : {A : Type 0} → (Data → Option A) → Key → Option Data
 at_key form at None = Err (Missing at)
 at_key form at (Some d) = in_form at (form d)
 
+-- a value in a form, where there is one, or a fault at its key
 abbrev pub in_form_if_there : {A : Type 0} → Key → Option A → Result (Option A) WalkFault
 in_form_if_there at None = Err (Wrong at)
 in_form_if_there at (Some x) = Ok (Some x)

@@ -1,5 +1,6 @@
 -- All that an airport file says, or the first fault along its keys.
 use Rattle.std.specs.Prelude.{ℕ, ◌+◌, List, [], ◌∷◌, Bool, true, false, if◌then◌else◌, Option, Some, None, is_some, Result, Ok, Err, codes}
+use Rattle.apron_base.specs.ResultChain.{◌>>=◌}
 use Rattle.toml.specs.Data.{Data, Members, Items, get_member, as_table, array, item, no_items}
 use Rattle.apron_rules.specs.declared.parts.Frontage.{Frontage}
 use Rattle.apron_rules.specs.declared.parts.StandRow.{StandRow}
@@ -9,7 +10,7 @@ use Rattle.airport_files.specs.declared.keys.Key.TheVariants as key
 use Rattle.airport_files.specs.declared.keys.WalkFault.{WalkFault}
 use Rattle.airport_files.specs.declared.keys.WalkFault.TheVariants.{Wrong}
 use Rattle.airport_files.specs.declared.layout.Layout.{Layout}
-use Rattle.airport_files.specs.Rows.{◌>>=◌, head_of, frontage_value, stand_value, pair_value}
+use Rattle.airport_files.specs.Rows.{head_of, frontage_value, stand_value, pair_value}
 
 -- the rows from the k-th on, each read in turn
 unfoldable pub rows_from : {A : Type 0} → (ℕ → Data → Result A WalkFault) → ℕ → Items → Result (List A) WalkFault
@@ -19,9 +20,11 @@ rows_from read k (item d ds) = do
   rest ← rows_from read (k + 1) ds
   Ok (first ∷ rest)
 
+-- a table
 abbrev pub is_table : Data → Bool
 is_table d = is_some (as_table d)
 
+-- tables alone
 abbrev pub are_tables : Items → Bool
 are_tables no_items = true
 are_tables (item d ds) = if is_table d then are_tables ds else false
@@ -36,12 +39,15 @@ rows_value read at None = Ok []
 rows_value read at (Some (array ds)) = rows_in read at ds
 rows_value read at (Some _) = Err (Wrong at)
 
+-- the frontages of a document
 abbrev pub frontages_of : Members → Result (List Frontage) WalkFault
 frontages_of ms = rows_value frontage_value key.Frontages (get_member (codes "frontage") ms)
 
+-- the stands of a document
 abbrev pub stands_of : Members → Result (List StandRow) WalkFault
 stands_of ms = rows_value stand_value key.Stands (get_member (codes "stand") ms)
 
+-- the pair restrictions of a document
 abbrev pub pairs_of : Members → Result (List PairRow) WalkFault
 pairs_of ms = rows_value pair_value key.Pairs (get_member (codes "pair") ms)
 

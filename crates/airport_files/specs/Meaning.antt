@@ -1,5 +1,6 @@
 -- What an airport file and a type file mean together: the parts of an airport, or the first fault.
 use Rattle.std.specs.Prelude.{◌≡◌, ◌⊎◌, ℕ, List, Option, Some, None, Result, Ok, Err}
+use Rattle.apron_base.specs.ResultChain.{◌>>=◌}
 use Rattle.toml.specs.Data.{Members}
 use Rattle.apron_rules.specs.declared.parts.AirportParts.{AirportParts}
 use Rattle.apron_rules.specs.declared.parts.TypeRow.{TypeRow}
@@ -22,11 +23,6 @@ abbrev pub Means : {A : Type 0} → Result A FileFault → Result A FileFault �
 Means (Ok x) meant = meant ≡ Ok x
 Means (Err e) meant = (e ≡ file.Memory) ⊎ (meant ≡ Err e)
 
-infixl 10 ◌>>=◌
-abbrev pub ◌>>=◌ : {A B : Type 0} → Result A FileFault → (A → Result B FileFault) → Result B FileFault
-Ok x >>= f = f x
-Err e >>= f = Err e
-
 -- a fault along the keys, with the text of its key
 abbrev pub named : WalkFault → FileFault
 named (walk.Missing key) = file.MissingKey (key_text key)
@@ -37,10 +33,12 @@ named walk.Memory = file.Memory
 abbrev pub IsNamed : WalkFault → FileFault → Type 0
 IsNamed fault e = (e ≡ file.Memory) ⊎ (e ≡ named fault)
 
+-- the layout, or the fault with the text of its key
 abbrev pub named_layout : Result Layout WalkFault → Result Layout FileFault
 named_layout (Ok layout) = Ok layout
 named_layout (Err fault) = Err (named fault)
 
+-- the layout of a table, where there is one
 abbrev pub layout_of_table : Option Members → Result Layout FileFault
 layout_of_table None = Err file.NotToml
 layout_of_table (Some ms) = named_layout (layout_of ms)
@@ -49,6 +47,7 @@ layout_of_table (Some ms) = named_layout (layout_of ms)
 unfoldable pub layout_in : List ℕ → Result Layout FileFault
 layout_in airport = layout_of_table (document airport)
 
+-- the types, or the first bad record
 abbrev pub types_of_table : Result (List TypeRow) TableFault → Result (List TypeRow) FileFault
 types_of_table (Ok types) = Ok types
 types_of_table (Err (rows.BadRow k)) = Err (file.BadRow k)
@@ -58,6 +57,7 @@ types_of_table (Err rows.Memory) = Err file.Memory
 unfoldable pub types_in : List ℕ → Result (List TypeRow) FileFault
 types_in types = types_of_table (table_in types)
 
+-- the parts of an airport with these types
 abbrev pub parts_of : Layout → List TypeRow → AirportParts
 parts_of layout types = record {
   station = layout.head.station;
@@ -71,6 +71,7 @@ parts_of layout types = record {
   types = types;
 }
 
+-- the parts, unless they are refused
 abbrev pub unless_refused : AirportParts → Option AirportFault → Result AirportParts FileFault
 unless_refused parts None = Ok parts
 unless_refused parts (Some fault) = Err (file.Airport fault)

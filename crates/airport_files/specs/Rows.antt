@@ -1,5 +1,6 @@
 -- The tables of an airport file: what each holds, or the first fault along its keys.
 use Rattle.std.specs.Prelude.{◌≡◌, ◌⊎◌, ℕ, List, [], ◌∷◌, Option, Some, None, Result, Ok, Err, codes}
+use Rattle.apron_base.specs.ResultChain.{◌>>=◌}
 use Rattle.toml.specs.Data.{Data, Members, Items, get_member, table, array, item, no_items}
 use Rattle.apron_base.specs.declared.letter.Letter.{Letter}
 use Rattle.apron_rules.specs.declared.parts.Frontage.{Frontage}
@@ -25,11 +26,7 @@ abbrev pub Reads : {A : Type 0} → Result A WalkFault → Result A WalkFault �
 Reads (Ok x) read = read ≡ Ok x
 Reads (Err e) read = (e ≡ Memory) ⊎ (read ≡ Err e)
 
-infixl 10 ◌>>=◌
-abbrev pub ◌>>=◌ : {A B : Type 0} → Result A WalkFault → (A → Result B WalkFault) → Result B WalkFault
-Ok x >>= f = f x
-Err e >>= f = Err e
-
+-- a number of the table `airport`
 abbrev pub head_number : Members → HeadKey → Result ℕ WalkFault
 head_number ms word = at_key number_of (key.Head word) (get_member (head_word word) ms)
 
@@ -43,6 +40,7 @@ head_in ms = do
   tow ← head_number ms Tow
   Ok (record { station = station; first = first; days = days; taxi_in = taxi_in; tow = tow })
 
+-- the table `airport`, where it is a table
 abbrev pub head_value : Option Data → Result Head WalkFault
 head_value None = Err (Missing key.Airport)
 head_value (Some (table ms)) = head_in ms
@@ -60,17 +58,21 @@ numbers_from at (item d ds) = do
   rest ← numbers_from at ds
   Ok (first ∷ rest)
 
+-- an array of numbers, where it is an array
 abbrev pub numbers_value : Key → Data → Result (List ℕ) WalkFault
 numbers_value at (array ds) = numbers_from at ds
 numbers_value at _ = Err (Wrong at)
 
+-- an array of numbers at a key
 abbrev pub numbers_at : Key → Option Data → Result (List ℕ) WalkFault
 numbers_at at None = Err (Missing at)
 numbers_at at (Some d) = numbers_value at d
 
+-- the name of the k-th frontage
 abbrev pub frontage_name : ℕ → Members → Result (List ℕ) WalkFault
 frontage_name k ms = at_key name_of (key.Frontage k frontage.Name) (get_member (frontage_word frontage.Name) ms)
 
+-- the objects of the k-th frontage
 abbrev pub frontage_objects : ℕ → Members → Result (List ℕ) WalkFault
 frontage_objects k ms = numbers_at (key.Frontage k frontage.Objects) (get_member (frontage_word frontage.Objects) ms)
 
@@ -81,19 +83,24 @@ frontage_in k ms = do
   objects ← frontage_objects k ms
   Ok (record { name = name; objects = objects })
 
+-- the k-th frontage, where it is a table
 abbrev pub frontage_value : ℕ → Data → Result Frontage WalkFault
 frontage_value k (table ms) = frontage_in k ms
 frontage_value k _ = Err (Wrong key.Frontages)
 
+-- a name of the k-th stand
 abbrev pub stand_name : ℕ → Members → StandKey → Result (List ℕ) WalkFault
 stand_name k ms word = at_key name_of (key.Stand k word) (get_member (stand_word word) ms)
 
+-- a number of the k-th stand
 abbrev pub stand_number : ℕ → Members → StandKey → Result ℕ WalkFault
 stand_number k ms word = at_key number_of (key.Stand k word) (get_member (stand_word word) ms)
 
+-- the letter of the k-th stand
 abbrev pub stand_letter : ℕ → Members → Result Letter WalkFault
 stand_letter k ms = at_key letter_of (key.Stand k stand.Letter) (get_member (stand_word stand.Letter) ms)
 
+-- the stand of which the k-th stand is a half
 abbrev pub stand_half : ℕ → Members → Result (Option (List ℕ)) WalkFault
 stand_half k ms = if_there name_of (key.Stand k stand.HalfOf) (get_member (stand_word stand.HalfOf) ms)
 
@@ -108,13 +115,16 @@ stand_in k ms = do
   half_of ← stand_half k ms
   Ok (record { name = name; frontage = frontage; centre = centre; letter = letter; buffer = buffer; half_of = half_of })
 
+-- the k-th stand, where it is a table
 abbrev pub stand_value : ℕ → Data → Result StandRow WalkFault
 stand_value k (table ms) = stand_in k ms
 stand_value k _ = Err (Wrong key.Stands)
 
+-- a name of the k-th pair restriction
 abbrev pub pair_name : ℕ → Members → PairKey → Result (List ℕ) WalkFault
 pair_name k ms word = at_key name_of (key.Pair k word) (get_member (pair_word word) ms)
 
+-- a letter of the k-th pair restriction
 abbrev pub pair_letter : ℕ → Members → PairKey → Result Letter WalkFault
 pair_letter k ms word = at_key letter_of (key.Pair k word) (get_member (pair_word word) ms)
 
@@ -127,6 +137,7 @@ pair_in k ms = do
   lb ← pair_letter k ms pair.Lb
   Ok (record { a = a; la = la; b = b; lb = lb })
 
+-- the k-th pair restriction, where it is a table
 abbrev pub pair_value : ℕ → Data → Result PairRow WalkFault
 pair_value k (table ms) = pair_in k ms
 pair_value k _ = Err (Wrong key.Pairs)

@@ -1,5 +1,6 @@
 -- The table of a text, or its first bad record.
 use Rattle.std.specs.Prelude.{ℕ, ◌+◌, List, [], ◌∷◌, length, Option, Some, None, Result, Ok, Err, if◌then◌else◌}
+use Rattle.apron_base.specs.ResultChain.{◌>>=◌}
 use Rattle.csv.specs.Reading.{default_config, records_from, strip_bom}
 use Rattle.csv.specs.declared.parser.State.{State}
 use Rattle.csv.specs.declared.parser.State.TheVariants as st
@@ -7,11 +8,6 @@ use Rattle.apron_rules.specs.declared.parts.TypeRow.{TypeRow}
 use Rattle.airport_files.specs.declared.types.TableFault.{TableFault}
 use Rattle.airport_files.specs.declared.types.TableFault.TheVariants.{BadRow}
 use Rattle.airport_files.specs.TypeRows.{is_header, row_of}
-
-infixl 10 ◌>>=◌
-abbrev pub ◌>>=◌ : {A B : Type 0} → Result A TableFault → (A → Result B TableFault) → Result B TableFault
-Ok x >>= f = f x
-Err e >>= f = Err e
 
 -- record k in its form
 abbrev pub in_form : ℕ → Option TypeRow → Result TypeRow TableFault
@@ -26,6 +22,7 @@ rows_from k (fields ∷ rest) = do
   more ← rows_from (k + 1) rest
   Ok (row ∷ more)
 
+-- the records behind the header
 unfoldable pub table_of : List (List (List ℕ)) → Result (List TypeRow) TableFault
 table_of [] = Err (BadRow 1)
 table_of (header ∷ rows) = if is_header header then rows_from 2 rows else Err (BadRow 1)

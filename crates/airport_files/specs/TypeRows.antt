@@ -1,27 +1,20 @@
 -- The form of a record of a type file.
-use Rattle.std.specs.Prelude.{ℕ, ◌&&◌, ◌==◌, nat_le, Bool, false, List, length, codes, Option, Some, None, option_and_then, if◌then◌else◌}
-use Rattle.std.specs.List.{list_all}
+use Rattle.std.specs.Prelude.{ℕ, ◌&&◌, ◌==◌, Bool, false, List, length, codes, Option, Some, None, if◌then◌else◌}
 use Rattle.std.specs.Str.{bytes_eq}
-use Rattle.std.specs.Str.Parse.{digits_value}
+use Rattle.apron_base.specs.Digits.{number_of}
+use Rattle.apron_base.specs.OptionChain.{◌>>=◌}
 use Rattle.csv.specs.Records.{field_at}
 use Rattle.apron_rules.specs.declared.parts.TypeRow.{TypeRow}
-use Rattle.airport_files.specs.Forms.{is_decimal, is_short_name, text_if}
+use Rattle.airport_files.specs.declared.forms.TheConstants.{MAX_TYPE_NAME, MIN_TYPE_NAME}
+use Rattle.airport_files.specs.declared.numbers.TheConstants.{MAX_NUMBER_DIGITS}
+use Rattle.airport_files.specs.Forms.{is_short_name, text_if}
 
-infixl 10 ◌>>=◌
-abbrev pub ◌>>=◌ : {A B : Type 0} → Option A → (A → Option B) → Option B
-o >>= f = option_and_then f o
-
-abbrev pub is_number : List ℕ → Bool
-is_number text = (nat_le 1 (length text) && nat_le (length text) 9) && list_all is_decimal text
-
--- the number of 1 to 9 digits
-abbrev pub number_from : List ℕ → Option ℕ
-number_from text = if is_number text then Some (digits_value 10 text) else None
-
+-- the field is there and is this word
 abbrev pub field_is : List ℕ → Option (List ℕ) → Bool
 field_is word None = false
 field_is word (Some field) = bytes_eq field word
 
+-- the field of this place is this word
 abbrev pub is_field : List (List ℕ) → ℕ → List ℕ → Bool
 is_field fields i word = field_is word (field_at fields i)
 
@@ -31,11 +24,13 @@ is_header fields = (length fields == 3) && (is_field fields 0 (codes "type") && 
 
 -- a name of 2 to 4 capitals or digits
 abbrev pub name_in : List (List ℕ) → ℕ → Option (List ℕ)
-name_in fields i = field_at fields i >>= text_if (is_short_name 2 4)
+name_in fields i = field_at fields i >>= text_if (is_short_name MIN_TYPE_NAME MAX_TYPE_NAME)
 
+-- a number of 1 to 9 digits
 abbrev pub number_in : List (List ℕ) → ℕ → Option ℕ
-number_in fields i = field_at fields i >>= number_from
+number_in fields i = field_at fields i >>= (λ text. number_of text MAX_NUMBER_DIGITS)
 
+-- the type of three fields
 abbrev pub fields_in : List (List ℕ) → Option TypeRow
 fields_in fields = do
   name ← name_in fields 0

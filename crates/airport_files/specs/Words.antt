@@ -11,6 +11,7 @@ use Rattle.airport_files.specs.declared.keys.PairKey.TheVariants as pair
 use Rattle.airport_files.specs.declared.keys.Key.{Key}
 use Rattle.airport_files.specs.declared.keys.Key.TheVariants as key
 
+-- the keys of the table `airport`
 abbrev pub head_word : HeadKey → List ℕ
 head_word Station = codes "station"
 head_word FirstDay = codes "first_day"
@@ -18,10 +19,12 @@ head_word Days = codes "days"
 head_word TaxiIn = codes "taxi_in"
 head_word Tow = codes "tow"
 
+-- the keys of a frontage
 abbrev pub frontage_word : FrontageKey → List ℕ
 frontage_word frontage.Name = codes "name"
 frontage_word frontage.Objects = codes "objects"
 
+-- the keys of a stand
 abbrev pub stand_word : StandKey → List ℕ
 stand_word stand.Name = codes "name"
 stand_word stand.Frontage = codes "frontage"
@@ -30,6 +33,7 @@ stand_word stand.Letter = codes "letter"
 stand_word stand.Buffer = codes "buffer"
 stand_word stand.HalfOf = codes "half_of"
 
+-- the keys of a pair restriction
 abbrev pub pair_word : PairKey → List ℕ
 pair_word pair.A = codes "a"
 pair_word pair.La = codes "la"

@@ -12,6 +12,15 @@ use apron_base::{Letter, Name};
 use apron_dates::{Date, date_in};
 use toml::{Table, Value};
 
+/// The most bytes of the name of a frontage or a stand.
+pub(crate) const MAX_NAME: usize = 6;
+
+/// The least bytes of the name of a type.
+pub(crate) const MIN_TYPE_NAME: usize = 2;
+
+/// The most bytes of the name of a type.
+pub(crate) const MAX_TYPE_NAME: usize = 4;
+
 /// What a table holds at a key.
 pub(crate) fn find<'a>(table: &'a Table, word: &str) -> Option<&'a Value>
     ensures value { option_map (λ v. view v.now) result ≡ get_member word.now (table_view table.now) }
@@ -34,7 +43,7 @@ pub(crate) fn number(value: &Value) -> Option<u32>
     ensures value { result ≡ number_of (view value.now) }
 {
     match value.as_integer() {
-        Some(n) if n >= 0 && n <= 4294967295 => Some(n as u32),
+        Some(n) if n >= 0 && n <= u32::MAX as i64 => Some(n as u32),
         _ => None,
     }
 }
@@ -131,7 +140,7 @@ fn name(value: &Value) -> Option<Name>
     ensures value { result ≡ name_of (view value.now) }
 {
     match value.as_str() {
-        Some(text) => short_name(text.as_bytes(), 1, 6),
+        Some(text) => short_name(text.as_bytes(), 1, MAX_NAME),
         None => None,
     }
 }

@@ -1,11 +1,12 @@
 // All that an airport file says, or the first fault along its keys.
 ghost use Rattle.std.specs.Prelude.{◌≡◌, IfOk, IsTrue};
 ghost use Rattle.std.specs.List.{list_all};
+ghost use Rattle.toml.specs.Data.{get_member};
 ghost use Rattle.toml.specs.View.{view, table_view, array_view};
 ghost use Rattle.apron_dates.specs.Dates.{IsFirstDay};
 ghost use Rattle.apron_rules.specs.Names.{is_station};
 ghost use Rattle.airport_files.specs.Rows.{Reads};
-ghost use Rattle.airport_files.specs.Layout.{is_table, are_tables, rows_from, frontages_of, stands_of, pairs_of, layout_of};
+ghost use Rattle.airport_files.specs.Layout.{is_table, are_tables, rows_from, frontages_of, stands_of, pairs_of, layout_of, rows_value};
 
 use crate::forms::find;
 use crate::keys::{Key, WalkFault};
@@ -46,30 +47,34 @@ pub(crate) fn layout_of(alloc: Global, document: &Table) -> Result<Layout, WalkF
 fn frontages_of(alloc: Global, document: &Table) -> Result<Listed<Frontage>, WalkFault>
     ensures value { Reads result (frontages_of (table_view document.now)) }
 {
-    match find(document, "frontage") {
-        None => Ok(Listed::new(alloc)),
-        Some(Value::Array(array)) if are_tables(array) => rows_from(alloc, array),
-        Some(_) => Err(WalkFault::Wrong(Key::Frontages)),
-    }
+    rows_at(alloc, document, "frontage", Key::Frontages)
 }
 
 fn stands_of(alloc: Global, document: &Table) -> Result<Listed<StandRow>, WalkFault>
     ensures value { Reads result (stands_of (table_view document.now)) }
 {
-    match find(document, "stand") {
-        None => Ok(Listed::new(alloc)),
-        Some(Value::Array(array)) if are_tables(array) => rows_from(alloc, array),
-        Some(_) => Err(WalkFault::Wrong(Key::Stands)),
-    }
+    rows_at(alloc, document, "stand", Key::Stands)
 }
 
 fn pairs_of(alloc: Global, document: &Table) -> Result<Listed<PairRow>, WalkFault>
     ensures value { Reads result (pairs_of (table_view document.now)) }
 {
-    match find(document, "pair") {
+    rows_at(alloc, document, "pair", Key::Pairs)
+}
+
+// The rows of the array at a key, none where the key is missing.
+fn rows_at<T: Row>(
+    alloc: Global,
+    document: &Table,
+    word: &str,
+    at: Key,
+) -> Result<Listed<T>, WalkFault>
+    ensures value { Reads result (rows_value T.read_of at (get_member word.now (table_view document.now))) }
+{
+    match find(document, word) {
         None => Ok(Listed::new(alloc)),
         Some(Value::Array(array)) if are_tables(array) => rows_from(alloc, array),
-        Some(_) => Err(WalkFault::Wrong(Key::Pairs)),
+        Some(_) => Err(WalkFault::Wrong(at)),
     }
 }
 

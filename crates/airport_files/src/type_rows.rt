@@ -3,7 +3,7 @@ ghost use Rattle.std.specs.Prelude.{◌≡◌};
 ghost use Rattle.csv.specs.Records.{fields_of};
 ghost use Rattle.airport_files.specs.TypeRows.{is_header, row_of, fields_in, name_in, number_in, is_field};
 
-use crate::forms::short_name;
+use crate::forms::{MAX_TYPE_NAME, MIN_TYPE_NAME, short_name};
 use crate::numbers::number;
 use apron_base::Name;
 use apron_rules::TypeRow;
@@ -48,7 +48,7 @@ fn name_in(row: &ByteRecord, i: usize) -> Option<Name>
     ensures value { result ≡ name_in (fields_of row.now) i }
 {
     match row.get(i) {
-        Some(field) => short_name(field, 2, 4),
+        Some(field) => short_name(field, MIN_TYPE_NAME, MAX_TYPE_NAME),
         None => None,
     }
 }

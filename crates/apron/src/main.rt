@@ -2,18 +2,15 @@
 #![tactic(auto)]
 
 use apron_base::{FileShelf, Memory, Reading, Word, Writing};
-use apron_run::run;
+use apron_run::{Status, run};
 use std::alloc::Global;
 use std::process::ExitCode;
 use std::rt::Env;
 use std::{env, io};
 
-// The status for want of memory before anything was done.
-const NO_MEMORY: u8 = 12;
-
 fn main(rt: HostRuntime) -> ExitCode {
     let Ok(words) = words(&rt) else {
-        return ExitCode::from(NO_MEMORY);
+        return ExitCode::from(Status::Memory.code());
     };
     let mut shelf = FileShelf::new(&rt);
     let mut source = Reading::new(rt.stdin());

@@ -1,11 +1,13 @@
-// Calls that fail as told, for the ends in memory.
-ghost use Rattle.std.specs.Prelude.{◌≡◌, ◌≤◌};
-ghost use Rattle.apron_base.specs.Outside.{Rose};
+// Calls that fail as told, for the forms in memory.
+ghost use Rattle.std.specs.Prelude.{◌≡◌, true};
+ghost use Rattle.apron_base.specs.Counts.{Counts};
+ghost use Rattle.apron_base.specs.Fails.{after_call, after_fault, fails_from, is_to_fail};
 
 use crate::Failed;
 use std::marker::Model;
 
-/// The numbers of the calls that fail, from 0. Contracts see how many have failed.
+/// The numbers of the calls that fail, from 0. Contracts see them, how many calls there were, and how many
+/// have failed.
 #[derive(Drop)]
 pub(crate) struct Fails {
     numbers: Vec<u64>,
@@ -14,16 +16,17 @@ pub(crate) struct Fails {
 }
 
 impl Model for Fails {
-    ghost use Rattle.std.specs.Prelude.{ℕ};
+    ghost use Rattle.apron_base.specs.Fails.{FailsHeld};
 
-    ghost Value = { ℕ };
+    ghost Value = { FailsHeld };
 
-    ghost view = { λ f. f.faults };
+    ghost view = { λ f. record { numbers = f.numbers.items; calls = f.calls; faults = f.faults } };
 }
 
 impl Fails {
+    /// The calls of these numbers, in any order, are to fail.
     pub(crate) fn new(numbers: Vec<u64>) -> Fails
-        ensures none { result ≡ 0 }
+        ensures held { result ≡ fails_from numbers.items }
     {
         Fails {
             numbers,
@@ -34,25 +37,20 @@ impl Fails {
 
     /// Counts a call, and says whether it is to fail.
     pub(crate) fn is_next(&mut self) -> bool
-        ensures same { self.new ≡ self.old }
+        ensures told { result ≡ is_to_fail self.old }
+        ensures counted { self.new ≡ after_call self.old }
     {
         let call = self.calls;
         self.calls = self.calls.saturating_add(1);
         self.numbers.contains(&call)
     }
 
+    /// Counts a fault.
     pub(crate) fn fail(&mut self) -> Failed
-        ensures later { self.old ≤ self.new }
-        ensures rose { Rose self.old self.new }
+        ensures counted { self.new ≡ after_fault self.old }
+        ensures rose { Counts true self.old.faults self.new.faults }
     {
         self.faults = self.faults.saturating_add(1);
         Failed
-    }
-
-    /// How many calls have failed.
-    pub(crate) fn faults(&self) -> u64
-        ensures value { result ≡ self.now }
-    {
-        self.faults
     }
 }

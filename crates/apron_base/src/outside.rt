@@ -1,45 +1,9 @@
-// The traits of the outside: where bytes come from, and where they go.
-ghost use Rattle.std.specs.Prelude.{◌<◌, ◌≤◌, List, ℕ, Option, length};
-ghost use Rattle.std.specs.Io.{ReadsAtMost};
-ghost use Rattle.std.specs.Io.KnownBytes.{ReadConsumes};
-ghost use Rattle.apron_base.specs.Outside.{HasCause, Puts};
-
+// What calls of the outside, asks and sessions end in.
 use crate::Listed;
 
 /// A call of the outside failed.
 #[derive(Clone, Copy, Debug, PartialEq, Eq)]
 pub struct Failed;
-
-/// Where bytes come from.
-pub trait Source {
-    /// What is left, where it tells it.
-    ghost left: { Self → Option (List ℕ) };
-
-    /// How often it has failed. It never falls, and stands still at `2^64 - 1`.
-    ghost faults: { Self → ℕ };
-
-    /// Takes at least one byte, and puts it at the front of `into`, which must not be empty. It gives how
-    /// many it took; 0 is the end of input. At `Err` nothing was taken, and the count of faults rose.
-    fn read(&mut self, into: &mut [u8]) -> Result<usize, Failed>
-        requires room { 0 < length into.old }
-        ensures bound { ReadsAtMost result into.new }
-        ensures bytes { ReadConsumes (left self.old) (left self.new) result into.new }
-        ensures cause { HasCause (faults self.old) (faults self.new) result };
-}
-
-/// Where bytes go.
-pub trait Sink {
-    /// What was written, where it tells it.
-    ghost told: { Self → Option (List ℕ) };
-
-    /// How often it has failed. It never falls, and stands still at `2^64 - 1`.
-    ghost faults: { Self → ℕ };
-
-    /// Writes the whole piece. At `Err` a front of it was written, and the count of faults rose.
-    fn put(&mut self, piece: &[u8]) -> Result<(), Failed>
-        ensures bytes { Puts (told self.old) (told self.new) result piece.now }
-        ensures cause { HasCause (faults self.old) (faults self.new) result };
-}
 
 /// What one ask of a desk gives. After all but a reply nothing has changed.
 #[derive(Debug, Drop)]
@@ -57,13 +21,13 @@ pub enum Acted {
 /// How a session ended.
 #[derive(Clone, Copy, Debug, PartialEq, Eq)]
 pub enum Outcome {
-    /// The input ended behind a request.
+    /// The input ended between requests.
     Ended,
-    /// A request asked to close.
+    /// A request closed the session.
     Closed,
     /// The input ended within a request.
     Cut,
-    /// The input is cut into no request.
+    /// A request's head or length was refused.
     Malformed,
     /// As many requests were answered as one session may have.
     Limit,

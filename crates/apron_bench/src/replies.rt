@@ -1,6 +1,6 @@
 // A sink that counts the replies, and notes when the first and the last thousand of them came.
 ghost use Rattle.std.specs.Prelude.{None, IsOk};
-ghost use Rattle.apron_base.specs.Outside.{HasCause, Puts};
+ghost use Rattle.apron_base.specs.Ends.{Puts};
 
 use apron_base::{Failed, Sink};
 use std::time::Instant;
@@ -54,13 +54,10 @@ impl<'a> Replies<'a> {
 }
 
 impl<'a> Sink for Replies<'a> {
-    ghost told = { λ _. None };
-
-    ghost faults = { λ _. 0 };
+    ghost state = { λ _. record { told = None; faults = 0 } };
 
     fn put(&mut self, piece: &[u8]) -> Result<(), Failed>
-        ensures bytes { Puts None None result piece.now }
-        ensures cause { HasCause 0 0 result }
+        ensures puts { Puts (record { told = None; faults = 0 }) (record { told = None; faults = 0 }) result piece.now }
         ensures never_fails { IsOk result }
     {
         if piece.starts_with(b"HTTP/1.1 200 ") {

@@ -1,2 +1,1 @@
-pub mod Founds
 pub mod Puts

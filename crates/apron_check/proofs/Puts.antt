@@ -1,16 +1,13 @@
--- What is written by one call after another.
-use Rattle.std.proofs.Common.{◌≡◌, ◌∙◌, ◌+◌, ℕ, List, [], ◌∷◌, ◌++◌, length, take, take_all, suc, zero-add, sym, ap, subst, arith, Option, Result, Ok, Err, inl, inr}
-use Rattle.std.specs.Io.KnownBytes.{Appends}
+-- What is written by one put after another.
+use Rattle.std.proofs.Common.{◌≡◌, ◌∙◌, ◌+◌, ℕ, List, [], ◌∷◌, ◌++◌, length, take, take_all, suc, zero-add, inl, inr, false, true, sym, ap, subst, arith}
+use Rattle.std.specs.Prelude.{Result, Ok, Err, IsErr}
 use Rattle.std.proofs.lemmas.Bool.{cases_lt}
 use Rattle.std.proofs.lemmas.List.{take-append-le}
-use Rattle.apron_base.specs.Outside.{Puts}
-use Rattle.apron_base.proofs.Known.{appends_both}
+use Rattle.apron_base.specs.Ends.{Puts, SinkState, Wrote}
+use Rattle.apron_base.proofs.Runs.{wrote_both}
 
 -- a front of a list is a front of what begins with the list
-abbrev IsFront : List ℕ → List ℕ → Type 0
-IsFront part whole = (n : ℕ) × (part ≡ take n whole)
-
-front_left : (n : ℕ) (xs ys : List ℕ) → IsFront (take n xs) (xs ++ ys)
+front_left : (n : ℕ) (xs ys : List ℕ) → (count : ℕ) × (take n xs ≡ take count (xs ++ ys))
 front_left n xs ys = elim (cases_lt n (length xs)) [
   | inl less ↦ (n, sym (take-append-le n xs ys (omega arith)))
   | inr over ↦ (length xs, take_all n xs over ∙ sym (take-append-le (length xs) xs ys (omega arith) ∙ take_all (length xs) xs (omega arith)))
@@ -20,13 +17,27 @@ front_right : (n : ℕ) (xs ys : List ℕ) → take (length xs + n) (xs ++ ys) �
 front_right n [] ys = ap (λ k. take k ys) (zero-add n)
 front_right n (x ∷ xs) ys = let e : suc (length xs) + n ≡ suc (length xs + n) = omega arith in rw e (ap (λ l. x ∷ l) (front_right n xs ys))
 
--- a front of the first, where the first call fails
-pub puts_cut : (a b : Option (List ℕ)) (xs ys : List ℕ) → ((n : ℕ) × Appends a b (take n xs)) → (n : ℕ) × Appends a b (take n (xs ++ ys))
-puts_cut a b xs ys h =
-    let front = front_left h.0 xs ys in
-    (front.0, subst (Appends a b) front.1 h.1)
+-- a front of a text that was written before the sink failed
+abbrev pub IsCut : SinkState → SinkState → List ℕ → Type 0
+IsCut before after text = (n : ℕ) × Wrote true before after (take n text)
 
--- the first whole, and then what the second call writes
-pub puts_both : {T E : Type 0} (a b c : Option (List ℕ)) (r : Result T E) (xs ys : List ℕ) → Appends a b xs → Puts b c r ys → Puts a c r (xs ++ ys)
-puts_both a b c (Ok done) xs ys h k = appends_both a b c xs ys h k
-puts_both a b c (Err e) xs ys h k = (length xs + k.0, rw (front_right k.0 xs ys) (appends_both a b c xs (take k.0 ys) h k.1))
+-- a front of a text is one of what begins with the text
+pub cut_more : (before after : SinkState) (xs ys : List ℕ) → IsCut before after xs → IsCut before after (xs ++ ys)
+cut_more before after xs ys (n, wrote) =
+    let front = front_left n xs ys in
+    (front.0, subst (Wrote true before after) front.1 wrote)
+
+-- a text that was written whole, and then a front of another
+pub cut_behind : (before mid after : SinkState) (xs ys : List ℕ) → Wrote false before mid xs → IsCut mid after ys → IsCut before after (xs ++ ys)
+cut_behind before mid after xs ys one (n, two) =
+    (length xs + n, subst (Wrote true before after) (sym (front_right n xs ys)) (wrote_both false true before mid after xs (take n ys) one two))
+
+-- what is told of a front that was written
+pub puts_cut : {T E : Type 0} (before after : SinkState) (result : Result T E) (text : List ℕ) → IsErr result → IsCut before after text → Puts before after result text
+puts_cut before after (Ok done) text h cut = absurd cc
+puts_cut before after (Err e) text h cut = cut
+
+-- a text that was written whole, and then what a put writes
+pub puts_both : {T E : Type 0} (before mid after : SinkState) (result : Result T E) (xs ys : List ℕ) → Wrote false before mid xs → Puts mid after result ys → Puts before after result (xs ++ ys)
+puts_both before mid after (Ok done) xs ys one two = wrote_both false false before mid after xs ys one two
+puts_both before mid after (Err e) xs ys one two = cut_behind before mid after xs ys one two

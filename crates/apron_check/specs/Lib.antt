@@ -1,2 +1,3 @@
-pub mod Findings
+pub mod Faults
+pub mod Files
 pub mod Lines

@@ -1,35 +1,50 @@
-// The check of two files by their names on a shelf.
-ghost use Rattle.std.specs.Prelude.{◌≡◌, ◌≤◌};
-ghost use Rattle.apron_base.specs.Outside.{Rose};
-ghost use Rattle.apron_check.specs.Findings.{AreLong, IsFound};
-ghost use Rattle.apron_check.specs.Lines.{Tells};
-ghost use Rattle.apron_check.specs.declared.finding.Finding.{Finding};
+// The airport of two files, by their names on a shelf.
+ghost use Rattle.std.specs.Prelude.{◌≡◌};
+ghost use Rattle.apron_check.specs.Faults.{unread_as};
+ghost use Rattle.apron_check.specs.Files.{Finds};
 
-use crate::finding::examine;
-use crate::line::tell;
-use apron_base::{Shelf, Sink};
+use crate::FilesFault;
+use airport_files::read_airport;
+use apron_base::{Shelf, ShelfFault};
+use apron_rules::Airport;
 use std::alloc::Global;
 
-/// Reads the airport file and the type file of these names, and writes the one line that tells what is in
-/// them: how much there is of the airport, or the first fault. The status is 0, 3 where a file has a fault or
-/// is over 1 MiB, 4 where the shelf failed, 6 where the airport is fine and the sink failed, and 12 where
-/// memory is wanting. After another fault a sink that fails changes no status.
-pub fn check<F: Shelf, W: Sink>(
+/// The most bytes of a file: 1 MiB.
+pub const MAX_FILE: u32 = 1_048_576;
+
+/// The airport that the airport file and the type file of these names make. First the airport file is
+/// read from the shelf and then the type file, and then what they mean together is looked at. At `Err`
+/// the first fault on this way is told: that a file is over 1 MiB, what is wrong in them, that the shelf
+/// failed, or that memory is wanting.
+pub fn airport_of<F: Shelf>(
     alloc: Global,
     airport: &str,
     types: &str,
     shelf: &mut F,
-    sink: &mut W,
-) -> u8
-    ensures told { (found : Finding) × IsFound (F.file shelf.old airport.now) (F.file shelf.old types.now) found
-        × AreLong (F.file shelf.old airport.now) (F.file shelf.old types.now) (F.read shelf.old) (F.read shelf.new) found
-        × Tells (W.told sink.old) (W.told sink.new) (W.faults sink.old) (W.faults sink.new) found result }
-    ensures shelf { result ≡ 4 → Rose (F.faults shelf.old) (F.faults shelf.new) }
-    ensures write { result ≡ 6 → Rose (W.faults sink.old) (W.faults sink.new) }
-    ensures shelf_later { F.faults shelf.old ≤ F.faults shelf.new }
-    ensures more { F.read shelf.old ≤ F.read shelf.new }
-    ensures sink_later { W.faults sink.old ≤ W.faults sink.new }
+) -> Result<Airport, FilesFault>
+    ensures finds { Finds (F.state shelf.old) (F.state shelf.new) airport.now types.now result }
 {
-    let found = examine(alloc, airport, types, shelf);
-    tell(sink, &found)
+    let airport = match shelf.read_file(alloc, airport, MAX_FILE) {
+        Ok(bytes) => bytes,
+        Err(fault) => return Err(unread(fault, FilesFault::AirportTooLong)),
+    };
+    let types = match shelf.read_file(alloc, types, MAX_FILE) {
+        Ok(bytes) => bytes,
+        Err(fault) => return Err(unread(fault, FilesFault::TypesTooLong)),
+    };
+    match read_airport(alloc, airport.as_slice(), types.as_slice()) {
+        Ok(airport) => Ok(airport),
+        Err(fault) => Err(FilesFault::from(fault)),
+    }
+}
+
+// Why there is no airport where a file isn't given.
+fn unread(fault: ShelfFault, too_long: FilesFault) -> FilesFault
+    ensures value { result ≡ unread_as fault too_long }
+{
+    match fault {
+        ShelfFault::Failed => FilesFault::ShelfFault,
+        ShelfFault::TooLong => too_long,
+        ShelfFault::Memory => FilesFault::Memory,
+    }
 }

@@ -1,5 +1,5 @@
-// The lines and statuses of files, good and bad.
-use crate::check;
+// What is found in files, good and bad, and the lines that tell it.
+use crate::{airport_of, put_counts, put_fault};
 use apron_base::{Kept, ListSink, Listed, MapShelf, Memory, Word};
 use std::alloc::{AllocError, Global};
 use std::test::Fail;
@@ -63,22 +63,37 @@ fn kept(alloc: Global, name: &str, text: &str) -> Result<Kept, Memory> {
     })
 }
 
-// The status, and what was written.
-fn checked(
+// Whether there is an airport, whether what was found was told whole, and what was written.
+#[derive(Drop)]
+struct Found {
+    fine: bool,
+    told: bool,
+    line: Vec<u8>,
+}
+
+// What is found in these files, on a shelf and a sink whose calls fail as told.
+fn found_in(
     alloc: Global,
     airport: &str,
     types: &str,
     failing_reads: &[u64],
     failing_puts: &[u64],
-) -> Result<(u8, Vec<u8>), Memory> {
+) -> Result<Found, Memory> {
     let files = Vec::from_array(
         alloc,
         [kept(alloc, "A", airport)?, kept(alloc, "T", types)?],
     )?;
     let mut shelf = MapShelf::new(files, Vec::from_slice(alloc, failing_reads)?);
     let mut sink = ListSink::new(alloc, 1000, Vec::from_slice(alloc, failing_puts)?)?;
-    let status = check(alloc, "A", "T", &mut shelf, &mut sink);
-    Ok((status, Vec::from_slice(alloc, sink.bytes())?))
+    let (fine, put) = match airport_of(alloc, "A", "T", &mut shelf) {
+        Ok(airport) => (true, put_counts(&mut sink, &airport)),
+        Err(fault) => (false, put_fault(&mut sink, &fault)),
+    };
+    Ok(Found {
+        fine,
+        told: put.is_ok(),
+        line: Vec::from_slice(alloc, sink.bytes())?,
+    })
 }
 
 #[test]
@@ -161,9 +176,9 @@ fn faults_of_the_airport_file_are_named(rt: HostRuntime) -> Result<(), Fail> {
         (("pair = [ ", "pair = [ 1, "), "airport file: wrong pair\n"),
     ] {
         let airport = edited(alloc, AIRPORT, edit)?;
-        let (status, written) = checked(alloc, airport.as_str(), TYPES, &[], &[])?;
-        assert_eq!(rt; written.as_slice(), line.as_bytes());
-        assert_eq!(rt; status == 0, line == OK);
+        let found = found_in(alloc, airport.as_str(), TYPES, &[], &[])?;
+        assert_eq!(rt; found.line.as_slice(), line.as_bytes());
+        assert_eq!(rt; found.fine, line == OK);
     }
     Ok(())
 }
@@ -192,17 +207,17 @@ fn faults_of_the_type_file_are_numbered(rt: HostRuntime) -> Result<(), Fail> {
         (("1767,20", "1767,000000000"), "airport: limit least\n"),
     ] {
         let types = edited(alloc, TYPES, edit)?;
-        let (status, written) = checked(alloc, AIRPORT, types.as_str(), &[], &[])?;
-        assert_eq!(rt; written.as_slice(), line.as_bytes());
-        assert_eq!(rt; status == 0, line == OK);
+        let found = found_in(alloc, AIRPORT, types.as_str(), &[], &[])?;
+        assert_eq!(rt; found.line.as_slice(), line.as_bytes());
+        assert_eq!(rt; found.fine, line == OK);
     }
     for (types, line) in [
         ("", "type file: record 1\n"),
         ("type,span,least", "airport: limit types\n"),
     ] {
-        let (status, written) = checked(alloc, AIRPORT, types, &[], &[])?;
-        assert_eq!(rt; written.as_slice(), line.as_bytes());
-        assert_eq!(rt; status, 3);
+        let found = found_in(alloc, AIRPORT, types, &[], &[])?;
+        assert_eq!(rt; found.line.as_slice(), line.as_bytes());
+        assert_eq!(rt; found.fine, false);
     }
     Ok(())
 }
@@ -264,9 +279,9 @@ fn refusals_of_the_airport_are_named(rt: HostRuntime) -> Result<(), Fail> {
         ),
     ] {
         let airport = edited(alloc, AIRPORT, edit)?;
-        let (status, written) = checked(alloc, airport.as_str(), TYPES, &[], &[])?;
-        assert_eq!(rt; written.as_slice(), line.as_bytes());
-        assert_eq!(rt; status == 0, line == OK);
+        let found = found_in(alloc, airport.as_str(), TYPES, &[], &[])?;
+        assert_eq!(rt; found.line.as_slice(), line.as_bytes());
+        assert_eq!(rt; found.fine, line == OK);
     }
     Ok(())
 }
@@ -304,18 +319,18 @@ fn so_many_entries_are_taken_and_no_more(rt: HostRuntime) -> Result<(), Fail> {
         ("pair = [", pair, 1000, "airport: limit pairs\n"),
     ] {
         let airport = with_copies(alloc, AIRPORT, mark, entry, copies)?;
-        let (status, written) = checked(alloc, airport.as_str(), TYPES, &[], &[])?;
-        assert_eq!(rt; written.as_slice(), line.as_bytes());
-        assert_eq!(rt; status == 0, line.starts_with("ok: "));
+        let found = found_in(alloc, airport.as_str(), TYPES, &[], &[])?;
+        assert_eq!(rt; found.line.as_slice(), line.as_bytes());
+        assert_eq!(rt; found.fine, line.starts_with("ok: "));
     }
     for (copies, line) in [
         (393, "ok: 13 stands, 400 types, 3 days\n"),
         (394, "airport: limit types\n"),
     ] {
         let types = with_copies(alloc, TYPES, "least\n", "#,3580,40\n", copies)?;
-        let (status, written) = checked(alloc, AIRPORT, types.as_str(), &[], &[])?;
-        assert_eq!(rt; written.as_slice(), line.as_bytes());
-        assert_eq!(rt; status == 0, line.starts_with("ok: "));
+        let found = found_in(alloc, AIRPORT, types.as_str(), &[], &[])?;
+        assert_eq!(rt; found.line.as_slice(), line.as_bytes());
+        assert_eq!(rt; found.fine, line.starts_with("ok: "));
     }
     Ok(())
 }
@@ -388,9 +403,9 @@ fn of_two_faults_the_earlier_is_named(rt: HostRuntime) -> Result<(), Fail> {
         let once = edited(alloc, AIRPORT, first)?;
         let airport = edited(alloc, once.as_str(), second)?;
         let types = edited(alloc, TYPES, types)?;
-        let (status, written) = checked(alloc, airport.as_str(), types.as_str(), &[], &[])?;
-        assert_eq!(rt; written.as_slice(), line.as_bytes());
-        assert_eq!(rt; status, 3);
+        let found = found_in(alloc, airport.as_str(), types.as_str(), &[], &[])?;
+        assert_eq!(rt; found.line.as_slice(), line.as_bytes());
+        assert_eq!(rt; found.fine, false);
     }
     Ok(())
 }
@@ -398,18 +413,18 @@ fn of_two_faults_the_earlier_is_named(rt: HostRuntime) -> Result<(), Fail> {
 #[test]
 fn the_shelf_and_the_sink_may_fail(rt: HostRuntime) -> Result<(), Fail> {
     let alloc = rt.alloc();
-    for (types, reads, puts, line, status) in [
-        (TYPES, 9, 99, OK, 0),
-        (TYPES, 0, 99, "shelf fault\n", 4),
-        ("", 1, 99, "shelf fault\n", 4),
-        (TYPES, 9, 0, "", 6),
-        (TYPES, 9, 2, "ok: 13", 6),
-        ("", 9, 1, "type file: record ", 3),
-        (TYPES, 0, 0, "", 4),
+    for (types, reads, puts, line, told) in [
+        (TYPES, 9, 99, OK, true),
+        (TYPES, 0, 99, "shelf fault\n", true),
+        ("", 1, 99, "shelf fault\n", true),
+        (TYPES, 9, 0, "", false),
+        (TYPES, 9, 2, "ok: 13", false),
+        ("", 9, 1, "type file: record ", false),
+        (TYPES, 0, 0, "", false),
     ] {
-        let (got, written) = checked(alloc, AIRPORT, types, &[reads], &[puts])?;
-        assert_eq!(rt; written.as_slice(), line.as_bytes());
-        assert_eq!(rt; got, status);
+        let found = found_in(alloc, AIRPORT, types, &[reads], &[puts])?;
+        assert_eq!(rt; found.line.as_slice(), line.as_bytes());
+        assert_eq!(rt; found.told, told);
     }
     Ok(())
 }
@@ -419,11 +434,14 @@ fn files_over_a_mebibyte_are_too_long(rt: HostRuntime) -> Result<(), Fail> {
     let alloc = rt.alloc();
     let blanks = String::from_utf8(vec![in alloc; b' '; 1_048_577]?).unwrap_or(String::new(alloc));
     assert_eq!(rt; blanks.len(), 1_048_577);
-    let (status, written) = checked(alloc, blanks.as_str(), blanks.as_str(), &[], &[])?;
-    assert_eq!(rt; written.as_slice(), b"airport file: too long\n".as_slice());
-    assert_eq!(rt; status, 3);
-    let (status, written) = checked(alloc, "", blanks.as_str(), &[], &[])?;
-    assert_eq!(rt; written.as_slice(), b"type file: too long\n".as_slice());
-    assert_eq!(rt; status, 3);
+    let found = found_in(alloc, blanks.as_str(), blanks.as_str(), &[], &[])?;
+    assert_eq!(rt;
+        found.line.as_slice(),
+        b"airport file: too long\n".as_slice()
+    );
+    assert_eq!(rt; found.fine, false);
+    let found = found_in(alloc, "", blanks.as_str(), &[], &[])?;
+    assert_eq!(rt; found.line.as_slice(), b"type file: too long\n".as_slice());
+    assert_eq!(rt; found.fine, false);
     Ok(())
 }

@@ -10,9 +10,11 @@ use Rattle.apron_rules.specs.declared.parts.AirportParts.{AirportParts}
 use Rattle.apron_rules.specs.declared.parts.Frontage.{Frontage}
 use Rattle.apron_rules.specs.declared.parts.StandRow.{StandRow}
 use Rattle.apron_rules.specs.declared.parts.TypeRow.{TypeRow}
+use Rattle.apron_rules.specs.declared.limits.TheConstants.{MAX_BUFFER, MAX_DAYS, MAX_LEAST, MAX_OBJECTS, MAX_STANDS, MAX_TOW, MAX_TYPES}
 use Rattle.apron_rules.specs.declared.refusals.Limit.{Limit}
+use Rattle.apron_rules.specs.declared.refusals.Limit.TheVariants as limit
 use Rattle.apron_rules.specs.Names.{is_station, frontage_names, stand_names, first_repeated}
-use Rattle.apron_rules.specs.Refusals.{duplicate_of, unknown_of, bad_half_of, limit_of, bad_span_of, first_reason, later_fault_of, fault_of, unless_kept, is_within, are_objects_kept, number_limit, frontage_limit, stand_limit, type_limit}
+use Rattle.apron_rules.specs.Refusals.{duplicate_of, unknown_of, bad_half_of, limit_of, bad_span_of, first_reason, first_some, later_fault_of, fault_of, passed_limits, unless_kept, is_within, are_objects_kept}
 use Rattle.apron_rules.specs.Rules.{IsAirport}
 
 pub left_none : {A : Type 0} (o p : Option A) → option_or o p ≡ None → o ≡ None
@@ -37,31 +39,36 @@ each P p (x ∷ xs) f h = (f x (grind (arith, nat_tests)), each P p xs f (grind 
 
 -- no limit is passed
 pub record IsLimited (parts : AirportParts) : Type 0 where
-  pub days : is_within 1 14 parts.days ≡ true
-  pub tow : is_within 1 240 parts.tow ≡ true
+  pub days : is_within 1 MAX_DAYS parts.days ≡ true
+  pub tow : is_within 1 MAX_TOW parts.tow ≡ true
   pub objects : list_all are_objects_kept parts.frontages ≡ true
-  pub stands : is_within 1 400 (length parts.stands) ≡ true
-  pub buffers : list_all (λ row. nat_le row.buffer 240) parts.stands ≡ true
-  pub types : is_within 1 400 (length parts.types) ≡ true
-  pub least : list_all (λ row. is_within 1 600 row.least) parts.types ≡ true
+  pub stands : is_within 1 MAX_STANDS (length parts.stands) ≡ true
+  pub buffers : list_all (λ row. nat_le row.buffer MAX_BUFFER) parts.stands ≡ true
+  pub types : is_within 1 MAX_TYPES (length parts.types) ≡ true
+  pub least : list_all (λ row. is_within 1 MAX_LEAST row.least) parts.types ≡ true
+
+-- nothing is there
+abbrev AllNone : {A : Type 0} → List (Option A) → Type 0
+AllNone [] = Unit {0}
+AllNone (found ∷ others) = (found ≡ None) × AllNone others
+
+all_none : {A : Type 0} (found : List (Option A)) → first_some found ≡ None → AllNone found
+all_none [] none = tt
+all_none (first ∷ others) none = (left_none first _ none, all_none others (right_none first _ none))
+
+limited_from : (parts : AirportParts) → AllNone (passed_limits parts) → IsLimited parts
+limited_from parts (days, (taxi_in, (tow, (frontages, (objects, (stands, (centre, (buffers, (pairs, (types, (least, none))))))))))) = record {
+  days = kept limit.Days _ days;
+  tow = kept limit.Tow _ tow;
+  objects = kept limit.Objects _ objects;
+  stands = kept limit.Stands _ stands;
+  buffers = kept limit.Buffer _ buffers;
+  types = kept limit.Types _ types;
+  least = kept limit.Least _ least;
+}
 
 limited : (parts : AirportParts) → limit_of parts ≡ None → IsLimited parts
-limited parts h =
-    let numbers = left_none (number_limit parts) _ h in
-    let more = right_none (number_limit parts) _ h in
-    let frontages = left_none (frontage_limit parts.frontages) _ more in
-    let more_2 = right_none (frontage_limit parts.frontages) _ more in
-    let stands = left_none (stand_limit parts.stands) _ more_2 in
-    let types = right_none _ (type_limit parts.types) (right_none (stand_limit parts.stands) _ more_2) in
-    record {
-      days = kept _ _ (left_none _ _ numbers);
-      tow = kept _ _ (right_none _ _ (right_none _ _ numbers));
-      objects = kept _ _ (right_none _ _ frontages);
-      stands = kept _ _ (left_none _ _ stands);
-      buffers = kept _ _ (right_none _ _ (right_none _ _ stands));
-      types = kept _ _ (left_none _ _ types);
-      least = kept _ _ (right_none _ _ types);
-    }
+limited parts none = limited_from parts (all_none (passed_limits parts) none)
 
 limit_none : (parts : AirportParts) → fault_of parts ≡ None → limit_of parts ≡ None
 unfolding fault_of later_fault_of
@@ -94,11 +101,11 @@ airport_of parts station first none =
       station = station;
       first = first;
       faultless = none;
-      stands = within 1 400 _ l.stands;
-      types = within 1 400 _ l.types;
-      days = within 1 14 _ l.days;
-      tow = within 1 240 _ l.tow;
-      least = All-from_recursion _ _ (each (λ (row : TypeRow). row.least ≤ 600) _ parts.types (λ row h. within 1 600 row.least h) l.least);
-      buffers = All-from_recursion _ _ (each (λ (row : StandRow). row.buffer ≤ 240) _ parts.stands (λ row h. grind (arith, nat_tests)) l.buffers);
-      objects = All-from_recursion _ _ (each (λ (f : Frontage). length f.objects ≤ 50) _ parts.frontages (λ f h. grind (arith, nat_tests)) l.objects);
+      stands = within 1 MAX_STANDS _ l.stands;
+      types = within 1 MAX_TYPES _ l.types;
+      days = within 1 MAX_DAYS _ l.days;
+      tow = within 1 MAX_TOW _ l.tow;
+      least = All-from_recursion _ _ (each (λ (row : TypeRow). row.least ≤ MAX_LEAST) _ parts.types (λ row h. within 1 MAX_LEAST row.least h) l.least);
+      buffers = All-from_recursion _ _ (each (λ (row : StandRow). row.buffer ≤ MAX_BUFFER) _ parts.stands (λ row h. grind (arith, nat_tests)) l.buffers);
+      objects = All-from_recursion _ _ (each (λ (f : Frontage). length f.objects ≤ MAX_OBJECTS) _ parts.frontages (λ f h. grind (arith, nat_tests)) l.objects);
     }

@@ -4,12 +4,15 @@ use Rattle.std.specs.List.{list_all}
 use Rattle.std.specs.Str.{bytes_eq}
 use Rattle.apron_rules.specs.declared.parts.AirportParts.{AirportParts}
 
+-- the names of the frontages in their order
 abbrev pub frontage_names : AirportParts → List (List ℕ)
 frontage_names parts = map (λ frontage. frontage.name) parts.frontages
 
+-- the names of the stands in their order
 abbrev pub stand_names : AirportParts → List (List ℕ)
 stand_names parts = map (λ row. row.name) parts.stands
 
+-- the names of the types in their order
 abbrev pub type_names : AirportParts → List (List ℕ)
 type_names parts = map (λ row. row.name) parts.types
 
@@ -17,6 +20,7 @@ type_names parts = map (λ row. row.name) parts.types
 abbrev pub place_of : List ℕ → List (List ℕ) → Option ℕ
 place_of name names = position (bytes_eq name) names
 
+-- the name is among the names
 abbrev pub is_known : List ℕ → List (List ℕ) → Bool
 is_known name names = is_some (place_of name names)
 

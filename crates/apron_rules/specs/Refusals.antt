@@ -1,19 +1,24 @@
 -- Why an airport is refused: the first of the reasons in a fixed order, and of its names the first in list order.
-use Rattle.std.specs.Prelude.{ℕ, Bool, false, ◌&&◌, ◌||◌, not, nat_le, nat_lt, List, length, Option, None, Some, is_some, is_none, find, count_by, option_and_then, if◌then◌else◌}
+use Rattle.std.specs.Prelude.{ℕ, Bool, false, ◌&&◌, ◌||◌, not, nat_le, nat_lt, List, [], ◌∷◌, length, Option, None, Some, is_some, is_none, find, count_by, option_and_then, if◌then◌else◌}
 use Rattle.std.specs.Option.{option_map, option_or}
 use Rattle.std.specs.List.{list_all}
 use Rattle.std.specs.Str.{bytes_eq}
 use Rattle.apron_base.specs.Letter.{letter_for}
 use Rattle.apron_rules.specs.declared.parts.AirportParts.{AirportParts}
 use Rattle.apron_rules.specs.declared.parts.StandRow.{StandRow}
-use Rattle.apron_rules.specs.declared.parts.TypeRow.{TypeRow}
 use Rattle.apron_rules.specs.declared.parts.PairRow.{PairRow}
 use Rattle.apron_rules.specs.declared.parts.Frontage.{Frontage}
 use Rattle.apron_rules.specs.Names.{frontage_names, stand_names, type_names, is_known, is_named, first_repeated}
+use Rattle.apron_rules.specs.declared.limits.TheConstants.{MAX_BUFFER, MAX_DAYS, MAX_FRONTAGES, MAX_HALVES, MAX_LEAST, MAX_OBJECTS, MAX_PAIRS, MAX_PLACE, MAX_STANDS, MAX_TAXI_IN, MAX_TOW, MAX_TYPES}
 use Rattle.apron_rules.specs.declared.refusals.Limit.{Limit}
 use Rattle.apron_rules.specs.declared.refusals.Limit.TheVariants as limit
 use Rattle.apron_rules.specs.declared.refusals.AirportFault.{AirportFault}
 use Rattle.apron_rules.specs.declared.refusals.AirportFault.TheVariants.{DuplicateName, UnknownName, BadHalf, LimitPassed, BadSpan}
+
+-- the first that is there
+abbrev pub first_some : {A : Type 0} → List (Option A) → Option A
+first_some [] = None
+first_some (found ∷ others) = option_or found (first_some others)
 
 -- a name twice among the frontages, then among the stands, then among the types
 abbrev pub duplicate_of : AirportParts → Option (List ℕ)
@@ -31,6 +36,7 @@ unless_known names name = if is_known name names then None else Some name
 abbrev pub unknown_of_stand : List (List ℕ) → List (List ℕ) → StandRow → Option (List ℕ)
 unknown_of_stand frontages stands row = option_or (unless_known frontages row.frontage) (option_and_then (unless_known stands) row.half_of)
 
+-- one of the two stands of the restriction
 abbrev pub unknown_of_pair : List (List ℕ) → PairRow → Option (List ℕ)
 unknown_of_pair stands pair = option_or (unless_known stands pair.a) (unless_known stands pair.b)
 
@@ -46,11 +52,13 @@ halves_of name stands = count_by (λ row. is_named row.half_of name) stands
 -- the stand of this name is a half itself, is on another frontage, or has more than two halves
 abbrev pub is_bad_whole : List StandRow → StandRow → Option StandRow → Bool
 is_bad_whole stands half None = false
-is_bad_whole stands half (Some whole) = is_some whole.half_of || not (bytes_eq half.frontage whole.frontage) || nat_lt 2 (halves_of whole.name stands)
+is_bad_whole stands half (Some whole) = is_some whole.half_of || not (bytes_eq half.frontage whole.frontage) || nat_lt MAX_HALVES (halves_of whole.name stands)
 
+-- the row of the stand of this name
 abbrev pub stand_named : List StandRow → List ℕ → Option StandRow
 stand_named stands name = find (λ row. bytes_eq name row.name) stands
 
+-- the stand is a half of no proper whole
 abbrev pub is_bad_half : List StandRow → StandRow → Bool
 is_bad_half stands half = is_bad_whole stands half (option_and_then (stand_named stands) half.half_of)
 
@@ -58,37 +66,41 @@ is_bad_half stands half = is_bad_whole stands half (option_and_then (stand_named
 abbrev pub bad_half_of : AirportParts → Option (List ℕ)
 bad_half_of parts = option_map (λ row. row.name) (find (is_bad_half parts.stands) parts.stands)
 
+-- the number is not below and not above
 abbrev pub is_within : ℕ → ℕ → ℕ → Bool
-is_within low high n = nat_le low n && nat_le n high
+is_within low high number = nat_le low number && nat_le number high
 
 -- the limit, unless it is kept
 abbrev pub unless_kept : Limit → Bool → Option Limit
 unless_kept which kept = if kept then None else Some which
 
--- at most 50 objects, each at a place up to 1,000,000 cm
+-- a place on a frontage, within its limit
+abbrev pub is_place_kept : ℕ → Bool
+is_place_kept place = nat_le place MAX_PLACE
+
+-- few objects, each at a place within its limit
 abbrev pub are_objects_kept : Frontage → Bool
-are_objects_kept frontage = nat_le (length frontage.objects) 50 && list_all (λ place. nat_le place 1000000) frontage.objects
+are_objects_kept frontage = nat_le (length frontage.objects) MAX_OBJECTS && list_all is_place_kept frontage.objects
 
-abbrev pub number_limit : AirportParts → Option Limit
-number_limit parts =
-    option_or (unless_kept limit.Days (is_within 1 14 parts.days)) (option_or (unless_kept limit.TaxiIn (nat_le parts.taxi_in 60)) (unless_kept limit.Tow (is_within 1 240 parts.tow)))
+-- the limits in their order, each unless it is kept
+abbrev pub passed_limits : AirportParts → List (Option Limit)
+passed_limits parts =
+    unless_kept limit.Days (is_within 1 MAX_DAYS parts.days)
+    ∷ unless_kept limit.TaxiIn (nat_le parts.taxi_in MAX_TAXI_IN)
+    ∷ unless_kept limit.Tow (is_within 1 MAX_TOW parts.tow)
+    ∷ unless_kept limit.Frontages (nat_le (length parts.frontages) MAX_FRONTAGES)
+    ∷ unless_kept limit.Objects (list_all are_objects_kept parts.frontages)
+    ∷ unless_kept limit.Stands (is_within 1 MAX_STANDS (length parts.stands))
+    ∷ unless_kept limit.Centre (list_all (λ row. is_place_kept row.centre) parts.stands)
+    ∷ unless_kept limit.Buffer (list_all (λ row. nat_le row.buffer MAX_BUFFER) parts.stands)
+    ∷ unless_kept limit.Pairs (nat_le (length parts.pairs) MAX_PAIRS)
+    ∷ unless_kept limit.Types (is_within 1 MAX_TYPES (length parts.types))
+    ∷ unless_kept limit.Least (list_all (λ row. is_within 1 MAX_LEAST row.least) parts.types)
+    ∷ []
 
-abbrev pub frontage_limit : List Frontage → Option Limit
-frontage_limit frontages =
-    option_or (unless_kept limit.Frontages (nat_le (length frontages) 50)) (unless_kept limit.Objects (list_all are_objects_kept frontages))
-
-abbrev pub stand_limit : List StandRow → Option Limit
-stand_limit stands =
-    option_or (unless_kept limit.Stands (is_within 1 400 (length stands))) (option_or (unless_kept limit.Centre (list_all (λ row. nat_le row.centre 1000000) stands)) (unless_kept limit.Buffer (list_all (λ row. nat_le row.buffer 240) stands)))
-
-abbrev pub type_limit : List TypeRow → Option Limit
-type_limit types =
-    option_or (unless_kept limit.Types (is_within 1 400 (length types))) (unless_kept limit.Least (list_all (λ row. is_within 1 600 row.least) types))
-
--- the first limit that is passed, in the order of the limits
+-- the first limit that is passed
 abbrev pub limit_of : AirportParts → Option Limit
-limit_of parts =
-    option_or (number_limit parts) (option_or (frontage_limit parts.frontages) (option_or (stand_limit parts.stands) (option_or (unless_kept limit.Pairs (nat_le (length parts.pairs) 1000)) (type_limit parts.types))))
+limit_of parts = first_some (passed_limits parts)
 
 -- the first type of whose span there is no code letter
 abbrev pub bad_span_of : AirportParts → Option (List ℕ)
@@ -97,7 +109,7 @@ bad_span_of parts = option_map (λ row. row.name) (find (λ row. is_none (letter
 -- the first reason in this order
 abbrev pub first_reason : Option (List ℕ) → Option (List ℕ) → Option Limit → Option (List ℕ) → Option AirportFault
 first_reason unknown half passed span =
-    option_or (option_map UnknownName unknown) (option_or (option_map BadHalf half) (option_or (option_map LimitPassed passed) (option_map BadSpan span)))
+    first_some (option_map UnknownName unknown ∷ option_map BadHalf half ∷ option_map LimitPassed passed ∷ option_map BadSpan span ∷ [])
 
 -- the refusals behind that of a name that is there twice
 unfoldable pub later_fault_of : AirportParts → Option AirportFault

@@ -5,10 +5,14 @@ ghost use Rattle.std.specs.List.{list_all};
 ghost use Rattle.std.specs.Str.{bytes_eq};
 ghost use Rattle.apron_base.specs.Letter.{letter_for};
 ghost use Rattle.apron_rules.specs.Names.{frontage_names, stand_names, type_names, is_named};
-ghost use Rattle.apron_rules.specs.Refusals.{duplicate_of, unknown_of, unknown_of_stand, unknown_of_pair, first_found, are_objects_kept, is_bad_half, stand_named, is_within, number_limit, frontage_limit, stand_limit, type_limit, limit_of, later_fault_of};
+ghost use Rattle.apron_rules.specs.Refusals.{duplicate_of, unknown_of, unknown_of_stand, unknown_of_pair, first_found, are_objects_kept, is_bad_half, stand_named, first_some, is_place_kept, is_within, limit_of, unless_kept, later_fault_of};
 ghost use Rattle.apron_rules.specs.Tables.{Checks, AreHalves, half_count};
 ghost use Rattle.apron_rules.specs.declared.refusals.AirportFault.TheVariants.{DuplicateName};
 
+use crate::limits::{
+    MAX_BUFFER, MAX_DAYS, MAX_FRONTAGES, MAX_HALVES, MAX_LEAST, MAX_OBJECTS, MAX_PAIRS, MAX_PLACE,
+    MAX_STANDS, MAX_TAXI_IN, MAX_TOW, MAX_TYPES,
+};
 use crate::names::NameTable;
 use crate::{AirportFault, AirportParts, Frontage, Limit, PairRow, StandRow, TypeRow};
 use apron_base::{Name, letter_of};
@@ -277,60 +281,60 @@ fn halves_of(halves: &BTreeMap<Name, u64>, name: &Name) -> u64
 }
 
 fn is_bad_whole(half: &StandRow, whole: &StandRow, halves: u64) -> bool
-    ensures is { result ≡ (is_some whole.now.half_of || not (bytes_eq half.now.frontage whole.now.frontage) || nat_lt 2 halves) }
+    ensures is { result ≡ (is_some whole.now.half_of || not (bytes_eq half.now.frontage whole.now.frontage) || nat_lt MAX_HALVES halves) }
 {
-    whole.half_of.is_some() || !half.frontage.is_same(&whole.frontage) || halves > 2
+    whole.half_of.is_some() || !half.frontage.is_same(&whole.frontage) || halves > MAX_HALVES
 }
 
 fn passed_limit(parts: &AirportParts) -> Option<Limit>
     ensures is { result ≡ limit_of parts.now }
 {
-    if let Some(limit) = number_limit(parts) {
-        return Some(limit);
-    }
-    if let Some(limit) = frontage_limit(parts.frontages.as_slice()) {
-        return Some(limit);
-    }
-    if let Some(limit) = stand_limit(parts.stands.as_slice()) {
-        return Some(limit);
-    }
-    if parts.pairs.len() > 1000 {
-        return Some(Limit::Pairs);
-    }
-    type_limit(parts.types.as_slice())
+    let frontages = parts.frontages.as_slice();
+    let stands = parts.stands.as_slice();
+    let types = parts.types.as_slice();
+    first_some(&[
+        unless_kept(Limit::Days, is_within(1, MAX_DAYS, parts.days)),
+        unless_kept(Limit::TaxiIn, parts.taxi_in <= MAX_TAXI_IN),
+        unless_kept(Limit::Tow, is_within(1, MAX_TOW, parts.tow)),
+        unless_kept(Limit::Frontages, frontages.len() <= MAX_FRONTAGES),
+        unless_kept(Limit::Objects, are_all_objects_kept(frontages)),
+        unless_kept(Limit::Stands, is_number_within(MAX_STANDS, stands.len())),
+        unless_kept(Limit::Centre, are_centres_kept(stands)),
+        unless_kept(Limit::Buffer, are_buffers_kept(stands)),
+        unless_kept(Limit::Pairs, parts.pairs.len() <= MAX_PAIRS),
+        unless_kept(Limit::Types, is_number_within(MAX_TYPES, types.len())),
+        unless_kept(Limit::Least, are_least_kept(types)),
+    ])
 }
 
-fn is_within(low: u64, high: u64, n: u64) -> bool
-    ensures is { result ≡ is_within low high n }
+// The first limit that is there.
+fn first_some(limits: &[Option<Limit>]) -> Option<Limit>
+    ensures is { result ≡ first_some limits.now }
 {
-    low <= n && n <= high
-}
-
-fn number_limit(parts: &AirportParts) -> Option<Limit>
-    ensures is { result ≡ number_limit parts.now }
-{
-    if !is_within(1, 14, parts.days as u64) {
-        return Some(Limit::Days);
-    }
-    if parts.taxi_in > 60 {
-        return Some(Limit::TaxiIn);
-    }
-    if !is_within(1, 240, parts.tow as u64) {
-        return Some(Limit::Tow);
+    for limit in limits {
+        if limit.is_some() {
+            return *limit;
+        }
     }
     None
 }
 
-fn frontage_limit(rows: &[Frontage]) -> Option<Limit>
-    ensures is { result ≡ frontage_limit rows.now }
+fn unless_kept(which: Limit, kept: bool) -> Option<Limit>
+    ensures is { result ≡ unless_kept which kept }
 {
-    if rows.len() > 50 {
-        return Some(Limit::Frontages);
-    }
-    if !are_all_objects_kept(rows) {
-        return Some(Limit::Objects);
-    }
-    None
+    if kept { None } else { Some(which) }
+}
+
+fn is_within(low: u32, high: u32, number: u32) -> bool
+    ensures is { result ≡ is_within low high number }
+{
+    low <= number && number <= high
+}
+
+fn is_number_within(high: usize, number: usize) -> bool
+    ensures is { result ≡ is_within 1 high number }
+{
+    1 <= number && number <= high
 }
 
 fn are_all_objects_kept(rows: &[Frontage]) -> bool
@@ -342,58 +346,31 @@ fn are_all_objects_kept(rows: &[Frontage]) -> bool
 fn are_objects_kept(row: &Frontage) -> bool
     ensures is { result ≡ are_objects_kept row.now }
 {
-    row.objects.len() <= 50 && are_places_kept(row.objects.as_slice())
+    row.objects.len() <= MAX_OBJECTS && are_places_kept(row.objects.as_slice())
 }
 
 fn are_places_kept(places: &[u32]) -> bool
-    ensures is { result ≡ list_all (λ place. nat_le place 1000000) places.now }
+    ensures is { result ≡ list_all is_place_kept places.now }
 {
-    places.iter().all(|place| *place <= 1_000_000)
-}
-
-fn stand_limit(rows: &[StandRow]) -> Option<Limit>
-    ensures is { result ≡ stand_limit rows.now }
-{
-    if !is_within(1, 400, rows.len() as u64) {
-        return Some(Limit::Stands);
-    }
-    if !are_centres_kept(rows) {
-        return Some(Limit::Centre);
-    }
-    if !are_buffers_kept(rows) {
-        return Some(Limit::Buffer);
-    }
-    None
+    places.iter().all(|place| *place <= MAX_PLACE)
 }
 
 fn are_centres_kept(rows: &[StandRow]) -> bool
-    ensures is { result ≡ list_all (λ row. nat_le row.centre 1000000) rows.now }
+    ensures is { result ≡ list_all (λ row. is_place_kept row.centre) rows.now }
 {
-    rows.iter().all(|row| row.centre <= 1_000_000)
+    rows.iter().all(|row| row.centre <= MAX_PLACE)
 }
 
 fn are_buffers_kept(rows: &[StandRow]) -> bool
-    ensures is { result ≡ list_all (λ row. nat_le row.buffer 240) rows.now }
+    ensures is { result ≡ list_all (λ row. nat_le row.buffer MAX_BUFFER) rows.now }
 {
-    rows.iter().all(|row| row.buffer <= 240)
-}
-
-fn type_limit(rows: &[TypeRow]) -> Option<Limit>
-    ensures is { result ≡ type_limit rows.now }
-{
-    if !is_within(1, 400, rows.len() as u64) {
-        return Some(Limit::Types);
-    }
-    if !are_least_kept(rows) {
-        return Some(Limit::Least);
-    }
-    None
+    rows.iter().all(|row| row.buffer <= MAX_BUFFER)
 }
 
 fn are_least_kept(rows: &[TypeRow]) -> bool
-    ensures is { result ≡ list_all (λ row. is_within 1 600 row.least) rows.now }
+    ensures is { result ≡ list_all (λ row. is_within 1 MAX_LEAST row.least) rows.now }
 {
-    rows.iter().all(|row| is_within(1, 600, row.least as u64))
+    rows.iter().all(|row| is_within(1, MAX_LEAST, row.least))
 }
 
 fn bad_span(rows: &[TypeRow]) -> Option<Name>

@@ -1,154 +1,191 @@
--- How the input of the session ends, and what that says of the status.
-use Rattle.std.proofs.Common.{◌≡◌, ◌≢◌, ◌⊎◌, ◌∙◌, inl, inr, ℕ, List, ◌++◌, Option, None, Some, refl, sym, ap, subst, append-nil, arith}
-use Rattle.std.specs.Io.KnownBytes.{Consumes, IsAtEnd}
+-- How a session on the built-in plan stops, and what that is to its input.
+use Rattle.std.proofs.Common.{◌≡◌, ◌≢◌, ◌<◌, ◌≤◌, ◌+◌, ◌∙◌, inl, inr, ℕ, List, [], ◌∷◌, ◌++◌, Option, None, Some, true, refl, sym, ap, subst, append-nil, length, length-append, take, arith}
+use Rattle.std.specs.Prelude.{All}
+use Rattle.std.specs.Io.KnownBytes.{Consumes}
 use Rattle.apron_base.specs.declared.outside.Outcome.{Outcome}
-use Rattle.apron_base.specs.declared.outside.Outcome.TheVariants.{Ended, Closed, Cut, Malformed, Limit, ReadFault, WriteFault, Spent, Memory}
-use Rattle.http_framing.specs.Requests.{Request}
-use Rattle.http_framing.specs.Streams.{Ending, ended, cut, closed, malformed, Requests, Splits}
-use Rattle.http_framing.proofs.StreamLaws.{malformed_more, requests_closed, requests_of, splits_more}
-use Rattle.history_core.specs.History.{IsLegal}
+use Rattle.apron_base.specs.declared.outside.Outcome.TheVariants as came
+use Rattle.http_framing.specs.Closing.{is_closing}
+use Rattle.http_framing.specs.Requests.{Request, HasRequest}
+use Rattle.http_framing.specs.Streams.{ended, cut, closed, malformed, IsOpen, Requests, Splits}
+use Rattle.http_framing.proofs.StreamLaws.{malformed_more, requests_closed, requests_of, splits_more, splits_push, whole_more}
 use Rattle.desk_http.specs.Alone.{AloneAsks}
+use Rattle.desk_http.specs.Answers.{Answered, Answers, Sent, sends, sent_text}
 use Rattle.desk_http.specs.Ports.{PortState}
-use Rattle.desk_http.specs.Session.{Close, EndsAs, Sent, texts_of}
+use Rattle.desk_http.specs.Runs.{Runs}
+use Rattle.desk_http.specs.Session.{ComesFirst, EndsAfter, IsCount, IsRead, Last, Progress, WritesLast, last_text, most_requests, no_progress, nothing, refusal, refusal_text, reply, texts_of}
+use Rattle.desk_http.proofs.SoFar.{runs_push, texts_of-push}
 use Rattle.apron_rules.specs.Demo.{demo_airport}
-use Rattle.apron_run.specs.Demo.{demo_plan}
-use Rattle.apron_run.specs.Run.{AllSound, EndsInput, Headline, IsStopped, IsWholeStatus, RunsDemo, ServesDemo, ending_text, status_of, status_of_ending}
+use Rattle.apron_check.specs.Lines.{fault_line}
+use Rattle.apron_check.specs.declared.faults.FilesFault.TheVariants as files
+use Rattle.apron_run.specs.Demo.{demo_plan, fresh_port}
+use Rattle.apron_run.specs.Headline.{Carried, CutsRefusal, CutsReply, Exchange, GoesOn, IsUnread, Sends, StopsInside, StopsWith}
+use Rattle.apron_run.specs.Statuses.{status_of_outcome}
+use Rattle.apron_run.specs.declared.status.Status.{Status}
+use Rattle.apron_run.specs.declared.status.Status.TheVariants.{Done, ReadFault, WriteFault, Cut, Memory, Malformed, Limit}
 
--- what was taken is a front of the input
-taken_front : (input : List ℕ) (left : Option (List ℕ)) (taken : List ℕ) → Consumes (Some input) left taken → (more : List ℕ) × (input ≡ taken ++ more)
-taken_front input None taken h = absurd h
-taken_front input (Some more) taken h = (more, h)
+-- what a source that tells its bytes has left, and what was taken before it
+pub record HasLeft (input taken : List ℕ) (left : Option (List ℕ)) : Type 0 where
+  pub rest : List ℕ
+  pub is : left ≡ Some rest
+  pub front : input ≡ taken ++ rest
 
--- at the end of the input all of it was taken
-taken_all : (input : List ℕ) (left : Option (List ℕ)) (taken : List ℕ) → Consumes (Some input) left taken → IsAtEnd left → input ≡ taken
-taken_all input None taken h e = absurd h
-taken_all input (Some more) taken h e = h ∙ (ap (λ m. taken ++ m) e ∙ append-nil taken)
+pub has_left : (input taken : List ℕ) (left : Option (List ℕ)) → Consumes (Some input) left taken → HasLeft input taken left
+has_left input taken None h = absurd h
+has_left input taken (Some rest) h = record { rest = rest; is = refl; front = h }
 
--- the input is read so, by what was answered of it
-record ReadsAll (input : List ℕ) (requests : List Request) (sents : List Sent) (written : List ℕ) (served new : PortState) (status : ℕ) : Type 0 where
-  pub ending : Ending
-  pub reads : Requests input requests ending
-  pub bytes : written ≡ texts_of demo_airport sents ++ ending_text ending
-  pub same : new ≡ served
-  pub status_is : status ≡ status_of_ending ending
+-- what is written, where nothing is written last and nothing behind it
+bare : (texts written tail : List ℕ) → written ≡ [] → tail ≡ [] → (texts ++ written) ++ tail ≡ texts
+bare texts written tail none end =
+    ap (λ w. (texts ++ w) ++ tail) none ∙ (ap (λ t. (texts ++ []) ++ t) end ∙ (append-nil (texts ++ []) ∙ append-nil texts))
 
-closed_reads : (bytes rest : List ℕ) (requests : List Request) → Splits bytes requests rest → Close requests → Requests bytes requests closed
-closed_reads bytes rest requests splits h =
-    subst (λ rs. Requests bytes rs closed) (sym h.are)
-    (requests_closed bytes rest h.before h.last (subst (λ rs. Splits bytes rs rest) h.are splits) (let going = h.going in going.stay) h.closing)
+-- the same, where this is written last
+ending_with : (texts written tail last : List ℕ) → written ≡ last → tail ≡ [] → (texts ++ written) ++ tail ≡ texts ++ last
+ending_with texts written tail last is end =
+    ap (λ w. (texts ++ w) ++ tail) is ∙ (ap (λ t. (texts ++ last) ++ t) end ∙ append-nil (texts ++ last))
 
--- a session that answered all of its input, or one that stopped before
-reads_or_stops : (input : List ℕ) (left : Option (List ℕ)) (taken : List ℕ) (outcome : Outcome) (requests : List Request) (sents : List Sent) (rest written : List ℕ) (served new : PortState)
-    → Consumes (Some input) left taken → Splits taken requests rest → outcome ≢ Spent
-    → EndsAs AloneAsks demo_plan outcome left requests sents rest written served new
-    → ReadsAll input requests sents written served new (status_of outcome) ⊎ IsStopped input (status_of outcome)
-reads_or_stops input left taken Ended requests sents rest written served new c s n (going, last, at_end, bytes, same) =
-    let all : input ≡ taken = taken_all input left taken c at_end in
-    inl (record {
-      ending = ended;
-      reads = subst (λ i. Requests i requests ended) (sym all) (requests_of taken rest requests ended s going.stay last);
-      bytes = bytes ∙ sym (append-nil (texts_of demo_airport sents));
-      same = same;
-      status_is = refl;
-    })
-reads_or_stops input left taken Cut requests sents rest written served new c s n (going, last, at_end, bytes, same) =
-    let all : input ≡ taken = taken_all input left taken c at_end in
-    inl (record {
-      ending = cut;
-      reads = subst (λ i. Requests i requests cut) (sym all) (requests_of taken rest requests cut s going.stay last);
-      bytes = bytes ∙ sym (append-nil (texts_of demo_airport sents));
-      same = same;
-      status_is = refl;
-    })
-reads_or_stops input left taken Closed requests sents rest written served new c s n (close, bytes, same) =
-    let front = taken_front input left taken c in
-    inl (record {
-      ending = closed;
-      reads = subst (λ i. Requests i requests closed) (sym front.1) (closed_reads (taken ++ front.0) (rest ++ front.0) requests (splits_more taken front.0 rest requests s) close);
-      bytes = bytes ∙ sym (append-nil (texts_of demo_airport sents));
-      same = same;
-      status_is = refl;
-    })
-reads_or_stops input left taken Malformed requests sents rest written served new c s n (going, (why, refused, bytes), same) =
-    let front = taken_front input left taken c in
-    inl (record {
-      ending = malformed why;
-      reads = subst (λ i. Requests i requests (malformed why)) (sym front.1)
-          (requests_of (taken ++ front.0) (rest ++ front.0) requests (malformed why) (splits_more taken front.0 rest requests s) going.stay (malformed_more rest front.0 why refused));
-      bytes = bytes;
-      same = same;
-      status_is = refl;
-    })
-reads_or_stops input left taken Limit requests sents rest written served new c s n (stay, most, bytes, same) =
-    let front = taken_front input left taken c in
-    inr (inr (inr (inr (
-      refl,
-      record {
-        requests = requests;
-        rest = rest ++ front.0;
-        splits = subst (λ i. Splits i requests (rest ++ front.0)) (sym front.1) (splits_more taken front.0 rest requests s);
-        stay = stay;
-        most = most;
-      },
-    ))))
-reads_or_stops input left taken ReadFault requests sents rest written served new c s n e = inr (inl refl)
-reads_or_stops input left taken WriteFault requests sents rest written served new c s n e = inr (inr (inl refl))
-reads_or_stops input left taken Spent requests sents rest written served new c s n e = absurd (n refl)
-reads_or_stops input left taken Memory requests sents rest written served new c s n e = inr (inr (inr (inl refl)))
+-- the line that tells want of memory, or a front of it; nothing behind other outcomes
+abbrev pub IsTail : Outcome → List ℕ → Type 0
+IsTail came.Memory tail = (count : ℕ) × (tail ≡ take count (fault_line files.Memory))
+IsTail other tail = tail ≡ []
 
-stopped_is_not_whole : (input : List ℕ) (status : ℕ) → IsStopped input status → IsWholeStatus status → ⊥
-stopped_is_not_whole input status (inl e) (inl f) = absurd (omega arith)
-stopped_is_not_whole input status (inl e) (inr (inl f)) = absurd (omega arith)
-stopped_is_not_whole input status (inl e) (inr (inr f)) = absurd (omega arith)
-stopped_is_not_whole input status (inr (inl e)) (inl f) = absurd (omega arith)
-stopped_is_not_whole input status (inr (inl e)) (inr (inl f)) = absurd (omega arith)
-stopped_is_not_whole input status (inr (inl e)) (inr (inr f)) = absurd (omega arith)
-stopped_is_not_whole input status (inr (inr (inl e))) (inl f) = absurd (omega arith)
-stopped_is_not_whole input status (inr (inr (inl e))) (inr (inl f)) = absurd (omega arith)
-stopped_is_not_whole input status (inr (inr (inl e))) (inr (inr f)) = absurd (omega arith)
-stopped_is_not_whole input status (inr (inr (inr (e, most)))) (inl f) = absurd (omega arith)
-stopped_is_not_whole input status (inr (inr (inr (e, most)))) (inr (inl f)) = absurd (omega arith)
-stopped_is_not_whole input status (inr (inr (inr (e, most)))) (inr (inr f)) = absurd (omega arith)
+-- what a session answered of its input, how it stopped, and the port after it
+pub record Meets (carried : Carried) (status : Status) (new : PortState) : Type 0 where
+  pub exchange : Exchange
+  pub splits : Splits carried.input exchange.requests exchange.rest
+  pub few : length exchange.requests ≤ most_requests
+  pub runs : Runs Sends fresh_port exchange.requests exchange.sents new
+  pub stops : StopsWith status carried exchange
 
--- the headline of a session that answered all of its input
-demo_headline : (input before after : List ℕ) (left : Option (List ℕ)) (status : ℕ) → ServesDemo (Some input) left (Some before) (Some after) status → IsWholeStatus status
-    → (output : List ℕ) × (after ≡ before ++ output) × Headline input output status
-demo_headline input before after left status h whole =
-    let session = h.session in
-    elim (reads_or_stops input left session.taken h.outcome session.requests session.sents session.rest session.written session.served h.new session.consumed session.splits h.unspent session.ends) [
-      | inl all ↦ (
-        session.written,
-        session.appended,
-        record {
-          requests = session.requests;
-          ending = all.ending;
-          sents = session.sents;
-          new = session.served;
-          reads = all.reads;
-          runs = session.runs;
-          bytes = all.bytes;
-          status_is = h.status_is ∙ all.status_is;
-          legal = subst (λ (p : PortState). IsLegal demo_plan p.seen) all.same h.legal;
-          sound = subst (λ (p : PortState). AllSound p.seen) all.same h.sound;
-          faults = subst (λ (p : PortState). p.faults ≡ 0) all.same h.faults;
-        },
-      )
-      | inr stopped ↦ absurd (stopped_is_not_whole input status (subst (IsStopped input) (sym h.status_is) stopped) whole)
-    ]
+-- what comes of a request at the built-in plan
+abbrev Comes : PortState → Request → Answered → PortState → Type 0
+Comes = Answers AloneAsks demo_plan
 
--- the headline of a run of the demo
-pub run_headline : (input before after : List ℕ) (left : Option (List ℕ)) (status : ℕ) → RunsDemo (Some input) left (Some before) (Some after) status → IsWholeStatus status
-    → (output : List ℕ) × (after ≡ before ++ output) × Headline input output status
-run_headline input before after left status (inl h) whole = demo_headline input before after left status h whole
-run_headline input before after left status (inr h) whole = absurd (stopped_is_not_whole input status (inr (inr (inl h.status_is))) whole)
+module _ (input taken more : List ℕ) (front : input ≡ taken ++ more) (done : Progress) (served after : PortState)
+    (splits : Splits taken done.requests done.rest) (stay : All IsOpen done.requests) (runs : Runs Sends fresh_port done.requests done.sents served) where
+  -- the bytes of the session, with this output
+  abbrev carrying : List ℕ → Carried
+  carrying output = record { input = input; left = more; output = output }
 
--- the status of a run of the demo
-pub run_status : (input : List ℕ) (left told0 told1 : Option (List ℕ)) (status : ℕ) → RunsDemo (Some input) left told0 told1 status
-    → EndsInput input status ⊎ IsStopped input status
-run_status input left told0 told1 status (inr h) = inr (inr (inr (inl h.status_is)))
-run_status input left told0 told1 status (inl h) =
-    let session = h.session in
-    elim (reads_or_stops input left session.taken h.outcome session.requests session.sents session.rest session.written session.served h.new session.consumed session.splits h.unspent session.ends) [
-      | inl all ↦ inl (record { requests = session.requests; ending = all.ending; reads = all.reads; status_is = h.status_is ∙ all.status_is })
-      | inr stopped ↦ inr (subst (IsStopped input) (sym h.status_is) stopped)
-    ]
+  -- the bytes of the replies to the requests that left the session open
+  abbrev texts : List ℕ
+  texts = texts_of demo_airport done.sents
+
+  -- those requests, in the whole input
+  abbrev open_exchange : Exchange
+  open_exchange = record { requests = done.requests; sents = done.sents; rest = done.rest ++ more }
+
+  -- the same and one more, with what is behind it
+  abbrev one_more : Request → Sent → List ℕ → Exchange
+  one_more request sent behind = record { requests = done.requests ++ request ∷ []; sents = done.sents ++ sent ∷ []; rest = behind ++ more }
+
+  open_splits : Splits (taken ++ more) done.requests (done.rest ++ more)
+  open_splits = splits_more taken more done.rest done.requests splits
+
+  more_splits : (request : Request) (behind : List ℕ) → HasRequest done.rest request behind → Splits (taken ++ more) (done.requests ++ request ∷ []) (behind ++ more)
+  more_splits request behind first =
+      splits_more taken more behind (done.requests ++ request ∷ []) (splits_push taken done.rest behind done.requests request splits first)
+
+  -- the session stopped behind those requests
+  open_meets : (output : List ℕ) (status : Status) → after ≡ served → length done.requests ≤ most_requests → StopsWith status (carrying output) open_exchange
+      → Meets (carrying output) status after
+  open_meets output status same few stops = record {
+    exchange = open_exchange;
+    few = few;
+    splits = subst (λ i. Splits i done.requests (done.rest ++ more)) (sym front) open_splits;
+    runs = subst (Runs Sends fresh_port done.requests done.sents) (sym same) runs;
+    stops = stops;
+  }
+
+  -- the session stopped behind one more
+  more_meets : (request : Request) (sent : Sent) (output : List ℕ) (status : Status) → (first : ComesFirst Comes done.rest request (sends sent) served after)
+      → length done.requests < most_requests → StopsWith status (carrying output) (one_more request sent first.behind) → Meets (carrying output) status after
+  more_meets request sent output status first few stops = record {
+    exchange = one_more request sent first.behind;
+    few = let one : length (done.requests ++ request ∷ []) ≡ length done.requests + 1 = length-append done.requests (request ∷ []) in omega arith;
+    splits = subst (λ i. Splits i (done.requests ++ request ∷ []) (first.behind ++ more)) (sym front) (more_splits request first.behind first.first);
+    runs = runs_push Sends fresh_port served after done.requests done.sents request sent runs first.comes;
+    stops = stops;
+  }
+
+  -- where nothing was answered and nothing is left of what was taken, nothing was taken
+  nothing_taken : done ≡ no_progress → taken ≡ []
+  nothing_taken none = subst (λ (p : Progress). Splits taken p.requests p.rest) none splits
+
+  -- how a session that wanted memory stopped
+  wants_memory : (output : List ℕ) → length done.requests < most_requests → ((count : ℕ) × (output ≡ texts ++ take count (fault_line files.Memory)))
+      → EndsAfter Comes came.Memory done nothing served after → Meets (carrying output) Memory after
+  wants_memory output few wrote (inl (request, first)) = open_meets output Memory first.comes.1 (omega arith) (
+    record { stay = stay; few = few },
+    inr (record { request = request; behind = first.behind ++ more; whole = whole_more done.rest more request first.behind first.first; takes = first.comes.0 }),
+    wrote,
+  )
+  wants_memory output few wrote (inr (none, same)) = open_meets output Memory same (omega arith) (
+    record { stay = stay; few = few },
+    inl (ap (λ (p : Progress). p.requests) none, sym (front ∙ ap (λ t. t ++ more) (nothing_taken none))),
+    wrote,
+  )
+
+  -- at the end of the input all of it was taken
+  all_taken : more ≡ [] → input ≡ taken
+  all_taken none = front ∙ (ap (λ m. taken ++ m) none ∙ append-nil taken)
+
+  -- how a session stopped, for each outcome
+  pub session_meets : (outcome : Outcome) (last : Last) (written tail : List ℕ) → outcome ≢ came.Spent → EndsAfter Comes outcome done last served after
+      → IsRead outcome (Some more) → IsCount outcome (length done.requests) → WritesLast outcome (last_text demo_airport last) written → IsTail outcome tail
+      → Meets (carrying ((texts ++ written) ++ tail)) (status_of_outcome outcome) after
+  session_meets came.Ended nothing written tail unspent ends read count wrote end = open_meets _ Done ends.1 (omega arith) (
+    inl (
+      record { stay = stay; few = count },
+      subst (λ i. Requests i done.requests ended) (sym (all_taken read))
+          (requests_of taken done.rest done.requests ended splits stay ends.0),
+    ),
+    bare texts written tail wrote end,
+  )
+  session_meets came.Cut nothing written tail unspent ends read count wrote end = open_meets _ Cut ends.1 (omega arith) (
+    record { stay = stay; few = count },
+    subst (λ i. Requests i done.requests cut) (sym (all_taken read))
+        (requests_of taken done.rest done.requests cut splits stay ends.0),
+    bare texts written tail wrote end,
+  )
+  session_meets came.Malformed (refusal why) written tail unspent ends read count wrote end = open_meets _ Malformed ends.1 (omega arith) (
+    record { stay = stay; few = count },
+    (
+      why,
+      subst (λ i. Requests i done.requests (malformed why)) (sym front)
+          (requests_of (taken ++ more) (done.rest ++ more) done.requests (malformed why) open_splits stay (malformed_more done.rest more why ends.0)),
+      ending_with texts written tail (refusal_text why) wrote end,
+    ),
+  )
+  session_meets came.Limit nothing written tail unspent ends read count wrote end = open_meets _ Limit ends.1 (omega arith) (stay, count, bare texts written tail wrote end)
+  session_meets came.ReadFault nothing written tail unspent ends read count wrote end = open_meets _ ReadFault ends.1 (omega arith) (
+    record { stay = stay; few = count },
+    record { part = done.rest; are = refl; cut_off = ends.0 },
+    bare texts written tail wrote end,
+  )
+  session_meets came.Closed (reply request sent) written tail unspent (closing, first) read count wrote end = more_meets request sent _ Done first count (
+    inr (subst (λ i. Requests i (done.requests ++ request ∷ []) closed) (sym front)
+        (requests_closed (taken ++ more) (first.behind ++ more) done.requests request (more_splits request first.behind first.first) stay closing)),
+    ending_with texts written tail (sent_text demo_airport sent) wrote end ∙ sym (texts_of-push demo_airport done.sents sent),
+  )
+  session_meets came.WriteFault (reply request sent) written tail unspent first read count wrote end = more_meets request sent _ WriteFault first count
+      (inl (record {
+        before = open_exchange;
+        goes_on = record { stay = stay; few = count };
+        request = request;
+        sent = sent;
+        requests_are = refl;
+        sents_are = refl;
+        count = wrote.0;
+        bytes = ending_with texts written tail (take wrote.0 (sent_text demo_airport sent)) wrote.1 end;
+      }))
+  session_meets came.WriteFault (refusal why) written tail unspent ends read count wrote end = open_meets _ WriteFault ends.1 (omega arith) (inr (record {
+    goes_on = record { stay = stay; few = count };
+    why = why;
+    malformed = malformed_more done.rest more why ends.0;
+    count = wrote.0;
+    bytes = ending_with texts written tail (take wrote.0 (refusal_text why)) wrote.1 end;
+  }))
+  session_meets came.Memory nothing written tail unspent ends read count wrote (n, end) =
+      wants_memory _ count (n, ap (λ w. (texts ++ w) ++ tail) wrote ∙ (ap (λ t. t ++ tail) (append-nil texts) ∙ ap (λ t. texts ++ t) end)) ends
+  session_meets came.Spent last written tail unspent ends read count wrote end = absurd (unspent refl)
+  session_meets other last written tail unspent ends read count wrote end = absurd ends.0

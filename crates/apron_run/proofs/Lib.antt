@@ -1,2 +1,4 @@
-pub mod OneSession
+pub mod Calls
 pub mod Endings
+pub mod Serving
+pub mod Headlines

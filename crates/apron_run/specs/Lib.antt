@@ -1,3 +1,10 @@
-pub mod Demo
+pub mod World
 pub mod Words
+pub mod WordsShown
+pub mod Statuses
+pub mod Print
+pub mod Check
+pub mod Demo
+pub mod Desk
+pub mod Headline
 pub mod Run

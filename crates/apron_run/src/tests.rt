@@ -1,6 +1,7 @@
 // What the program does with whole inputs. The expected texts are written by hand from the format of requests and replies.
 mod commits;
 mod drafts;
+mod limits;
 mod reads;
 mod sessions;
 mod words_and_files;

@@ -4,7 +4,8 @@ use Rattle.serde_json.specs.Data.{Data, Items, no_items, item}
 use Rattle.serde_json.specs.Find.{get, as_array}
 use Rattle.serde_json.specs.Events.{items_len}
 use Rattle.apron_base.specs.Name.{is_name}
-use Rattle.desk_bodies.specs.Fields.{body_data, number_at, text_at}
+use Rattle.desk_bodies.specs.declared.commits.TheConstants.{MAX_EDITS}
+use Rattle.desk_bodies.specs.Fields.{body_data, max_u32, max_u8, number_at, text_at}
 
 -- an edit, its stand by the bytes of its name
 pub data EditSaid : Type 0 where
@@ -22,11 +23,11 @@ pub record CommitSaid : Type 0 where
 
 -- a visit's number
 abbrev pub visit_at : Data → Option ℕ
-visit_at d = number_at (codes "visit") 4294967295 d
+visit_at d = number_at (codes "visit") max_u32 d
 
 -- a part's number
 abbrev pub part_at : Data → Option ℕ
-part_at d = number_at (codes "part") 255 d
+part_at d = number_at (codes "part") max_u8 d
 
 -- {"visit":N,"part":P,"stand":STAND}
 abbrev pub put_of : Data → Option EditSaid
@@ -40,7 +41,7 @@ lift_of d = option_and_then (λ visit. option_map (lift visit) (part_at d)) (vis
 -- {"visit":N,"part":P,"at":M}
 abbrev pub cut_of : Data → Option EditSaid
 cut_of d =
-    option_and_then (λ visit. option_and_then (λ part. option_map (cut visit part) (number_at (codes "at") 4294967295 d)) (part_at d)) (visit_at d)
+    option_and_then (λ visit. option_and_then (λ part. option_map (cut visit part) (number_at (codes "at") max_u32 d)) (part_at d)) (visit_at d)
 
 -- {"visit":N,"part":P}
 abbrev pub join_of : Data → Option EditSaid
@@ -52,13 +53,7 @@ only_edit (Some d) None None None = put_of d
 only_edit None (Some d) None None = lift_of d
 only_edit None None (Some d) None = cut_of d
 only_edit None None None (Some d) = join_of d
-only_edit None None None None = None
-only_edit (Some d) (Some e) o p = None
-only_edit (Some d) None (Some e) p = None
-only_edit (Some d) None None (Some e) = None
-only_edit None (Some d) (Some e) p = None
-only_edit None (Some d) None (Some e) = None
-only_edit None None (Some d) (Some e) = None
+only_edit putting lifting cutting joining = None
 
 -- {"put":..}, {"lift":..}, {"cut":..} or {"join":..}
 unfoldable pub edit_of : Data → Option EditSaid
@@ -71,7 +66,7 @@ edits_of (item d ds) = option_and_then (λ e. option_map (λ es. e ∷ es) (edit
 
 -- 1 to 64 edits
 unfoldable pub edits_within : Items → Option (List EditSaid)
-edits_within ds = if nat_le 1 (items_len ds) && nat_le (items_len ds) 64 then edits_of ds else None
+edits_within ds = if nat_le 1 (items_len ds) && nat_le (items_len ds) MAX_EDITS then edits_of ds else None
 
 -- the text, where it is a name
 abbrev pub if_name : List ℕ → Option (List ℕ)
@@ -89,8 +84,8 @@ commit_of d =
     option_and_then (λ base.
     option_map (λ edits. record { desk = desk; draft = draft; base = base; edits = edits })
     (option_and_then edits_within (option_and_then as_array (get (codes "edits") d))))
-    (number_at (codes "base") 4294967295 d))
-    (number_at (codes "draft") 4294967295 d))
+    (number_at (codes "base") max_u32 d))
+    (number_at (codes "draft") max_u32 d))
     (name_at (codes "desk") d)
 
 -- the commit of a body

@@ -1,5 +1,5 @@
 -- The JSON of a body, and the fields of its objects.
-use Rattle.std.specs.Prelude.{ℕ, List, nat_le, Option, Some, None, option_and_then, if◌then◌else◌}
+use Rattle.std.specs.Prelude.{◌^◌, ◌-◌, ℕ, List, nat_le, Option, Some, None, option_and_then, if◌then◌else◌}
 use Rattle.std.specs.Str.{is_utf8}
 use Rattle.serde_json.specs.Data.{Data}
 use Rattle.serde_json.specs.Read.{read}
@@ -8,6 +8,14 @@ use Rattle.serde_json.specs.Find.{get, as_number, as_u64, as_str}
 -- the JSON that a body in UTF-8 holds, nested at most 127 deep; of a key written twice the last value
 unfoldable pub body_data : List ℕ → Option Data
 body_data bytes = if is_utf8 bytes then read bytes else None
+
+-- the greatest number of 32 bits
+abbrev pub max_u32 : ℕ
+max_u32 = 2 ^ 32 - 1
+
+-- the greatest number of 8 bits
+abbrev pub max_u8 : ℕ
+max_u8 = 2 ^ 8 - 1
 
 -- the number, where it is at most that
 abbrev pub at_most : ℕ → ℕ → Option ℕ

@@ -10,8 +10,8 @@ use apron_base::{Listed, Memory, Name};
 use serde_json::Value;
 use std::alloc::Global;
 
-/// The most edits of a commit.
-const MOST_EDITS: usize = 64;
+/// The most edits of a commit; the least is 1.
+pub const MAX_EDITS: usize = 64;
 
 /// An edit as a desk writes it, its stand by name. Visits and parts are counted from 1, but any
 /// number may be written.
@@ -88,7 +88,7 @@ fn some_edits(alloc: Global, values: &[Value]) -> Result<Option<Listed<EditText>
         ≡ edits_within (items_view values.now)) }
     ensures few { IfOk result (λ o. IfSome o HasFewEdits) }
 {
-    if values.is_empty() || values.len() > MOST_EDITS {
+    if values.is_empty() || values.len() > MAX_EDITS {
         return Ok(None);
     }
     edits(alloc, values)

@@ -1,7 +1,7 @@
 // The JSON of a body, and the fields of its objects.
 ghost use Rattle.std.specs.Prelude.{◌≡◌, Some, None, Err, IfOk, option_map};
 ghost use Rattle.serde_json.specs.View.{view};
-ghost use Rattle.desk_bodies.specs.Fields.{body_data, number_at, text_at};
+ghost use Rattle.desk_bodies.specs.Fields.{body_data, max_u32, max_u8, number_at, text_at};
 
 use serde_json::Value;
 use std::alloc::Global;
@@ -44,10 +44,10 @@ pub fn read_json(alloc: Global, body: &[u8]) -> Result<Value, BodyFault>
 
 /// The whole number of 32 bits under a key. None where none is there.
 pub fn number(object: &Value, key: &str) -> Option<u32>
-    ensures value { result ≡ number_at key.now 4294967295 (view object.now) }
+    ensures value { result ≡ number_at key.now max_u32 (view object.now) }
 {
     let n = object.get(key)?.as_u64()?;
-    if n <= 4_294_967_295 {
+    if n <= u32::MAX as u64 {
         Some(n as u32)
     } else {
         None
@@ -56,10 +56,14 @@ pub fn number(object: &Value, key: &str) -> Option<u32>
 
 /// The whole number of 8 bits under a key. None where none is there.
 pub fn small_number(object: &Value, key: &str) -> Option<u8>
-    ensures value { result ≡ number_at key.now 255 (view object.now) }
+    ensures value { result ≡ number_at key.now max_u8 (view object.now) }
 {
     let n = object.get(key)?.as_u64()?;
-    if n <= 255 { Some(n as u8) } else { None }
+    if n <= u8::MAX as u64 {
+        Some(n as u8)
+    } else {
+        None
+    }
 }
 
 /// The text under a key. None where none is there.

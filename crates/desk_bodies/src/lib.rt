@@ -4,7 +4,7 @@
 mod commits;
 mod fields;
 
-pub use commits::{CommitText, EditText, read_commit};
+pub use commits::{CommitText, EditText, MAX_EDITS, read_commit};
 pub use fields::BodyFault;
 
 #[cfg(test)]

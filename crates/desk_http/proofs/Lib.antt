@@ -1,4 +1,5 @@
-pub mod SoFar
 pub mod OneDesk
 pub mod Asking
-pub mod Seeing
+pub mod Stands
+pub mod SoFar
+pub mod Ending

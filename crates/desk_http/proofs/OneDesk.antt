@@ -1,17 +1,16 @@
 -- A desk alone takes its turns at the history that it has seen.
-use Rattle.std.proofs.Common.{◌≡◌, ◌∙◌, ◌≤◌, ◌<◌, ◌+◌, ◌-◌, ◌^◌, ℕ, zero, suc, List, [], ◌∷◌, ◌++◌, length, refl, sym, ap, arith, append-nil}
+use Rattle.std.proofs.Common.{◌≡◌, ◌≢◌, ◌∙◌, ◌≤◌, ◌<◌, ◌+◌, ◌-◌, ℕ, zero, suc, List, [], ◌∷◌, ◌++◌, length, refl, sym, ap, arith, append-nil}
 use Rattle.std.proofs.lemmas.Bool.{eqb-true}
 use Rattle.std.proofs.lemmas.Bool.Decides.{nat_tests}
 use Rattle.apron_base.specs.Histories.{Every}
 use Rattle.apron_base.specs.declared.outside.Acted.{Acted}
 use Rattle.apron_base.specs.declared.outside.Acted.TheVariants.{Reply as Replied, Memory as NoMemory, Fault, Spent}
 use Rattle.desk_words.specs.declared.asks.Ask.{Ask}
-use Rattle.history_core.specs.Acts.{IsReplyOrMemory}
 use Rattle.history_core.specs.Answer.{ActsAs, Given, Gives, replied, no_memory, keeper_fault}
 use Rattle.history_core.specs.Board.{BoardState}
-use Rattle.history_core.specs.History.{IsLegal}
+use Rattle.history_core.specs.History.{IsLegal, call_limit}
 use Rattle.desk_http.specs.Alone.{AloneAsks, IsAlone, alone_port, numbers_from}
-use Rattle.desk_http.specs.Ports.{HasFaultCause, ShowsAsk}
+use Rattle.desk_http.specs.Ports.{CountsGiven, ShowsAsk}
 
 every_one : {E : Type 0} (P : E → Type 0) (xs : List E) → ((x : E) → P x) → Every P xs
 every_one P [] h = tt
@@ -42,13 +41,14 @@ calls_push first next h =
 
 -- an ask of a desk alone gets its turn
 turn : (before after : BoardState) (first : ℕ) (ask : Ask) (given : Given)
-    → IsAlone before first → IsLegal before.start after.history → before.next < 2 ^ 62 → Gives before.start before.history before.next ask given after.history
-    → after.next ≡ before.next + 1 → HasFaultCause 0 given 0
+    → IsAlone before first → IsLegal before.start after.history → before.next < call_limit → Gives before.start before.history before.next ask given after.history
+    → after.next ≡ before.next + 1 → CountsGiven given 0 0
     → AloneAsks before.start (alone_port (record { board = before; first = first })) ask given (alone_port (record { board = after; first = first }))
 turn before after first ask given h still last gives next cause = (
   record {
     history = before.history;
     call = before.next;
+    from = h.begun;
     later = record { new = []; is = sym (append-nil before.history); above = every_one _ _ (λ _. tt) };
     legal = h.legal;
     still = still;
@@ -59,9 +59,8 @@ turn before after first ask given h still last gives next cause = (
     first = refl;
     calls = ap (λ n. numbers_from first (n - first)) next ∙ calls_push first before.next h.begun;
     spent = grind (arith, nat_tests);
-    stays = λ spent. let all : after.next ≡ 2 ^ 62 = eqb-true after.next (2 ^ 62) spent in omega arith;
-    counts = omega arith;
-    fault = cause;
+    stays = λ spent. let all : after.next ≡ call_limit = eqb-true after.next (call_limit) spent in omega arith;
+    faults = cause;
   },
   refl,
   let begun = h.begun in let size : length (numbers_from first (before.next - first)) ≡ before.next - first = length-numbers_from first (before.next - first) in omega arith,
@@ -69,14 +68,16 @@ turn before after first ask given h still last gives next cause = (
 
 -- what a desk alone shows of an ask
 pub alone_shows : (before after : BoardState) (first : ℕ) (ask : Ask) (acted : Acted)
-    → IsAlone before first → IsLegal before.start after.history → before.next < 2 ^ 62 → ActsAs before.start before.history before.next ask acted after.history
-    → after.next ≡ before.next + 1 → IsReplyOrMemory acted
+    → IsAlone before first → IsLegal before.start after.history → before.next < call_limit → ActsAs before.start before.history before.next ask acted after.history
+    → after.next ≡ before.next + 1 → acted ≢ Fault
     → ShowsAsk AloneAsks before.start (alone_port (record { board = before; first = first })) ask acted (alone_port (record { board = after; first = first }))
-alone_shows before after first ask (Replied bytes) h still last (replied reply, shows, gives) next free = (replied reply, shows, turn before after first ask (replied reply) h still last gives next tt)
-alone_shows before after first ask (Replied bytes) h still last (no_memory, shows, gives) next free = absurd shows
-alone_shows before after first ask (Replied bytes) h still last (keeper_fault, shows, gives) next free = absurd shows
-alone_shows before after first ask NoMemory h still last (replied reply, shows, gives) next free = absurd shows
-alone_shows before after first ask NoMemory h still last (no_memory, shows, gives) next free = (no_memory, shows, turn before after first ask no_memory h still last gives next tt)
-alone_shows before after first ask NoMemory h still last (keeper_fault, shows, gives) next free = absurd shows
-alone_shows before after first ask Fault h still last acts next free = absurd free
-alone_shows before after first ask Spent h still last acts next free = absurd free
+alone_shows before after first ask (Replied bytes) h still last (replied reply, shows, gives) next free = (replied reply, shows, turn before after first ask (replied reply) h still last gives next (omega arith))
+alone_shows before after first ask (Replied bytes) h still last (no_memory, shows, gives) next free = absurd (cc)
+alone_shows before after first ask (Replied bytes) h still last (keeper_fault, shows, gives) next free = absurd (cc)
+alone_shows before after first ask NoMemory h still last (replied reply, shows, gives) next free = absurd (cc)
+alone_shows before after first ask NoMemory h still last (no_memory, shows, gives) next free = (no_memory, shows, turn before after first ask no_memory h still last gives next (omega arith))
+alone_shows before after first ask NoMemory h still last (keeper_fault, shows, gives) next free = absurd (cc)
+alone_shows before after first ask Fault h still last acts next free = absurd (free refl)
+alone_shows before after first ask Spent h still last (replied reply, shows, gives) next free = absurd (cc)
+alone_shows before after first ask Spent h still last (no_memory, shows, gives) next free = absurd (cc)
+alone_shows before after first ask Spent h still last (keeper_fault, shows, gives) next free = absurd (cc)

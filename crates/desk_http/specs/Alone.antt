@@ -1,10 +1,10 @@
 -- One desk alone over a board.
-use Rattle.std.specs.Prelude.{◌≡◌, ◌==◌, ◌+◌, ◌-◌, ◌≤◌, ◌^◌, ℕ, zero, suc, List, [], ◌∷◌, length}
+use Rattle.std.specs.Prelude.{◌≡◌, ◌==◌, ◌+◌, ◌-◌, ◌≤◌, ℕ, zero, suc, List, [], ◌∷◌, length}
 use Rattle.plan_core.specs.PlanState.{PlanState}
 use Rattle.desk_words.specs.declared.asks.Ask.{Ask}
 use Rattle.apron_base.specs.Histories.{Rises}
 use Rattle.history_core.specs.Answer.{Given}
-use Rattle.history_core.specs.History.{call_of, IsLegal}
+use Rattle.history_core.specs.History.{call_limit, call_of, IsLegal}
 use Rattle.history_core.specs.Board.{BoardState}
 use Rattle.desk_http.specs.Ports.{PortState, Turn}
 
@@ -30,7 +30,7 @@ alone_port alone = record {
   first = alone.first;
   seen = alone.board.history;
   calls = numbers_from alone.first (alone.board.next - alone.first);
-  spent = alone.board.next == 2 ^ 62;
+  spent = alone.board.next == call_limit;
   faults = 0;
 }
 

@@ -1,6 +1,12 @@
 pub mod Ports
 pub mod Alone
-pub mod Routes
 pub mod Runs
+pub mod Numbers
+pub mod CommitsRoute
+pub mod VersionRoute
+pub mod VisitRoute
+pub mod Routes
+pub mod Answers
 pub mod Session
+pub mod Replies
 pub mod Serving

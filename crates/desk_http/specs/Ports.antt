@@ -1,14 +1,14 @@
 -- What a port tells, and what one ask does to it.
-use Rattle.std.specs.Prelude.{◌≡◌, ◌+◌, ◌<◌, ◌≤◌, ◌^◌, ℕ, Bool, true, false, List, [], ◌∷◌, ◌++◌}
+use Rattle.std.specs.Prelude.{◌≡◌, ◌+◌, ◌<◌, ◌≤◌, ℕ, Bool, true, false, List, [], ◌∷◌, ◌++◌}
+use Rattle.apron_base.specs.Counts.{Rose}
 use Rattle.apron_base.specs.Histories.{Every, Rises}
-use Rattle.apron_base.specs.Outside.{Rose}
 use Rattle.apron_base.specs.declared.outside.Acted.{Acted}
-use Rattle.apron_base.specs.declared.outside.Acted.TheVariants.{Reply as Replied, Memory as NoMemory, Fault, Spent}
+use Rattle.apron_base.specs.declared.outside.Acted.TheVariants.{Spent}
 use Rattle.plan_core.specs.PlanState.{PlanState}
 use Rattle.desk_words.specs.declared.asks.Entry.{Entry}
 use Rattle.desk_words.specs.declared.asks.Ask.{Ask}
-use Rattle.history_core.specs.History.{call_of, IsLegal}
-use Rattle.history_core.specs.Answer.{Given, replied, no_memory, keeper_fault, ShowsAs, Gives}
+use Rattle.history_core.specs.History.{call_limit, call_of, IsLegal}
+use Rattle.history_core.specs.Answer.{Given, keeper_fault, shown, Gives}
 
 -- a port: the least number that a call of it can have, the history that it has seen, the numbers of its own calls,
 -- whether its numbers are exhausted, and its count of faults
@@ -25,41 +25,34 @@ pub record IsLater (seen : List Entry) (calls : List ℕ) (history : List Entry)
   pub is : history ≡ seen ++ new
   pub above : Every (λ call. Every (λ entry. call < call_of entry) new) calls
 
--- a fault is given only where the count of faults rose
-abbrev pub HasFaultCause : ℕ → Given → ℕ → Type 0
-HasFaultCause before (replied reply) now = Unit {0}
-HasFaultCause before no_memory now = Unit {0}
-HasFaultCause before keeper_fault now = Rose before now
+-- a count of faults after something was given: it never falls, and a fault is given only where it rose
+abbrev pub CountsGiven : Given → ℕ → ℕ → Type 0
+CountsGiven keeper_fault before now = (before ≤ now) × Rose before now
+CountsGiven given before now = before ≤ now
 
 -- An ask that got its turn: it found this whole history, which begins with all that the port had seen, and was given its answer there.
 pub record Turn (start : PlanState) (before : PortState) (ask : Ask) (given : Given) (after : PortState) : Type 0 where
   pub history : List Entry
   pub call : ℕ
+  pub from : before.first ≤ call
   pub later : IsLater before.seen before.calls history
   pub legal : IsLegal start history
   pub still : IsLegal start after.seen
   pub numbers : Rises call_of 1 call history
   pub above : Every (λ own. own < call) before.calls
-  pub last : call < 2 ^ 62
+  pub last : call < call_limit
   pub gives : Gives start history call ask given after.seen
   pub first : after.first ≡ before.first
   pub calls : after.calls ≡ before.calls ++ call ∷ []
   pub spent : before.spent ≡ false
-  pub stays : after.spent ≡ true → call + 1 ≡ 2 ^ 62
-  pub counts : before.faults ≤ after.faults
-  pub fault : HasFaultCause before.faults given after.faults
+  pub stays : after.spent ≡ true → call + 1 ≡ call_limit
+  pub faults : CountsGiven given before.faults after.faults
 
 -- an ask that found the numbers exhausted: it made no call, and changed nothing else
-pub record IsExhausted (before after : PortState) : Type 0 where
-  pub first : after.first ≡ before.first
-  pub seen : after.seen ≡ before.seen
-  pub calls : after.calls ≡ before.calls
-  pub spent : after.spent ≡ true
-  pub faults : after.faults ≡ before.faults
+abbrev pub IsExhausted : PortState → PortState → Type 0
+IsExhausted before after = after ≡ record before { spent = true }
 
 -- what an act shows of an ask, where `asks` says what the port gives and becomes
 abbrev pub ShowsAsk : (PlanState → PortState → Ask → Given → PortState → Type 0) → PlanState → PortState → Ask → Acted → PortState → Type 0
-ShowsAsk asks start before ask (Replied bytes) after = (given : Given) × ShowsAs start.airport (Replied bytes) given × asks start before ask given after
-ShowsAsk asks start before ask NoMemory after = (given : Given) × ShowsAs start.airport NoMemory given × asks start before ask given after
-ShowsAsk asks start before ask Fault after = (given : Given) × ShowsAs start.airport Fault given × asks start before ask given after
 ShowsAsk asks start before ask Spent after = IsExhausted before after
+ShowsAsk asks start before ask acted after = (given : Given) × (acted ≡ shown start.airport given) × asks start before ask given after

@@ -1,143 +1,87 @@
 -- What the steps of a session do.
-use Rattle.std.specs.Prelude.{◌≡◌, ◌<◌, All, ℕ, Bool, true, false, List, [], ◌++◌, length, take, Option, None, Some, ◌⊎◌}
-use Rattle.std.specs.Io.KnownBytes.{Appends, Consumes, IsAtEnd}
-use Rattle.httparse.specs.declared.spans.HeaderSpan.{HeaderSpan}
+use Rattle.std.specs.Prelude.{◌≡◌, ◌<◌, All, ℕ, Bool, true, false, List, [], ◌++◌, length, take, Option, None, Some, Result, Ok, Err, if◌then◌else◌}
+use Rattle.std.specs.Io.KnownBytes.{IsAtEnd}
+use Rattle.apron_base.specs.Ends.{Puts, SinkState, SourceState, Took, Wrote}
 use Rattle.apron_base.specs.declared.outside.Outcome.{Outcome}
-use Rattle.apron_base.specs.declared.outside.Outcome.TheVariants.{Ended, Closed, Cut, Malformed, Limit, ReadFault, WriteFault, Spent, Memory}
-use Rattle.plan_core.specs.PlanState.{PlanState}
-use Rattle.http_framing.specs.declared.bodies.Refusal.{Refusal}
-use Rattle.http_framing.specs.declared.front.Front.TheVariants.{Whole}
+use Rattle.apron_base.specs.declared.outside.Outcome.TheVariants.{Ended, Closed, Cut, Malformed, ReadFault, WriteFault, Spent, Memory}
+use Rattle.apron_rules.specs.declared.parts.AirportParts.{AirportParts}
 use Rattle.http_framing.specs.Closing.{is_closing}
-use Rattle.http_framing.specs.Fronts.{IsFront}
-use Rattle.http_framing.specs.Requests.{Request, HasRequest, IsPartial, IsMalformed}
-use Rattle.http_framing.specs.Streams.{Ends, ended, cut, Splits, IsOpen}
-use Rattle.desk_words.specs.declared.asks.Ask.{Ask}
-use Rattle.history_core.specs.Answer.{Given}
-use Rattle.desk_http.specs.declared.routes.Routed.{Routed}
-use Rattle.desk_http.specs.declared.answering.Answer.{Answer}
-use Rattle.desk_http.specs.declared.answering.Answer.TheVariants.{Text, Fixed, Exhausted, NoMemory}
-use Rattle.desk_http.specs.declared.reading.More.{More}
-use Rattle.desk_http.specs.declared.reading.More.TheVariants.{Taken, AtEnd, Fault, NoRoom}
-use Rattle.desk_http.specs.declared.reading.Filled.{Filled}
-use Rattle.desk_http.specs.declared.reading.Filled.TheVariants.{Request as ARequest, Refused, End, SourceFault, OutOfMemory}
+use Rattle.http_framing.specs.Fronts.{IsEnd}
+use Rattle.http_framing.specs.Requests.{Request, HasRequest, IsMalformed, IsPartial}
+use Rattle.http_framing.specs.declared.bodies.Refusal.{Refusal}
+use Rattle.http_framing.specs.declared.incoming.End.TheVariants.{Ended as Between, Cut as Inside}
+use Rattle.http_framing.specs.Streams.{IsOpen, Splits}
+use Rattle.desk_http.specs.Answers.{Answered, sends, Sent, sent_text}
 use Rattle.desk_http.specs.Ports.{PortState}
 use Rattle.desk_http.specs.Runs.{Runs}
-use Rattle.desk_http.specs.Session.{Sent, refusal_text, sent_text, texts_of, Sends, SendsFor, FindsExhausted, FindsExhaustedFor}
+use Rattle.desk_http.specs.Replies.{answered_as}
+use Rattle.desk_http.specs.Session.{Moment, refusal_text, texts_of}
+use Rattle.desk_http.specs.declared.reading.More.{More}
+use Rattle.desk_http.specs.declared.reading.More.TheVariants.{Taken, AtEnd as NoMore, Fault}
+use Rattle.desk_http.specs.declared.answering.Unanswered.TheVariants.{Exhausted, Unread}
+use Rattle.desk_http.specs.declared.serving.Turned.{Turned}
+use Rattle.desk_http.specs.declared.serving.Turned.TheVariants.{Request as Met, Refused, AtEnd, SourceFault}
+use Rattle.desk_http.specs.declared.serving.Unserved.{Unserved}
+use Rattle.desk_http.specs.declared.serving.Unserved.TheVariants.{NoReply, SinkFault}
 
--- what one read gave, and the buffer after it
-abbrev pub MoreAs : Option (List ℕ) → Option (List ℕ) → List ℕ → List ℕ → More → Type 0
-MoreAs left0 left1 old new Taken = (piece : List ℕ) × Consumes left0 left1 piece × (new ≡ old ++ piece) × (0 < length piece)
-MoreAs left0 left1 old new AtEnd = Consumes left0 left1 [] × (new ≡ old) × IsAtEnd left1
-MoreAs left0 left1 old new Fault = Consumes left0 left1 [] × (new ≡ old)
-MoreAs left0 left1 old new NoRoom = Consumes left0 left1 [] × (new ≡ old)
+-- what one read gave, and the bytes that have come after it
+abbrev pub TakesMore : SourceState → SourceState → List ℕ → List ℕ → More → Type 0
+TakesMore before after old new Taken = (piece : List ℕ) × Took false before after piece × (new ≡ old ++ piece) × (0 < length piece)
+TakesMore before after old new NoMore = Took false before after [] × (new ≡ old) × IsAtEnd after.left
+TakesMore before after old new Fault = Took true before after [] × (new ≡ old)
 
--- why the reading of one request stopped
-abbrev pub StopsAs : Option (List ℕ) → List ℕ → List HeaderSpan → Filled → Type 0
-StopsAs left1 new fields (ARequest found) = IsFront new fields (Whole found)
-StopsAs left1 new fields (Refused why) = IsMalformed new why
-StopsAs left1 new fields End = IsPartial new × IsAtEnd left1
-StopsAs left1 new fields SourceFault = IsPartial new
-StopsAs left1 new fields OutOfMemory = Unit {0}
+-- how a session ends after such a turn; none where it goes on
+abbrev pub outcome_of : Turned → Option Outcome
+outcome_of (Met closes (Ok done)) = if closes then Some Closed else None
+outcome_of (Met closes (Err SinkFault)) = Some WriteFault
+outcome_of (Met closes (Err (NoReply Exhausted))) = Some Spent
+outcome_of (Met closes (Err (NoReply Unread))) = Some Memory
+outcome_of (Refused (Ok done)) = Some Malformed
+outcome_of (Refused (Err failed)) = Some WriteFault
+outcome_of (AtEnd Between) = Some Ended
+outcome_of (AtEnd Inside) = Some Cut
+outcome_of SourceFault = Some ReadFault
 
--- the buffer has grown by what was taken, up to a whole request or what stops it
-abbrev pub FillsAs : Option (List ℕ) → Option (List ℕ) → List ℕ → List ℕ → List HeaderSpan → Filled → Type 0
-FillsAs left0 left1 old new fields filled =
-    ((piece : List ℕ) × Consumes left0 left1 piece × (new ≡ old ++ piece)) × StopsAs left1 new fields filled
+-- whether the source failed in the turn
+abbrev pub is_source_fault : Turned → Bool
+is_source_fault SourceFault = true
+is_source_fault turned = false
 
-module _ (Asked : PlanState → PortState → Ask → Given → PortState → Type 0) (start : PlanState) where
-  -- what is made of what a request asks: the bytes of what is sent for it, or why nothing is
-  abbrev pub AnswersFor : PortState → Routed → Answer → PortState → Type 0
-  AnswersFor before routed (Text bytes) after = (sent : Sent) × SendsFor Asked start before routed sent after × (bytes ≡ sent_text start.airport sent)
-  AnswersFor before routed (Fixed bytes) after = (sent : Sent) × SendsFor Asked start before routed sent after × (bytes.now ≡ sent_text start.airport sent)
-  AnswersFor before routed Exhausted after = FindsExhaustedFor Asked start before routed after
-  AnswersFor before routed NoMemory after = after ≡ before
+-- `came` says what came of a request, and what the port became
+module _ (airport : AirportParts) (came : Answered → PortState → Type 0) where
+  -- the reply was written, whole or a front of it, or there is none
+  abbrev pub IsServed : SinkState → SinkState → Result (Unit {0}) Unserved → PortState → Type 0
+  IsServed before after (Ok done) port = (sent : Sent) × came (sends sent) port × Wrote false before after (sent_text airport sent)
+  IsServed before after (Err SinkFault) port =
+      (sent : Sent) × came (sends sent) port × (count : ℕ) × Wrote true before after (take count (sent_text airport sent))
+  IsServed before after (Err (NoReply why)) port = came (answered_as why) port × Wrote false before after []
 
-  -- The request at the front of the bytes was answered, or what ends the session with it; and what is left of the bytes.
-  abbrev pub ServesFront : Option (List ℕ) → Option (List ℕ) → PortState → List ℕ → Option Outcome → PortState → List ℕ → Type 0
-  ServesFront told0 told1 before bytes None after left =
-      (request : Request) × HasRequest bytes request left × (is_closing request.head ≡ false)
-      × (sent : Sent) × Sends Asked start before request sent after × Appends told0 told1 (sent_text start.airport sent)
-  ServesFront told0 told1 before bytes (Some Closed) after left =
-      (request : Request) × HasRequest bytes request left × (is_closing request.head ≡ true)
-      × (sent : Sent) × Sends Asked start before request sent after × Appends told0 told1 (sent_text start.airport sent)
-  ServesFront told0 told1 before bytes (Some WriteFault) after left =
-      (request : Request) × HasRequest bytes request left
-      × (sent : Sent) × Sends Asked start before request sent after × (count : ℕ) × Appends told0 told1 (take count (sent_text start.airport sent))
-  ServesFront told0 told1 before bytes (Some Spent) after left =
-      (request : Request) × (more : List ℕ) × HasRequest bytes request more × FindsExhausted Asked start before request after × Appends told0 told1 []
-  ServesFront told0 told1 before bytes (Some Memory) after left = (after ≡ before) × Appends told0 told1 []
-  ServesFront told0 told1 before bytes (Some Ended) after left = ⊥
-  ServesFront told0 told1 before bytes (Some Cut) after left = ⊥
-  ServesFront told0 told1 before bytes (Some Malformed) after left = ⊥
-  ServesFront told0 told1 before bytes (Some Limit) after left = ⊥
-  ServesFront told0 told1 before bytes (Some ReadFault) after left = ⊥
-
-  -- What stands at the front of the bytes once no more are taken, or where it is no request: what was done with it.
-  abbrev pub MeetsFront : Option (List ℕ) → Option (List ℕ) → Option (List ℕ) → PortState → List ℕ → Option Outcome → PortState → List ℕ → Type 0
-  MeetsFront left1 told0 told1 before bytes None after left = ServesFront told0 told1 before bytes None after left
-  MeetsFront left1 told0 told1 before bytes (Some Closed) after left = ServesFront told0 told1 before bytes (Some Closed) after left
-  MeetsFront left1 told0 told1 before bytes (Some WriteFault) after left =
-      ServesFront told0 told1 before bytes (Some WriteFault) after left
-      ⊎ (((why : Refusal) × IsMalformed bytes why × (count : ℕ) × Appends told0 told1 (take count (refusal_text why))) × (after ≡ before))
-  MeetsFront left1 told0 told1 before bytes (Some Spent) after left = ServesFront told0 told1 before bytes (Some Spent) after left
-  MeetsFront left1 told0 told1 before bytes (Some Memory) after left = ServesFront told0 told1 before bytes (Some Memory) after left
-  MeetsFront left1 told0 told1 before bytes (Some Ended) after left = Ends bytes ended × IsAtEnd left1 × Appends told0 told1 [] × (after ≡ before)
-  MeetsFront left1 told0 told1 before bytes (Some Cut) after left = Ends bytes cut × IsAtEnd left1 × Appends told0 told1 [] × (after ≡ before)
-  MeetsFront left1 told0 told1 before bytes (Some Malformed) after left =
-      ((why : Refusal) × IsMalformed bytes why × Appends told0 told1 (refusal_text why)) × (after ≡ before)
-  MeetsFront left1 told0 told1 before bytes (Some Limit) after left = ⊥
-  MeetsFront left1 told0 told1 before bytes (Some ReadFault) after left = IsPartial bytes × Appends told0 told1 [] × (after ≡ before)
-
-  -- a piece was taken, and then one request answered, or what ends the session
-  abbrev pub TakesStep : Option (List ℕ) → Option (List ℕ) → Option (List ℕ) → Option (List ℕ) → PortState → List ℕ → Option Outcome → PortState → List ℕ → Type 0
-  TakesStep left0 left1 told0 told1 before bytes outcome after left =
-      (piece : List ℕ) × Consumes left0 left1 piece × MeetsFront left1 told0 told1 before (bytes ++ piece) outcome after left
-
-  -- what a session has taken, answered and handed on so far: each reply whole, and none of the requests closing
-  pub record SoFar (left0 left1 told0 told1 : Option (List ℕ)) (old new : PortState) (rest : List ℕ) (count : ℕ) : Type 0 where
+-- `Comes` says what comes of a request and what the port becomes
+module _ (Comes : PortState → Request → Answered → PortState → Type 0) (airport : AirportParts) where
+  -- what a session has done so far: each reply whole, and none of the requests closing
+  pub record SoFar (before now : Moment) (rest : List ℕ) (count : ℕ) : Type 0 where
     pub taken : List ℕ
     pub requests : List Request
     pub sents : List Sent
-    pub consumed : Consumes left0 left1 taken
+    pub took : Took false before.source now.source taken
     pub splits : Splits taken requests rest
-    pub runs : Runs (Sends Asked start) old requests sents new
-    pub appended : Appends told0 told1 (texts_of start.airport sents)
-    pub counted : length requests ≡ count
     pub stay : All IsOpen requests
+    pub runs : Runs (λ old request sent new. Comes old request (sends sent) new) before.port requests sents now.port
+    pub wrote : Wrote false before.sink now.sink (texts_of airport sents)
+    pub counted : length requests ≡ count
 
--- how a session ends whose source ended with these bytes unanswered
-abbrev pub EndsSource : List ℕ → Outcome → Type 0
-EndsSource rest Ended = Ends rest ended
-EndsSource rest Cut = Ends rest cut
-EndsSource rest Closed = ⊥
-EndsSource rest Malformed = ⊥
-EndsSource rest Limit = ⊥
-EndsSource rest ReadFault = ⊥
-EndsSource rest WriteFault = ⊥
-EndsSource rest Spent = ⊥
-EndsSource rest Memory = ⊥
+  -- what was met at the front of the bytes, and what was done with it
+  abbrev pub Meets : Moment → Moment → List ℕ → List ℕ → Turned → Type 0
+  Meets before after bytes left (Met closes served) =
+      (request : Request) × HasRequest bytes request left × (closes ≡ is_closing request.head)
+      × IsServed airport (Comes before.port request) before.sink after.sink served after.port
+  Meets before after bytes left (Refused told) =
+      (why : Refusal) × IsMalformed bytes why × Puts before.sink after.sink told (refusal_text why) × (after.port ≡ before.port)
+  Meets before after bytes left (AtEnd end) = IsEnd bytes end × IsAtEnd after.source.left × (after.sink ≡ before.sink) × (after.port ≡ before.port)
+  Meets before after bytes left SourceFault = IsPartial bytes × (after.sink ≡ before.sink) × (after.port ≡ before.port)
 
--- how a reply was written: whole, or a front of it where the sink failed
-abbrev pub PutsReply : Option (List ℕ) → Option (List ℕ) → List ℕ → Bool → Option Outcome → Type 0
-PutsReply told0 told1 text closes None = Appends told0 told1 text × (closes ≡ false)
-PutsReply told0 told1 text closes (Some Closed) = Appends told0 told1 text × (closes ≡ true)
-PutsReply told0 told1 text closes (Some WriteFault) = (count : ℕ) × Appends told0 told1 (take count text)
-PutsReply told0 told1 text closes (Some Ended) = ⊥
-PutsReply told0 told1 text closes (Some Cut) = ⊥
-PutsReply told0 told1 text closes (Some Malformed) = ⊥
-PutsReply told0 told1 text closes (Some Limit) = ⊥
-PutsReply told0 told1 text closes (Some ReadFault) = ⊥
-PutsReply told0 told1 text closes (Some Spent) = ⊥
-PutsReply told0 told1 text closes (Some Memory) = ⊥
-
--- how the reply to a request that is refused was written
-abbrev pub PutsRefusal : Option (List ℕ) → Option (List ℕ) → Refusal → Outcome → Type 0
-PutsRefusal told0 told1 why Malformed = Appends told0 told1 (refusal_text why)
-PutsRefusal told0 told1 why WriteFault = (count : ℕ) × Appends told0 told1 (take count (refusal_text why))
-PutsRefusal told0 told1 why Ended = ⊥
-PutsRefusal told0 told1 why Closed = ⊥
-PutsRefusal told0 told1 why Cut = ⊥
-PutsRefusal told0 told1 why Limit = ⊥
-PutsRefusal told0 told1 why ReadFault = ⊥
-PutsRefusal told0 told1 why Spent = ⊥
-PutsRefusal told0 told1 why Memory = ⊥
+  -- one turn: more bytes were taken, and then what stood at the front was met
+  pub record TakesTurn (before after : Moment) (bytes left : List ℕ) (turned : Turned) : Type 0 where
+    pub piece : List ℕ
+    pub took : Took (is_source_fault turned) before.source after.source piece
+    pub meets : Meets before after (bytes ++ piece) left turned

@@ -1,138 +1,137 @@
 -- One session: the requests at the front of the bytes taken, and for each what was sent.
-use Rattle.std.specs.Prelude.{◌≡◌, ◌⊎◌, ◌<◌, All, ℕ, true, List, [], ◌∷◌, ◌++◌, length, take, Option}
+use Rattle.std.specs.Prelude.{◌≡◌, ◌⊎◌, ◌<◌, All, ℕ, Bool, true, false, List, [], ◌++◌, length, take, Option}
 use Rattle.std.specs.List.{flat_map}
-use Rattle.std.specs.Io.KnownBytes.{Appends, Consumes, IsAtEnd}
+use Rattle.std.specs.Io.KnownBytes.{IsAtEnd}
+use Rattle.apron_base.specs.Ends.{SinkState, SourceState, Took, Wrote}
 use Rattle.apron_base.specs.declared.outside.Outcome.{Outcome}
 use Rattle.apron_base.specs.declared.outside.Outcome.TheVariants.{Ended, Closed, Cut, Malformed, Limit, ReadFault, WriteFault, Spent, Memory}
 use Rattle.apron_rules.specs.declared.parts.AirportParts.{AirportParts}
 use Rattle.plan_core.specs.PlanState.{PlanState}
 use Rattle.http_framing.specs.declared.bodies.Refusal.{Refusal}
-use Rattle.http_framing.specs.declared.bodies.Refusal.TheVariants.{Head, Encoding, Large, Length}
 use Rattle.http_framing.specs.Closing.{is_closing}
 use Rattle.http_framing.specs.Requests.{Request, HasRequest, IsPartial, IsMalformed}
 use Rattle.http_framing.specs.Streams.{Ends, ended, cut, Splits, IsOpen}
 use Rattle.desk_words.specs.declared.asks.Ask.{Ask}
 use Rattle.desk_words.specs.Fixed.{bad_head_text}
-use Rattle.history_core.specs.Answer.{Given, given_text}
-use Rattle.desk_http.specs.declared.routes.Early.{Early}
-use Rattle.desk_http.specs.declared.routes.Routed.{Routed}
-use Rattle.desk_http.specs.declared.routes.Routed.TheVariants.{Early as AtOnce, Asks}
-use Rattle.desk_http.specs.Ports.{PortState, IsExhausted}
-use Rattle.desk_http.specs.Routes.{early_text, routed}
+use Rattle.history_core.specs.Answer.{Given}
+use Rattle.desk_http.specs.Answers.{Answered, sends, exhausted, unread, Answers, Sent, sent_text}
+use Rattle.desk_http.specs.Ports.{PortState}
 use Rattle.desk_http.specs.Runs.{Runs}
 
--- what is sent for a request: a reply that is fixed before the plan is consulted, or what the port gave
-pub data Sent : Type 0 where
-  at_once : Early → Sent
-  given : Given → Sent
+-- what is known of the ends of a session and of its port at one moment
+pub record Moment : Type 0 where
+  pub source : SourceState
+  pub sink : SinkState
+  pub port : PortState
 
--- the bytes of what is sent
-abbrev pub sent_text : AirportParts → Sent → List ℕ
-sent_text airport (at_once reply) = early_text reply
-sent_text airport (given answer) = given_text airport answer
+-- the requests that were answered and left the session open, what was sent for each, and the bytes behind them
+pub record Progress : Type 0 where
+  pub requests : List Request
+  pub sents : List Sent
+  pub rest : List ℕ
+
+-- what was sent last, whole or a front of it: nothing, the reply to a request, or the reply to bytes that are refused
+pub data Last : Type 0 where
+  nothing : Last
+  reply : Request → Sent → Last
+  refusal : Refusal → Last
+
+-- the bytes of the reply to bytes that are refused
+abbrev pub refusal_text : Refusal → List ℕ
+refusal_text why = bad_head_text
+
+-- the bytes of what was sent last
+abbrev pub last_text : AirportParts → Last → List ℕ
+last_text airport nothing = []
+last_text airport (reply request sent) = sent_text airport sent
+last_text airport (refusal why) = refusal_text why
 
 -- the bytes of all that is sent
 abbrev pub texts_of : AirportParts → List Sent → List ℕ
 texts_of airport sents = flat_map (sent_text airport) sents
 
--- the bytes of the reply to a request that is refused
-abbrev pub refusal_text : Refusal → List ℕ
-refusal_text Head = bad_head_text
-refusal_text Encoding = bad_head_text
-refusal_text Large = bad_head_text
-refusal_text Length = bad_head_text
-
 -- how many requests one session answers at most
 abbrev pub most_requests : ℕ
 most_requests = 1000000
 
--- none of the requests closes the session, and one more may be answered
-pub record GoOn (requests : List Request) : Type 0 where
-  pub stay : All IsOpen requests
-  pub few : length requests < most_requests
+-- whether the outcome is a fault of the source
+abbrev pub is_read_fault : Outcome → Bool
+is_read_fault ReadFault = true
+is_read_fault outcome = false
 
--- the last of the requests closes the session
-pub record Close (requests : List Request) : Type 0 where
-  pub before : List Request
-  pub last : Request
-  pub are : requests ≡ before ++ last ∷ []
-  pub going : GoOn before
-  pub closing : is_closing last.head ≡ true
+-- whether the outcome is a fault of the sink
+abbrev pub is_write_fault : Outcome → Bool
+is_write_fault WriteFault = true
+is_write_fault outcome = false
 
--- all replies are written whole but the last, of which a front is
-pub record CutsReply (airport : AirportParts) (requests : List Request) (sents : List Sent) (written : List ℕ) : Type 0 where
-  pub before : List Request
-  pub last : Request
-  pub are : requests ≡ before ++ last ∷ []
-  pub going : GoOn before
-  pub whole : List Sent
-  pub sent : Sent
-  pub sents_are : sents ≡ whole ++ sent ∷ []
-  pub count : ℕ
-  pub bytes : written ≡ texts_of airport whole ++ take count (sent_text airport sent)
+-- the source was read to its end where the outcome rests on its end
+abbrev pub IsRead : Outcome → Option (List ℕ) → Type 0
+IsRead Ended left = IsAtEnd left
+IsRead Cut left = IsAtEnd left
+IsRead outcome left = Unit {0}
 
--- all replies are written whole, and of the reply to a request that is refused a front is
-pub record CutsRefusal (airport : AirportParts) (requests : List Request) (sents : List Sent) (rest written : List ℕ) : Type 0 where
-  pub going : GoOn requests
-  pub why : Refusal
-  pub malformed : IsMalformed rest why
-  pub count : ℕ
-  pub bytes : written ≡ texts_of airport sents ++ take count (refusal_text why)
+-- how many requests left the session open: the most at the limit, else fewer
+abbrev pub IsCount : Outcome → ℕ → Type 0
+IsCount Limit count = count ≡ most_requests
+IsCount outcome count = count < most_requests
 
--- `Asked` says what the port gives for an ask and what it becomes, and `start` is the plan that its history began with
-module _ (Asked : PlanState → PortState → Ask → Given → PortState → Type 0) (start : PlanState) where
-  -- what is sent for what a request asks, and the port after it
-  abbrev pub SendsFor : PortState → Routed → Sent → PortState → Type 0
-  SendsFor before (AtOnce reply) (at_once sent) after = (sent ≡ reply) × (after ≡ before)
-  SendsFor before (AtOnce reply) (given answer) after = ⊥
-  SendsFor before (Asks ask) (given answer) after = Asked start before ask answer after
-  SendsFor before (Asks ask) (at_once sent) after = ⊥
+-- what was written of the last text: all of it, or a front where the sink failed
+abbrev pub WritesLast : Outcome → List ℕ → List ℕ → Type 0
+WritesLast WriteFault text written = (count : ℕ) × (written ≡ take count text)
+WritesLast outcome text written = written ≡ text
 
-  -- what is sent for a request, and the port after it
-  abbrev pub Sends : PortState → Request → Sent → PortState → Type 0
-  Sends before request sent after = SendsFor before (routed start.airport request) sent after
+-- why a session ends that asks nothing more of its port, by the bytes that are left and what is sent last
+abbrev pub Stops : Outcome → List ℕ → Last → Type 0
+Stops Ended rest nothing = Ends rest ended
+Stops Cut rest nothing = Ends rest cut
+Stops Malformed rest (refusal why) = IsMalformed rest why
+Stops WriteFault rest (refusal why) = IsMalformed rest why
+Stops ReadFault rest nothing = IsPartial rest
+Stops Limit rest nothing = Unit {0}
+Stops outcome rest last = ⊥
 
-  -- what a request asks found the port's numbers exhausted
-  abbrev pub FindsExhaustedFor : PortState → Routed → PortState → Type 0
-  FindsExhaustedFor before (AtOnce reply) after = ⊥
-  FindsExhaustedFor before (Asks ask) after = IsExhausted before after
+-- nothing was answered, and nothing is left of what was taken
+abbrev pub no_progress : Progress
+no_progress = record { requests = []; sents = []; rest = [] }
 
-  -- the request asked, and found the port's numbers exhausted
-  abbrev pub FindsExhausted : PortState → Request → PortState → Type 0
-  FindsExhausted before request after = FindsExhaustedFor before (routed start.airport request) after
+-- `Comes` says what comes of a request and what the port becomes
+module _ (Comes : PortState → Request → Answered → PortState → Type 0) where
+  -- the request stands at the front of the bytes, and this came of it
+  pub record ComesFirst (bytes : List ℕ) (request : Request) (answered : Answered) (before after : PortState) : Type 0 where
+    pub behind : List ℕ
+    pub first : HasRequest bytes request behind
+    pub comes : Comes before request answered after
 
-  -- How a session ended: what is left of the bytes taken, what was written, and the port after the last answer and in the end.
-  abbrev pub EndsAs : Outcome → Option (List ℕ) → List Request → List Sent → List ℕ → List ℕ → PortState → PortState → Type 0
-  EndsAs Ended left requests sents rest written served new =
-      GoOn requests × Ends rest ended × IsAtEnd left × (written ≡ texts_of start.airport sents) × (new ≡ served)
-  EndsAs Cut left requests sents rest written served new =
-      GoOn requests × Ends rest cut × IsAtEnd left × (written ≡ texts_of start.airport sents) × (new ≡ served)
-  EndsAs Closed left requests sents rest written served new =
-      Close requests × (written ≡ texts_of start.airport sents) × (new ≡ served)
-  EndsAs Malformed left requests sents rest written served new =
-      GoOn requests × ((why : Refusal) × IsMalformed rest why × (written ≡ texts_of start.airport sents ++ refusal_text why)) × (new ≡ served)
-  EndsAs Limit left requests sents rest written served new =
-      All IsOpen requests × (length requests ≡ most_requests) × (written ≡ texts_of start.airport sents) × (new ≡ served)
-  EndsAs ReadFault left requests sents rest written served new =
-      GoOn requests × IsPartial rest × (written ≡ texts_of start.airport sents) × (new ≡ served)
-  EndsAs WriteFault left requests sents rest written served new =
-      (CutsReply start.airport requests sents written ⊎ CutsRefusal start.airport requests sents rest written) × (new ≡ served)
-  EndsAs Spent left requests sents rest written served new =
-      GoOn requests × ((request : Request) × (more : List ℕ) × HasRequest rest request more × FindsExhausted served request new)
-      × (written ≡ texts_of start.airport sents)
-  EndsAs Memory left requests sents rest written served new =
-      GoOn requests × (written ≡ texts_of start.airport sents) × (new ≡ served)
+  -- why a session ends, by the request at the front of the bytes that are left, or with its port as it was
+  abbrev pub EndsAt : Outcome → List ℕ → Last → PortState → PortState → Type 0
+  EndsAt Closed rest (reply request sent) before after = (is_closing request.head ≡ true) × ComesFirst rest request (sends sent) before after
+  EndsAt WriteFault rest (reply request sent) before after = ComesFirst rest request (sends sent) before after
+  EndsAt Spent rest nothing before after = (request : Request) × ComesFirst rest request exhausted before after
+  EndsAt Memory rest nothing before after = (request : Request) × ComesFirst rest request unread before after
+  EndsAt outcome rest last before after = Stops outcome rest last × (after ≡ before)
 
-  -- A session took these bytes from the source, answered the requests at their front, one after another, and handed on these bytes.
-  pub record SessionOf (left0 left1 told0 told1 : Option (List ℕ)) (old new : PortState) (outcome : Outcome) : Type 0 where
+  -- the same with want of memory before anything was read
+  abbrev pub EndsAfter : Outcome → Progress → Last → PortState → PortState → Type 0
+  EndsAfter Memory done nothing before after = EndsAt Memory done.rest nothing before after ⊎ ((done ≡ no_progress) × (after ≡ before))
+  EndsAfter outcome done last before after = EndsAt outcome done.rest last before after
+
+  -- One session: it took these bytes, answered the requests at their front one after another, and ended with what was sent last.
+  pub record SessionBy (airport : AirportParts) (before after : Moment) (outcome : Outcome) : Type 0 where
     pub taken : List ℕ
-    pub requests : List Request
-    pub sents : List Sent
-    pub rest : List ℕ
-    pub written : List ℕ
+    pub done : Progress
     pub served : PortState
-    pub consumed : Consumes left0 left1 taken
-    pub splits : Splits taken requests rest
-    pub runs : Runs Sends old requests sents served
-    pub appended : Appends told0 told1 written
-    pub ends : EndsAs outcome left1 requests sents rest written served new
+    pub last : Last
+    pub written : List ℕ
+    pub took : Took (is_read_fault outcome) before.source after.source taken
+    pub splits : Splits taken done.requests done.rest
+    pub stay : All IsOpen done.requests
+    pub runs : Runs (λ old request sent new. Comes old request (sends sent) new) before.port done.requests done.sents served
+    pub ends : EndsAfter outcome done last served after.port
+    pub read : IsRead outcome after.source.left
+    pub count : IsCount outcome (length done.requests)
+    pub last_written : WritesLast outcome (last_text airport last) written
+    pub wrote : Wrote (is_write_fault outcome) before.sink after.sink (texts_of airport done.sents ++ written)
+
+-- a session over a port: `asks` says what the port gives for an ask and what it becomes, and `start` is the plan that its history began with
+abbrev pub SessionOf : (PlanState → PortState → Ask → Given → PortState → Type 0) → PlanState → Moment → Moment → Outcome → Type 0
+SessionOf asks start before after outcome = SessionBy (Answers asks start) start.airport before after outcome

@@ -2,15 +2,12 @@
 ghost use Rattle.std.specs.Prelude.{◌≡◌};
 
 use crate::DeskPort;
-use apron_base::Acted;
+use apron_base::{Acted, CALL_END};
 use apron_rules::Airport;
 use desk_words::asks::Ask;
 use history_core::Board;
 use std::alloc::Global;
 use std::marker::Model;
-
-// The number that no call has any more.
-const END_OF_NUMBERS: u64 = 1 << 62;
 
 /// The port of a desk that has a board to itself. It numbers its calls from the board's next one
 /// on, and waits for nobody.
@@ -66,7 +63,7 @@ impl<'a> DeskPort for Alone<'a> {
 
     fn ask(&mut self, alloc: Global, ask: &Ask) -> Acted {
         let call = self.board.next_call();
-        if call == END_OF_NUMBERS {
+        if call == CALL_END {
             return Acted::Spent;
         }
         self.board.ask(alloc, call, ask)

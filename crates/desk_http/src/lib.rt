@@ -1,8 +1,10 @@
-//! A session over HTTP: one desk, from its bytes to its bytes.
+//! A session over HTTP: one desk, from its bytes to its bytes. It knows nothing of files, of the
+//! command line, and of where bytes come from and go.
 #![tactic(auto)]
 
 mod alone;
 mod answering;
+mod numbers;
 mod port;
 mod reading;
 mod routes;
@@ -10,5 +12,5 @@ mod serving;
 
 pub use alone::Alone;
 pub use port::DeskPort;
-pub use routes::{Early, Routed};
+pub use routes::{Resource, Routed};
 pub use serving::session;

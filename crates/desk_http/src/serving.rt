@@ -1,42 +1,57 @@
 // A session: requests in, replies out.
-ghost use Rattle.std.specs.Prelude.{◌≡◌, ◌≤◌, Some, drop, length, vec_len};
-ghost use Rattle.apron_base.specs.Outside.{Rose};
-ghost use Rattle.http_framing.specs.Fronts.{IsFront};
-ghost use Rattle.http_framing.specs.Requests.{IsPartial};
-ghost use Rattle.desk_http.specs.Session.{SessionOf, refusal_text as text_of_refusal};
-ghost use Rattle.desk_http.specs.Serving.{EndsSource, PutsRefusal, PutsReply, ServesFront, TakesStep};
+ghost use Rattle.std.specs.Prelude.{◌≡◌};
+ghost use Rattle.http_framing.specs.Fronts.{ArePartsOf};
+ghost use Rattle.http_framing.specs.Requests.{Request};
+ghost use Rattle.desk_http.specs.Session.{SessionBy, SessionOf, refusal_text as refusal_text_lem};
+ghost use Rattle.desk_http.specs.Serving.{IsServed, TakesTurn, outcome_of as outcome_of_lem};
 
 use crate::DeskPort;
-use crate::answering::{Answer, answer_to};
-use crate::reading::{Filled, fill};
+use crate::answering::{Answerer, DeskRoutes, Unanswered};
+use crate::reading::{More, take_more};
 use apron_base::{Failed, Outcome, Sink, Source};
 use desk_words::fixed;
-use http_framing::{Found, Front, MAX_FIELDS, Refusal, are_blank};
-use httparse::spans::{EMPTY_HEADER_SPAN, HeaderSpan};
+use http_framing::{End, Front, Incoming, Refusal, RequestParts};
 use std::alloc::Global;
 
+// The most requests that one session answers.
 const MOST_REQUESTS: u32 = 1_000_000;
 
 /// One session of one desk: it answers requests in order until the source ends, one of them closes
-/// it, or something stops it.
+/// it, or something stops it. The memory for its bytes is taken before the first read, so that after
+/// it only the reading of a commit's body can want any without an ask.
 pub fn session<P: DeskPort, S: Source, W: Sink>(
     alloc: Global,
     port: &mut P,
     source: &mut S,
     sink: &mut W,
 ) -> Outcome
-    ensures of { SessionOf P.asks (P.start port.old) (S.left source.old) (S.left source.new) (W.told sink.old) (W.told sink.new)
-        (P.port port.old) (P.port port.new) result }
+    ensures of { SessionOf P.asks (P.start port.old)
+        (record { source = S.state source.old; sink = W.state sink.old; port = P.port port.old })
+        (record { source = S.state source.new; sink = W.state sink.new; port = P.port port.new }) result }
     ensures start { P.start port.new ≡ P.start port.old }
-    ensures read { result ≡ Outcome.ReadFault → Rose (S.faults source.old) (S.faults source.new) }
-    ensures write { result ≡ Outcome.WriteFault → Rose (W.faults sink.old) (W.faults sink.new) }
-    ensures source_later { S.faults source.old ≤ S.faults source.new }
-    ensures sink_later { W.faults sink.old ≤ W.faults sink.new }
 {
-    let mut buffer = Vec::new(alloc);
-    let mut fields = [EMPTY_HEADER_SPAN; MAX_FIELDS];
+    session_by(alloc, &DeskRoutes, port, source, sink)
+}
+
+// The session of whatever answers over a port.
+fn session_by<P: DeskPort, A: Answerer<P>, S: Source, W: Sink>(
+    alloc: Global,
+    answerer: &A,
+    port: &mut P,
+    source: &mut S,
+    sink: &mut W,
+) -> Outcome
+    ensures by { SessionBy (A.comes (P.start port.old)) (P.start port.old).airport
+        (record { source = S.state source.old; sink = W.state sink.old; port = P.port port.old })
+        (record { source = S.state source.new; sink = W.state sink.new; port = P.port port.new }) result }
+    ensures start { P.start port.new ≡ P.start port.old }
+{
+    let Ok(mut incoming) = Incoming::new(alloc) else {
+        return Outcome::Memory;
+    };
     for count in 0..MOST_REQUESTS {
-        match serve_next(alloc, port, source, sink, &mut buffer, &mut fields) {
+        let turned = take_turn(alloc, answerer, port, source, sink, &mut incoming);
+        match outcome_of(turned) {
             None => {}
             Some(outcome) => return outcome,
         }
@@ -44,119 +59,110 @@ pub fn session<P: DeskPort, S: Source, W: Sink>(
     Outcome::Limit
 }
 
-// Reads one request and answers it. What it gives is why the session ends with it, or ends
-// without one.
-fn serve_next<P: DeskPort, S: Source, W: Sink>(
+/// What was met in one turn of a session, and what became of it.
+#[derive(Clone, Copy, Debug, PartialEq, Eq)]
+pub(crate) enum Turned {
+    /// A request was met, and served or not.
+    Request {
+        closes: bool,
+        served: Result<(), Unserved>,
+    },
+    /// A request was met that is refused, and told so or not.
+    Refused(Result<(), Failed>),
+    /// The source has ended.
+    AtEnd(End),
+    SourceFault,
+}
+
+/// Why no reply was written, or not the whole of it.
+#[derive(Clone, Copy, Debug, PartialEq, Eq)]
+pub(crate) enum Unserved {
+    NoReply(Unanswered),
+    SinkFault,
+}
+
+// How a session ends after such a turn; none where it goes on.
+fn outcome_of(turned: Turned) -> Option<Outcome>
+    ensures is { result ≡ outcome_of_lem turned }
+{
+    match turned {
+        Turned::Request {
+            closes,
+            served: Ok(()),
+        } => if closes { Some(Outcome::Closed) } else { None },
+        Turned::Request {
+            closes: _,
+            served: Err(why),
+        } => Some(match why {
+            Unserved::SinkFault => Outcome::WriteFault,
+            Unserved::NoReply(Unanswered::Exhausted) => Outcome::Spent,
+            Unserved::NoReply(Unanswered::Unread) => Outcome::Memory,
+        }),
+        Turned::Refused(Ok(())) => Some(Outcome::Malformed),
+        Turned::Refused(Err(Failed)) => Some(Outcome::WriteFault),
+        Turned::AtEnd(End::Ended) => Some(Outcome::Ended),
+        Turned::AtEnd(End::Cut) => Some(Outcome::Cut),
+        Turned::SourceFault => Some(Outcome::ReadFault),
+    }
+}
+
+// Reads until a request has come, and serves it.
+fn take_turn<P: DeskPort, A: Answerer<P>, S: Source, W: Sink>(
     alloc: Global,
+    answerer: &A,
     port: &mut P,
     source: &mut S,
     sink: &mut W,
-    buffer: &mut Vec<u8>,
-    fields: &mut [HeaderSpan],
-) -> Option<Outcome>
-    requires room { length fields.old ≡ 64 }
-    ensures step { TakesStep P.asks (P.start port.old) (S.left source.old) (S.left source.new) (W.told sink.old) (W.told sink.new)
-        (P.port port.old) buffer.old.items result (P.port port.new) buffer.new.items }
+    incoming: &mut Incoming,
+) -> Turned
+    ensures turn { TakesTurn (A.comes (P.start port.old)) (P.start port.old).airport
+        (record { source = S.state source.old; sink = W.state sink.old; port = P.port port.old })
+        (record { source = S.state source.new; sink = W.state sink.new; port = P.port port.new })
+        incoming.old incoming.new result }
     ensures start { P.start port.new ≡ P.start port.old }
-    ensures read { result ≡ Some Outcome.ReadFault → Rose (S.faults source.old) (S.faults source.new) }
-    ensures write { result ≡ Some Outcome.WriteFault → Rose (W.faults sink.old) (W.faults sink.new) }
-    ensures source_later { S.faults source.old ≤ S.faults source.new }
-    ensures sink_later { W.faults sink.old ≤ W.faults sink.new }
 {
-    match fill(source, buffer, fields) {
-        Filled::Request(found) => serve_front(alloc, port, sink, buffer, fields, &found),
-        Filled::Refused(why) => Some(put_refusal(sink, why)),
-        Filled::End => Some(end_of(buffer.as_slice())),
-        Filled::SourceFault => Some(Outcome::ReadFault),
-        Filled::OutOfMemory => Some(Outcome::Memory),
+    'reading: loop {
+        match incoming.front() {
+            Front::Whole(request) => {
+                let RequestParts { closes, length, .. } = request;
+                let served = serve(alloc, answerer, port, sink, &request);
+                incoming.pass_over(length);
+                return Turned::Request { closes, served };
+            }
+            Front::Malformed(why) => return Turned::Refused(sink.put(refusal_text(why))),
+            Front::Partial => match take_more(source, incoming) {
+                More::Taken => {}
+                More::AtEnd => return Turned::AtEnd(incoming.end()),
+                More::Fault => return Turned::SourceFault,
+            },
+        }
     }
 }
 
-// How a session ends whose source ended with these bytes unanswered.
-fn end_of(rest: &[u8]) -> Outcome
-    requires partial { IsPartial rest.now }
-    ensures ends { EndsSource rest.now result }
-{
-    if are_blank(rest) {
-        Outcome::Ended
-    } else {
-        Outcome::Cut
-    }
-}
-
-// Answers the request at the buffer's front, and takes it away where it was answered.
-fn serve_front<P: DeskPort, W: Sink>(
+// Answers the request with these parts, and writes its reply.
+fn serve<P: DeskPort, A: Answerer<P>, W: Sink>(
     alloc: Global,
+    answerer: &A,
     port: &mut P,
     sink: &mut W,
-    buffer: &mut Vec<u8>,
-    fields: &[HeaderSpan],
-    found: &Found,
-) -> Option<Outcome>
-    requires found { IsFront buffer.old.items fields.now (Front.Whole found.now) }
-    ensures step { ServesFront P.asks (P.start port.old) (W.told sink.old) (W.told sink.new)
-        (P.port port.old) buffer.old.items result (P.port port.new) buffer.new.items }
+    parts: &RequestParts<'_>,
+) -> Result<(), Unserved>
+    ensures served { (request : Request) → ArePartsOf request parts.now
+        → IsServed (P.start port.old).airport (A.comes (P.start port.old) (P.port port.old) request) (W.state sink.old) (W.state sink.new) result (P.port port.new) }
     ensures start { P.start port.new ≡ P.start port.old }
-    ensures later { W.faults sink.old ≤ W.faults sink.new }
-    ensures fault { result ≡ Some Outcome.WriteFault → Rose (W.faults sink.old) (W.faults sink.new) }
 {
-    let bytes = buffer.as_slice();
-    let closes = found.closes(bytes, fields);
-    let answer = answer_to(
-        alloc,
-        port,
-        found.method(bytes),
-        found.target(bytes),
-        found.number(bytes, fields, b"x-seen"),
-        found.body(bytes),
-    );
-    let length = found.length();
-    match answer {
-        Answer::Text(text) => put_reply(sink, buffer, length, closes, text.as_slice()),
-        Answer::Fixed(text) => put_reply(sink, buffer, length, closes, text),
-        Answer::Exhausted => Some(Outcome::Spent),
-        Answer::NoMemory => Some(Outcome::Memory),
-    }
-}
-
-// Takes the request of this length from the buffer's front, and writes its reply.
-fn put_reply<W: Sink>(
-    sink: &mut W,
-    buffer: &mut Vec<u8>,
-    length: usize,
-    closes: bool,
-    text: &[u8],
-) -> Option<Outcome>
-    requires most { length ≤ vec_len buffer.old }
-    ensures put { PutsReply (W.told sink.old) (W.told sink.new) text.now closes result }
-    ensures left { buffer.new.items ≡ drop length buffer.old.items }
-    ensures later { W.faults sink.old ≤ W.faults sink.new }
-    ensures fault { result ≡ Some Outcome.WriteFault → Rose (W.faults sink.old) (W.faults sink.new) }
-{
-    buffer.rotate_left(length);
-    buffer.truncate(buffer.len() - length);
-    match sink.put(text) {
-        Err(Failed) => Some(Outcome::WriteFault),
-        Ok(()) if closes => Some(Outcome::Closed),
-        Ok(()) => None,
-    }
-}
-
-// Writes the reply to a request that is refused.
-fn put_refusal<W: Sink>(sink: &mut W, why: Refusal) -> Outcome
-    ensures put { PutsRefusal (W.told sink.old) (W.told sink.new) why result }
-    ensures later { W.faults sink.old ≤ W.faults sink.new }
-    ensures fault { result ≡ Outcome.WriteFault → Rose (W.faults sink.old) (W.faults sink.new) }
-{
-    match sink.put(refusal_text(why)) {
-        Ok(()) => Outcome::Malformed,
-        Err(Failed) => Outcome::WriteFault,
+    match answerer.answer(alloc, port, parts) {
+        Ok(reply) => match reply.put(sink) {
+            Ok(()) => Ok(()),
+            Err(Failed) => Err(Unserved::SinkFault),
+        },
+        Err(why) => Err(Unserved::NoReply(why)),
     }
 }
 
 // The whole text of the reply to a request that is refused.
 fn refusal_text(why: Refusal) -> &'static [u8]
-    ensures text { result.now ≡ text_of_refusal why }
+    ensures text { result.now ≡ refusal_text_lem why }
 {
     match why {
         Refusal::Head | Refusal::Encoding | Refusal::Large | Refusal::Length => fixed::bad_head(),

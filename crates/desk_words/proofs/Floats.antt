@@ -15,10 +15,14 @@ use Rattle.visit_book.specs.declared.visits.Part.{Part}
 use Rattle.visit_book.specs.declared.visits.Place.{Place}
 use Rattle.visit_book.specs.declared.visits.Place.TheVariants.{Unplaced, Planned, Actual}
 use Rattle.visit_book.specs.declared.visits.Visit.{Visit}
-use Rattle.visit_book.specs.declared.visits.EditFault.TheVariants.{UnknownVisit, Overtaken, NoSuchPart, Unfit, Clash, Memory}
-use Rattle.desk_words.specs.declared.replies.Reply.{Reply}
-use Rattle.desk_words.specs.declared.replies.Reply.TheVariants.{Committed, Version, Visit as AVisit, NoVisit, Ahead, Full, Edit}
-use Rattle.desk_words.specs.Replies.{name_data, stand_data, type_data, bump_data, place_bump_data, place_stand_data, stay_data, visit_data, reply_data}
+use Rattle.visit_book.specs.declared.edits.EditFault.{EditFault}
+use Rattle.visit_book.specs.declared.edits.EditFault.TheVariants.{UnknownVisit, Overtaken, NoSuchPart, Unfit, Clash, Memory}
+use Rattle.desk_words.specs.declared.replies.Told.{Told}
+use Rattle.desk_words.specs.declared.replies.Told.TheVariants.{Committed, Version, Visit as AVisit, NoVisit, Ahead, Full, Edit}
+use Rattle.desk_words.specs.PartObjects.{name_data, stand_data, type_data}
+use Rattle.desk_words.specs.VisitObjects.{bump_data, place_bump_data, place_stand_data, stay_data, visit_data}
+use Rattle.desk_words.specs.FaultObjects.{fault_data}
+use Rattle.desk_words.specs.Replies.{told_data}
 
 neither : (a b : Bool) → a ≡ false → b ≡ false → (a || b) ≡ false
 neither true b e h = e
@@ -28,11 +32,11 @@ name_has_none : (name : Option (List ℕ)) → has_float (name_data name) ≡ fa
 name_has_none None = refl
 name_has_none (Some name) = refl
 
-stand_has_none : (airport : AirportParts) (s : StandNo) → has_float (stand_data airport s) ≡ false
-stand_has_none airport s = name_has_none (option_map (λ (row : StandRow). row.name) (stand_at airport s))
+stand_has_none : (airport : AirportParts) (stand : StandNo) → has_float (stand_data airport stand) ≡ false
+stand_has_none airport stand = name_has_none (option_map (λ (row : StandRow). row.name) (stand_at airport stand))
 
-type_has_none : (airport : AirportParts) (t : TypeNo) → has_float (type_data airport t) ≡ false
-type_has_none airport t = name_has_none (option_map (λ (row : TypeRow). row.name) (type_at airport t))
+type_has_none : (airport : AirportParts) (kind : TypeNo) → has_float (type_data airport kind) ≡ false
+type_has_none airport kind = name_has_none (option_map (λ (row : TypeRow). row.name) (type_at airport kind))
 
 bump_has_none : (airport : AirportParts) (bump : Bump) → has_float (bump_data airport bump) ≡ false
 bump_has_none airport bump = neither (has_float (stand_data airport bump.stand)) false (stand_has_none airport bump.stand) refl
@@ -40,13 +44,13 @@ bump_has_none airport bump = neither (has_float (stand_data airport bump.stand))
 place_bump_has_none : (airport : AirportParts) (place : Place) → has_float (place_bump_data airport place) ≡ false
 place_bump_has_none airport (Unplaced None) = refl
 place_bump_has_none airport (Unplaced (Some bump)) = bump_has_none airport bump
-place_bump_has_none airport (Planned s) = refl
-place_bump_has_none airport (Actual s) = refl
+place_bump_has_none airport (Planned stand) = refl
+place_bump_has_none airport (Actual stand) = refl
 
 place_stand_has_none : (airport : AirportParts) (place : Place) → has_float (place_stand_data airport place) ≡ false
 place_stand_has_none airport (Unplaced bump) = refl
-place_stand_has_none airport (Planned s) = stand_has_none airport s
-place_stand_has_none airport (Actual s) = stand_has_none airport s
+place_stand_has_none airport (Planned stand) = stand_has_none airport stand
+place_stand_has_none airport (Actual stand) = stand_has_none airport stand
 
 stay_has_none : (airport : AirportParts) (part : Part) → has_float (stay_data airport part) ≡ false
 stay_has_none airport part =
@@ -66,17 +70,20 @@ visit_has_none airport visit version =
     (stays_have_none airport visit.parts)
     (neither (has_float (type_data airport visit.kind)) false (type_has_none airport visit.kind) refl)
 
-pub reply_has_none : (airport : AirportParts) (reply : Reply) → has_float (reply_data airport reply) ≡ false
-reply_has_none airport (Committed entry version) = refl
-reply_has_none airport (Version version) = refl
-reply_has_none airport (AVisit visit version) = visit_has_none airport visit version
-reply_has_none airport (NoVisit version) = refl
-reply_has_none airport (Ahead version) = refl
-reply_has_none airport (Full version) = refl
-reply_has_none airport (Edit (UnknownVisit k) version) = refl
-reply_has_none airport (Edit (Overtaken k n edited) version) = refl
-reply_has_none airport (Edit (NoSuchPart k) version) = refl
-reply_has_none airport (Edit (Unfit k Letter) version) = refl
-reply_has_none airport (Edit (Unfit k (Object j)) version) = refl
-reply_has_none airport (Edit (Clash clash) version) = refl
-reply_has_none airport (Edit Memory version) = refl
+fault_has_none : (fault : EditFault) (version : ℕ) → has_float (fault_data fault version) ≡ false
+fault_has_none (UnknownVisit edit) version = refl
+fault_has_none (Overtaken edit visit edited) version = refl
+fault_has_none (NoSuchPart edit) version = refl
+fault_has_none (Unfit edit Letter) version = refl
+fault_has_none (Unfit edit (Object place)) version = refl
+fault_has_none (Clash clash) version = refl
+fault_has_none Memory version = refl
+
+pub told_has_none : (airport : AirportParts) (version : ℕ) (told : Told) → has_float (told_data airport version told) ≡ false
+told_has_none airport version (Committed entry) = refl
+told_has_none airport version Version = refl
+told_has_none airport version (AVisit visit) = visit_has_none airport visit version
+told_has_none airport version NoVisit = refl
+told_has_none airport version Ahead = refl
+told_has_none airport version Full = refl
+told_has_none airport version (Edit fault) = fault_has_none fault version

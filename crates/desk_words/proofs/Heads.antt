@@ -2,19 +2,18 @@
 use Rattle.std.proofs.Common.{◌≡◌, ◌∷◌, ◌++◌, ℕ, List, [], codes, decimal, append_assoc, append-nil}
 use Rattle.std.specs.List.{flat_map}
 use Rattle.http.specs.StatusCode.{status_text}
-use Rattle.desk_words.specs.Texts.{head_of}
-use Rattle.desk_words.specs.Replies.{version_line}
+use Rattle.desk_words.specs.Texts.{head_of, version_line}
 
 -- four lines that end alike, and an empty one
-four_lines : (end a x b c y d z : List ℕ)
-    → flat_map (λ line. line ++ end) ((a ++ x) ∷ b ∷ (c ++ y) ∷ (d ++ z) ∷ []) ++ end
-    ≡ a ++ (x ++ ((end ++ (b ++ (end ++ c))) ++ (y ++ ((end ++ d) ++ (z ++ (end ++ end))))))
-four_lines end a x b c y d z = simp (append_assoc, append-nil)
+four_lines : (end a x b y c z d w : List ℕ)
+    → flat_map (λ line. line ++ end) ((a ++ x) ∷ (b ++ y) ∷ (c ++ z) ∷ (d ++ w) ∷ []) ++ end
+    ≡ a ++ (x ++ ((end ++ b) ++ (y ++ ((end ++ c) ++ (z ++ ((end ++ d) ++ (w ++ (end ++ end))))))))
+four_lines end a x b y c z d w = simp (append_assoc, append-nil)
 
-pub versioned_head : (code n version : ℕ)
-    → head_of code (version_line version ∷ []) n
-    ≡ codes "HTTP/1.1 " ++ (status_text code ++ (codes "\r\nContent-Type: application/json\r\nContent-Length: " ++ (decimal n
-    ++ (codes "\r\nX-Version: " ++ (decimal version ++ codes "\r\n\r\n")))))
-versioned_head code n version =
-    four_lines (codes "\r\n") (codes "HTTP/1.1 ") (status_text code) (codes "Content-Type: application/json") (codes "Content-Length: ")
-    (decimal n) (codes "X-Version: ") (decimal version)
+pub versioned_head : (code : ℕ) (media : List ℕ) (length_of_body version : ℕ)
+    → head_of code media (version_line version ∷ []) length_of_body
+    ≡ codes "HTTP/1.1 " ++ (status_text code ++ (codes "\r\nContent-Type: " ++ (media ++ (codes "\r\nContent-Length: " ++ (decimal length_of_body
+    ++ (codes "\r\nX-Version: " ++ (decimal version ++ codes "\r\n\r\n")))))))
+versioned_head code media length_of_body version =
+    four_lines (codes "\r\n") (codes "HTTP/1.1 ") (status_text code) (codes "Content-Type: ") media (codes "Content-Length: ")
+    (decimal length_of_body) (codes "X-Version: ") (decimal version)

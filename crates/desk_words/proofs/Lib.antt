@@ -2,3 +2,4 @@ pub mod Apart
 pub mod Floats
 pub mod Heads
 pub mod Names
+pub mod Versions

@@ -7,7 +7,7 @@ use Rattle.serde_json.specs.View.{view, view_step}
 use Rattle.serde_json.specs.declared.value.Value.{Null, fold-roll-Value}
 use Rattle.serde_json.specs.declared.value.Value.TheOpen.{Value-F}
 use Rattle.serde_json.specs.declared.value.Value.TheVariants.{rolls-Null}
-use Rattle.desk_words.specs.Replies.{name_data}
+use Rattle.desk_words.specs.PartObjects.{name_data}
 
 view_null : view Null ≡ null
 view_null = ap view (sym rolls-Null) ∙ fold-roll-Value Data view_step Value-F.Null

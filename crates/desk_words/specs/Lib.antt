@@ -1,4 +1,8 @@
 pub mod Texts
-pub mod Replies
 pub mod Fixed
+pub mod Early
+pub mod PartObjects
+pub mod VisitObjects
+pub mod FaultObjects
+pub mod Replies
 pub mod Spelt

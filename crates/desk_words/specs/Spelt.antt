@@ -9,14 +9,14 @@ use Rattle.visit_book.specs.declared.visits.End.TheVariants.{Live}
 use Rattle.visit_book.specs.declared.visits.Part.{Part}
 use Rattle.visit_book.specs.declared.visits.Place.TheVariants.{Planned}
 use Rattle.visit_book.specs.declared.visits.Visit.{Visit}
-use Rattle.visit_book.specs.declared.visits.EditFault.TheVariants.{Unfit, Clash}
-use Rattle.desk_words.specs.declared.replies.Reply.TheVariants.{Committed, Visit as AVisit, Edit}
+use Rattle.visit_book.specs.declared.edits.EditFault.TheVariants.{Unfit, Clash}
+use Rattle.desk_words.specs.declared.replies.Told.TheVariants.{Committed, Visit as AVisit, Edit}
 use Rattle.desk_words.specs.Replies.{reply_text}
 
 -- a commit made version 7, and the plan is at version 9
 abbrev pub CommittedIsSpelt : Type 0
 CommittedIsSpelt =
-    (airport : AirportParts) → reply_text airport (Committed 7 9)
+    (airport : AirportParts) → reply_text airport (record { version = 9; told = Committed 7 })
     ≡ codes "HTTP/1.1 200 OK\r\nContent-Type: application/json\r\nContent-Length: 13\r\nX-Version: 9\r\n\r\n{\"version\":7}"
 
 -- from 600 to 660 on the first stand, by the plan
@@ -41,13 +41,13 @@ example_visit = record {
 -- that visit at the built-in airport, at version 1
 abbrev pub VisitIsSpelt : Type 0
 VisitIsSpelt =
-    reply_text demo_airport (AVisit example_visit 1)
+    reply_text demo_airport (record { version = 1; told = AVisit example_visit })
     ≡ codes "HTTP/1.1 200 OK\r\nContent-Type: application/json\r\nContent-Length: 202\r\nX-Version: 1\r\n\r\n{\"arr\":null,\"class\":3,\"dep\":null,\"edited\":1,\"name\":\"V1\",\"off\":660,\"on\":600,\"parts\":[{\"actual\":false,\"bump\":null,\"from\":600,\"stand\":\"N1\",\"to\":660}],\"state\":\"expected\",\"type\":\"A320\",\"version\":1,\"visit\":1}"
 
 -- edit 2 is refused at version 10, as its type would come too near to object 3 of the stand's frontage
 abbrev pub UnfitIsSpelt : Type 0
 UnfitIsSpelt =
-    (airport : AirportParts) → reply_text airport (Edit (Unfit 2 (Object 3)) 10)
+    (airport : AirportParts) → reply_text airport (record { version = 10; told = Edit (Unfit 2 (Object 3)) })
     ≡ codes "HTTP/1.1 422 Unprocessable Entity\r\nContent-Type: application/json\r\nContent-Length: 57\r\nX-Version: 10\r\n\r\n{\"by\":{\"object\":3},\"edit\":2,\"error\":\"unfit\",\"version\":10}"
 
 -- part 1 of visit 3 and part 2 of visit 40 come too near to each other from minute 480 on
@@ -62,5 +62,5 @@ example_clash = record {
 -- that clash, at version 12
 abbrev pub ClashIsSpelt : Type 0
 ClashIsSpelt =
-    (airport : AirportParts) → reply_text airport (Edit (Clash example_clash) 12)
+    (airport : AirportParts) → reply_text airport (record { version = 12; told = Edit (Clash example_clash) })
     ≡ codes "HTTP/1.1 422 Unprocessable Entity\r\nContent-Type: application/json\r\nContent-Length: 113\r\nX-Version: 12\r\n\r\n{\"a\":{\"part\":1,\"visit\":3},\"b\":{\"part\":2,\"visit\":40},\"error\":\"clash\",\"minute\":480,\"rule\":\"clearance\",\"version\":12}"

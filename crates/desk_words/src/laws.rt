@@ -1,19 +1,32 @@
-// Laws of the texts: no two fixed ones are alike, and no reply has one.
-ghost use Rattle.std.specs.Prelude.{◌≢◌, All, AllPairs};
+// Laws of the texts: the replies of a plan are told from the others, and no two fixed ones are alike.
+ghost use Rattle.std.specs.Prelude.{◌≡◌, ◌≢◌, true, false, All, AllPairs};
 ghost use Rattle.apron_rules.specs.declared.parts.AirportParts.{AirportParts};
+ghost use Rattle.desk_words.specs.declared.early.Early.{Early};
 ghost use Rattle.desk_words.specs.declared.replies.Reply.{Reply};
+ghost use Rattle.desk_words.specs.Early.{early_text};
 ghost use Rattle.desk_words.specs.Fixed.{fixed_texts};
 ghost use Rattle.desk_words.specs.Replies.{reply_text};
 ghost use Rattle.desk_words.specs.Spelt.{CommittedIsSpelt, VisitIsSpelt, UnfitIsSpelt, ClashIsSpelt};
+ghost use Rattle.desk_words.specs.Texts.{shows_version};
 
-/// No two of the fixed texts are the same.
-pub fn fixed_texts_differ()
-    ensures apart { AllPairs (λ a b. a ≢ b) fixed_texts }
+/// Each reply that the plan gave the cause of shows a version, and no other one does.
+pub fn replies_of_plans_show_a_version()
+    ensures replies { (airport : AirportParts) (reply : Reply) → shows_version (reply_text airport reply) ≡ true }
+    ensures early { (early : Early) → shows_version (early_text early) ≡ false }
+    ensures fixed { All (λ text. shows_version text ≡ false) fixed_texts }
 {}
 
-/// No reply has a fixed text.
-pub fn no_reply_is_fixed()
-    ensures apart { (airport : AirportParts) (reply : Reply) → All (λ text. reply_text airport reply ≢ text) fixed_texts }
+/// So no reply that the plan gave the cause of has the text of another one.
+pub fn no_reply_is_early_or_fixed()
+    ensures early { (airport : AirportParts) (reply : Reply) (early : Early) → reply_text airport reply ≢ early_text early }
+    ensures fixed { (airport : AirportParts) (reply : Reply) → All (λ text. reply_text airport reply ≢ text) fixed_texts }
+{}
+
+/// No two of the fixed texts are the same, and none is that of an early reply, which tells which one it is.
+pub fn fixed_texts_differ()
+    ensures fixed { AllPairs (λ text other. text ≢ other) fixed_texts }
+    ensures early { (early : Early) → All (λ text. early_text early ≢ text) fixed_texts }
+    ensures one { (early other : Early) → early_text early ≡ early_text other → early ≡ other }
 {}
 
 /// Some replies are spelt so.

@@ -2,8 +2,13 @@
 #![tactic(auto)]
 
 pub mod asks;
+pub mod early;
+mod fault_objects;
 pub mod fixed;
 pub mod laws;
+mod part_objects;
 pub mod replies;
+pub mod short;
 #[cfg(test)]
 mod tests;
+mod visit_objects;

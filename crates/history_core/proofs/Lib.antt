@@ -1,4 +1,7 @@
-pub mod Numbers
+pub mod Takings
 pub mod Replay
-pub mod Accepting
+pub mod Boards
 pub mod Legal
+pub mod Texts
+pub mod Drafts
+pub mod Edited

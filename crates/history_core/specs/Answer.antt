@@ -1,59 +1,60 @@
 -- What an ask is given at a history.
-use Rattle.std.specs.Prelude.{◌≡◌, ◌≢◌, ◌≤◌, ◌<◌, ◌+◌, ℕ, Bool, true, false, nat_lt, List, [], ◌∷◌, ◌++◌, Option, None, Some}
+use Rattle.std.specs.Prelude.{◌≡◌, ℕ, nat_lt, List, [], ◌∷◌, ◌++◌, length, Option, None, Some, if◌then◌else◌}
 use Rattle.apron_base.specs.declared.outside.Acted.{Acted}
-use Rattle.apron_base.specs.declared.outside.Acted.TheVariants.{Reply as Replied, Memory as NoMemory, Fault, Spent}
-use Rattle.visit_book.specs.declared.visits.EditFault.TheVariants.{Memory}
+use Rattle.apron_base.specs.declared.outside.Acted.TheVariants.{Reply as Replied, Memory as NoMemory, Fault}
 use Rattle.apron_rules.specs.declared.parts.AirportParts.{AirportParts}
 use Rattle.visit_book.specs.declared.visits.Visit.{Visit}
-use Rattle.plan_core.specs.Drafts.{draft_version}
+use Rattle.visit_book.specs.Numbers.{visit_at}
 use Rattle.plan_core.specs.PlanState.{PlanState}
-use Rattle.plan_core.specs.Rebase.{Refuses, visit_at}
 use Rattle.desk_words.specs.declared.asks.Command.{Command}
-use Rattle.desk_words.specs.declared.asks.Command.TheVariants.{Commit}
 use Rattle.desk_words.specs.declared.asks.Entry.{Entry}
 use Rattle.desk_words.specs.declared.asks.What.{What}
 use Rattle.desk_words.specs.declared.asks.What.TheVariants.{Change, Version as AskVersion, Visit as AskVisit}
 use Rattle.desk_words.specs.declared.asks.Ask.{Ask}
 use Rattle.desk_words.specs.declared.replies.Reply.{Reply}
-use Rattle.desk_words.specs.declared.replies.Reply.TheVariants.{Committed, Version as ToldVersion, Visit as ToldVisit, NoVisit, Ahead, Full, Edit as Refused}
+use Rattle.desk_words.specs.declared.replies.Told.{Told}
+use Rattle.desk_words.specs.declared.replies.Told.TheVariants.{Version as ToldVersion, Visit as ToldVisit, NoVisit, Ahead}
 use Rattle.desk_words.specs.Fixed.{no_memory_text, keeper_fault_text}
 use Rattle.desk_words.specs.Replies.{reply_text}
-use Rattle.history_core.specs.History.{Applies, IsAccepted, IsNew, most_entries, replay}
+use Rattle.history_core.specs.Steps.{Stepped, Steps, accepted, reply_at, stepped_reply}
+use Rattle.history_core.specs.History.{replay}
 
--- how a plan takes a command, with the reply: it is accepted and stands in the history, or only answered
-pub data Stepped : Type 0 where
-  accepted : Reply → Stepped
-  answered : Reply → Stepped
+-- what an ask comes to at a plan: a command that may change it, or what is told of it as it is
+pub data Sought : Type 0 where
+  changes : Command → Sought
+  told : Told → Sought
 
-abbrev pub reply_of : Stepped → Reply
-reply_of (accepted reply) = reply
-reply_of (answered reply) = reply
+-- the visit, or that there is none
+abbrev pub visit_told : Option Visit → Told
+visit_told None = NoVisit
+visit_told (Some visit) = ToldVisit visit
 
--- how a plan takes a command, and what each reply to it means; the version is the plan's after the command
-abbrev pub Steps : PlanState → Command → Stepped → Type 0
-Steps plan (Commit desk draft base edits) (accepted (Committed entry version)) =
-    IsAccepted plan (Commit desk draft base edits) × (entry ≡ plan.version + 1) × (version ≡ plan.version + 1)
-Steps plan (Commit desk draft base edits) (accepted (ToldVersion version)) = ⊥
-Steps plan (Commit desk draft base edits) (accepted (ToldVisit visit version)) = ⊥
-Steps plan (Commit desk draft base edits) (accepted (NoVisit version)) = ⊥
-Steps plan (Commit desk draft base edits) (accepted (Ahead version)) = ⊥
-Steps plan (Commit desk draft base edits) (accepted (Full version)) = ⊥
-Steps plan (Commit desk draft base edits) (accepted (Refused fault version)) = ⊥
-Steps plan (Commit desk draft base edits) (answered (Committed entry version)) =
-    (base ≤ plan.version) × (draft_version plan.drafts desk draft ≡ Some entry) × (version ≡ plan.version)
-Steps plan (Commit desk draft base edits) (answered (ToldVersion version)) = ⊥
-Steps plan (Commit desk draft base edits) (answered (ToldVisit visit version)) = ⊥
-Steps plan (Commit desk draft base edits) (answered (NoVisit version)) = ⊥
-Steps plan (Commit desk draft base edits) (answered (Ahead version)) = (plan.version < base) × (version ≡ plan.version)
-Steps plan (Commit desk draft base edits) (answered (Full version)) =
-    IsNew plan desk draft base × Applies plan base edits × (most_entries ≤ plan.version) × (version ≡ plan.version)
-Steps plan (Commit desk draft base edits) (answered (Refused fault version)) =
-    IsNew plan desk draft base × Refuses plan.airport plan.visits base edits fault × (fault ≢ Memory) × (version ≡ plan.version)
+-- what is sought of a plan, a line for each question
+abbrev pub sought_of : PlanState → What → Sought
+sought_of plan (Change command) = changes command
+sought_of plan AskVersion = told ToldVersion
+sought_of plan (AskVisit number) = told (visit_told (visit_at plan.visits (record { 0 = number })))
+
+-- what an ask comes to: one that has seen a later version than the plan's is ahead, whatever it asks
+abbrev pub sought : PlanState → Ask → Sought
+sought plan ask = if nat_lt plan.version ask.seen then told Ahead else sought_of plan ask.what
 
 -- the entries that a command adds: one where it is accepted
 abbrev pub added : ℕ → Command → Stepped → List Entry
-added call command (accepted reply) = record { call = call; command = command } ∷ []
-added call command (answered reply) = []
+added call command accepted = record { call = call; command = command } ∷ []
+added call command _ = []
+
+-- the reply of a plan to what is sought with this call number, and the history before and after it: a question changes nothing
+abbrev pub Replies : PlanState → List Entry → ℕ → Sought → Reply → List Entry → Type 0
+Replies plan before call (told what) reply after = (reply ≡ reply_at plan.version what) × (after ≡ before)
+Replies plan before call (changes command) reply after =
+    (stepped : Stepped) × Steps plan (length before) command stepped × (reply ≡ stepped_reply plan command stepped)
+    × (after ≡ before ++ added call command stepped)
+
+-- a command is sought that a plan, whose history has so many entries, accepts
+abbrev pub IsAccepted : PlanState → ℕ → Sought → Type 0
+IsAccepted plan entries (changes command) = Steps plan entries command accepted
+IsAccepted plan entries _ = ⊥
 
 -- what an ask is given: the plan's reply, or one that stands outside the history, for want of memory or where the append of an accepted command failed
 pub data Given : Type 0 where
@@ -67,55 +68,26 @@ given_text airport (replied reply) = reply_text airport reply
 given_text airport no_memory = no_memory_text
 given_text airport keeper_fault = keeper_fault_text
 
--- what a command with this call number is given at the history before it, and the history after it
-abbrev pub GivesTo : PlanState → List Entry → ℕ → Command → Given → List Entry → Type 0
-GivesTo start before call command (replied reply) after =
-    (stepped : Stepped) × Steps (replay start before) command stepped × (reply ≡ reply_of stepped) × (after ≡ before ++ added call command stepped)
-GivesTo start before call command no_memory after = after ≡ before
-GivesTo start before call command keeper_fault after =
-    ((reply : Reply) × Steps (replay start before) command (accepted reply)) × (after ≡ before)
-
--- what is given where this is the reply, unless memory is wanting
-abbrev pub IsReply : Reply → Given → Type 0
-IsReply reply (replied said) = said ≡ reply
-IsReply reply no_memory = Unit {0}
-IsReply reply keeper_fault = ⊥
-
--- the visit, or that there is none
-abbrev pub visit_reply : Option Visit → ℕ → Reply
-visit_reply None version = NoVisit version
-visit_reply (Some visit) version = ToldVisit visit version
-
--- what is given for what is asked, and the history after it: a question changes nothing
-abbrev pub GivesWhat : PlanState → List Entry → ℕ → What → Given → List Entry → Type 0
-GivesWhat start before call (Change command) given after = GivesTo start before call command given after
-GivesWhat start before call AskVersion given after =
-    IsReply (ToldVersion (let plan = replay start before in plan.version)) given × (after ≡ before)
-GivesWhat start before call (AskVisit number) given after =
-    IsReply (let plan = replay start before in visit_reply (visit_at plan.visits (record { 0 = number })) plan.version) given × (after ≡ before)
-
--- what an ask is given that has seen a later version than the plan's, or none that is later
-abbrev pub GivesSeen : PlanState → List Entry → ℕ → What → Bool → Given → List Entry → Type 0
-GivesSeen start before call what true given after = IsReply (Ahead (let plan = replay start before in plan.version)) given × (after ≡ before)
-GivesSeen start before call what false given after = GivesWhat start before call what given after
+-- what is given at a plan for what is sought with this call number, and the history before and after it
+abbrev pub GivesAt : PlanState → List Entry → ℕ → Sought → Given → List Entry → Type 0
+GivesAt plan before call asked (replied reply) after = Replies plan before call asked reply after
+GivesAt plan before call asked no_memory after = after ≡ before
+GivesAt plan before call asked keeper_fault after = IsAccepted plan (length before) asked × (after ≡ before)
 
 -- what an ask with this call number is given at the history before it, and the history after it
 abbrev pub Gives : PlanState → List Entry → ℕ → Ask → Given → List Entry → Type 0
-Gives start before call ask given after = GivesSeen start before call ask.what (let plan = replay start before in nat_lt plan.version ask.seen) given after
+Gives start before call ask given after = GivesAt (replay start before) before call (sought (replay start before) ask) given after
 
--- how an act shows what was given
-abbrev pub ShowsAs : AirportParts → Acted → Given → Type 0
-ShowsAs airport (Replied bytes) (replied reply) = bytes ≡ reply_text airport reply
-ShowsAs airport (Replied bytes) no_memory = ⊥
-ShowsAs airport (Replied bytes) keeper_fault = ⊥
-ShowsAs airport NoMemory (replied reply) = ⊥
-ShowsAs airport NoMemory no_memory = Unit {0}
-ShowsAs airport NoMemory keeper_fault = ⊥
-ShowsAs airport Fault (replied reply) = ⊥
-ShowsAs airport Fault no_memory = ⊥
-ShowsAs airport Fault keeper_fault = Unit {0}
-ShowsAs airport Spent given = ⊥
+-- how an act shows what is given
+abbrev pub shown : AirportParts → Given → Acted
+shown airport (replied reply) = Replied (reply_text airport reply)
+shown airport no_memory = NoMemory
+shown airport keeper_fault = Fault
 
 -- an act that got its turn: it shows what the ask is given
 abbrev pub ActsAs : PlanState → List Entry → ℕ → Ask → Acted → List Entry → Type 0
-ActsAs start before call ask acted after = (given : Given) × ShowsAs start.airport acted given × Gives start before call ask given after
+ActsAs start before call ask acted after = (given : Given) × (acted ≡ shown start.airport given) × Gives start before call ask given after
+
+-- the bytes are those of the plan's reply to what is sought with this call number, and these are the history before and after it
+abbrev pub TextOf : PlanState → List Entry → ℕ → Sought → List ℕ → List Entry → Type 0
+TextOf plan before call asked bytes after = (reply : Reply) × (bytes ≡ reply_text plan.airport reply) × Replies plan before call asked reply after

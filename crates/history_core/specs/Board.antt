@@ -1,10 +1,11 @@
 -- A board as contracts see it.
-use Rattle.std.specs.Prelude.{◌≡◌, ◌≤◌, ◌^◌, ℕ, List}
+use Rattle.std.specs.Prelude.{◌≡◌, ◌≤◌, ℕ, List, length}
 use Rattle.apron_base.specs.Histories.{Rises}
 use Rattle.apron_rules.specs.declared.parts.AirportParts.{AirportParts}
 use Rattle.plan_core.specs.PlanState.{PlanState}
 use Rattle.desk_words.specs.declared.asks.Entry.{Entry}
-use Rattle.history_core.specs.History.{AreAccepted, call_of, most_entries, replay}
+use Rattle.history_core.specs.Steps.{most_entries}
+use Rattle.history_core.specs.History.{AreTaken, IsFresh, call_limit, call_of, replay}
 
 -- the plan that its history began with, its history, and the least number of its next call
 pub record BoardState : Type 0 where
@@ -12,11 +13,13 @@ pub record BoardState : Type 0 where
   pub history : List Entry
   pub next : ℕ
 
--- what is true of every board, with its airport and the plan that it keeps
-pub record IsBoard (airport : AirportParts) (plan start : PlanState) (history : List Entry) (next : ℕ) : Type 0 where
-  pub airport_is : start.airport ≡ airport
-  pub plan_is : plan ≡ replay start history
-  pub accepted : AreAccepted start history
-  pub numbers : Rises call_of 1 next history
-  pub few : next ≤ 2 ^ 62
-  pub most : plan.version ≤ most_entries
+-- what is true of every board, with its airport and the plan that it keeps: the plan is what the history makes, of commands that were taken, and the
+-- entries are of calls before the next one
+pub record IsBoard (airport : AirportParts) (plan : PlanState) (board : BoardState) : Type 0 where
+  pub airport_is : board.start.airport ≡ airport
+  pub begun : IsFresh board.start
+  pub plan_is : plan ≡ replay board.start board.history
+  pub taken : AreTaken board.start board.history
+  pub few : length board.history ≤ most_entries
+  pub numbers : Rises call_of 1 board.next board.history
+  pub calls : board.next ≤ call_limit

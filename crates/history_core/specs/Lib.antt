@@ -1,4 +1,6 @@
+pub mod Steps
 pub mod History
 pub mod Answer
+pub mod Taking
 pub mod Board
-pub mod Acts
+pub mod Laws

@@ -1,7 +1,6 @@
 pub mod HeadLaws
 pub mod BlankLaws
 pub mod BodyLaws
-pub mod SpanLaws
 pub mod FrontLaws
 pub mod OneReading
 pub mod StreamLaws

@@ -1,5 +1,5 @@
 -- How the requests of a stream are put together as its bytes come.
-use Rattle.std.proofs.Common.{◌≡◌, ℕ, ◌+◌, ◌<◌, true, false, true≢false, List, [], ◌∷◌, ◌++◌, All, length, refl, sym, ap, ◌∙◌, subst, append_assoc, arith, inl, inr, length-append}
+use Rattle.std.proofs.Common.{◌≡◌, ℕ, ◌<◌, true, false, true≢false, List, [], ◌∷◌, ◌++◌, All, length, refl, sym, ap, ◌∙◌, subst, append_assoc, arith, inl, inr, length-append}
 use Rattle.std.proofs.lemmas.List.Elements.{All-head, All-tail}
 use Rattle.httparse.specs.Grammar.{print_request}
 use Rattle.http_framing.specs.Blank.{is_blank}
@@ -8,6 +8,7 @@ use Rattle.http_framing.specs.Fields.{pairs}
 use Rattle.http_framing.specs.Heads.{HasHead}
 use Rattle.http_framing.specs.Requests.{Request, HasRequest, IsPartial, IsMalformed}
 use Rattle.http_framing.specs.declared.bodies.Refusal.{Refusal}
+use Rattle.http_framing.specs.Rooms.{max_request}
 use Rattle.http_framing.specs.Streams.{Ending, ended, cut, closed, Ends, IsOpen, Requests, Splits}
 use Rattle.http_framing.proofs.BlankLaws.{HasHead-not_blank}
 use Rattle.http_framing.proofs.BodyLaws.{framed_bound}
@@ -37,7 +38,7 @@ splits_push bytes rest more [] r x y = (more, subst (λ t. HasRequest t r more) 
 splits_push bytes rest more (q ∷ qs) r x y = (x.0, x.1, splits_push x.0 rest more qs r x.2 y)
 
 -- what is no whole request yet has room for more bytes
-pub partial_short : (bytes : List ℕ) → IsPartial bytes → length bytes < 8192 + 65536
+pub partial_short : (bytes : List ℕ) → IsPartial bytes → length bytes < max_request
 partial_short bytes (inl x) = let short = x.short in omega arith
 partial_short bytes (inr (h, after, wanted, x)) =
     let long = ap length x.head.reads.1 in

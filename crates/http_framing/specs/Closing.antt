@@ -4,10 +4,18 @@ use Rattle.std.specs.List.{list_any, slice_split}
 use Rattle.httparse.specs.Grammar.{RequestHead}
 use Rattle.http_framing.specs.Fields.{Pair, pairs, values_of, is_same_name}
 
+-- the byte of a space
+abbrev pub space : ℕ
+space = 32
+
+-- the byte between the parts of a value
+abbrev pub comma : ℕ
+comma = 44
+
 -- the bytes from the first that is no space
 abbrev pub skip_spaces : List ℕ → List ℕ
 skip_spaces [] = []
-skip_spaces (b ∷ bytes) = if b == 32 then skip_spaces bytes else b ∷ bytes
+skip_spaces (byte ∷ bytes) = if byte == space then skip_spaces bytes else byte ∷ bytes
 
 -- the bytes without the spaces at both ends
 unfoldable pub trim_spaces : List ℕ → List ℕ
@@ -19,7 +27,7 @@ is_close part = is_same_name (trim_spaces part) (codes "close")
 
 -- a value has `close` among its parts between commas
 abbrev pub has_close : List ℕ → Bool
-has_close value = list_any is_close (slice_split (λ b. b == 44) value)
+has_close value = list_any is_close (slice_split (λ byte. byte == comma) value)
 
 -- a Connection field has `close` among its parts
 abbrev pub asks_close : List Pair → Bool
@@ -27,4 +35,4 @@ asks_close fields = list_any has_close (values_of (codes "connection") fields)
 
 -- the session ends after a request with this head
 abbrev pub is_closing : RequestHead → Bool
-is_closing h = h.minor == 0 || asks_close (pairs h)
+is_closing head = head.minor == 0 || asks_close (pairs head)

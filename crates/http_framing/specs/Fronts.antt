@@ -1,45 +1,45 @@
--- What the front of a buffer is found to be.
-use Rattle.std.specs.Prelude.{◌≡◌, ℕ, ◌+◌, ◌≤◌, List, length, take, drop}
+-- What the front of some bytes is found to be.
+use Rattle.std.specs.Prelude.{◌≡◌, ℕ, ◌+◌, ◌≤◌, List, codes, length, drop}
 use Rattle.httparse.specs.Grammar.{RequestHead, print_request}
-use Rattle.httparse.specs.Spans.{IsWithin, IsRequestAt, IsRequestWithin, IsSectionWithin}
+use Rattle.httparse.specs.Spans.{IsRequestAt, IsRequestWithin}
 use Rattle.httparse.specs.declared.spans.HeaderSpan.{HeaderSpan}
-use Rattle.http_framing.specs.Heads.{HasHead, IsBadHead, IsUnfinished, max_head}
-use Rattle.http_framing.specs.Bodies.{max_body}
+use Rattle.http_framing.specs.Closing.{is_closing}
+use Rattle.http_framing.specs.Fields.{number_field, pairs}
+use Rattle.http_framing.specs.Heads.{HasHead, IsBadHead, IsUnfinished}
 use Rattle.http_framing.specs.Requests.{Request, HasRequest, IsPartial, IsMalformed}
-use Rattle.http_framing.specs.declared.found.Found.{Found}
+use Rattle.http_framing.specs.Streams.{Ends, ended, cut}
 use Rattle.http_framing.specs.declared.front.Front.{Front}
 use Rattle.http_framing.specs.declared.front.Front.TheVariants.{Whole, Partial, Malformed}
-use Rattle.http_framing.specs.declared.front.HeadFront as head
+use Rattle.http_framing.specs.declared.front.RequestParts.{RequestParts}
+use Rattle.http_framing.specs.declared.heads.HeadFront as head
+use Rattle.http_framing.specs.declared.incoming.End.{End}
+use Rattle.http_framing.specs.declared.incoming.End.TheVariants.{Ended, Cut}
 
--- how many bytes the request has
-abbrev pub found_length : Found → ℕ
-found_length found = found.spans.len + found.body
+-- the parts are those of the request
+pub record ArePartsOf (request : Request) (parts : RequestParts) : Type 0 where
+  pub method : parts.method.now ≡ request.head.method
+  pub target : parts.target.now ≡ request.head.target
+  pub seen : parts.seen ≡ number_field (codes "x-seen") (pairs request.head)
+  pub body : parts.body.now ≡ request.body
+  pub closes : parts.closes ≡ is_closing request.head
+  pub whole : parts.length ≡ length (print_request request.head) + length request.body
 
--- the most bytes of a request
-abbrev pub max_request : ℕ
-max_request = max_head + max_body
+-- the bytes begin with the request, and the parts are its parts
+pub record HasParts (bytes : List ℕ) (request : Request) (parts : RequestParts) : Type 0 where
+  pub first : HasRequest bytes request (drop parts.length bytes)
+  pub fits : parts.length ≤ length bytes
+  pub parts_are : ArePartsOf request parts
 
--- the request's parts lie in the bytes
-pub record IsFoundIn (bytes : List ℕ) (found : Found) : Type 0 where
-  pub method : IsWithin found.spans.len found.spans.method
-  pub target : IsWithin found.spans.len found.spans.path
-  pub whole : found_length found ≤ length bytes
-  pub short : found_length found ≤ max_request
+-- what the front of the bytes is
+abbrev pub IsFront : List ℕ → Front → Type 0
+IsFront bytes (Whole parts) = (request : Request) × HasParts bytes request parts
+IsFront bytes Partial = IsPartial bytes
+IsFront bytes (Malformed why) = IsMalformed bytes why
 
--- the bytes begin with the request, and its parts lie where found says
-pub record IsFoundAt (bytes : List ℕ) (fields : List HeaderSpan) (found : Found) (request : Request) : Type 0 where
-  pub head : IsRequestAt bytes fields found.spans request.head
-  pub body : take found.body (drop found.spans.len bytes) ≡ request.body
-  pub long : found_length found ≡ length (print_request request.head) + length request.body
-  pub inside : IsFoundIn bytes found
-  pub section : IsSectionWithin bytes fields found.spans.len found.spans.headers
-
--- what the front of a buffer is
-abbrev pub IsFront : List ℕ → List HeaderSpan → Front → Type 0
-IsFront bytes fields (Whole found) =
-    (request : Request) × IsFoundAt bytes fields found request × HasRequest bytes request (drop (found_length found) bytes)
-IsFront bytes fields Partial = IsPartial bytes
-IsFront bytes fields (Malformed why) = IsMalformed bytes why
+-- how a stream ends with these bytes, which hold no whole request
+abbrev pub IsEnd : List ℕ → End → Type 0
+IsEnd bytes Ended = Ends bytes ended
+IsEnd bytes Cut = Ends bytes cut
 
 -- what the head at the front of a window is
 abbrev pub IsHeadFront : List ℕ → List HeaderSpan → head.HeadFront → Type 0

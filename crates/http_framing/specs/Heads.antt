@@ -12,10 +12,10 @@ abbrev pub max_head : ℕ
 max_head = 8192
 
 -- the bytes are a head within the limits and then rest
-pub record HasHead (bytes : List ℕ) (h : RequestHead) (rest : List ℕ) : Type 0 where
-  pub reads : ReadsRequest bytes h rest
-  pub few : length h.fields ≤ max_fields
-  pub short : length (print_request h) ≤ max_head
+pub record HasHead (bytes : List ℕ) (head : RequestHead) (rest : List ℕ) : Type 0 where
+  pub reads : ReadsRequest bytes head rest
+  pub few : length head.fields ≤ max_fields
+  pub short : length (print_request head) ≤ max_head
 
 -- whatever bytes follow, they complete no head of at most 64 fields
 abbrev pub IsHopeless : List ℕ → Type 0
@@ -24,7 +24,7 @@ IsHopeless bytes = RequestOverflows max_fields bytes
 -- the longest head is there, and no head ends within it
 pub record IsTooLong (bytes : List ℕ) : Type 0 where
   pub long : max_head ≤ length bytes
-  pub none : (h : RequestHead) (rest : List ℕ) → ReadsRequest bytes h rest → max_head < length (print_request h)
+  pub none : (head : RequestHead) (rest : List ℕ) → ReadsRequest bytes head rest → max_head < length (print_request head)
 
 -- no head within the limits can come
 abbrev pub IsBadHead : List ℕ → Type 0

@@ -5,5 +5,6 @@ pub mod Bodies
 pub mod Closing
 pub mod Requests
 pub mod Streams
+pub mod Rooms
 pub mod Fronts
 pub mod Laws

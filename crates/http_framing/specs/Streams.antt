@@ -22,16 +22,16 @@ Ends bytes (malformed why) = IsMalformed bytes why
 
 -- the session goes on after the request
 abbrev pub IsOpen : Request → Type 0
-IsOpen r = is_closing r.head ≡ false
+IsOpen request = is_closing request.head ≡ false
 
 -- a stream of these bytes has these requests in order, and ends so
 abbrev pub Requests : List ℕ → List Request → Ending → Type 0
 Requests bytes [] ending = Ends bytes ending
-Requests bytes (r ∷ rs) ending =
-    (rest : List ℕ) × HasRequest bytes r rest
-    × (is_closing r.head ≡ true → (rs ≡ []) × (ending ≡ closed)) × (is_closing r.head ≡ false → Requests rest rs ending)
+Requests bytes (request ∷ requests) ending =
+    (rest : List ℕ) × HasRequest bytes request rest
+    × (is_closing request.head ≡ true → (requests ≡ []) × (ending ≡ closed)) × (is_closing request.head ≡ false → Requests rest requests ending)
 
 -- the bytes are these requests, one after another, and then rest
 abbrev pub Splits : List ℕ → List Request → List ℕ → Type 0
 Splits bytes [] rest = bytes ≡ rest
-Splits bytes (r ∷ rs) rest = (after : List ℕ) × HasRequest bytes r after × Splits after rs rest
+Splits bytes (request ∷ requests) rest = (after : List ℕ) × HasRequest bytes request after × Splits after requests rest

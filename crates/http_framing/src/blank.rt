@@ -4,7 +4,7 @@ ghost use Rattle.http_framing.specs.Blank.{is_blank};
 
 /// Whether the bytes are empty lines, of which the last may lack its LF: where a stream of fewer
 /// than `MAX_HEAD` such bytes ends, it ends between requests.
-pub fn are_blank(bytes: &[u8]) -> bool
+pub(crate) fn are_blank(bytes: &[u8]) -> bool
     ensures is { result ≡ is_blank bytes.now }
 {
     let mut after_cr = false;

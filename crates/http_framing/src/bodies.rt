@@ -5,7 +5,8 @@ ghost use Rattle.httparse.specs.Spans.{IsHeaderWithin, header_bytes, IsRequestAt
 ghost use Rattle.http_framing.specs.Fields.{pairs};
 ghost use Rattle.http_framing.specs.Bodies.{framed};
 
-use crate::fields::{OnlyValue, only_value, read_number};
+use crate::fields::{OnlyValue, only_value};
+use apron_base::{MAX_DIGITS, number_of};
 use httparse::spans::{HeaderSpan, RequestSpans};
 
 /// The most bytes of a body.
@@ -53,7 +54,7 @@ fn length_by(bytes: &[u8], fields: &[HeaderSpan], method: &[u8]) -> Result<usize
         } else {
             Ok(0)
         },
-        OnlyValue::One(value) => match read_number(value) {
+        OnlyValue::One(value) => match number_of(value, MAX_DIGITS) {
             None => Err(Refusal::Head),
             Some(number) => if number <= MAX_BODY as u64 {
                 Ok(number as usize)

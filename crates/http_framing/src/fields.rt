@@ -1,8 +1,9 @@
 // One field of a head, found by its name.
 ghost use Rattle.std.specs.Prelude.{◌≡◌, map, length, All};
 ghost use Rattle.httparse.specs.Spans.{IsHeaderWithin, header_bytes};
-ghost use Rattle.http_framing.specs.Fields.{is_same_name, values_of, IsOnly, number_field, number_of};
+ghost use Rattle.http_framing.specs.Fields.{is_same_name, values_of, IsOnly, number_field};
 
+use apron_base::{MAX_DIGITS, number_of};
 use httparse::spans::HeaderSpan;
 
 /// What a search for the value of one field finds.
@@ -51,7 +52,7 @@ pub(crate) fn field_number(bytes: &[u8], fields: &[HeaderSpan], name: &[u8]) -> 
 {
     match only_value(bytes, fields, name) {
         OnlyValue::Nothing => FieldNumber::Absent,
-        OnlyValue::One(value) => match read_number(value) {
+        OnlyValue::One(value) => match number_of(value, MAX_DIGITS) {
             Some(number) => FieldNumber::Written(number),
             None => FieldNumber::Wrong,
         },
@@ -64,22 +65,4 @@ pub(crate) fn is_named(text: &[u8], name: &[u8]) -> bool
     ensures same { result ≡ is_same_name text.now name.now }
 {
     text.eq_ignore_ascii_case(name)
-}
-
-/// The number that 1 to 10 digits write. None where the value is anything else.
-#[tactic(auto, unfolding(crate::specs::Fields::number_of))]
-pub fn read_number(value: &[u8]) -> Option<u64>
-    ensures value { result ≡ number_of value.now }
-{
-    if value.is_empty() || value.len() > 10 {
-        return None;
-    }
-    let mut number = 0u64;
-    for byte in value {
-        if !byte.is_ascii_digit() {
-            return None;
-        }
-        number = number * 10 + (*byte - b'0') as u64;
-    }
-    Some(number)
 }

@@ -1,84 +1,85 @@
-// What stands at the front of a buffer of requests.
-ghost use Rattle.std.specs.Prelude.{◌≡◌, ◌≤◌, length, take};
-ghost use Rattle.http_framing.specs.Heads.{max_head};
-ghost use Rattle.http_framing.specs.Fronts.{IsFront, IsHeadFront};
+// What stands at the front of the bytes that have come.
+ghost use Rattle.std.specs.Prelude.{◌≡◌, ◌+◌, ◌<◌, ◌^◌, length};
+ghost use Rattle.httparse.specs.Grammar.{RequestHead};
+ghost use Rattle.httparse.specs.Spans.{IsRequestAt, IsRequestWithin};
+ghost use Rattle.http_framing.specs.Fronts.{ArePartsOf, IsFront};
 
 use crate::bodies::{Refusal, body_length};
-use crate::found::Found;
-use httparse::Status;
-use httparse::spans::{HeaderSpan, RequestSpans, parse_request};
+use crate::closing::asks_close;
+use crate::fields::{FieldNumber, field_number};
+use crate::heads::{HeadFront, MAX_FIELDS, head_front, window_of};
+use httparse::spans::{EMPTY_HEADER_SPAN, HeaderSpan, RequestSpans};
 
-/// The most bytes of a head, with the empty lines before it.
-pub const MAX_HEAD: usize = 8192;
-
-/// The most fields of a head.
-pub const MAX_FIELDS: usize = 64;
-
-/// What stands at the front of a buffer.
+/// What stands at the front of the bytes that have come. Bytes that follow change no answer but
+/// `Partial`.
 #[derive(Clone, Copy, Debug)]
-pub enum Front {
+pub enum Front<'b> {
     /// A whole request.
-    Whole(Found),
+    Whole(RequestParts<'b>),
     /// A request that is not whole yet, or nothing but empty lines.
     Partial,
     /// No request can come of it, whatever bytes follow.
     Malformed(Refusal),
 }
 
-/// What stands at the front of a buffer. Where it is a whole request, `fields` then begins with
-/// the spans of its fields. Bytes that follow change no answer but `Partial`.
-pub fn front_of(bytes: &[u8], fields: &mut [HeaderSpan]) -> Front
-    requires room { length fields.old ≡ MAX_FIELDS }
-    ensures is { IsFront bytes.now fields.new result }
+/// The parts of a whole request.
+#[derive(Clone, Copy, Debug)]
+pub struct RequestParts<'b> {
+    /// The method, as it is written.
+    pub method: &'b [u8],
+    /// The target, as it is written.
+    pub target: &'b [u8],
+    /// The number that the only field `X-Seen` writes.
+    pub seen: FieldNumber,
+    pub body: &'b [u8],
+    /// Whether the session ends after the request.
+    pub closes: bool,
+    /// How many bytes the request has, head and body.
+    pub length: usize,
+}
+
+/// What stands at the front of the bytes.
+pub(crate) fn front_of(bytes: &[u8]) -> Front<'_>
+    ensures is { IsFront bytes.now result }
 {
     let window = window_of(bytes);
-    match head_front(window, fields) {
+    let mut fields = [EMPTY_HEADER_SPAN; MAX_FIELDS];
+    match head_front(window, &mut fields) {
         HeadFront::Partial => Front::Partial,
         HeadFront::Bad => Front::Malformed(Refusal::Head),
-        HeadFront::Whole(spans) => match body_length(window, fields, &spans) {
+        HeadFront::Whole(spans) => match body_length(window, &fields, &spans) {
             Err(why) => Front::Malformed(why),
-            Ok(body) => if body <= bytes.len() - spans.len {
-                Front::Whole(Found { spans, body })
-            } else {
-                Front::Partial
-            },
+            Ok(length) => {
+                let behind = &bytes[spans.len..];
+                if length <= behind.len() {
+                    Front::Whole(parts_of(window, &fields, &spans, &behind[..length]))
+                } else {
+                    Front::Partial
+                }
+            }
         },
     }
 }
 
-/// What the head at the front of a window is.
-#[derive(Clone, Copy, Debug)]
-enum HeadFront {
-    Whole(RequestSpans),
-    Partial,
-    /// No head within the limits can come.
-    Bad,
-}
-
-/// The bytes that the longest head may lie in.
-fn window_of(bytes: &[u8]) -> &[u8]
-    ensures value { result.now ≡ take max_head bytes.now }
+/// The parts of the request with this body, whose head lies at these spans of a window.
+fn parts_of<'b>(
+    window: &'b [u8],
+    fields: &[HeaderSpan],
+    spans: &RequestSpans,
+    body: &'b [u8],
+) -> RequestParts<'b>
+    requires inside { IsRequestWithin window.now fields.now spans.now }
+    requires short { spans.now.len + length body.now < 2 ^ 64 }
+    ensures parts { (head : RequestHead) → IsRequestAt window.now fields.now spans.now head
+        → ArePartsOf (record { head = head; body = body.now }) result }
 {
-    if bytes.len() <= MAX_HEAD {
-        bytes
-    } else {
-        &bytes[..MAX_HEAD]
-    }
-}
-
-/// Reads the head at the front of a window.
-fn head_front(window: &[u8], fields: &mut [HeaderSpan]) -> HeadFront
-    requires room { length fields.old ≡ MAX_FIELDS }
-    requires window { length window.now ≤ max_head }
-    ensures is { IsHeadFront window.now fields.new result }
-{
-    match parse_request(window, fields) {
-        Ok(Status::Complete(spans)) => HeadFront::Whole(spans),
-        Ok(Status::Partial) => if window.len() < MAX_HEAD {
-            HeadFront::Partial
-        } else {
-            HeadFront::Bad
-        },
-        Err(_) => HeadFront::Bad,
+    let fields = &fields[..spans.headers];
+    RequestParts {
+        method: spans.method.of(window),
+        target: spans.path.of(window),
+        seen: field_number(window, fields, b"x-seen"),
+        body,
+        closes: spans.version == 0 || asks_close(window, fields),
+        length: spans.len + body.len(),
     }
 }

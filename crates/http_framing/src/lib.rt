@@ -2,22 +2,23 @@
 //!
 //! A request is a head, as `httparse` reads it by default, and then as many bytes of body as its
 //! `Content-Length` says. A `Transfer-Encoding` is refused. RFC 9112 has the format; the limits
-//! are this project's own.
+//! are this project's own. What `httparse` lays out stays in this crate.
 #![tactic(auto)]
 
 mod blank;
 mod bodies;
 mod closing;
 mod fields;
-mod found;
 mod front;
+mod heads;
+mod incoming;
 mod laws;
 
-pub use blank::are_blank;
 pub use bodies::{MAX_BODY, Refusal};
-pub use fields::{FieldNumber, read_number};
-pub use found::Found;
-pub use front::{Front, MAX_FIELDS, MAX_HEAD, front_of};
+pub use fields::FieldNumber;
+pub use front::{Front, RequestParts};
+pub use heads::{MAX_FIELDS, MAX_HEAD};
+pub use incoming::{End, Incoming, MAX_PIECE};
 pub use laws::{more_bytes_change_no_request, requests_have_one_reading};
 
 #[cfg(test)]

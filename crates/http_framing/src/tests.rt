@@ -1,6 +1,7 @@
 // What the framing makes of bytes that come from outside.
 use super::*;
-use httparse::spans::EMPTY_HEADER_SPAN;
+use crate::blank::are_blank;
+use crate::front::front_of;
 use std::alloc::{AllocError, Global};
 
 /// What is at the front of some bytes; a whole request by its length.
@@ -12,9 +13,8 @@ enum Kind {
 }
 
 fn front_kind(bytes: &[u8]) -> Kind {
-    let mut fields = [EMPTY_HEADER_SPAN; MAX_FIELDS];
-    match front_of(bytes, &mut fields) {
-        Front::Whole(found) => Kind::Whole(found.length()),
+    match front_of(bytes) {
+        Front::Whole(request) => Kind::Whole(request.length),
         Front::Partial => Kind::Partial,
         Front::Malformed(why) => Kind::Refused(why),
     }
@@ -22,14 +22,10 @@ fn front_kind(bytes: &[u8]) -> Kind {
 
 /// The parts of a request, and whether the session ends after it.
 fn parts(bytes: &[u8]) -> Option<(&[u8], &[u8], &[u8], bool)> {
-    let mut fields = [EMPTY_HEADER_SPAN; MAX_FIELDS];
-    match front_of(bytes, &mut fields) {
-        Front::Whole(found) => Some((
-            found.method(bytes),
-            found.target(bytes),
-            found.body(bytes),
-            found.closes(bytes, &fields),
-        )),
+    match front_of(bytes) {
+        Front::Whole(request) => {
+            Some((request.method, request.target, request.body, request.closes))
+        }
         _ => None,
     }
 }
@@ -195,9 +191,8 @@ fn after_which_request_the_session_ends(rt: HostRuntime) {
 
 // The number that the fields `X-Seen` of a head write.
 fn seen(head: &[u8]) -> Option<FieldNumber> {
-    let mut fields = [EMPTY_HEADER_SPAN; MAX_FIELDS];
-    match front_of(head, &mut fields) {
-        Front::Whole(found) => Some(found.number(head, &fields, b"x-seen")),
+    match front_of(head) {
+        Front::Whole(request) => Some(request.seen),
         _ => None,
     }
 }

@@ -1,11 +1,20 @@
 -- Numbers that are written in digits are read back.
 use Rattle.std.proofs.Common.{◌≡◌, ℕ, ◌+◌, ◌-◌, ◌*◌, ◌/◌, ◌%◌, ◌≤◌, ◌<◌, cond, true, false, ltb, List, [], ◌∷◌, ◌++◌, length, refl, ap, ◌∙◌, Some, None, arith}
 use Rattle.std.specs.Prelude.{◌&&◌, nat_le, slice_index}
+use Rattle.std.specs.Char.{digit_value}
 use Rattle.std.specs.List.{list_all}
+use Rattle.std.proofs.lemmas.Str.{digit_value_digit}
 use Rattle.std.proofs.lemmas.Bool.{and_from, le-leb, lt-leb, ltb-true, cond_both}
-use Rattle.mvt_grammar.specs.Bytes.{is_capital, is_digit, value_after, two_digits}
+use Rattle.mvt_grammar.specs.Bytes.{is_capital, is_digit, two_digits}
+use Rattle.std.specs.Str.Parse.{digits_value}
 use Rattle.mvt_grammar.specs.Canonical.{digit, two_text, number_text}
 use Rattle.mvt_grammar.specs.Flights.{is_number}
+
+-- what a digit that writes a number counts for
+value_of : (n : ℕ) → n ≤ 9 → digit_value (digit n) ≡ n
+value_of n h =
+    let counts = digit_value_digit (48 + n) (omega arith, omega arith) in
+    omega (arith, counts)
 
 digit_is : (n : ℕ) → n ≤ 9 → is_digit (digit n) ≡ true
 digit_is n h = and_from (nat_le 48 (48 + n)) (nat_le (48 + n) 57) (le-leb 48 (48 + n) (omega arith)) (le-leb (48 + n) 57 (omega arith))
@@ -24,7 +33,7 @@ two_digits-back n h =
 -- what a text that writes a number has
 pub record Writes (n : ℕ) (text : List ℕ) : Type 0 where
   pub form : is_number text ≡ true
-  pub value : value_after 0 text ≡ n
+  pub value : digits_value 10 text ≡ n
   pub digits : list_all is_digit text ≡ true
   pub first : is_capital (slice_index text 0) ≡ false
   pub last : is_capital (slice_index text (length text - 1)) ≡ false
@@ -38,7 +47,7 @@ digits_more a text h k = and_from (is_digit (digit a)) (list_all is_digit text) 
 writes_one : (n : ℕ) → n < 10 → Writes n (digit n ∷ [])
 writes_one n h = let a : n ≤ 9 = omega arith in record {
   form = digits_one n a;
-  value = omega arith;
+  value = rw (value_of n a) (omega arith);
   digits = digits_one n a;
   first = digit-not_capital n a;
   last = digit-not_capital n a;
@@ -47,7 +56,7 @@ writes_one n h = let a : n ≤ 9 = omega arith in record {
 writes_two : (n : ℕ) → n < 100 → Writes n (two_text n)
 writes_two n h = record {
   form = two_text-digits n h;
-  value = omega arith;
+  value = rw (value_of (n / 10) (omega arith), value_of (n % 10) (omega arith)) (omega arith);
   digits = two_text-digits n h;
   first = digit-not_capital (n / 10) (omega arith);
   last = digit-not_capital (n % 10) (omega arith);
@@ -60,7 +69,7 @@ writes_three n h =
     let digits = digits_more (n / 100) (two_text (n % 100)) first (two_text-digits (n % 100) rest) in
     record {
       form = digits;
-      value = omega arith;
+      value = rw (value_of (n / 100) first, value_of (n % 100 / 10) (omega arith), value_of (n % 100 % 10) (omega arith)) (omega arith);
       digits = digits;
       first = digit-not_capital (n / 100) first;
       last = digit-not_capital (n % 100 % 10) (omega arith);
@@ -73,7 +82,7 @@ writes_four n h =
     let digits = digits_more (n / 100 / 10) (digit (n / 100 % 10) ∷ two_text (n % 100)) (omega arith) (digits_more (n / 100 % 10) (two_text (n % 100)) (omega arith) (two_text-digits (n % 100) rest)) in
     record {
       form = digits;
-      value = omega arith;
+      value = rw (value_of (n / 100 / 10) (omega arith), value_of (n / 100 % 10) (omega arith), value_of (n % 100 / 10) (omega arith), value_of (n % 100 % 10) (omega arith)) (omega arith);
       digits = digits;
       first = digit-not_capital (n / 100 / 10) (omega arith);
       last = digit-not_capital (n % 100 % 10) (omega arith);

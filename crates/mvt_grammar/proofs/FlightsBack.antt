@@ -4,7 +4,8 @@ use Rattle.std.specs.Prelude.{◌⊎◌, IfSome, IsTrue, ◌&&◌, ◌==◌, nat
 use Rattle.std.specs.List.{list_all, list_any}
 use Rattle.std.proofs.lemmas.Bool.{and_parts, and_from, or_cases, or_left, or_right, eqb-true, leb-true}
 use Rattle.std.proofs.lemmas.List.{append-nil, take_at, drop_at, get_or_append_left, get_or_push, length_push}
-use Rattle.mvt_grammar.specs.Bytes.{is_capital, is_digit, value_after}
+use Rattle.mvt_grammar.specs.Bytes.{is_capital, is_digit}
+use Rattle.std.specs.Str.Parse.{digits_value}
 use Rattle.mvt_grammar.specs.Flights.{is_airline_byte, is_airline, airline_len, is_number, flight_with, flight_after, flight_of}
 use Rattle.mvt_grammar.specs.Canonical.{number_text, flight_text}
 use Rattle.mvt_grammar.specs.Readable.{IsFlight}
@@ -18,7 +19,7 @@ flight_at airline number suffix = record { airline = airline; number = number; s
 
 with-back : (airline text : List ℕ) (n : ℕ) (suffix : Option ℕ) → is_airline airline ≡ true → Writes n text → flight_with airline text suffix ≡ Some (flight_at airline n suffix)
 with-back airline text n suffix a w =
-    ap (λ t. cond t (Some (flight_at airline (value_after 0 text) suffix)) None) (and_from (is_airline airline) (is_number text) a w.form)
+    ap (λ t. cond t (Some (flight_at airline (digits_value 10 text) suffix)) None) (and_from (is_airline airline) (is_number text) a w.form)
     ∙ ap (λ k. Some (flight_at airline k suffix)) w.value
 
 abbrev chosen : List ℕ → List ℕ → ℕ → Bool → Option Flight

@@ -1,10 +1,12 @@
 -- What is read is in its range.
-use Rattle.std.proofs.Common.{◌≡◌, ℕ, ◌+◌, ◌-◌, ◌*◌, ◌≤◌, ◌<◌, cond, Bool, true, false, List, [], ◌∷◌, length, take, drop, refl, sym, subst, Option, Some, None, arith}
+use Rattle.std.proofs.Common.{◌≡◌, ℕ, ◌+◌, ◌-◌, ◌*◌, ◌<◌, cond, Bool, true, false, List, length, take, drop, refl, sym, subst, Option, Some, None, arith}
 use Rattle.std.specs.Prelude.{IsTrue, IfSome, nat_le, nat_lt, ◌==◌, ◌&&◌, option_and_then, slice_index}
-use Rattle.std.specs.List.{list_all}
 use Rattle.std.proofs.lemmas.Bool.{and_parts, leb-true, ltb-true}
 use Rattle.std.proofs.lemmas.Option.{cond_some, option_and_then_some, same_Some}
-use Rattle.mvt_grammar.specs.Bytes.{is_capital, is_digit, is_station, two_digits, value_after, parted}
+use Rattle.apron_base.proofs.SmallNumbers.{digits_small}
+use Rattle.mvt_grammar.specs.declared.flights.TheConstants.{MAX_FLIGHT_DIGITS}
+use Rattle.mvt_grammar.specs.Bytes.{is_capital, is_station, two_digits, parted}
+use Rattle.std.specs.Str.Parse.{digits_value}
 use Rattle.mvt_grammar.specs.Clocks.{day_of, minute_of, undated, dated, clock_of, times_parted, times_of}
 use Rattle.mvt_grammar.specs.Flights.{is_airline, airline_len, is_number, flight_with, flight_of}
 use Rattle.mvt_grammar.specs.Reading.{is_registration, headed, heading_of}
@@ -71,43 +73,15 @@ times_parted-range text (Some parts) times h =
 pub times-range : (text : List ℕ) (times : Clock × Option Clock) → times_of text ≡ Some times → AreTimes times
 times-range text times h = times_parted-range text (parted 47 text) times h
 
-digit-range : (b : ℕ) → is_digit b ≡ true → b - 48 ≤ 9
-digit-range b h = let tests = and_parts (nat_le 48 b) (nat_le b 57) h in let high = leb-true b 57 tests.1 in omega arith
-
-few_digits : (text : List ℕ) → 1 ≤ length text → length text ≤ 4 → list_all is_digit text ≡ true → value_after 0 text < 10000
-few_digits [] some few h = omega arith
-few_digits (a ∷ []) some few h =
-    let p = and_parts (is_digit a) true h in
-    let a9 = digit-range a p.0 in omega arith
-few_digits (a ∷ b ∷ []) some few h =
-    let p = and_parts (is_digit a) (list_all is_digit (b ∷ [])) h in
-    let q = and_parts (is_digit b) true p.1 in
-    let a9 = digit-range a p.0 in let b9 = digit-range b q.0 in omega arith
-few_digits (a ∷ b ∷ c ∷ []) some few h =
-    let p = and_parts (is_digit a) (list_all is_digit (b ∷ c ∷ [])) h in
-    let q = and_parts (is_digit b) (list_all is_digit (c ∷ [])) p.1 in
-    let r = and_parts (is_digit c) true q.1 in
-    let a9 = digit-range a p.0 in let b9 = digit-range b q.0 in let c9 = digit-range c r.0 in omega arith
-few_digits (a ∷ b ∷ c ∷ d ∷ []) some few h =
-    let p = and_parts (is_digit a) (list_all is_digit (b ∷ c ∷ d ∷ [])) h in
-    let q = and_parts (is_digit b) (list_all is_digit (c ∷ d ∷ [])) p.1 in
-    let r = and_parts (is_digit c) (list_all is_digit (d ∷ [])) q.1 in
-    let s = and_parts (is_digit d) true r.1 in
-    let a9 = digit-range a p.0 in let b9 = digit-range b q.0 in let c9 = digit-range c r.0 in let d9 = digit-range d s.0 in omega arith
-few_digits (a ∷ b ∷ c ∷ d ∷ e ∷ text) some few h = omega arith
-
-number-range : (text : List ℕ) → is_number text ≡ true → value_after 0 text < 10000
-number-range text h =
-    let outer = and_parts (nat_le 1 (length text) && nat_le (length text) 4) (list_all is_digit text) h in
-    let inner = and_parts (nat_le 1 (length text)) (nat_le (length text) 4) outer.0 in
-    few_digits text (leb-true 1 (length text) inner.0) (leb-true (length text) 4 inner.1) outer.1
+number-range : (text : List ℕ) → is_number text ≡ true → digits_value 10 text < 10000
+number-range text h = digits_small text MAX_FLIGHT_DIGITS h
 
 abbrev flight_at : List ℕ → ℕ → Option ℕ → Flight
 flight_at airline number suffix = record { airline = airline; number = number; suffix = suffix }
 
 flight_with-range : (airline number : List ℕ) (suffix : Option ℕ) (flight : Flight) → IfSome suffix (λ b. IsTrue (is_capital b)) → flight_with airline number suffix ≡ Some flight → IsFlight flight
 flight_with-range airline number suffix flight s h =
-    let kept = cond_some (is_airline airline && is_number number) (flight_at airline (value_after 0 number) suffix) flight h in
+    let kept = cond_some (is_airline airline && is_number number) (flight_at airline (digits_value 10 number) suffix) flight h in
     let tests = and_parts (is_airline airline) (is_number number) kept.0 in
     subst IsFlight kept.1 (record { airline = tests.0; number = number-range number tests.1; suffix = s })
 

@@ -5,7 +5,8 @@ use Rattle.std.specs.List.{list_all, flat_map, join_with_byte}
 use Rattle.std.proofs.lemmas.Bool.{or_cases, and_parts, and_from, le-ltb, lt-ltb, leb-true, eqb-true}
 use Rattle.std.proofs.lemmas.List.{append-nil}
 use Rattle.apron_base.specs.Name.{is_name, is_name_byte}
-use Rattle.mvt_grammar.specs.Bytes.{is_capital, is_digit, is_station, parted, ◌>>=◌}
+use Rattle.mvt_grammar.specs.Bytes.{is_capital, is_digit, is_station, parted}
+use Rattle.apron_base.specs.OptionChain.{◌>>=◌}
 use Rattle.mvt_grammar.specs.Clocks.{day_of}
 use Rattle.mvt_grammar.specs.Flights.{is_airline_byte, flight_of}
 use Rattle.mvt_grammar.specs.Pieces.{piece, placed, is_empty, lines_of, words_of}

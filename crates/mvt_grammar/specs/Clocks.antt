@@ -1,6 +1,7 @@
 -- The times of an element: HHMM or DDHHMM, one or two of them.
 use Rattle.std.specs.Prelude.{ℕ, ◌+◌, ◌*◌, ◌==◌, ◌&&◌, nat_le, nat_lt, List, length, take, drop, Option, Some, None, if◌then◌else◌}
-use Rattle.mvt_grammar.specs.Bytes.{two_digits, parted, ◌>>=◌}
+use Rattle.mvt_grammar.specs.Bytes.{two_digits, parted}
+use Rattle.apron_base.specs.OptionChain.{◌>>=◌}
 use Rattle.mvt_grammar.specs.declared.message.Clock.{Clock}
 
 -- DD, the day of a month

@@ -3,7 +3,8 @@ use Rattle.std.specs.Prelude.{ℕ, zero, suc, nat_le, nat_lt, Bool, ◌&&◌, Li
 use Rattle.std.specs.List.{flat_map}
 use Rattle.std.specs.Str.{bytes_eq}
 use Rattle.apron_base.specs.Name.{is_name}
-use Rattle.mvt_grammar.specs.Bytes.{is_station, parted, ◌>>=◌}
+use Rattle.mvt_grammar.specs.Bytes.{is_station, parted}
+use Rattle.apron_base.specs.OptionChain.{◌>>=◌}
 use Rattle.mvt_grammar.specs.Clocks.{day_of}
 use Rattle.mvt_grammar.specs.Flights.{flight_of}
 use Rattle.mvt_grammar.specs.Pieces.{Piece, piece, is_empty, lines_of}

@@ -1,13 +1,17 @@
 // The text of a flight: its airline, its number and its suffix.
-ghost use Rattle.std.specs.Prelude.{◌≡◌, IsTrue, IfSome};
+ghost use Rattle.std.specs.Prelude.{◌≡◌, Some, None, IfSome, if◌then◌else◌};
 ghost use Rattle.mvt_grammar.specs.Flights.{is_airline_byte, is_airline, airline_len, is_number, flight_with, flight_after, flight_of};
-ghost use Rattle.mvt_grammar.specs.Bytes.{is_capital, is_digit, value_after};
+ghost use Rattle.std.specs.Str.Parse.{digits_value};
+ghost use Rattle.mvt_grammar.specs.Bytes.{is_capital, is_digit};
 ghost use Rattle.mvt_grammar.specs.Readable.{IsFlight};
 ghost use Rattle.std.specs.List.{list_all, list_any};
 
 use crate::Flight;
-use crate::bytes::{are_capitals, are_digits, is_capital, is_digit, third_is_capital};
-use apron_base::Name;
+use crate::bytes::{are_capitals, is_capital, is_digit, third_is_capital};
+use apron_base::{Name, number_of};
+
+/// The most digits of the number of a flight.
+pub(crate) const MAX_FLIGHT_DIGITS: usize = 4;
 
 fn are_letters_or_digits(text: &[u8]) -> bool
     ensures is { result ≡ list_all is_airline_byte text.now }
@@ -32,32 +36,24 @@ pub(crate) fn is_airline(text: &[u8]) -> bool
     }
 }
 
-// One to four digits.
-fn is_number(text: &[u8]) -> bool
-    ensures is { result ≡ is_number text.now }
+// The number that one to four digits write, and of other texts none.
+#[tactic(auto, unfolding(apron_base::specs::Digits::number_of))]
+fn flight_number(text: &[u8]) -> Option<u16>
+    ensures value { result ≡ if is_number text.now then Some (digits_value 10 text.now) else None }
 {
-    (1..=4).contains(&text.len()) && are_digits(text)
-}
-
-// The number that one to four digits write.
-fn number_of(digits: &[u8]) -> u16
-    requires number { IsTrue (is_number digits.now) }
-    ensures value { result ≡ value_after 0 digits.now }
-{
-    let mut number = 0;
-    for digit in digits {
-        number = 10 * number + u16::from(*digit - b'0');
+    match number_of(text, MAX_FLIGHT_DIGITS) {
+        Some(number) => Some(number as u16),
+        None => None,
     }
-    number
 }
 
 fn flight_with(airline: &[u8], number: &[u8], suffix: Option<u8>) -> Option<Flight>
     ensures value { result ≡ flight_with airline.now number.now suffix }
 {
-    if is_airline(airline) && is_number(number) {
+    if is_airline(airline) {
         Some(Flight {
             airline: Name::new(airline)?,
-            number: number_of(number),
+            number: flight_number(number)?,
             suffix,
         })
     } else {

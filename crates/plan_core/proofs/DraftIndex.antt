@@ -33,8 +33,9 @@ version_pushed drafts last desk draft false is new =
     rw (find-append (λ (drafted : Drafted). is_draft desk draft drafted.id) drafts (last ∷ []), is)
     (ap (option_map (λ (drafted : Drafted). drafted.version)) (other_found (find (λ (drafted : Drafted). is_draft desk draft drafted.id) drafts)))
 
-either_way : (a b : List ℕ) (m n : ℕ) → (bytes_eq a b && (m == n)) ≡ (bytes_eq b a && (n == m))
-either_way a b m n = rw (nat_list_eq_equiv.symm a b, nat_eq_equiv.symm m n) refl
+-- whether drafts have one desk and number, said from either side
+pub draft_either_way : (a b : List ℕ) (m n : ℕ) → (bytes_eq a b && (m == n)) ≡ (bytes_eq b a && (n == m))
+draft_either_way a b m n = rw (nat_list_eq_equiv.symm a b, nat_eq_equiv.symm m n) refl
 
 same_draft : (a b : List ℕ) (m n : ℕ) (same : Bool) → bytes_eq a b ≡ same → (same && (m == n)) ≡ true → (a ≡ b) × (m ≡ n)
 same_draft a b m n true is h = ((bytes_decides a b).0 is, grind (arith, nat_tests))
@@ -42,13 +43,13 @@ same_draft a b m n false is h = absurd (cc)
 
 -- a map with one more version is the index of the drafts with one more
 pub index_pushed : {S : Type 0} (old new : HashMap DraftId ℕ S) (drafts : List Drafted) (id : DraftId) (version : ℕ)
-    → IsIndexOf old drafts → draft_version drafts id.desk id.draft ≡ None
-    → ((q : DraftId) → get_by (is_draft q.desk q.draft) new ≡ cond (is_draft id.desk id.draft q) (Some version) (get_by (is_draft q.desk q.draft) old))
+    → IsIndexOf old drafts → draft_version drafts id.desk id.number ≡ None
+    → ((q : DraftId) → get_by (is_draft q.desk q.number) new ≡ cond (is_draft id.desk id.number q) (Some version) (get_by (is_draft q.desk q.number) old))
     → IsIndexOf new (drafts ++ record { id = id; version = version } ∷ [])
 index_pushed old new drafts id version index none puts desk draft =
-    let q : DraftId = record { desk = desk; draft = draft } in
-    let turned : is_draft id.desk id.draft q ≡ is_draft desk draft id = either_way id.desk desk id.draft draft in
+    let q : DraftId = record { desk = desk; number = draft } in
+    let turned : is_draft id.desk id.number q ≡ is_draft desk draft id = draft_either_way id.desk desk id.number draft in
     let free : is_draft desk draft id ≡ true → draft_version drafts desk draft ≡ None = λ h.
-    let same = same_draft desk id.desk draft id.draft (bytes_eq desk id.desk) refl h in rw (same.0, same.1) none in
+    let same = same_draft desk id.desk draft id.number (bytes_eq desk id.desk) refl h in rw (same.0, same.1) none in
     let pushed = version_pushed drafts (record { id = id; version = version }) desk draft (is_draft desk draft id) refl free in
     puts q ∙ (rw (turned, index desk draft) refl ∙ sym pushed)

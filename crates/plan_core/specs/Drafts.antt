@@ -1,18 +1,50 @@
--- The drafts that became commits.
-use Rattle.std.specs.Prelude.{◌≡◌, ◌++◌, ◌∷◌, [], ◌==◌, ◌&&◌, ℕ, Bool, List, Option, None, Some, find}
+-- The drafts of desks, and those that became commits.
+use Rattle.std.specs.Prelude.{◌≡◌, ◌+◌, ◌++◌, ◌∷◌, [], ◌==◌, ◌&&◌, ℕ, Bool, List, Option, None, Some, find}
 use Rattle.std.specs.HashMap.{HashMap, get_by}
 use Rattle.std.specs.Option.{option_map}
 use Rattle.std.specs.Str.{bytes_eq}
+use Rattle.apron_base.specs.Histories.{Rises}
+use Rattle.visit_book.specs.declared.edits.Edit.{Edit}
 use Rattle.plan_core.specs.declared.drafts.DraftId.{DraftId}
 use Rattle.plan_core.specs.declared.drafts.Drafted.{Drafted}
 
+-- a desk's draft: the desk's name, the number that the desk gave it, the version over which it was made, and its edits in order
+pub record Draft : Type 0 where
+  pub desk : List ℕ
+  pub number : ℕ
+  pub base : ℕ
+  pub edits : List Edit
+
+-- the draft with these parts
+abbrev pub draft_of : List ℕ → ℕ → ℕ → List Edit → Draft
+draft_of desk number base edits = record { desk = desk; number = number; base = base; edits = edits }
+
+-- the id of a draft
+abbrev pub id_of : Draft → DraftId
+id_of draft = record { desk = draft.desk; number = draft.number }
+
 -- this desk's draft of this number
 abbrev pub is_draft : List ℕ → ℕ → DraftId → Bool
-is_draft desk draft id = bytes_eq desk id.desk && (draft == id.draft)
+is_draft desk number id = bytes_eq desk id.desk && (number == id.number)
 
 -- the version that the commit of this draft made, if there is one
 abbrev pub draft_version : List Drafted → List ℕ → ℕ → Option ℕ
-draft_version drafts desk draft = option_map (λ drafted. drafted.version) (find (λ drafted. is_draft desk draft drafted.id) drafts)
+draft_version drafts desk number = option_map (λ drafted. drafted.version) (find (λ drafted. is_draft desk number drafted.id) drafts)
+
+-- the version that the draft made
+abbrev pub version_of : Drafted → ℕ
+version_of drafted = drafted.version
+
+-- no two of the drafts have one desk and number
+abbrev pub AreDifferent : List Drafted → Type 0
+AreDifferent [] = Unit {0}
+AreDifferent (drafted ∷ drafts) = (draft_version drafts drafted.id.desk drafted.id.number ≡ None) × AreDifferent drafts
+
+-- drafts that became commits of a plan at this version: the versions that they made rise strictly from at least 1 to at most that one, and no two have
+-- one desk and number
+pub record AreDraftsAt (version : ℕ) (drafts : List Drafted) : Type 0 where
+  pub rising : Rises version_of 1 (version + 1) drafts
+  pub different : AreDifferent drafts
 
 -- the drafts with one more, if there is one, that made this version
 abbrev pub with_draft : List Drafted → Option DraftId → ℕ → List Drafted
@@ -26,4 +58,4 @@ pub record DraftsHeld : Type 0 where
 
 -- the map has for each draft the version of its commit
 abbrev pub IsIndexOf : {S : Type 0} → HashMap DraftId ℕ S → List Drafted → Type 0
-IsIndexOf versions drafts = (desk : List ℕ) (draft : ℕ) → get_by (is_draft desk draft) versions ≡ draft_version drafts desk draft
+IsIndexOf versions drafts = (desk : List ℕ) (number : ℕ) → get_by (is_draft desk number) versions ≡ draft_version drafts desk number

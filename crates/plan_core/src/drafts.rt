@@ -7,11 +7,11 @@ use std::alloc::Global;
 use std::collections::HashMap;
 use std::marker::Model;
 
-/// A desk's draft: the desk's name, and the number that the desk gave it.
+/// Which draft: the desk's name, and the number that the desk gave it.
 #[derive(Clone, Copy, Debug, PartialEq, Eq, Hash)]
 pub struct DraftId {
     pub desk: Name,
-    pub draft: u32,
+    pub number: u32,
 }
 
 /// A draft that became a commit, and the version that this made.
@@ -53,10 +53,15 @@ impl Drafts {
     }
 
     /// The version that the commit of this draft made.
-    pub(crate) fn version(&self, desk: &Name, draft: u32) -> Option<u32>
-        ensures version { result ≡ draft_version self.now.kept desk.now draft }
+    pub(crate) fn version(&self, desk: &Name, number: u32) -> Option<u32>
+        ensures version { result ≡ draft_version self.now.kept desk.now number }
     {
-        self.versions.get(&DraftId { desk: *desk, draft }).copied()
+        self.versions
+            .get(&DraftId {
+                desk: *desk,
+                number,
+            })
+            .copied()
     }
 
     /// Makes room for one more. At `Err` memory is wanting, and no room is lost.
@@ -72,7 +77,7 @@ impl Drafts {
 
     /// Puts the draft of the commit that made this version last. It takes no memory.
     pub(crate) fn push(&mut self, id: &DraftId, version: u32)
-        requires new { draft_version self.old.kept id.now.desk id.now.draft ≡ None }
+        requires new { draft_version self.old.kept id.now.desk id.now.number ≡ None }
         requires room { 1 ≤ self.old.room }
         ensures kept { self.new.kept ≡ self.old.kept ++ record { id = id.now; version = version } ∷ [] }
     {

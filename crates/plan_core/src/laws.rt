@@ -1,26 +1,46 @@
 // Laws of plans and commits.
-ghost use Rattle.std.specs.Prelude.{◌≡◌, ◌≢◌, ℕ, List};
+ghost use Rattle.std.specs.Prelude.{◌≡◌, ◌≢◌, ◌⊎◌, ◌≤◌, ℕ, List, Some};
 ghost use Rattle.apron_rules.specs.declared.parts.AirportParts.{AirportParts};
-ghost use Rattle.apron_rules.specs.Clash.{IsOfOnePart};
-ghost use Rattle.visit_book.specs.declared.visits.Edit.{Edit};
-ghost use Rattle.visit_book.specs.declared.visits.EditFault.{EditFault};
-ghost use Rattle.visit_book.specs.declared.visits.EditFault.TheVariants.{Memory};
+ghost use Rattle.apron_rules.specs.Clash.{HaveDifferentParts};
+ghost use Rattle.visit_book.specs.declared.edits.EditFault.{EditFault};
+ghost use Rattle.visit_book.specs.declared.edits.EditFault.TheVariants.{Memory};
 ghost use Rattle.visit_book.specs.declared.visits.Visit.{Visit};
-ghost use Rattle.plan_core.specs.PlanState.{IsNumbered};
+ghost use Rattle.visit_book.specs.Numbers.{IsNumbered};
 ghost use Rattle.visit_book.specs.Slots.{slots_of};
-ghost use Rattle.plan_core.specs.Rebase.{Rebases, Refuses};
+ghost use Rattle.plan_core.specs.Drafts.{Draft, draft_version};
+ghost use Rattle.plan_core.specs.PlanState.{ChangeState, IsInstallable, IsPlan, PlanState, installed};
+ghost use Rattle.plan_core.specs.Rebase.{IsRebased, Rebases, Refuses, committed};
 
 /// Each part of visits that are numbered in order has one slot at most, so there is one first clash.
-pub fn slots_are_of_one_part()
-    ensures apart { (airport : AirportParts) (visits : List Visit) → IsNumbered visits → IsOfOnePart (slots_of airport visits) }
+pub fn slots_have_different_parts()
+    ensures apart { (airport : AirportParts) (visits : List Visit) → IsNumbered visits → HaveDifferentParts (slots_of airport visits) }
 {}
 
-/// Want of memory aside, there is one answer to the edits of a commit: they are refused by one fault,
-/// and not where they apply and leave a sound plan.
+/// Want of memory aside, there is one answer to a draft at most: it is refused by one fault, and not where
+/// its edits apply and leave a sound plan.
 pub fn answer_is_one()
-    ensures refusal { (airport : AirportParts) (visits : List Visit) (base : ℕ) (edits : List Edit) (fault other : EditFault)
-        → IsNumbered visits → fault ≢ Memory → other ≢ Memory
-        → Refuses airport visits base edits fault → Refuses airport visits base edits other → fault ≡ other }
-    ensures either { (airport : AirportParts) (visits : List Visit) (base : ℕ) (edits : List Edit) (new : List Visit) (fault : EditFault)
-        → fault ≢ Memory → Rebases airport visits base edits new → ¬ (Refuses airport visits base edits fault) }
+    ensures refusal { (plan : PlanState) (draft : Draft) (fault other : EditFault)
+        → IsNumbered plan.visits → fault ≢ Memory → other ≢ Memory
+        → Refuses plan draft fault → Refuses plan draft other → fault ≡ other }
+    ensures either { (plan : PlanState) (draft : Draft) (new : List Visit) (fault : EditFault)
+        → fault ≢ Memory → Rebases plan draft new → ¬ (Refuses plan draft fault) }
+{}
+
+/// Want of memory aside, there is an answer to each draft.
+pub fn answer_exists()
+    ensures some { (plan : PlanState) (draft : Draft)
+        → ((new : List Visit) × Rebases plan draft new) ⊎ ((fault : EditFault) × (fault ≢ Memory) × Refuses plan draft fault) }
+{}
+
+/// What a rebase gives makes the plan that the commit of the draft makes.
+pub fn rebased_is_committed()
+    ensures installed { (plan : PlanState) (draft : Draft) (change : ChangeState)
+        → IsNumbered plan.visits → (rebased : IsRebased plan draft change) → installed plan change ≡ committed plan draft rebased.new }
+{}
+
+/// A plan stays a plan, and the version that a draft made is one that the plan had.
+pub fn plan_is_kept()
+    ensures installed { (plan : PlanState) (change : ChangeState) → IsPlan plan → IsInstallable plan change → IsPlan (installed plan change) }
+    ensures drafts { (plan : PlanState) (desk : List ℕ) (number version : ℕ)
+        → IsPlan plan → draft_version plan.drafts desk number ≡ Some version → (1 ≤ version) × (version ≤ plan.version) }
 {}

@@ -1,21 +1,21 @@
 // Commits on the built-in airport, one after another.
-ghost use Rattle.std.specs.Prelude.{◌≡◌, ◌≤◌, ◌↔◌, IsTrue, ◌<◌, ◌+◌, ◌-◌, ◌^◌, ◌∷◌, [], All, IfOk, OnErr, None, false, length, codes};
+ghost use Rattle.std.specs.Prelude.{◌≡◌, ◌≤◌, ◌↔◌, IsTrue, ◌<◌, ◌+◌, ◌∷◌, [], All, IfOk, None, false, length, codes};
 ghost use Rattle.apron_rules.specs.Demo.{demo_airport};
 ghost use Rattle.visit_book.specs.declared.visits.End.TheVariants.{Live};
 ghost use Rattle.visit_book.specs.declared.visits.Place.TheVariants.{Unplaced};
-ghost use Rattle.plan_core.specs.Drafts.{draft_version};
-ghost use Rattle.plan_core.specs.PlanState.{installed};
-ghost use Rattle.plan_core.specs.Rebase.{IsEditOf};
-ghost use Rattle.visit_book.specs.WellFormed.{IsUnplaced, IsWellFormed};
+ghost use Rattle.plan_core.specs.Drafts.{draft_of};
+ghost use Rattle.plan_core.specs.Edits.{IsEditOf};
+ghost use Rattle.plan_core.specs.PlanState.{version_limit};
+ghost use Rattle.plan_core.specs.Rebase.{IsDraftFor};
 
-use crate::{Parts, Plan};
+use crate::Plan;
 use apron_base::{Name, PartId, StandNo, Steps, TypeNo, VisitNo};
 use apron_rules::{Airport, Clash, Rule, UnfitBy};
 use std::alloc::{AllocError, Global};
 use std::marker::Brand;
 use std::sync::ledger::{Blank, Ledger};
 use std::test::Fail;
-use visit_book::{Edit, EditFault, End, Part, Place, Visit};
+use visit_book::{Edit, EditFault, End, Part, Parts, Place, Visit};
 
 fn visit(number: u32, kind: u16, on: u32, off: u32) -> Visit
     ensures is { result ≡ record {
@@ -77,12 +77,8 @@ fn commit<L: Ledger>(
     blank: Blank,
 ) -> Result<u32, EditFault>
     requires airport { airport.now ≡ plan.old.plan.airport }
-    requires draft { draft_version plan.old.plan.drafts desk.now draft ≡ None }
-    requires base { base ≤ plan.old.plan.version }
-    requires some { 1 ≤ length edits.now }
-    requires few { length edits.now ≤ 64 }
-    requires stands { All (IsEditOf airport.now) edits.now }
-    requires version { plan.old.plan.version + 1 < 2 ^ 32 - 1 }
+    requires draft { IsDraftFor plan.old.plan (draft_of desk.now draft base edits.now) }
+    requires version { plan.old.plan.version + 1 < version_limit }
     requires name { blank.name ≡ L.name }
     requires parts { blank.parts ≡ L.parts }
     requires whole { 0 < L.parts }
@@ -198,12 +194,18 @@ fn commits_are_accepted_or_refused_by_the_first_cause(rt: HostRuntime) -> Result
         let got = ask(alloc, &airport, &mut plan, &desk, draft, base, edits);
         assert_eq!(rt; got, Some(answer));
     }
-    let last = plan
-        .visits()
-        .iter()
-        .filter(|visit| visit.edited == 3)
-        .count();
-    assert_eq!(rt; last, 2);
+    let last = [
+        (0, None),
+        (1, Some(1)),
+        (2, Some(3)),
+        (3, Some(3)),
+        (4, Some(0)),
+        (5, None),
+    ];
+    for (number, version) in last {
+        let edited = plan.visit(VisitNo(number)).map(|visit| visit.edited);
+        assert_eq!(rt; edited, version);
+    }
     Ok(())
 }
 

@@ -1,25 +1,18 @@
 -- Visits with a type and stands of the airport, whose parts follow one another.
-use Rattle.std.specs.Prelude.{◌≡◌, ◌≤◌, ◌<◌, ◌+◌, ◌*◌, ℕ, Bool, true, false, List, [], ◌∷◌, length, All, None}
+use Rattle.std.specs.Prelude.{◌≡◌, ◌≤◌, ◌<◌, ◌+◌, ◌*◌, ℕ, false, List, [], ◌∷◌, length, All, None}
 use Rattle.apron_base.specs.declared.numbers.TypeNo.{TypeNo}
 use Rattle.apron_rules.specs.declared.parts.AirportParts.{AirportParts}
 use Rattle.apron_rules.specs.Rules.{least_of}
 use Rattle.visit_book.specs.declared.visits.Visit.{Visit}
 use Rattle.visit_book.specs.declared.visits.Part.{Part}
-use Rattle.visit_book.specs.declared.visits.End.TheVariants.{Live}
-use Rattle.visit_book.specs.declared.visits.Place.{Place}
-use Rattle.visit_book.specs.declared.visits.Place.TheVariants.{Unplaced, Planned, Actual}
+use Rattle.visit_book.specs.declared.visits.End.TheVariants.{Cancelled}
+use Rattle.visit_book.specs.declared.visits.Place.TheVariants.{Unplaced}
+use Rattle.visit_book.specs.PartFields.{most_parts}
+use Rattle.visit_book.specs.Places.{IsPlaceOf, is_actual, stand_of}
 
--- the place is no stand, or a stand of the airport
-abbrev pub IsPlaceOf : AirportParts → Place → Type 0
-IsPlaceOf airport (Unplaced bump) = Unit {0}
-IsPlaceOf airport (Planned s) = s.0 < length airport.stands
-IsPlaceOf airport (Actual s) = s.0 < length airport.stands
-
--- an aircraft is or was there in fact
-abbrev pub is_actual : Place → Bool
-is_actual (Unplaced bump) = false
-is_actual (Planned s) = false
-is_actual (Actual s) = true
+-- the greatest class of a visit
+abbrev pub greatest_class : ℕ
+greatest_class = 9
 
 -- each part ends after it starts; the first starts at this minute or later, and each other one at least the tow minutes after the one before ends
 abbrev pub IsSpaced : ℕ → ℕ → List Part → Type 0
@@ -32,24 +25,25 @@ plan_end airport = 1440 * airport.days
 
 -- the minute after the plan's last, and the least minutes of three parts of the type with two tows between
 abbrev pub latest_end : AirportParts → TypeNo → ℕ
-latest_end airport t = plan_end airport + 3 * least_of airport t + 2 * airport.tow
+latest_end airport kind = plan_end airport + 3 * least_of airport kind + 2 * airport.tow
 
 -- a part that is shorter than the least minutes of the type ends before the plan does
 abbrev pub IsEarlyIfShort : AirportParts → TypeNo → Part → Type 0
-IsEarlyIfShort airport t part = part.to < part.from + least_of airport t → part.to < plan_end airport
+IsEarlyIfShort airport kind part = part.to < part.from + least_of airport kind → part.to < plan_end airport
 
--- live, a type and stands of the airport, one to three parts that follow one another, none ending later than three least parts of the type with
--- two tows after the plan, none short at the plan's end, and none actual before the visit is on block
+-- a type and stands of the airport, a class, one to three parts that follow one another, none ending later than three least parts of the type
+-- with two tows after the plan, none short at the plan's end, none actual before the visit is on block, and none on a stand once it is cancelled
 pub record IsWellFormed (airport : AirportParts) (visit : Visit) : Type 0 where
   pub kind : visit.kind.0 < length airport.types
+  pub class : visit.class ≤ greatest_class
   pub some : 1 ≤ length visit.parts
-  pub few : length visit.parts ≤ 3
+  pub few : length visit.parts ≤ most_parts
   pub spaced : IsSpaced airport.tow 0 visit.parts
   pub ends : All (λ part. part.to ≤ latest_end airport visit.kind) visit.parts
   pub short : All (IsEarlyIfShort airport visit.kind) visit.parts
   pub places : All (λ part. IsPlaceOf airport part.place) visit.parts
   pub facts : visit.on_block ≡ false → All (λ part. is_actual part.place ≡ false) visit.parts
-  pub live : visit.end ≡ Live
+  pub cancelled : visit.end ≡ Cancelled → All (λ part. stand_of part.place ≡ None) visit.parts
 
 -- all parts are unplaced, and none has a record of what took its stand
 abbrev pub IsUnplaced : Visit → Type 0

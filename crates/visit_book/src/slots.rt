@@ -1,7 +1,8 @@
 // The slots that parts on stands hold.
-ghost use Rattle.std.specs.Prelude.{◌≡◌, ◌≤◌, ◌<◌, length, option_to_list};
-ghost use Rattle.visit_book.specs.Slots.{slot_on, slots_at};
-ghost use Rattle.visit_book.specs.WellFormed.{IsPlaceOf, latest_end};
+ghost use Rattle.std.specs.Prelude.{◌≡◌, ◌≤◌, ◌<◌, length};
+ghost use Rattle.visit_book.specs.Places.{IsPlaceOf, is_actual, stand_of};
+ghost use Rattle.visit_book.specs.Slots.{slot_of, slot_on};
+ghost use Rattle.visit_book.specs.WellFormed.{latest_end};
 
 use crate::visits::{Part, Place, Visit};
 use apron_base::{PartId, Slot, StandNo};
@@ -12,26 +13,16 @@ use apron_rules::Airport;
 pub fn slot_of(airport: &Airport, visit: &Visit, number: u8, part: &Part) -> Option<Slot>
     requires place { IsPlaceOf airport.now part.now.place }
     requires to { part.now.to ≤ latest_end airport.now visit.now.kind }
-    ensures is { option_to_list result ≡ slots_at airport.now visit.now.number visit.now.kind number part.now part.now.place }
+    ensures is { result ≡ slot_of airport.now visit.now number part.now }
 {
-    match part.place {
-        Place::Unplaced(_) => None,
-        Place::Planned(stand) => Some(slot_on_stand(airport, visit, number, part, stand, false)),
-        Place::Actual(stand) => Some(slot_on_stand(airport, visit, number, part, stand, true)),
-    }
+    let stand = stand_of(&part.place)?;
+    Some(slot_on(airport, visit, number, part, stand))
 }
 
-fn slot_on_stand(
-    airport: &Airport,
-    visit: &Visit,
-    number: u8,
-    part: &Part,
-    stand: StandNo,
-    actual: bool,
-) -> Slot
+fn slot_on(airport: &Airport, visit: &Visit, number: u8, part: &Part, stand: StandNo) -> Slot
     requires stand { stand.0 < length airport.now.stands }
     requires to { part.now.to ≤ latest_end airport.now visit.now.kind }
-    ensures is { result ≡ slot_on airport.now visit.now.number visit.now.kind number part.now stand actual }
+    ensures is { result ≡ slot_on airport.now visit.now number part.now stand }
 {
     Slot {
         part: PartId {
@@ -42,6 +33,21 @@ fn slot_on_stand(
         stand,
         from: part.from,
         end: part.to + airport.buffer(stand),
-        actual,
+        actual: is_actual(&part.place),
     }
+}
+
+fn stand_of(place: &Place) -> Option<StandNo>
+    ensures is { result ≡ stand_of place.now }
+{
+    match *place {
+        Place::Unplaced(_) => None,
+        Place::Planned(stand) | Place::Actual(stand) => Some(stand),
+    }
+}
+
+fn is_actual(place: &Place) -> bool
+    ensures is { result ≡ is_actual place.now }
+{
+    matches!(place, Place::Actual(_))
 }

@@ -1,19 +1,15 @@
+use Rattle.std.proofs.Common.{◌∷◌, []}
+use Rattle.apron_check.specs.Lines.{fault_text}
+use Rattle.apron_check.proofs.Puts.{cut_more, puts_both, puts_cut}
 use Rattle.apron_check.proofs.line.put_fault.Goals as goal
 
-pub returns-in-NotToml-clause-bytes : goal.returns-in-NotToml-clause-bytes
-returns-in-NotToml-clause-bytes g c = rw c.in-NotToml.is c.put.ensures.bytes
+pub returns-in_err-put_text : goal.returns-in_err-put_text
+returns-in_err-put_text g c =
+    let old = g.W.Sink.state c.args.sink.now in
+    let new = g.W.Sink.state c.put_text.new.sink in
+    record { puts = puts_cut old new c.from_residual.result _ c.from_residual.ensures.0 (cut_more old new (fault_text c.args.fault.now) (10 ∷ []) c.in_err-put_text.ensures.puts) }
 
-pub returns-in-MissingKey-clause-bytes : goal.returns-in-MissingKey-clause-bytes
-returns-in-MissingKey-clause-bytes g c = rw (c.in-MissingKey.is, ← c.as_slice.ensures.items) c.put_both.ensures.bytes
-
-pub returns-in-WrongKind-clause-bytes : goal.returns-in-WrongKind-clause-bytes
-returns-in-WrongKind-clause-bytes g c = rw (c.in-WrongKind.is, ← c.as_slice-in-WrongKind.ensures.items) c.put_both-in-WrongKind.ensures.bytes
-
-pub returns-in-BadRow-clause-bytes : goal.returns-in-BadRow-clause-bytes
-returns-in-BadRow-clause-bytes g c = rw c.in-BadRow.is c.put_number.ensures.bytes
-
-pub returns-in-Airport-clause-bytes : goal.returns-in-Airport-clause-bytes
-returns-in-Airport-clause-bytes g c = rw c.in-Airport.is c.put_airport_fault.ensures.bytes
-
-pub returns-in-Memory-clause-bytes : goal.returns-in-Memory-clause-bytes
-returns-in-Memory-clause-bytes g c = rw c.in-Memory.is c.put-in-Memory.ensures.bytes
+pub returns : goal.returns
+returns g c = record {
+  puts = puts_both (g.W.Sink.state c.args.sink.now) (g.W.Sink.state c.put_text.new.sink) (g.W.Sink.state c.put.new.self) c.put.result (fault_text c.args.fault.now) (10 ∷ []) c.in_ok-put_text.ensures.puts c.put.ensures.puts;
+}

@@ -1,12 +1,12 @@
 use Rattle.std.proofs.Common.{◌≡◌, List, ℕ, subst, inl, refl, arith}
 use Rattle.std.proofs.lemmas.List.{length-take}
-use Rattle.httparse.specs.declared.spans.HeaderSpan.{HeaderSpan}
 use Rattle.http_framing.specs.Heads.{max_head}
 use Rattle.http_framing.specs.Fronts.{IsHeadFront}
-use Rattle.http_framing.specs.declared.front.HeadFront.{HeadFront}
-use Rattle.http_framing.specs.declared.front.HeadFront.TheVariants.{Partial, Bad}
+use Rattle.httparse.specs.declared.spans.HeaderSpan.{HeaderSpan}
+use Rattle.http_framing.specs.declared.heads.HeadFront.{HeadFront}
+use Rattle.http_framing.specs.declared.heads.HeadFront.TheVariants.{Partial, Bad}
 use Rattle.http_framing.proofs.HeadLaws.{IsBadHead-window, IsUnfinished-window}
-use Rattle.http_framing.proofs.FrontLaws.{IsFront-whole, IsPartial-body, IsMalformed-fields, len_fits}
+use Rattle.http_framing.proofs.FrontLaws.{IsFront-whole, IsPartial-body, IsMalformed-fields, len_fits, part_behind}
 use Rattle.http_framing.proofs.front.front_of.Goals as goal
 
 pub head_front-requires-clause-window : goal.head_front-requires-clause-window
@@ -16,8 +16,11 @@ head_front-requires-clause-window c = rw c.window_of-window.ensures.value (omega
 in_window : {w window : List ℕ} (fields : List HeaderSpan) (front : HeadFront) → w ≡ window → IsHeadFront w fields front → IsHeadFront window fields front
 in_window fields front e x = subst (λ w. IsHeadFront w fields front) e x
 
-pub overflow_sub-bytes : goal.overflow_sub-bytes
-overflow_sub-bytes c = len_fits c.args.bytes.now _ _ c.in-Whole.spans c.window_of-window.ensures.value c.in-Whole.ensures.is.0
+pub slice_bounds-behind-count : goal.slice_bounds-behind-count
+slice_bounds-behind-count c = len_fits c.args.bytes.now _ _ c.in-Whole.spans c.window_of-window.ensures.value c.in-Whole.ensures.is.0
+
+pub slice_bounds-behind-start : goal.slice_bounds-behind-start
+slice_bounds-behind-start c = len_fits c.args.bytes.now _ _ c.in-Whole.spans c.window_of-window.ensures.value c.in-Whole.ensures.is.0
 
 pub returns-in-Partial : goal.returns-in-Partial
 returns-in-Partial c = record { is = inl (IsUnfinished-window c.args.bytes.now (in_window c.head_front.new.fields Partial c.window_of-window.ensures.value c.in-Partial.ensures.is)) }
@@ -28,8 +31,14 @@ returns-in-Bad c = record { is = inl (refl, IsBadHead-window max_head c.args.byt
 pub returns-in-Err : goal.returns-in-Err
 returns-in-Err c = record { is = IsMalformed-fields c.args.bytes.now _ _ c.in-Whole.spans c.in-Err.why c.window_of-window.ensures.value c.in-Whole.ensures.is c.in-Err.ensures.value }
 
-pub returns-then-body-bytes : goal.returns-then-body-bytes
-returns-then-body-bytes c = record { is = IsFront-whole c.args.bytes.now _ _ c.in-Whole.spans c.in-Ok.body c.window_of-window.ensures.value c.in-Whole.ensures.is c.in-Ok.ensures.value c.if-body-bytes.true }
+pub returns-then-length-behind : goal.returns-then-length-behind
+returns-then-length-behind c = record {
+  is = IsFront-whole c.args.bytes.now _ _ _ c.in-Whole.spans c.in-Ok.length c.parts_of.result c.window_of-window.ensures.value
+      (part_behind c.args.bytes.now c.in-Whole.spans.len) c.in-Whole.ensures.is c.in-Ok.ensures.value c.if-length-behind.true c.parts_of.ensures.parts;
+}
 
-pub returns-else-body-bytes : goal.returns-else-body-bytes
-returns-else-body-bytes c = record { is = IsPartial-body c.args.bytes.now _ _ c.in-Whole.spans c.in-Ok.body c.window_of-window.ensures.value c.in-Whole.ensures.is c.in-Ok.ensures.value c.if-body-bytes.false }
+pub returns-else-length-behind : goal.returns-else-length-behind
+returns-else-length-behind c = record {
+  is = IsPartial-body c.args.bytes.now _ _ _ c.in-Whole.spans c.in-Ok.length c.window_of-window.ensures.value
+      (part_behind c.args.bytes.now c.in-Whole.spans.len) c.in-Whole.ensures.is c.in-Ok.ensures.value c.if-length-behind.false;
+}

@@ -2,7 +2,7 @@ use Rattle.std.proofs.Common.{◌≡◌, length, ap, sym, ◌∙◌}
 use Rattle.std.proofs.lemmas.Bool.{and_parts, and_from}
 use Rattle.std.specs.Prelude.{nat_le}
 use Rattle.apron_base.specs.Name.{is_name}
-use Rattle.mvt_grammar.proofs.Names.{test_from_IsName}
+use Rattle.apron_base.proofs.NameTests.{name_decides}
 use Rattle.mvt_grammar.proofs.readable.is_registration.Goals as goal
 
 pub returns : goal.returns
@@ -11,7 +11,7 @@ returns c =
     let same : nat_le (length c.bytes.result.now) 10 ≡ nat_le (length name) 10 = ap (λ t. nat_le (length t) 10) c.bytes.ensures.value in
     record {
       is = (
-        λ few. and_from (is_name name) (nat_le (length name) 10) (test_from_IsName name c.bytes.ensures.name) (sym same ∙ few),
+        λ few. and_from (is_name name) (nat_le (length name) 10) ((name_decides name).1 c.bytes.ensures.name) (sym same ∙ few),
         λ h. same ∙ (and_parts (is_name name) (nat_le (length name) 10) h).1,
       );
     }

@@ -1,6 +1,6 @@
-use Rattle.std.proofs.Common.{◌≡◌, ◌<◌, ◌≤◌, ◌+◌, ◌^◌, ◌∙◌, ap, arith, subst}
+use Rattle.std.proofs.Common.{◌≡◌, ◌<◌, ◌≤◌, ◌+◌, ◌∙◌, ap, arith, subst}
 use Rattle.history_core.specs.Answer.{ActsAs}
-use Rattle.history_core.specs.History.{IsLegal}
+use Rattle.history_core.specs.History.{IsLegal, call_limit}
 use Rattle.desk_http.specs.Alone.{AloneAsks, AloneState, alone_port}
 use Rattle.desk_http.specs.Ports.{ShowsAsk}
 use Rattle.desk_http.proofs.OneDesk.{alone_shows}
@@ -11,10 +11,10 @@ returns-clause-shows c =
     let before = c.self.inside.board in
     let after = c.ask.new.self in
     let call : c.next_call-call.result ≡ before.next = c.next_call-call.ensures.value in
-    let few : c.next_call-call.result ≤ 2 ^ 62 = c.next_call-call.ensures.few in
-    let last : before.next < 2 ^ 62 = omega arith in
+    let few : c.next_call-call.result ≤ call_limit = c.next_call-call.ensures.few in
+    let last : before.next < call_limit = omega arith in
     let acts : ActsAs before.start before.history before.next c.args.ask.now c.ask.result after.history =
     subst (λ n. ActsAs before.start before.history n c.args.ask.now c.ask.result after.history) call c.ask.ensures.acts in
     subst (λ (a : AloneState). ShowsAsk AloneAsks a.board.start (alone_port a) c.args.ask.now c.ask.result (alone_port (record { board = after; first = c.self.inside.first }))) c.self.view_is
     (alone_shows before after c.self.inside.first c.args.ask.now c.ask.result c.self.invariant
-    (subst (λ start. IsLegal start after.history) c.ask.ensures.start c.ask.ensures.legal) last acts (c.ask.ensures.next ∙ ap (λ n. n + 1) call) c.ask.ensures.free)
+    (subst (λ start. IsLegal start after.history) c.ask.ensures.start c.ask.ensures.legal) last acts (c.ask.ensures.next ∙ ap (λ n. n + 1) call) c.ask.ensures.no_fault)

@@ -1,32 +1,20 @@
-use Rattle.std.proofs.Common.{◌≤◌, ◌+◌, subst, sym}
-use Rattle.apron_rules.specs.declared.parts.AirportParts.{AirportParts}
-use Rattle.history_core.specs.Answer.{ActsAs}
+use Rattle.std.proofs.Common.{◌≡◌, ◌+◌, ◌≤◌, arith, sym, subst}
+use Rattle.apron_base.specs.declared.outside.Acted.{Acted}
+use Rattle.history_core.specs.Answer.{ActsAs, TextOf, sought}
+use Rattle.history_core.specs.History.{replay}
 use Rattle.history_core.specs.Board.{BoardState, IsBoard}
-use Rattle.history_core.specs.History.{IsAskOf}
-use Rattle.history_core.proofs.Accepting.{act_board, act_free, act_shows, board_airport, board_legal}
+use Rattle.history_core.proofs.Boards.{board_called, board_legal}
+use Rattle.history_core.proofs.Texts.{memory_acts, text_acts}
 use Rattle.history_core.proofs.board.Board.ask.Goals as goal
-
-pub act-acted-requires-clause-airport : goal.act-acted-requires-clause-airport
-act-acted-requires-clause-airport c =
-    board_airport c.self.inside.airport.now c.self.inside.plan.plan c.self.inside.start.value.plan c.self.inside.history c.self.inside.next c.self.invariant
-
-pub act-acted-requires-clause-most : goal.act-acted-requires-clause-most
-act-acted-requires-clause-most c = c.self.invariant.most
-
-pub act-acted-requires-clause-valid : goal.act-acted-requires-clause-valid
-act-acted-requires-clause-valid c =
-    let at_start : IsAskOf c.self.inside.start.value.plan.airport c.args.ask.now =
-    subst (λ (b : BoardState). IsAskOf b.start.airport c.args.ask.now) (sym c.self.view_is) c.requires.valid in
-    subst (λ (a : AirportParts). IsAskOf a c.args.ask.now) c.self.invariant.airport_is at_start
+use Rattle.history_core.proofs.board.Board.ask.Goals.{in-Ok, in-Err}
 
 -- it is a board after the ask
-board : (c : goal.After-self-1)
-    → IsBoard c.self.inside.airport.now c.act-acted.new.plan.plan c.self.inside.start.value.plan c.act-acted.new.history (c.args.call + 1)
+board : (c : goal.Joined-answered)
+    → IsBoard c.self.inside.airport.now c.self.inside.plan.plan
+    (record { start = c.self.inside.start.value.plan; history = c.self.inside.history.items; next = c.args.call + 1 })
 board c =
-    act_board c.self.inside.airport.now c.self.inside.plan.plan c.act-acted.new.plan.plan c.self.inside.start.value.plan c.self.inside.history c.act-acted.new.history
-    c.self.inside.next c.args.call c.args.ask.now c.act-acted.result c.self.invariant
-    (subst (λ (b : BoardState). IsAskOf b.start.airport c.args.ask.now) (sym c.self.view_is) c.requires.valid)
-    (subst (λ (b : BoardState). b.next ≤ c.args.call) (sym c.self.view_is) c.requires.next) c.requires.last c.act-acted.ensures.acts
+    board_called c.self.inside.airport.now c.self.inside.plan.plan c.self.inside.start.value.plan c.self.inside.history.items c.self.inside.next (c.args.call + 1)
+    c.self.invariant (subst (λ (b : BoardState). b.next ≤ c.args.call + 1) (sym c.self.view_is) c.answer-answered.ensures.next) (omega (arith, c.requires.last))
 
 pub invariant_of-self : goal.invariant_of-self
 invariant_of-self c = board c
@@ -36,14 +24,21 @@ returns-clause-numbers c = let b = board c in b.numbers
 
 pub returns-clause-legal : goal.returns-clause-legal
 returns-clause-legal c =
-    board_legal c.self.inside.airport.now c.act-acted.new.plan.plan c.self.inside.start.value.plan c.act-acted.new.history (c.args.call + 1) (board c)
+    board_legal c.self.inside.airport.now c.self.inside.plan.plan
+    (record { start = c.self.inside.start.value.plan; history = c.self.inside.history.items; next = c.args.call + 1 }) (board c)
 
 pub returns-clause-acts : goal.returns-clause-acts
 returns-clause-acts c =
-    subst (λ (b : BoardState). ActsAs b.start b.history c.args.call c.args.ask.now c.act-acted.result c.act-acted.new.history) c.self.view_is
-    (act_shows c.self.inside.plan.plan c.act-acted.new.plan.plan c.self.inside.start.value.plan c.self.inside.history c.act-acted.new.history c.args.call c.args.ask.now
-    c.act-acted.result c.self.invariant.plan_is c.act-acted.ensures.acts)
-
-pub returns-clause-free : goal.returns-clause-free
-returns-clause-free c =
-    act_free c.self.inside.plan.plan c.act-acted.new.plan.plan c.self.inside.history c.act-acted.new.history c.args.call c.args.ask.now c.act-acted.result c.act-acted.ensures.acts
+    let old = c.args.self.now in
+    let after = c.self.inside.history.items in
+    let plan = replay old.start old.history in
+    elim c.match-answered.branch [
+      | in-Ok w ↦
+          let text = subst (λ (b : BoardState). TextOf plan old.history c.args.call (sought plan c.args.ask.now) w.in-Ok.bytes b.history) (sym c.self.view_is) w.in-Ok.ensures.text in
+          subst (λ (acted : Acted). ActsAs old.start old.history c.args.call c.args.ask.now acted after) (sym w.result-is)
+          (text_acts old.start old.history c.args.call c.args.ask.now w.in-Ok.bytes after text)
+      | in-Err w ↦
+          let kept = subst (λ (b : BoardState). b.history ≡ old.history) (sym c.self.view_is) w.in-Err.ensures.kept in
+          subst (λ (acted : Acted). ActsAs old.start old.history c.args.call c.args.ask.now acted after) (sym w.result-is)
+          (memory_acts old.start old.history c.args.call c.args.ask.now after kept)
+    ]

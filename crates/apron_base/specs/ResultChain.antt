@@ -1,0 +1,8 @@
+-- Results one after the other, up to the first fault.
+use Rattle.std.specs.Prelude.{Result, Ok, Err}
+
+infixl 10 ◌>>=◌
+-- what comes of the value, where there is no fault
+abbrev pub ◌>>=◌ : {A B E : Type 0} → Result A E → (A → Result B E) → Result B E
+Ok value >>= next = next value
+Err fault >>= next = Err fault

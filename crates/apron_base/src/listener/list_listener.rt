@@ -1,0 +1,120 @@
+// A listener in memory, for tests, whose calls fail as told.
+ghost use Rattle.std.specs.Prelude.{◌≡◌, [], is_err, IfOk};
+ghost use Rattle.apron_base.specs.Fails.{called, fails_from};
+ghost use Rattle.apron_base.specs.Listener.{Accepts};
+ghost use Rattle.apron_base.specs.ListListener.{listener_state, refuses_accept};
+
+use crate::fails::Fails;
+use crate::{Failed, Finished, Listener, Outcome, Sink, Source};
+use std::alloc::{AllocError, Global};
+use std::collections::VecDeque;
+use std::marker::Model;
+use std::sync::Wait;
+
+/// A listener of given connections, with calls that fail. Contracts see the connections to come, the
+/// finished ones, how many were accepted and the calls that fail.
+#[derive(Drop)]
+pub struct ListListener<I, O> {
+    to_come: VecDeque<(I, O)>,
+    finished: Vec<Finished<I, O>>,
+    accepted: u64,
+    fails: Fails,
+}
+
+impl<I, O> Model for ListListener<I, O> {
+    ghost use Rattle.apron_base.specs.ListListener.{HasPlaces, ListenerHeld};
+
+    ghost Value = { ListenerHeld I O };
+
+    ghost view = { λ l. record { to_come = l.to_come.items; finished = l.finished.items; accepted = l.accepted; fails = l.fails } };
+
+    ghost invariant = { λ l. HasPlaces l.to_come.items l.finished l.accepted };
+}
+
+impl<I: Drop, O: Drop> ListListener<I, O> {
+    /// `fails` are the numbers of the accepts that fail, from 0, in any order. An accept that fails takes
+    /// no connection; one with none to come fails too. At `Err` memory is wanting for as many finished
+    /// connections as there are to come.
+    pub fn new(alloc: Global, to_come: Vec<(I, O)>, fails: Vec<u64>) -> Result<Self, AllocError>
+        ensures ok { IfOk result (λ listener. listener ≡ record { to_come = to_come.items; finished = []; accepted = 0; fails = fails_from fails.items }) }
+    {
+        Ok(ListListener {
+            finished: Vec::with_capacity(alloc, to_come.len())?,
+            to_come: VecDeque::from(to_come),
+            accepted: 0,
+            fails: Fails::new(fails),
+        })
+    }
+
+    /// The finished connections, in the order in which they were finished.
+    pub fn finished(&self) -> &[Finished<I, O>]
+        ensures finished { result.now ≡ self.now.finished }
+    {
+        &self.finished
+    }
+}
+
+impl<I: Source + Drop, O: Sink + Drop> Listener for ListListener<I, O> {
+    type In = I;
+
+    type Out = O;
+
+    ghost state = { listener_state };
+
+    fn accept<R: Wait>(&mut self, _rt: &R) -> Result<(I, O), Failed>
+        ensures accepts { Accepts (listener_state self.old) (listener_state self.new) result }
+
+        // Exactly the calls that were told, and those with no connection to come, fail.
+        ensures refused { is_err result ≡ refuses_accept self.old }
+        ensures called { self.new.fails ≡ called (is_err result) self.old.fails }
+    {
+        if self.fails.is_next() {
+            return Err(self.fails.fail());
+        }
+        let Some(first) = self.to_come.pop_front() else {
+            return Err(self.fails.fail());
+        };
+        self.accepted += 1;
+        Ok(first)
+    }
+
+    fn finish(&mut self, input: I, output: O, outcome: Outcome) {
+        self.finished.push_reserved(Finished {
+            source: input,
+            sink: output,
+            outcome,
+        });
+    }
+}
+
+#[cfg(test)]
+mod tests {
+    use super::*;
+    use crate::{NullSink, SteadySource};
+    use std::test::Fail;
+
+    #[test]
+    fn connections_come_in_order_and_fail_as_told(rt: HostRuntime) -> Result<(), Fail> {
+        let alloc = rt.alloc();
+        let one = SteadySource::new(Vec::from_slice(alloc, b"one")?, Vec::new(alloc));
+        let two = SteadySource::new(Vec::from_slice(alloc, b"two")?, Vec::new(alloc));
+        let to_come = Vec::from_array(alloc, [(one, NullSink), (two, NullSink)])?;
+        let mut listener = ListListener::new(alloc, to_come, Vec::from_slice(alloc, &[1])?)?;
+        let Ok((first, sink)) = listener.accept(&rt) else {
+            return Err(Fail::new("a connection"));
+        };
+        assert_eq!(rt; listener.accept(&rt).is_err(), true);
+        listener.finish(first, sink, Outcome::Closed);
+        let Ok((second, sink)) = listener.accept(&rt) else {
+            return Err(Fail::new("another connection"));
+        };
+        listener.finish(second, sink, Outcome::Cut);
+        assert_eq!(rt; listener.accept(&rt).is_err(), true);
+        let [first, second] = listener.finished() else {
+            return Err(Fail::new("two finished connections"));
+        };
+        assert_eq!(rt; first.outcome, Outcome::Closed);
+        assert_eq!(rt; second.outcome, Outcome::Cut);
+        Ok(())
+    }
+}

@@ -1,0 +1,109 @@
+// The files of the system as a shelf.
+ghost use Rattle.std.specs.Prelude.{◌≡◌, ◌+◌, IfOk, IfSome, None, take};
+
+use crate::{Shelf, ShelfFault};
+use std::alloc::Global;
+use std::io::Read;
+use std::marker::Model;
+use std::rt::Files;
+use std::{fs, io};
+
+/// The files of the system by their paths as they are written. It tells nothing of what is in them, and
+/// counts each error. Contracts see its two counts.
+#[derive(Drop)]
+pub struct FileShelf<'a, R> {
+    rt: &'a R,
+    faults: u64,
+    read: u64,
+}
+
+impl<'a, R> Model for FileShelf<'a, R> {
+    ghost use Rattle.apron_base.specs.MapShelf.{ShelfCounts};
+
+    ghost Value = { ShelfCounts };
+
+    ghost view = { λ s. record { faults = s.faults; read = s.read } };
+}
+
+impl<'a, R: Files> FileShelf<'a, R> {
+    /// The files that this runtime opens, of which none has been asked for.
+    pub fn new(rt: &'a R) -> Self
+        ensures is { result ≡ record { faults = 0; read = 0 } }
+    {
+        FileShelf {
+            rt,
+            faults: 0,
+            read: 0,
+        }
+    }
+}
+
+impl<'a, R: Files> Shelf for FileShelf<'a, R> {
+    ghost state = { λ s. record { file = λ _. None; faults = s.faults; read = s.read } };
+
+    fn read_file(&mut self, alloc: Global, name: &str, limit: u32) -> Result<Vec<u8>, ShelfFault> {
+        match read_up_to(self.rt, alloc, name, limit) {
+            Ok(bytes) => {
+                self.read = self.read.saturating_add(bytes.len() as u64);
+                if bytes.len() > limit as usize {
+                    Err(ShelfFault::TooLong)
+                } else {
+                    Ok(bytes)
+                }
+            }
+            Err(e) if e.kind() == io::ErrorKind::OutOfMemory => Err(ShelfFault::Memory),
+            Err(_) => {
+                self.faults = self.faults.saturating_add(1);
+                Err(ShelfFault::Failed)
+            }
+        }
+    }
+}
+
+// The bytes of the file of this name, up to one more than the limit.
+fn read_up_to<R: Files>(rt: &R, alloc: Global, name: &str, limit: u32) -> io::Result<Vec<u8>> {
+    let file = fs::open(rt, name)?;
+    front_of(file, alloc, limit)
+}
+
+// The bytes that a reader gives, up to one more than the limit.
+fn front_of<F: Read + Drop>(file: F, alloc: Global, limit: u32) -> io::Result<Vec<u8>>
+    ensures bytes { IfOk result (λ v. IfSome (F.remaining file) (λ left. v.items ≡ take (limit + 1) left)) }
+{
+    let mut bytes = Vec::new(alloc);
+    file.take(u64::from(limit) + 1).read_to_end(&mut bytes)?;
+    Ok(bytes)
+}
+
+#[cfg(test)]
+mod tests {
+    use super::*;
+    use std::test::Fail;
+
+    fn length(read: Result<Vec<u8>, ShelfFault>) -> Result<usize, ShelfFault> {
+        match read {
+            Ok(bytes) => Ok(bytes.len()),
+            Err(fault) => Err(fault),
+        }
+    }
+
+    #[test]
+    fn files_are_read_up_to_their_limit(rt: HostRuntime) -> Result<(), Fail> {
+        fs::write(&rt, "five", b"abcde")?;
+        let mut shelf = FileShelf::new(&rt);
+        for (name, limit, want, faults, read) in [
+            ("five", 5, Ok(5), 0, 5),
+            ("five", 4, Err(ShelfFault::TooLong), 0, 10),
+            ("none", 5, Err(ShelfFault::Failed), 1, 10),
+            (".", 5, Err(ShelfFault::Failed), 2, 10),
+            ("five", 6, Ok(5), 2, 15),
+        ] {
+            let got = length(shelf.read_file(rt.alloc(), name, limit));
+            assert_eq!(rt; got, want);
+            assert_eq!(rt; shelf.faults, faults);
+            assert_eq!(rt; shelf.read, read);
+        }
+        fs::remove_file(&rt, "five")?;
+        Ok(())
+    }
+}

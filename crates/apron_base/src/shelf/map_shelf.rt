@@ -1,0 +1,198 @@
+// Shelves in memory, for tests: one whose calls fail as told, and one that never fails.
+ghost use Rattle.std.specs.Prelude.{◌≡◌, ◌≢◌, ◌≤◌, ◌<◌, Err, IfOk, length, option_copied, vec_len};
+ghost use Rattle.apron_base.specs.Fails.{called, fails_from};
+ghost use Rattle.apron_base.specs.Shelf.{Gives, is_failed};
+ghost use Rattle.apron_base.specs.MapShelf.{bytes_or_empty, kept_of, refuses_read, shelf_state, steady_shelf_state};
+
+use crate::fails::Fails;
+use crate::{Listed, Shelf, ShelfFault, Word};
+use std::alloc::Global;
+use std::marker::Model;
+
+/// A file of a shelf in memory.
+#[derive(Drop)]
+pub struct Kept {
+    pub name: Word,
+    pub bytes: Listed<u8>,
+}
+
+/// A shelf of given files, with calls that fail. A name that it doesn't hold is a fault, and of two files
+/// of one name it has the first. Contracts see the files, the calls that fail and the bytes read.
+#[derive(Drop)]
+pub struct MapShelf {
+    files: Listed<Kept>,
+    fails: Fails,
+    read: u64,
+}
+
+impl Model for MapShelf {
+    ghost use Rattle.apron_base.specs.MapShelf.{ShelfHeld};
+
+    ghost Value = { ShelfHeld };
+
+    ghost view = { λ s. record { files = s.files; fails = s.fails; read = s.read } };
+}
+
+impl MapShelf {
+    /// `fails` are the numbers of the calls that fail, from 0, in any order.
+    pub fn new(files: Vec<Kept>, fails: Vec<u64>) -> Self
+        ensures is { result ≡ record { files = files.items; fails = fails_from fails.items; read = 0 } }
+    {
+        MapShelf {
+            files: Listed::from_vec(files),
+            fails: Fails::new(fails),
+            read: 0,
+        }
+    }
+}
+
+impl Shelf for MapShelf {
+    ghost state = { shelf_state };
+
+    fn read_file(&mut self, alloc: Global, name: &str, limit: u32) -> Result<Vec<u8>, ShelfFault>
+        ensures gives { Gives (shelf_state self.old) (shelf_state self.new) name.now limit result }
+
+        // Exactly the calls that were told, and those of a name that it doesn't hold, fail.
+        ensures refused { is_failed result ≡ refuses_read self.old name.now }
+        ensures called { self.new.fails ≡ called (is_failed result) self.old.fails }
+        ensures files { self.new.files ≡ self.old.files }
+    {
+        if self.fails.is_next() {
+            let _ = self.fails.fail();
+            return Err(ShelfFault::Failed);
+        }
+        let Some(kept) = kept_of(self.files.as_slice(), name) else {
+            let _ = self.fails.fail();
+            return Err(ShelfFault::Failed);
+        };
+        let copy = copy_of(alloc, kept.bytes.as_slice(), limit)?;
+        self.read = self.read.saturating_add(copy.len() as u64);
+        Ok(copy)
+    }
+}
+
+/// A shelf of given files that never fails: under each name that it doesn't hold there is an empty file,
+/// and of two files of one name it has the first. Contracts see the files and the bytes read.
+#[derive(Drop)]
+pub struct SteadyShelf {
+    files: Listed<Kept>,
+    read: u64,
+}
+
+impl Model for SteadyShelf {
+    ghost use Rattle.apron_base.specs.MapShelf.{SteadyShelfHeld};
+
+    ghost Value = { SteadyShelfHeld };
+
+    ghost view = { λ s. record { files = s.files; read = s.read } };
+}
+
+impl SteadyShelf {
+    /// The shelf of these files, of which none has been asked for.
+    pub fn new(files: Vec<Kept>) -> Self
+        ensures is { result ≡ record { files = files.items; read = 0 } }
+    {
+        SteadyShelf {
+            files: Listed::from_vec(files),
+            read: 0,
+        }
+    }
+}
+
+impl Shelf for SteadyShelf {
+    ghost state = { steady_shelf_state };
+
+    fn read_file(&mut self, alloc: Global, name: &str, limit: u32) -> Result<Vec<u8>, ShelfFault>
+        ensures gives { Gives (steady_shelf_state self.old) (steady_shelf_state self.new) name.now limit result }
+        ensures never_fails { result ≢ Err ShelfFault.Failed }
+    {
+        let copy = copy_or_empty(alloc, kept_of(self.files.as_slice(), name), limit)?;
+        self.read = self.read.saturating_add(copy.len() as u64);
+        Ok(copy)
+    }
+}
+
+fn kept_of<'a>(files: &'a [Kept], name: &str) -> Option<&'a Kept>
+    ensures first { option_copied result ≡ kept_of files.now name.now }
+{
+    files.iter().find(|kept| kept.name.text() == name)
+}
+
+fn copy_or_empty(alloc: Global, kept: Option<&Kept>, limit: u32) -> Result<Vec<u8>, ShelfFault>
+    ensures whole { IfOk result (λ v. v.items ≡ bytes_or_empty (option_copied kept.entry)) }
+    ensures within { IfOk result (λ v. vec_len v ≤ limit) }
+    ensures too_long { result ≡ Err ShelfFault.TooLong → limit < length (bytes_or_empty (option_copied kept.entry)) }
+    ensures never_fails { result ≢ Err ShelfFault.Failed }
+{
+    match kept {
+        Some(kept) => copy_of(alloc, kept.bytes.as_slice(), limit),
+        None => Ok(Vec::new(alloc)),
+    }
+}
+
+fn copy_of(alloc: Global, bytes: &[u8], limit: u32) -> Result<Vec<u8>, ShelfFault>
+    ensures whole { IfOk result (λ v. v.items ≡ bytes.now) }
+    ensures within { IfOk result (λ v. vec_len v ≤ limit) }
+    ensures too_long { result ≡ Err ShelfFault.TooLong → limit < length bytes.now }
+    ensures never_fails { result ≢ Err ShelfFault.Failed }
+{
+    if bytes.len() > limit as usize {
+        return Err(ShelfFault::TooLong);
+    }
+    match Vec::from_slice(alloc, bytes) {
+        Ok(copy) => Ok(copy),
+        Err(_) => Err(ShelfFault::Memory),
+    }
+}
+
+#[cfg(test)]
+mod tests {
+    use super::*;
+    use crate::Memory;
+    use std::test::Fail;
+
+    fn kept(alloc: Global, name: &str, bytes: &[u8]) -> Result<Kept, Memory> {
+        Ok(Kept {
+            name: Word::new(alloc, name)?,
+            bytes: Listed::from_vec(Vec::from_slice(alloc, bytes)?),
+        })
+    }
+
+    fn length(read: Result<Vec<u8>, ShelfFault>) -> Result<usize, ShelfFault> {
+        match read {
+            Ok(bytes) => Ok(bytes.len()),
+            Err(fault) => Err(fault),
+        }
+    }
+
+    #[test]
+    fn a_shelf_fails_as_told(rt: HostRuntime) -> Result<(), Fail> {
+        let alloc = rt.alloc();
+        let files = Vec::from_array(alloc, [kept(alloc, "a", b"abc")?])?;
+        let mut shelf = MapShelf::new(files, Vec::from_slice(alloc, &[1])?);
+        for (name, limit, want) in [
+            ("a", 3, Ok(3)),
+            ("a", 3, Err(ShelfFault::Failed)),
+            ("a", 2, Err(ShelfFault::TooLong)),
+            ("b", 2, Err(ShelfFault::Failed)),
+        ] {
+            assert_eq!(rt; length(shelf.read_file(alloc, name, limit)), want);
+        }
+        Ok(())
+    }
+
+    #[test]
+    fn a_steady_shelf_has_an_empty_file_under_each_other_name(rt: HostRuntime) -> Result<(), Fail> {
+        let alloc = rt.alloc();
+        let files = Vec::from_array(alloc, [kept(alloc, "a", b"abc")?])?;
+        let mut shelf = SteadyShelf::new(files);
+        for (name, limit, want) in [
+            ("a", 3, Ok(3)),
+            ("a", 2, Err(ShelfFault::TooLong)),
+            ("b", 0, Ok(0)),
+        ] {
+            assert_eq!(rt; length(shelf.read_file(alloc, name, limit)), want);
+        }
+        Ok(())
+    }
+}

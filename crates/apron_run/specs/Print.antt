@@ -1,0 +1,22 @@
+-- What the words that print a text print, and how.
+use Rattle.std.specs.Prelude.{◌≡◌, ◌⊎◌, ℕ, true, false, List, take, codes}
+use Rattle.apron_base.specs.Ends.{SinkState, Wrote}
+use Rattle.apron_run.specs.declared.status.Status.{Status}
+
+-- a text was written whole, with its status; or the sink failed and a front of it was written, with the other status
+abbrev pub Writes : List ℕ → Status → Status → SinkState → SinkState → Status → Type 0
+Writes text whole cut before after status =
+    ((status ≡ whole) × Wrote false before after text) ⊎ ((status ≡ cut) × ((count : ℕ) × Wrote true before after (take count text)))
+
+-- what the word `--help` prints
+unfoldable pub help_text : List ℕ
+help_text =
+    codes "apron: airport stand allocation\n\napron desk demo              answers HTTP requests from standard input on standard output,\n                             for six built-in stands and four built-in visits\napron check AIRPORT TYPES    reads an airport file and a type file, and prints how much they\n                             hold, or the first fault in them\napron --help                 prints this text\napron --version              prints the version\n"
+
+-- what the word `--version` prints
+unfoldable pub version_text : List ℕ
+version_text = codes "apron 0.1.0\n"
+
+-- what is printed for words that ask for nothing that there is
+unfoldable pub usage_text : List ℕ
+usage_text = codes "usage\n"

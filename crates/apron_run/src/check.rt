@@ -1,0 +1,40 @@
+// The word `check`.
+ghost use Rattle.apron_check.specs.Files.{Finds};
+ghost use Rattle.apron_rules.specs.declared.parts.AirportParts.{AirportParts};
+ghost use Rattle.apron_check.specs.declared.faults.FilesFault.{FilesFault};
+ghost use Rattle.std.specs.Prelude.{Result};
+ghost use Rattle.apron_run.specs.Check.{TellsFault, TellsFound};
+
+use crate::Status;
+use crate::status::status_of_fault;
+use apron_base::{Failed, Shelf, Sink};
+use apron_check::{FilesFault, airport_of, put_counts, put_fault};
+use std::alloc::Global;
+
+/// Prints how much there is of the airport that the two files of these names make, or why they make none.
+pub(crate) fn check<F: Shelf, W: Sink>(
+    alloc: Global,
+    airport: &str,
+    types: &str,
+    shelf: &mut F,
+    sink: &mut W,
+) -> Status
+    ensures checks { (found : Result AirportParts FilesFault) × Finds (F.state shelf.old) (F.state shelf.new) airport.now types.now found
+        × TellsFound found (W.state sink.old) (W.state sink.new) result }
+{
+    match airport_of(alloc, airport, types, shelf) {
+        Ok(airport) => match put_counts(sink, &airport) {
+            Ok(()) => Status::Done,
+            Err(Failed) => Status::WriteFault,
+        },
+        Err(fault) => tell_fault(sink, &fault),
+    }
+}
+
+/// Prints the line that tells a fault, and gives its status, which stays where the sink fails at the line.
+pub(crate) fn tell_fault<W: Sink>(sink: &mut W, fault: &FilesFault) -> Status
+    ensures tells { TellsFault fault.now (W.state sink.old) (W.state sink.new) result }
+{
+    let _ = put_fault(sink, fault);
+    status_of_fault(fault)
+}

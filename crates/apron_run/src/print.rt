@@ -1,0 +1,59 @@
+// The words that print a text.
+ghost use Rattle.std.specs.Prelude.{◌≡◌};
+ghost use Rattle.apron_run.specs.Print.{Writes, help_text, usage_text, version_text};
+
+use crate::Status;
+use apron_base::{Failed, Sink};
+
+/// Prints what `--help` asks for.
+pub(crate) fn print_help<W: Sink>(sink: &mut W) -> Status
+    ensures writes { Writes help_text Status.Done Status.WriteFault (W.state sink.old) (W.state sink.new) result }
+{
+    print(sink, help())
+}
+
+/// Prints what `--version` asks for.
+pub(crate) fn print_version<W: Sink>(sink: &mut W) -> Status
+    ensures writes { Writes version_text Status.Done Status.WriteFault (W.state sink.old) (W.state sink.new) result }
+{
+    print(sink, version())
+}
+
+/// Prints the line for faulty words. The status stays theirs where the sink fails at it.
+pub(crate) fn print_usage<W: Sink>(sink: &mut W) -> Status
+    ensures writes { Writes usage_text Status.Usage Status.Usage (W.state sink.old) (W.state sink.new) result }
+    ensures usage { result ≡ Status.Usage }
+{
+    let _ = sink.put(usage());
+    Status::Usage
+}
+
+fn print<W: Sink>(sink: &mut W, text: &[u8]) -> Status
+    ensures writes { Writes text.now Status.Done Status.WriteFault (W.state sink.old) (W.state sink.new) result }
+{
+    match sink.put(text) {
+        Ok(()) => Status::Done,
+        Err(Failed) => Status::WriteFault,
+    }
+}
+
+// What `--help` prints.
+fn help() -> &'static [u8]
+    ensures text { result.now ≡ help_text }
+{
+    b"apron: airport stand allocation\n\napron desk demo              answers HTTP requests from standard input on standard output,\n                             for six built-in stands and four built-in visits\napron check AIRPORT TYPES    reads an airport file and a type file, and prints how much they\n                             hold, or the first fault in them\napron --help                 prints this text\napron --version              prints the version\n"
+}
+
+// What `--version` prints.
+fn version() -> &'static [u8]
+    ensures text { result.now ≡ version_text }
+{
+    b"apron 0.1.0\n"
+}
+
+// What is printed for words that ask for nothing that there is.
+fn usage() -> &'static [u8]
+    ensures text { result.now ≡ usage_text }
+{
+    b"usage\n"
+}

@@ -1,0 +1,81 @@
+// What the program ends with.
+ghost use Rattle.std.specs.Prelude.{◌≡◌};
+ghost use Rattle.apron_run.specs.Statuses.{code_of, status_of_fault, status_of_outcome};
+
+use apron_base::Outcome;
+use apron_check::FilesFault;
+
+/// What the program ends with.
+#[derive(Clone, Copy, Debug, PartialEq, Eq)]
+pub enum Status {
+    /// All was done. A session's input ended between requests, or a request closed it.
+    Done,
+    /// The words ask for nothing that there is.
+    Usage,
+    /// A file has a fault, or is longer than 1 MiB.
+    FileFault,
+    /// The shelf failed.
+    ShelfFault,
+    /// The source failed.
+    ReadFault,
+    /// The sink failed.
+    WriteFault,
+    /// The input ended within a request.
+    Cut,
+    /// Memory was wanting.
+    Memory,
+    /// A request's head was refused.
+    Malformed,
+    /// A session answered as many requests as it may.
+    Limit,
+    /// There were no more call numbers.
+    Spent,
+}
+
+impl Status {
+    /// The number that the program ends with.
+    pub fn code(self) -> u8
+        ensures value { result ≡ code_of self }
+    {
+        match self {
+            Status::Done => 0,
+            Status::Usage => 2,
+            Status::FileFault => 3,
+            Status::ShelfFault => 4,
+            Status::ReadFault => 5,
+            Status::WriteFault => 6,
+            Status::Cut => 10,
+            Status::Memory => 12,
+            Status::Malformed => 13,
+            Status::Limit => 16,
+            Status::Spent => 17,
+        }
+    }
+}
+
+pub(crate) fn status_of_outcome(outcome: Outcome) -> Status
+    ensures value { result ≡ status_of_outcome outcome }
+{
+    match outcome {
+        Outcome::Ended | Outcome::Closed => Status::Done,
+        Outcome::ReadFault => Status::ReadFault,
+        Outcome::WriteFault => Status::WriteFault,
+        Outcome::Cut => Status::Cut,
+        Outcome::Memory => Status::Memory,
+        Outcome::Malformed => Status::Malformed,
+        Outcome::Limit => Status::Limit,
+        Outcome::Spent => Status::Spent,
+    }
+}
+
+pub(crate) fn status_of_fault(fault: &FilesFault) -> Status
+    ensures value { result ≡ status_of_fault fault.now }
+{
+    match fault {
+        FilesFault::Faulty(_) | FilesFault::AirportTooLong | FilesFault::TypesTooLong => {
+            Status::FileFault
+        }
+        FilesFault::ShelfFault => Status::ShelfFault,
+        FilesFault::Memory => Status::Memory,
+    }
+}

@@ -1,0 +1,10 @@
+-- Numbers of 32 bits.
+use Rattle.std.specs.Prelude.{ℕ, ◌-◌, ◌^◌, nat_le, Option, None, Some, if◌then◌else◌}
+
+-- the greatest number of 32 bits
+abbrev pub greatest : ℕ
+greatest = 2 ^ 32 - 1
+
+-- the number, where it has 32 bits
+abbrev pub within : ℕ → Option ℕ
+within number = if nat_le number greatest then Some number else None

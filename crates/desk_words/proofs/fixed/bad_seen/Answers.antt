@@ -1,9 +1,0 @@
-use Rattle.std.proofs.Common.{refl}
-use Rattle.std.specs.Fmt.{digits}
-use Rattle.serde_json.proofs.OnLiterals.{serde_json_on_literals}
-use Rattle.desk_words.specs.Fixed.{bad_seen_text}
-use Rattle.desk_words.proofs.fixed.bad_seen.Goals as goal
-
-pub returns : goal.returns
-unfolding digits serde_json_on_literals bad_seen_text
-returns c = record { text = refl }

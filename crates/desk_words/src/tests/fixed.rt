@@ -1,0 +1,45 @@
+// Replies that need no plan.
+use crate::early::{Early, early_bytes};
+use crate::fixed::{bad_head, keeper_fault, no_memory};
+
+#[test]
+fn early_replies_are_these_bytes(rt: HostRuntime) {
+    let rows: [(Early, &[u8]); 3] = [
+        (
+            Early::NotJson,
+            b"HTTP/1.1 400 Bad Request\r\nContent-Type: application/json\r\nContent-Length: 16\r\n\r\n{\"error\":\"json\"}",
+        ),
+        (
+            Early::BadSeen,
+            b"HTTP/1.1 400 Bad Request\r\nContent-Type: application/json\r\nContent-Length: 16\r\n\r\n{\"error\":\"seen\"}",
+        ),
+        (
+            Early::Unbuilt,
+            b"HTTP/1.1 400 Bad Request\r\nContent-Type: application/json\r\nContent-Length: 19\r\n\r\n{\"error\":\"unbuilt\"}",
+        ),
+    ];
+    for (early, want) in rows {
+        assert!(rt; early_bytes(early).as_slice() == want, "at {early:?}");
+    }
+}
+
+#[test]
+fn fixed_replies_are_these_bytes(rt: HostRuntime) {
+    let rows: [(&[u8], &[u8]); 3] = [
+        (
+            no_memory(),
+            b"HTTP/1.1 507 Insufficient Storage\r\nContent-Type: application/json\r\nContent-Length: 18\r\n\r\n{\"error\":\"memory\"}",
+        ),
+        (
+            keeper_fault(),
+            b"HTTP/1.1 503 Service Unavailable\r\nContent-Type: application/json\r\nContent-Length: 18\r\n\r\n{\"error\":\"keeper\"}",
+        ),
+        (
+            bad_head(),
+            b"HTTP/1.1 400 Bad Request\r\nContent-Type: application/json\r\nContent-Length: 16\r\nConnection: close\r\n\r\n{\"error\":\"head\"}",
+        ),
+    ];
+    for (bytes, want) in rows {
+        assert!(rt; bytes == want);
+    }
+}

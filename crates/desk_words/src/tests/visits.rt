@@ -1,0 +1,138 @@
+// Visits.
+use super::{has_text, part};
+use crate::replies::{Reply, Told};
+use apron_base::{Name, StandNo, TypeNo, VisitNo};
+use apron_rules::{Airport, Rule};
+use std::test::Fail;
+use visit_book::{Bump, End, Part, Parts, Place, Visit};
+
+fn bump() -> Bump {
+    Bump {
+        stand: StandNo(3),
+        entry: 8,
+        blocker: part(40, 2),
+        minute: 615,
+        rule: Rule::Pair,
+    }
+}
+
+fn first_visit(place: Place, on_block: bool, end: End) -> Visit {
+    Visit {
+        number: VisitNo(1),
+        name: Name::literal(b"V1"),
+        kind: TypeNo(0),
+        class: 3,
+        on: 600,
+        off: 660,
+        parts: Parts::one(Part {
+            from: 600,
+            to: 660,
+            place,
+        }),
+        on_block,
+        end,
+        edited: 1,
+    }
+}
+
+fn last_visit() -> Visit {
+    Visit {
+        number: VisitNo(4294967295),
+        name: Name::literal(b"KL-0641-27-A"),
+        kind: TypeNo(6),
+        class: 0,
+        on: 0,
+        off: 4319,
+        parts: Parts::one(Part {
+            from: 1,
+            to: 4320,
+            place: Place::Planned(StandNo(2)),
+        }),
+        on_block: false,
+        end: End::Live,
+        edited: 4294967294,
+    }
+}
+
+// The built-in airport has six stands and seven types.
+fn nameless_visit() -> Visit {
+    let mut visit = first_visit(Place::Planned(StandNo(6)), false, End::Live);
+    visit.kind = TypeNo(7);
+    visit
+}
+
+#[test]
+fn visits_are_these_bytes(rt: HostRuntime) -> Result<(), Fail> {
+    let alloc = rt.alloc();
+    let airport = Airport::demo(alloc)?;
+    let rows = [
+        (
+            Reply {
+                version: 1,
+                told: Told::Visit(first_visit(Place::Planned(StandNo(0)), false, End::Live)),
+            },
+            "HTTP/1.1 200 OK\r\nContent-Type: application/json\r\nContent-Length: 202\r\nX-Version: 1",
+            r#"{"arr":null,"class":3,"dep":null,"edited":1,"name":"V1","off":660,"on":600,"parts":[{"actual":false,"bump":null,"from":600,"stand":"N1","to":660}],"state":"expected","type":"A320","version":1,"visit":1}"#,
+        ),
+        (
+            Reply {
+                version: 4294967294,
+                told: Told::Visit(first_visit(Place::Actual(StandNo(1)), true, End::Live)),
+            },
+            "HTTP/1.1 200 OK\r\nContent-Type: application/json\r\nContent-Length: 209\r\nX-Version: 4294967294",
+            r#"{"arr":null,"class":3,"dep":null,"edited":1,"name":"V1","off":660,"on":600,"parts":[{"actual":true,"bump":null,"from":600,"stand":"N2","to":660}],"state":"onblock","type":"A320","version":4294967294,"visit":1}"#,
+        ),
+        (
+            Reply {
+                version: 12,
+                told: Told::Visit(first_visit(Place::Actual(StandNo(5)), true, End::Gone)),
+            },
+            "HTTP/1.1 200 OK\r\nContent-Type: application/json\r\nContent-Length: 198\r\nX-Version: 12",
+            r#"{"arr":null,"class":3,"dep":null,"edited":1,"name":"V1","off":660,"on":600,"parts":[{"actual":true,"bump":null,"from":600,"stand":"S3","to":660}],"state":"gone","type":"A320","version":12,"visit":1}"#,
+        ),
+        (
+            Reply {
+                version: 0,
+                told: Told::Visit(first_visit(Place::Unplaced(None), true, End::Cancelled)),
+            },
+            "HTTP/1.1 200 OK\r\nContent-Type: application/json\r\nContent-Length: 203\r\nX-Version: 0",
+            r#"{"arr":null,"class":3,"dep":null,"edited":1,"name":"V1","off":660,"on":600,"parts":[{"actual":false,"bump":null,"from":600,"stand":null,"to":660}],"state":"cancelled","type":"A320","version":0,"visit":1}"#,
+        ),
+        (
+            Reply {
+                version: 2,
+                told: Told::Visit(first_visit(Place::Unplaced(None), false, End::Gone)),
+            },
+            "HTTP/1.1 200 OK\r\nContent-Type: application/json\r\nContent-Length: 198\r\nX-Version: 2",
+            r#"{"arr":null,"class":3,"dep":null,"edited":1,"name":"V1","off":660,"on":600,"parts":[{"actual":false,"bump":null,"from":600,"stand":null,"to":660}],"state":"gone","type":"A320","version":2,"visit":1}"#,
+        ),
+        (
+            Reply {
+                version: 9,
+                told: Told::Visit(first_visit(Place::Unplaced(Some(bump())), false, End::Live)),
+            },
+            "HTTP/1.1 200 OK\r\nContent-Type: application/json\r\nContent-Length: 281\r\nX-Version: 9",
+            r#"{"arr":null,"class":3,"dep":null,"edited":1,"name":"V1","off":660,"on":600,"parts":[{"actual":false,"bump":{"blocker":{"part":2,"visit":40},"entry":8,"minute":615,"rule":"pair","stand":"S1"},"from":600,"stand":null,"to":660}],"state":"expected","type":"A320","version":9,"visit":1}"#,
+        ),
+        (
+            Reply {
+                version: 4294967294,
+                told: Told::Visit(last_visit()),
+            },
+            "HTTP/1.1 200 OK\r\nContent-Type: application/json\r\nContent-Length: 237\r\nX-Version: 4294967294",
+            r#"{"arr":null,"class":0,"dep":null,"edited":4294967294,"name":"KL-0641-27-A","off":4319,"on":0,"parts":[{"actual":false,"bump":null,"from":1,"stand":"N3","to":4320}],"state":"expected","type":"X360","version":4294967294,"visit":4294967295}"#,
+        ),
+        (
+            Reply {
+                version: 1,
+                told: Told::Visit(nameless_visit()),
+            },
+            "HTTP/1.1 200 OK\r\nContent-Type: application/json\r\nContent-Length: 200\r\nX-Version: 1",
+            r#"{"arr":null,"class":3,"dep":null,"edited":1,"name":"V1","off":660,"on":600,"parts":[{"actual":false,"bump":null,"from":600,"stand":null,"to":660}],"state":"expected","type":null,"version":1,"visit":1}"#,
+        ),
+    ];
+    for (reply, head, body) in rows {
+        assert!(rt; has_text(alloc, &airport, &reply, head, body), "at {body}");
+    }
+    Ok(())
+}

@@ -1,0 +1,101 @@
+-- How a plan takes a command.
+use Rattle.std.specs.Prelude.{◌≡◌, ◌≢◌, ◌≤◌, ◌<◌, ◌+◌, ℕ, List, length, All, None, Some, Result, Ok, Err}
+use Rattle.apron_base.specs.declared.keeper.TheConstants.{MAX_ENTRIES}
+use Rattle.apron_rules.specs.declared.parts.AirportParts.{AirportParts}
+use Rattle.visit_book.specs.declared.edits.EditFault.{EditFault}
+use Rattle.visit_book.specs.declared.edits.EditFault.TheVariants.{Memory}
+use Rattle.visit_book.specs.declared.visits.Visit.{Visit}
+use Rattle.visit_book.specs.Edits.{most_edits}
+use Rattle.plan_core.specs.Drafts.{Draft, draft_of, draft_version}
+use Rattle.plan_core.specs.Edits.{IsEditOf, after_all_edits}
+use Rattle.plan_core.specs.PlanState.{PlanState}
+use Rattle.plan_core.specs.Rebase.{Rebases, Refuses, committed}
+use Rattle.desk_words.specs.declared.asks.Command.{Command}
+use Rattle.desk_words.specs.declared.asks.Command.TheVariants.{Commit}
+use Rattle.desk_words.specs.declared.replies.Reply.{Reply}
+use Rattle.desk_words.specs.declared.replies.Told.{Told}
+use Rattle.desk_words.specs.declared.replies.Told.TheVariants.{Committed, Ahead, Full, Edit as Refused}
+
+-- the command is of the airport: it has some edits but not too many, on stands of it
+abbrev pub IsCommandOf : AirportParts → Command → Type 0
+IsCommandOf airport (Commit desk draft base edits) = (1 ≤ length edits) × (length edits ≤ most_edits) × All (IsEditOf airport) edits
+
+-- the most entries of a history
+abbrev pub most_entries : ℕ
+most_entries = MAX_ENTRIES
+
+-- a history of so many entries takes one more
+abbrev pub HasPlace : ℕ → Type 0
+HasPlace entries = entries < most_entries
+
+-- why a command is refused for its own sake
+pub data Refusal : Type 0 where
+  edit : EditFault → Refusal
+
+-- how a command is taken
+pub data Stepped : Type 0 where
+  ahead : Stepped
+  repeated : ℕ → Stepped
+  refused : Refusal → Stepped
+  full : Stepped
+  accepted : Stepped
+
+-- a draft whose edits are looked at: it was not made over a later version than the plan's, and no commit is of it
+pub record IsNew (plan : PlanState) (draft : Draft) : Type 0 where
+  pub made_over : draft.base ≤ plan.version
+  pub unused : draft_version plan.drafts draft.desk draft.number ≡ None
+
+-- the command was made over a later version than the plan's
+abbrev pub IsAhead : PlanState → Command → Type 0
+IsAhead plan (Commit desk draft base edits) = plan.version < base
+
+-- the entry of this number is of the same draft, whatever its edits are
+abbrev pub IsRepeated : PlanState → Command → ℕ → Type 0
+IsRepeated plan (Commit desk draft base edits) entry = (base ≤ plan.version) × (draft_version plan.drafts desk draft ≡ Some entry)
+
+-- the command is refused so; want of memory is no cause
+abbrev pub IsRefused : PlanState → Command → Refusal → Type 0
+IsRefused plan (Commit desk draft base edits) (edit fault) =
+    IsNew plan (draft_of desk draft base edits) × Refuses plan (draft_of desk draft base edits) fault × (fault ≢ Memory)
+
+-- the command is neither ahead nor repeated, and it applies: the edits of a commit leave some visits, which are sound
+abbrev pub IsTaken : PlanState → Command → Type 0
+IsTaken plan (Commit desk draft base edits) =
+    IsNew plan (draft_of desk draft base edits) × ((new : List Visit) × Rebases plan (draft_of desk draft base edits) new)
+
+-- how a plan, whose history has so many entries, takes a command: a line for each cause, in order
+abbrev pub Steps : PlanState → ℕ → Command → Stepped → Type 0
+Steps plan entries command ahead = IsAhead plan command
+Steps plan entries command (repeated entry) = IsRepeated plan command entry
+Steps plan entries command (refused why) = IsRefused plan command why
+Steps plan entries command full = IsTaken plan command × ¬ (HasPlace entries)
+Steps plan entries command accepted = IsTaken plan command × HasPlace entries
+
+-- what is told at a version of the plan
+abbrev pub reply_at : ℕ → Told → Reply
+reply_at version told = record { version = version; told = told }
+
+-- what is told of a command whose entry made this version, now or before
+abbrev pub made_told : ℕ → Command → Told
+made_told entry (Commit desk draft base edits) = Committed entry
+
+-- what is told of a refusal
+abbrev pub refusal_told : Refusal → Told
+refusal_told (edit fault) = Refused fault
+
+-- the reply to a command: an accepted one makes the next version, and after any other the plan is as it was
+abbrev pub stepped_reply : PlanState → Command → Stepped → Reply
+stepped_reply plan command ahead = reply_at plan.version Ahead
+stepped_reply plan command (repeated entry) = reply_at plan.version (made_told entry command)
+stepped_reply plan command (refused why) = reply_at plan.version (refusal_told why)
+stepped_reply plan command full = reply_at plan.version Full
+stepped_reply plan command accepted = reply_at (plan.version + 1) (made_told (plan.version + 1) command)
+
+-- the plan after a commit of the draft, if its edits apply
+abbrev pub committed_if : PlanState → Draft → Result (List Visit) EditFault → PlanState
+committed_if plan draft (Ok new) = committed plan draft new
+committed_if plan draft (Err fault) = plan
+
+-- the plan after a command that is taken
+abbrev pub after_command : PlanState → Command → PlanState
+after_command plan (Commit desk draft base edits) = committed_if plan (draft_of desk draft base edits) (after_all_edits plan.airport base edits plan.visits)

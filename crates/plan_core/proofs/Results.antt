@@ -1,0 +1,22 @@
+-- What a chain of results gives.
+use Rattle.std.proofs.Common.{◌≡◌, refl, Option, None, Some, Result, Ok, Err, ok_or}
+use Rattle.apron_base.specs.ResultChain.{◌>>=◌}
+
+-- where a chain gives a value, its first part gave one, of which the rest made that
+pub then_ok : {T U E : Type 0} (first : Result T E) (next : T → Result U E) (y : U) → (first >>= next) ≡ Ok y
+    → (x : T) × (first ≡ Ok x) × (next x ≡ Ok y)
+then_ok (Ok x) next y e = (x, refl, e)
+then_ok (Err fault) next y e = absurd (cc)
+
+pub found_ok : {T E : Type 0} (found : Option T) (fault : E) (x : T) → ok_or found fault ≡ Ok x → found ≡ Some x
+found_ok (Some y) fault x e = cc
+found_ok None fault x e = absurd (cc)
+
+pub ok_is : {T E : Type 0} (x y : T) → ◌≡◌ {A = Result T E} (Ok x) (Ok y) → x ≡ y
+ok_is x y e = cc
+
+pub err_is : {T E : Type 0} (x y : E) → ◌≡◌ {A = Result T E} (Err x) (Err y) → x ≡ y
+err_is x y e = cc
+
+pub not_both : {T E : Type 0} (x : T) (y : E) → ◌≡◌ {A = Result T E} (Ok x) (Err y) → ⊥
+not_both x y e = cc

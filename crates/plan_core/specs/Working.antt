@@ -1,0 +1,23 @@
+-- The visits that a draft's edits are worked out on.
+use Rattle.std.specs.Prelude.{nat_le, Bool, List, insert, is_some, map, unwrap_or, if◌then◌else◌}
+use Rattle.std.specs.List.{position_or_len}
+use Rattle.apron_base.specs.declared.numbers.VisitNo.{VisitNo}
+use Rattle.visit_book.specs.declared.visits.Visit.{Visit}
+use Rattle.visit_book.specs.Numbers.{visit_at}
+
+-- the visit has this number or a greater one
+abbrev pub is_from : VisitNo → Visit → Bool
+is_from number visit = nat_le number.0 visit.number.0
+
+-- the visits with this one before those of greater numbers, unless one of its number is there
+abbrev pub with_visit_once : List Visit → Visit → List Visit
+with_visit_once visits visit =
+    if is_some (visit_at visits visit.number) then visits else insert visits (position_or_len (is_from visit.number) visits) visit
+
+-- the visit, or the one of its number among others
+abbrev pub newest : List Visit → Visit → Visit
+newest others visit = unwrap_or (visit_at others visit.number) visit
+
+-- the visits, each replaced by the one of its number among others
+abbrev pub replaced : List Visit → List Visit → List Visit
+replaced visits others = map (newest others) visits

@@ -1,0 +1,191 @@
+// Edits on a working copy of the visits that they are of. Edits are counted from 1.
+ghost use Rattle.std.specs.Prelude.{◌≡◌, ◌≤◌, ◌<◌, ◌++◌, ◌∷◌, [], All, Ok, Err, Some, IfErr, IfOk, OnOk, length, map, position};
+ghost use Rattle.std.specs.List.{position_or_len};
+ghost use Rattle.visit_book.specs.Edits.{most_edits, part_of, visit_of};
+ghost use Rattle.visit_book.specs.Numbers.{IsNumbered, has_number};
+ghost use Rattle.visit_book.specs.PartFields.{part_at};
+ghost use Rattle.visit_book.specs.WellFormed.{IsWellFormed};
+ghost use Rattle.plan_core.specs.Edits.{IsEditOf, after_all_edits, after_edit, edit_part, edit_visit, edited_visits, with_part};
+ghost use Rattle.plan_core.specs.Working.{is_from, with_visit_once};
+ghost use Rattle.plan_core.specs.PlanState.{IsLive};
+ghost use Rattle.plan_core.specs.Rebase.{edited_last};
+
+use apron_base::{Memory, VisitNo};
+use apron_rules::Airport;
+use std::alloc::Global;
+use visit_book::{Edit, EditFault, Part, Place, Visit, part_of, visit_at, visit_of};
+
+/// The visits that the edits are of, in order of number.
+pub(crate) fn edited_visits(
+    alloc: Global,
+    edits: &[Edit],
+    visits: &[Visit],
+) -> Result<Vec<Visit>, Memory>
+    requires numbered { IsNumbered visits.now }
+    ensures ok { IfOk result (λ edited. edited.items ≡ edited_visits edits.now visits.now) }
+{
+    let mut edited = Vec::new(alloc);
+    for edit in edits {
+        if let Some(visit) = visit_at(visits, visit_of(edit)) {
+            add_visit_once(&mut edited, *visit)?;
+        }
+    }
+    Ok(edited)
+}
+
+// Adds a visit before those of greater numbers, unless one of its number is there.
+fn add_visit_once(visits: &mut Vec<Visit>, visit: Visit) -> Result<(), Memory>
+    ensures ok { OnOk result (visits.new.items ≡ with_visit_once visits.old.items visit) }
+{
+    if place_of(visits.as_slice(), visit.number).is_none() {
+        visits.insert(count_below(visits.as_slice(), visit.number), visit)?;
+    }
+    Ok(())
+}
+
+// How many visits stand before the first of this number or a greater one.
+fn count_below(visits: &[Visit], number: VisitNo) -> usize
+    ensures count { result ≡ position_or_len (is_from number) visits.now }
+    ensures most { result ≤ length visits.now }
+{
+    match first_from(visits, number) {
+        Some(place) => place,
+        None => visits.len(),
+    }
+}
+
+fn first_from(visits: &[Visit], number: VisitNo) -> Option<usize>
+    ensures place { result ≡ position (is_from number) visits.now }
+{
+    visits.iter().position(|visit| is_from(visit, number))
+}
+
+fn is_from(visit: &Visit, number: VisitNo) -> bool
+    ensures is { result ≡ is_from number visit.now }
+{
+    visit.number.0 >= number.0
+}
+
+/// Applies the edits of a draft made over this base in order. At `Err` the visits are of no use any more.
+pub(crate) fn after_all_edits(
+    airport: &Airport,
+    base: u32,
+    edits: &[Edit],
+    visits: &mut [Visit],
+) -> Result<(), EditFault>
+    requires each { All (IsWellFormed airport.now) visits.old }
+    requires live { All IsLive visits.old }
+    requires stands { All (IsEditOf airport.now) edits.now }
+    requires few { length edits.now ≤ most_edits }
+    ensures ok { OnOk result (after_all_edits airport.now base edits.now visits.old ≡ Ok visits.new) }
+    ensures err { IfErr result (λ fault. after_all_edits airport.now base edits.now visits.old ≡ Err fault) }
+    ensures each { OnOk result (All (IsWellFormed airport.now) visits.new) }
+    ensures live { OnOk result (All IsLive visits.new) }
+{
+    let mut number = 1;
+    for edit in edits {
+        after_edit(airport, base, number, edit, visits)?;
+        number += 1;
+    }
+    Ok(())
+}
+
+fn after_edit(
+    airport: &Airport,
+    base: u32,
+    number: u8,
+    edit: &Edit,
+    visits: &mut [Visit],
+) -> Result<(), EditFault>
+    requires each { All (IsWellFormed airport.now) visits.old }
+    requires stand { IsEditOf airport.now edit.now }
+    ensures ok { OnOk result (after_edit airport.now base number edit.now visits.old ≡ Ok visits.new) }
+    ensures err { IfErr result (λ fault. after_edit airport.now base number edit.now visits.old ≡ Err fault) }
+{
+    let Some(place) = place_of(visits, visit_of(edit)) else {
+        return Err(EditFault::UnknownVisit { edit: number });
+    };
+    visits[place] = edit_visit(airport, base, number, edit, &visits[place])?;
+    Ok(())
+}
+
+fn edit_visit(
+    airport: &Airport,
+    base: u32,
+    number: u8,
+    edit: &Edit,
+    visit: &Visit,
+) -> Result<Visit, EditFault>
+    requires kind { visit.now.kind.0 < length airport.now.types }
+    requires stand { IsEditOf airport.now edit.now }
+    ensures is { result ≡ edit_visit airport.now base number edit.now visit.now }
+{
+    if visit.edited > base {
+        return Err(EditFault::Overtaken {
+            edit: number,
+            visit: visit.number,
+            edited: visit.edited,
+        });
+    }
+    let Some(part) = visit.parts.get(part_of(edit)) else {
+        return Err(EditFault::NoSuchPart { edit: number });
+    };
+    edit_part(airport, number, edit, visit, part)
+}
+
+// What the edit makes of the visit that has this part.
+fn edit_part(
+    airport: &Airport,
+    number: u8,
+    edit: &Edit,
+    visit: &Visit,
+    part: Part,
+) -> Result<Visit, EditFault>
+    requires kind { visit.now.kind.0 < length airport.now.types }
+    requires stand { IsEditOf airport.now edit.now }
+    requires part { part_at visit.now.parts (part_of edit.now) ≡ Some part }
+    ensures is { result ≡ edit_part airport.now number edit.now visit.now part }
+{
+    match *edit {
+        Edit::Put { stand, .. } => {
+            if let Err(by) = airport.fits(stand, visit.kind) {
+                return Err(EditFault::Unfit { edit: number, by });
+            }
+            let place = Place::Planned(stand);
+            Ok(with_part(visit, part_of(edit), Part { place, ..part }))
+        }
+    }
+}
+
+fn with_part(visit: &Visit, number: u8, part: Part) -> Visit
+    requires least { 1 ≤ number }
+    requires most { number ≤ length visit.now.parts }
+    ensures is { result ≡ with_part visit.now number part }
+{
+    Visit {
+        parts: visit.parts.with(number, part),
+        ..*visit
+    }
+}
+
+/// Where the visit of this number is among visits.
+pub(crate) fn place_of(visits: &[Visit], number: VisitNo) -> Option<usize>
+    ensures place { result ≡ position (has_number number) visits.now }
+{
+    visits.iter().position(|visit| has_number(visit, number))
+}
+
+fn has_number(visit: &Visit, number: VisitNo) -> bool
+    ensures is { result ≡ has_number number visit.now }
+{
+    visit.number.0 == number.0
+}
+
+/// Makes this version the last edit of the visits.
+pub(crate) fn edited_last(version: u32, visits: &mut [Visit])
+    ensures is { visits.new ≡ map (edited_last version) visits.old }
+{
+    for visit in visits {
+        visit.edited = version;
+    }
+}
