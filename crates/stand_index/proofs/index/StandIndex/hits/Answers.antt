@@ -1,0 +1,19 @@
+use Rattle.std.proofs.Common.{rules, subst}
+use Rattle.stand_index.specs.Slots.{IsIndex, AreSlotsAt}
+use Rattle.stand_index.proofs.Stands.{at_read, planned_minutes}
+use Rattle.stand_index.proofs.index.StandIndex.hits.Given.{Over}
+use Rattle.stand_index.proofs.index.StandIndex.hits.Goals as goal
+
+the_stand : (g : Over) (c : goal.After-hits-arg-1 g) → AreSlotsAt c.args.stand c.index.result.now
+the_stand g c =
+    let inside = c.self.inside.stands.items in
+    subst (AreSlotsAt c.args.stand) (at_read inside c.args.stand c.index.result.now (search rules) c.index.ensures) (c.self.invariant c.args.stand)
+
+pub hits-requires-clause-rise : goal.hits-requires-clause-rise
+hits-requires-clause-rise g c = (the_stand g c).rise
+
+pub hits-requires-clause-minutes : goal.hits-requires-clause-minutes
+hits-requires-clause-minutes g c = planned_minutes c.args.stand c.index.result.now (the_stand g c)
+
+pub returns-clause-index : goal.returns-clause-index
+returns-clause-index g c = subst IsIndex c.self.view_is c.self.invariant
