@@ -1,0 +1,11 @@
+pub mod Replay
+pub mod Rooms
+pub mod RecordTexts
+pub mod Moments
+pub mod Torn
+pub mod Tells
+pub mod Settled
+pub mod Appending
+pub mod OpenedTexts
+pub mod ReadTexts
+pub mod LawProofs

@@ -1,0 +1,63 @@
+-- How a run of device calls goes on.
+use Rattle.std.proofs.Common.{◌≡◌, ℕ, List, subst, sym, arith, inl, inr}
+use Rattle.std.proofs.lemmas.Bool.{cases_lt}
+use Rattle.journal_disk.specs.Disk.{DiskState, EachImage, EachImageSince, Goes, Passes, Same, Torn}
+use Rattle.journal_disk.specs.TornWrites.{torn_same}
+
+-- before the first call
+pub since_now : (disk : DiskState) (P : List ℕ → Type 0) → EachImage disk P → EachImageSince disk disk P
+since_now disk P here moment image low high left =
+    let same : moment ≡ disk.moment = omega arith in
+    here image (subst (λ m. disk.images m image) same left)
+
+-- after the last one
+pub at_last : (before now : DiskState) (P : List ℕ → Type 0) → Passes before now → EachImageSince before now P → EachImage now P
+at_last before now P clock each image left = each now.moment image clock.later (omega arith) left
+
+-- what is done from one moment on
+pub since_then : (start before now : DiskState) (P : List ℕ → Type 0) → EachImageSince start before P → Passes before now → EachImageSince before now P → EachImageSince start now P
+since_then start before now P so_far clock since moment image low high left = elim (cases_lt before.moment moment) [
+  | inl late ↦ since moment image (omega arith) high left
+  | inr early ↦ so_far moment image low early (clock.past moment image early left)
+]
+
+-- one call more
+pub since_goes : (start before now : DiskState) (Step : List ℕ → List ℕ → Type 0) (P : List ℕ → Type 0) → EachImageSince start before P → Goes Step before now
+    → ((from image : List ℕ) → before.images before.moment from → Step from image → P image) → EachImageSince start now P
+since_goes start before now Step P so_far goes step moment image low high left = elim (cases_lt before.moment moment) [
+  | inl late ↦ let from = goes.since moment image late high left in step from.0 image from.1 from.2
+  | inr early ↦ so_far moment image low early (goes.clock.past moment image early left)
+]
+
+pub since_map : (before now : DiskState) (P Q : List ℕ → Type 0) → EachImageSince before now P → ((image : List ℕ) → P image → Q image) → EachImageSince before now Q
+since_map before now P Q each f moment image low high left = f image (each moment image low high left)
+
+pub passes_both : (a b c : DiskState) → Passes a b → Passes b c → Passes a c
+passes_both a b c one two = record {
+  later = omega (arith, one.later, two.later);
+  past = λ moment image early left. one.past moment image early (two.past moment image (omega (arith, one.later)) left);
+  kept = λ moment image early left. two.kept moment image (omega (arith, one.later)) (one.kept moment image early left);
+}
+
+-- a state like another one whose images now are those of an earlier one after a step
+abbrev IsTorn : DiskState → ℕ → ℕ → List ℕ → Type 0
+IsTorn disk at size image = (from : List ℕ) × disk.images disk.moment from × Torn at size from image
+
+-- a write and then a call that writes nothing
+pub goes_synced : (a b c : DiskState) (at size : ℕ) → Goes (Torn at size) a b → Goes Same b c → Goes (Torn at size) a c
+goes_synced a b c at size one two = record {
+  clock = passes_both a b c one.clock two.clock;
+  since = λ moment image before now left. elim (cases_lt b.moment moment) [
+    | inl late ↦ let from = two.since moment image late now left in torn from.0 image from.2 (written from.0 from.1)
+    | inr early ↦ one.since moment image before early (two.clock.past moment image early left)
+  ];
+}
+  where
+    torn : (from image : List ℕ) → Same from image → IsTorn a at size from → IsTorn a at size image
+    torn from image same is = subst (IsTorn a at size) (sym same) is
+
+    written : (from : List ℕ) → b.images b.moment from → IsTorn a at size from
+    written from left = elim (cases_lt a.moment b.moment) [
+      | inl later ↦ one.since b.moment from later (omega arith) left
+      | inr stood ↦ let same : b.moment ≡ a.moment = omega (arith, one.clock.later) in (from, subst (λ m. a.images m from) same (one.clock.past b.moment from stood left), torn_same at size from)
+    ]

@@ -1,0 +1,64 @@
+-- What is told before a call and after it.
+use Rattle.std.proofs.Common.{◌≡◌, ℕ, true, false, List, Result, Ok, Err, OnOk, OnErr, IfErr, subst, refl, sym, ap}
+use Rattle.std.specs.Prelude.{Option, Some, None}
+use Rattle.std.specs.Result.{IsErrAnd}
+use Rattle.std.specs.Option.{option_map}
+use Rattle.apron_base.specs.Counts.{Counts}
+use Rattle.journal_disk.specs.Disk.{Between}
+
+-- related in any way
+abbrev pub Any : List ℕ → List ℕ → Type 0
+Any old new = Unit {0}
+
+pub on_ok : {T E : Type 0} (r : Result T E) {A B : Type 0} → OnOk r A → (A → B) → OnOk r B
+on_ok (Ok x) a f = f a
+on_ok (Err e) a f = tt
+
+none_some : (bytes : List ℕ) → None ≡ Some bytes → ⊥
+none_some bytes is = cc
+
+-- what is told after a call was told before it
+pub told_before : (R : List ℕ → List ℕ → Type 0) (old new : Option (List ℕ)) (after : List ℕ) → Between R old new → new ≡ Some after → (b : List ℕ) × (old ≡ Some b)
+told_before R None None after between is = absurd (none_some after is)
+told_before R None (Some n) after between is = absurd between
+told_before R (Some b) None after between is = absurd between
+told_before R (Some b) (Some n) after between is = (b, refl)
+
+-- what is told before a call is told after it
+pub told_after : (R : List ℕ → List ℕ → Type 0) (old new : Option (List ℕ)) (b : List ℕ) → Between R old new → old ≡ Some b → (after : List ℕ) × (new ≡ Some after)
+told_after R None None b between is = absurd (none_some b is)
+told_after R None (Some n) b between is = absurd between
+told_after R (Some o) None b between is = absurd between
+told_after R (Some o) (Some n) b between is = (n, refl)
+
+pub between_any : (a b c : Option (List ℕ)) → Between Any a b → Between Any b c → Between Any a c
+between_any None None None one two = tt
+between_any None None (Some c) one two = two
+between_any None (Some b) c one two = absurd one
+between_any (Some a) None c one two = absurd one
+between_any (Some a) (Some b) None one two = two
+between_any (Some a) (Some b) (Some c) one two = tt
+
+-- what is made of the told bytes
+pub mapped : {B : Type 0} (f g : List ℕ → B) (old new : Option (List ℕ)) → Between Any old new → ((b after : List ℕ) → old ≡ Some b → new ≡ Some after → g after ≡ f b) → option_map g new ≡ option_map f old
+mapped f g None None tells same = refl
+mapped f g None (Some n) tells same = absurd tells
+mapped f g (Some o) None tells same = absurd tells
+mapped f g (Some o) (Some n) tells same = ap (λ x. Some x) (same o n refl refl)
+
+pub on_err : {T E : Type 0} (r : Result T E) {A : Type 0} → A → OnErr r A
+on_err (Ok x) a = tt
+on_err (Err e) a = a
+
+pub map_map : {B C : Type 0} (f : B → C) (g : List ℕ → B) (o : Option (List ℕ)) → option_map (λ b. f (g b)) o ≡ option_map f (option_map g o)
+map_map f g None = refl
+map_map f g (Some b) = refl
+
+-- a call that failed, after calls that did not
+pub counts_then : (before between now : ℕ) → Counts false before between → Counts true between now → Counts true before now
+counts_then before between now same rose = subst (λ n. Counts true n now) same rose
+
+-- the error of a `?`
+pub if_err_is : {T E : Type 0} (P : E → Type 0) (r : Result T E) (e : E) → IsErrAnd r (λ f. f ≡ e) → P e → IfErr r P
+if_err_is P (Ok x) e is p = tt
+if_err_is P (Err f) e is p = subst P (sym is) p

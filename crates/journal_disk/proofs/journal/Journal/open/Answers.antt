@@ -1,0 +1,30 @@
+use Rattle.std.proofs.Common.{rules, ◌≡◌, ◌∙◌, false, refl, sym, arith, length}
+use Rattle.journal_disk.proofs.ReadTexts.{if_told, read_settled, read_list}
+use Rattle.journal_disk.proofs.journal.Journal.open.Goals as goal
+
+pub invariant_of-journal : goal.invariant_of-journal
+invariant_of-journal g c =
+    let few = c.in-Ok.ensures.few in
+    let within = c.in-Ok.ensures.within in
+    let count : c.len.result ≡ length c.in-Ok.field-0.entries.items = search rules in
+    record {
+      first = refl;
+      few = omega (arith, count, few);
+      within = omega (arith, count, within);
+      settled = λ bytes told.
+          let before = sym c.in-Ok.ensures.stays.contents ∙ told in
+          let whole = c.in-Ok.ensures.whole bytes before in
+          rw count (read_settled c.args.digests.now bytes c.in-Ok.field-0.entries.items c.in-Ok.field-0.length _ (c.in-Ok.ensures.opened bytes before) whole.0 whole.1 (c.in-Ok.ensures.durable bytes before));
+    }
+
+pub returns-in-Ok-clause-keeper : goal.returns-in-Ok-clause-keeper
+returns-in-Ok-clause-keeper g c =
+    let count : c.len.result ≡ length c.in-Ok.field-0.entries.items = search rules in
+    record {
+      entries = if_told _ _ _ (λ bytes told.
+          let before = sym c.in-Ok.ensures.stays.contents ∙ told in
+          let whole = c.in-Ok.ensures.whole bytes before in
+          read_list bytes c.in-Ok.field-0.entries.items c.in-Ok.field-0.length c.len.result false whole.0 whole.1);
+      number = count;
+      at_risk = refl;
+    }

@@ -1,0 +1,117 @@
+-- The calls that a disk in memory was given, what it reads as after them, and what a crash may
+-- leave.
+use Rattle.std.specs.Prelude.{◌≡◌, ℕ, ◌+◌, ◌==◌, List, [], ◌∷◌, length, take, drop, max, Bool, false, Some, ◌&&◌, nat_le, nat_lt, if◌then◌else◌}
+use Rattle.std.specs.List.{list_any}
+use Rattle.journal_disk.specs.Disk.{DiskState, written, Torn, Same}
+use Rattle.journal_disk.specs.declared.memory_disk.Room.{Room}
+use Rattle.journal_disk.specs.declared.memory_disk.DiskCall.{DiskCall}
+use Rattle.journal_disk.specs.declared.memory_disk.DiskCall.TheVariants.{Passed, Wrote, Synced}
+
+-- a call that changed nothing, a write of a piece at a place, which was done or failed, or a sync
+-- that was done
+pub data Call : Type 0 where
+  Idle : Call
+  Write : (at : ℕ) (piece : List ℕ) (done : Bool) → Call
+  Sync : Call
+
+-- what a disk of these bytes reads as after a call
+abbrev pub after_call : Call → List ℕ → List ℕ
+after_call (Write at piece done) bytes = if done && nat_le at (length bytes) then written at piece bytes else bytes
+after_call _ bytes = bytes
+
+-- what a crash may leave after a call, of a disk that reads as these bytes
+abbrev pub left_after : Call → List ℕ → (List ℕ → Type 0) → List ℕ → Type 0
+left_after Idle bytes Left image = Left image
+left_after (Write at piece done) bytes Left image = (from : List ℕ) × Left from × Torn at (length piece) from image
+left_after Sync bytes Left image = Left image × (image ≡ bytes)
+
+-- what a disk of these bytes reads as after many calls
+abbrev pub after_calls : List Call → List ℕ → List ℕ
+after_calls [] bytes = bytes
+after_calls (call ∷ calls) bytes = after_calls calls (after_call call bytes)
+
+-- what a crash may leave after many calls, of a disk that read as these bytes before them
+abbrev pub left_by : List Call → List ℕ → (List ℕ → Type 0) → List ℕ → Type 0
+left_by [] bytes Left image = Left image
+left_by (call ∷ calls) bytes Left image = left_by calls (after_call call bytes) (left_after call bytes Left) image
+
+-- the images of a moment, which is a number of calls, of a disk that had these bytes at first
+abbrev pub images_at : List ℕ → List Call → ℕ → List ℕ → Type 0
+images_at first calls moment image = left_by (take moment calls) first (λ bytes. bytes ≡ first) image
+
+-- what a call may do to an image
+abbrev pub Step : Call → List ℕ → List ℕ → Type 0
+Step (Write at piece done) = Torn at (length piece)
+Step _ = Same
+
+-- a disk in memory as contracts see it: its bytes at the beginning, its calls since then, the
+-- numbers of the calls that are to fail, what it has room for, and how often a call has failed
+pub record MemoryHeld : Type 0 where
+  pub first : List ℕ
+  pub calls : List Call
+  pub failing : List ℕ
+  pub room : Room
+  pub faults : ℕ
+
+-- what a disk in memory reads as
+abbrev pub bytes_of : MemoryHeld → List ℕ
+bytes_of held = after_calls held.calls held.first
+
+-- a disk in memory as a disk: its moment is the number of its calls
+abbrev pub disk_of : MemoryHeld → DiskState
+disk_of held = record {
+  contents = Some (bytes_of held);
+  moment = length held.calls;
+  images = images_at held.first held.calls;
+  faults = held.faults;
+}
+
+-- the next call is among those that are to fail
+abbrev pub is_to_fail : MemoryHeld → Bool
+is_to_fail held = list_any (λ number. number == length held.calls) held.failing
+
+-- how many bytes a call was given to write
+abbrev pub size_of : Call → ℕ
+size_of (Write at piece done) = length piece
+size_of _ = 0
+
+-- how many bytes these calls were given to write together
+abbrev pub sizes_of : List Call → ℕ
+sizes_of [] = 0
+sizes_of (call ∷ calls) = size_of call + sizes_of calls
+
+-- the next call passes no room; one by which the disk doesn't grow needs none for its bytes
+abbrev pub has_room : MemoryHeld → Call → Bool
+has_room held call =
+    let bytes = bytes_of held in
+    nat_lt (length held.calls) held.room.calls
+    && nat_le (sizes_of held.calls + size_of call) held.room.written
+    && nat_le (length (after_call call bytes)) (max held.room.bytes (length bytes))
+
+-- the calls with their pieces, which stand one behind the other
+abbrev pub with_pieces : List DiskCall → List ℕ → List Call
+with_pieces [] pieces = []
+with_pieces (Passed ∷ calls) pieces = Idle ∷ with_pieces calls pieces
+with_pieces (Wrote at size done ∷ calls) pieces = Write at (take size pieces) done ∷ with_pieces calls (drop size pieces)
+with_pieces (Synced ∷ calls) pieces = Sync ∷ with_pieces calls pieces
+
+-- a call with its piece
+abbrev pub with_piece : DiskCall → List ℕ → Call
+with_piece Passed piece = Idle
+with_piece (Wrote at size done) piece = Write at piece done
+with_piece Synced piece = Sync
+
+-- how long the piece of a call is
+abbrev pub piece_length : DiskCall → ℕ
+piece_length (Wrote at size done) = size
+piece_length _ = 0
+
+-- how long the pieces of these calls are together
+abbrev pub pieces_length : List DiskCall → ℕ
+pieces_length [] = 0
+pieces_length (call ∷ calls) = piece_length call + pieces_length calls
+
+-- the same call where it fails
+abbrev pub failed_call : DiskCall → DiskCall
+failed_call (Wrote at size done) = Wrote at size false
+failed_call _ = Passed

@@ -1,0 +1,12 @@
+pub mod Limits
+pub mod Disk
+pub mod Calls
+pub mod MemoryFields
+pub mod TornWrites
+pub mod Entries
+pub mod Gates
+pub mod Extent
+pub mod Header
+pub mod Opening
+pub mod Faults
+pub mod Laws

@@ -1,0 +1,140 @@
+// The journal of a history's entries.
+ghost use Rattle.std.specs.Prelude.{◌≡◌, ◌≤◌, ◌<◌, Ok, false, length, OnOk, OnErr, IfOk, IfErr, MatchResult};
+ghost use Rattle.apron_base.specs.Counts.{Counts};
+ghost use Rattle.apron_base.specs.Keeper.{AddsEntry, FailsToAdd};
+ghost use Rattle.journal_disk.specs.Disk.{Told, IsDurable, Stays};
+ghost use Rattle.journal_disk.specs.Extent.{AppendsSafely, HasOpened, IsCrashSafe, keeper_of};
+ghost use Rattle.journal_disk.specs.Faults.{OpenFails};
+ghost use Rattle.journal_disk.specs.Header.{opening_of};
+ghost use Rattle.journal_disk.specs.Limits.{most_bytes};
+
+use crate::gates::{FRAME, OPEN, mend, set_gate, stage};
+use crate::header::HEADER;
+use crate::opening::read_journal;
+use crate::records::Records;
+use crate::{Disk, JournalFault};
+use apron_base::{Failed, Keeper, Listed, MAX_ENTRIES, MAX_ENTRY, Memory};
+use std::alloc::Global;
+use std::marker::Model;
+
+#[cfg(test)]
+mod tests;
+
+/// A journal on a disk. It acknowledges an entry once a crash at any moment leaves it there.
+/// Contracts see its disk and how far it reaches there.
+#[derive(Drop)]
+pub struct Journal<D: Disk> {
+    disk: D,
+    // where the gate behind the last record stands
+    place: u32,
+    number: u32,
+    // that gate may have been opened for an entry that was not acknowledged
+    unclean: bool,
+}
+
+impl<D: Disk> Model for Journal<D> {
+    ghost use Rattle.journal_disk.specs.Extent.{JournalHeld, IsKept, extent_to};
+
+    ghost Value = { JournalHeld D };
+
+    ghost view = { λ j. record { disk = j.disk; extent = extent_to j.place j.number j.unclean } };
+
+    ghost invariant = { λ j. IsKept (extent_to j.place j.number j.unclean) (D.state j.disk) };
+}
+
+impl<D: Disk> Journal<D> {
+    /// Opens the journal of the files of these two digests (32 bytes each), and gives its entries
+    /// in order. It syncs before it reads, so what it gives is what a later crash leaves. A refusal
+    /// hands the disk back, which reads as before: `DiskFault` where the disk failed,
+    /// `NotAJournal`, `OtherAirport` or `BadRecord` for what it reads as, in this order, or
+    /// `Memory`.
+    pub fn open(
+        alloc: Global,
+        disk: D,
+        digests: &[u8; 64],
+    ) -> Result<(Journal<D>, Vec<Listed<u8>>), (JournalFault, D)>
+        ensures opened { IfOk result (λ found. Told (D.state disk)
+            (λ bytes. opening_of digests.now bytes ≡ Ok found.1.items)) }
+        ensures keeper { IfOk result (λ found.
+            HasOpened (keeper_of found.0.extent (D.state found.0.disk)) found.1.items) }
+        ensures durable { IfOk result (λ found. IsDurable (D.state disk) (D.state found.0.disk)) }
+        ensures counts { IfOk result (λ found.
+            Counts false (D.state disk).faults (D.state found.0.disk).faults) }
+        ensures refused { IfErr result (λ refusal.
+            OpenFails digests.now (D.state disk) (D.state refusal.1) refusal.0) }
+        ensures stays { MatchResult result (λ found. Stays (D.state disk) (D.state found.0.disk))
+            (λ refusal. Stays (D.state disk) (D.state refusal.1)) }
+    {
+        let mut disk = disk;
+        match read_journal(alloc, &mut disk, digests) {
+            Ok(Records { entries, length }) => {
+                let journal = Journal {
+                    disk,
+                    place: (HEADER + length) as u32,
+                    number: entries.len() as u32,
+                    unclean: false,
+                };
+                Ok((journal, entries))
+            }
+            Err(fault) => Err((fault, disk)),
+        }
+    }
+
+    /// The disk as it is. A crash leaves the journal's entries on it, or these and the one at risk.
+    pub fn into_disk(self) -> D
+        ensures disk { result ≡ self.disk }
+        ensures entries { IsCrashSafe self.extent (D.state result) }
+    {
+        self.disk
+    }
+}
+
+impl<D: Disk> Keeper for Journal<D> {
+    ghost use Rattle.journal_disk.specs.Extent.{keeper_of};
+
+    ghost state = { λ j. keeper_of j.extent (D.state j.disk) };
+
+    /// It takes no memory, and changes nothing: there is always room.
+    fn ready(&mut self, _alloc: Global, _length: usize) -> Result<(), Memory>
+        requires some { 1 ≤ _length }
+        requires most { _length ≤ MAX_ENTRY }
+        ensures room { OnOk result (_length ≤ most_bytes) }
+        ensures kept { keeper_of self.new.extent (D.state self.new.disk)
+            ≡ record (keeper_of self.old.extent (D.state self.old.disk)) { room = most_bytes } }
+        ensures same { self.new ≡ self.old }
+    {
+        Ok(())
+    }
+
+    /// Makes four calls of the disk, and two before them where the gate may have been opened for an
+    /// entry that was not acknowledged.
+    fn append(&mut self, entry: &[u8]) -> Result<(), Failed>
+        requires some { 1 ≤ length entry.now }
+        requires most { length entry.now ≤ MAX_ENTRY }
+        requires room { length entry.now ≤ most_bytes }
+        requires few { self.old.extent.number < MAX_ENTRIES }
+        ensures ok { OnOk result (AddsEntry (keeper_of self.old.extent (D.state self.old.disk))
+            (keeper_of self.new.extent (D.state self.new.disk)) entry.now) }
+        ensures err { OnErr result (FailsToAdd (keeper_of self.old.extent (D.state self.old.disk))
+            (keeper_of self.new.extent (D.state self.new.disk)) entry.now) }
+
+        // A crash at any moment of the call leaves the entries from before it, or these and one
+        // more.
+        ensures crash { AppendsSafely self.old.extent
+            (D.state self.old.disk) (D.state self.new.disk) entry.now }
+
+        // From then on, until the next call, it leaves the entries, or these and the one at risk.
+        ensures afterwards { IsCrashSafe self.new.extent (D.state self.new.disk) }
+    {
+        mend(&mut self.disk, self.place, self.unclean)?;
+        self.unclean = false;
+        stage(&mut self.disk, self.place, entry)?;
+        // The gate may be open from here on.
+        self.unclean = true;
+        set_gate(&mut self.disk, self.place, OPEN)?;
+        self.unclean = false;
+        self.place += FRAME as u32 + entry.len() as u32;
+        self.number += 1;
+        Ok(())
+    }
+}
