@@ -1,0 +1,103 @@
+-- The rule of the turns: what holds of the words, of the slot and of all seats between any two steps.
+use Rattle.std.specs.Prelude.{◌≡◌, ◌⊎◌, ℕ, ◌+◌, ◌<◌, ◌≤◌, true, List, [], ◌∷◌, ◌++◌, length, Option, Some}
+use mathlib.Core.Option.{some, none}
+use mathlib.Core.Option as maybe
+use lib.ListN.{get_elem?}
+use Rattle.atomic_table.specs.Table.{State}
+use Rattle.apron_base.specs.Histories.{Every, Rises}
+use Rattle.apron_base.specs.Machine.{MachineState}
+use Rattle.turn_board.specs.declared.view.Call.{Call}
+use Rattle.turn_board.specs.declared.view.Stage.TheVariants.{Idle}
+use Rattle.turn_board.specs.declared.view.View.{View}
+use Rattle.turn_board.specs.Totals.{AreBelow, below, total}
+use Rattle.turn_board.specs.Views.{acted_of, all_shares, call_end, calls_of, has_acted, has_turn, in_flight, may_owe, owes_of, share_of, start_of, turn_of}
+
+-- what the words say, and the longest history that a seat has seen: the next ticket, the ticket that is served, and how many entries are counted
+pub record Standing (Entry : Type 0) : Type 0 where
+  pub ticket : ℕ
+  pub serving : ℕ
+  pub count : ℕ
+  pub longest : List Entry
+
+module _ {Entry : Type 0} (number : Entry → ℕ) where
+  -- the last entry has the number of this call
+  abbrev pub EndsAt : ℕ → List Entry → Type 0
+  EndsAt call history = (front : List Entry) × (last : Entry) × (history ≡ front ++ last ∷ []) × (number last ≡ call)
+
+  -- a history goes on from what was seen, and each entry that was not seen has a number above these calls
+  pub record Extends (history seen : List Entry) (calls : List Call) : Type 0 where
+    pub rest : List Entry
+    pub is : history ≡ seen ++ rest
+    pub later : Every (λ (call : Call). Every (λ entry. call.number < number entry) rest) calls
+
+-- a machine at home has the longest history, its next call is served or waited for, and its fixed part is that of the origin
+pub record IsHome {Entry Fixed : Type 0} (origin : MachineState Entry Fixed) (serving : ℕ) (longest : List Entry) (machine : MachineState Entry Fixed) : Type 0 where
+  pub history : machine.history ≡ longest
+  pub next : machine.next ≤ serving
+  pub fixed : machine.fixed ≡ origin.fixed
+
+module _ {M Entry Fixed : Type 0} where
+  -- the slot is out with the one seat that has its turn
+  abbrev pub IsOut : List (maybe.Option (Option M)) → List (View Entry Fixed) → Type 0
+  IsOut homes views = (homes ≡ none ∷ []) × (total turn_of views ≡ 1)
+
+module _ {M Entry Fixed : Type 0} (state : M → MachineState Entry Fixed) (origin : MachineState Entry Fixed) where
+  -- the machine is in its slot, and no seat has its turn
+  abbrev pub AtHome : ℕ → List Entry → List (maybe.Option (Option M)) → List (View Entry Fixed) → Type 0
+  AtHome serving longest homes views =
+      (machine : M) × (homes ≡ some (Some machine) ∷ []) × (total turn_of views ≡ 0) × IsHome origin serving longest (state machine)
+
+  -- what the ended calls found and left: along their numbers no count falls, none is below the first one, and none is above that of the machine at home
+  pub record AreFaults (serving : ℕ) (homes : List (maybe.Option (Option M))) (views : List (View Entry Fixed)) : Type 0 where
+    pub found : ℕ → ℕ
+    pub left : ℕ → ℕ
+    pub top : ℕ
+    pub least : origin.faults ≤ top
+    pub each : (call : ℕ) → call < serving → (origin.faults ≤ found call) × (found call ≤ left call) × (left call ≤ top)
+    pub order : (call later : ℕ) → call < later → later < serving → left call ≤ found later
+    pub calls : (seat : ℕ) (view : View Entry Fixed) → get_elem? views seat ≡ some view
+        → Every (λ (call : Call). (call.number < serving) × (call.found ≡ found call.number) × (call.left ≡ left call.number)) view.calls
+    pub turn : (seat : ℕ) (view : View Entry Fixed) → get_elem? views seat ≡ some view
+        → (0 < has_turn view.stage → top ≤ view.found) × (0 < has_acted view.stage → view.found ≤ view.left)
+    pub home : (machine : M) → homes ≡ some (Some machine) ∷ [] → top ≤ (state machine).faults
+
+module _ {Entry Fixed : Type 0} (number : Entry → ℕ) (origin : MachineState Entry Fixed) where
+  -- what is known of one seat, where these are the next ticket, the ticket that is served, and the longest history
+  pub record Fits (ticket serving : ℕ) (longest : List Entry) (view : View Entry Fixed) : Type 0 where
+    pub start : 0 < view.share → view.start ≡ Some (start_of origin)
+    pub seen : Extends number longest view.seen view.calls
+    pub told : Extends number longest view.told view.late
+    pub late : AreBelow serving view.late
+    pub calls : AreBelow serving view.calls
+    pub turn : 0 < has_turn view.stage → (view.number ≡ serving) × (view.seen ≡ longest)
+    pub owes : view.owes ≤ may_owe view.stage
+    pub own : 0 < view.owes → EndsAt number view.number view.seen
+    pub note : view.exhausted ≡ true → ticket ≡ call_end
+    pub spent : view.share ≡ 0 → (view.stage ≡ Idle) × (view.calls ≡ [])
+
+module _ {M Entry Fixed : Type 0} (number : Entry → ℕ) (state : M → MachineState Entry Fixed) (origin : MachineState Entry Fixed) where
+  -- order: the tickets that were drawn
+  -- flights: each number from the one served up to the next ticket is in flight once, and no other is
+  -- calls: each number from the first one up to the one served is an ended call once, and no other is
+  -- counted: the count has all entries but one that is owed
+  -- rises: the entries' numbers are below the one served, or equal to it after its act
+  -- shares: all shares are with seats
+  -- slot, seats, longest: where the machine is, what is known of each seat, and that one has seen the longest history
+  pub record Facts (standing : Standing Entry) (homes : List (maybe.Option (Option M))) (views : List (View Entry Fixed)) : Type 0 where
+    pub order : (standing.serving ≤ standing.ticket) × (standing.ticket ≤ call_end)
+    pub flights : (call : ℕ) → total (in_flight call) views + below call standing.serving ≡ below call standing.ticket
+    pub calls : (call : ℕ) → total (calls_of call) views + below call origin.next ≡ below call standing.serving
+    pub counted : standing.count + total owes_of views ≡ length standing.longest
+    pub rises : Rises number 1 (standing.serving + total acted_of views) standing.longest
+    pub shares : total share_of views ≡ all_shares
+    pub slot : AtHome state origin standing.serving standing.longest homes views ⊎ IsOut homes views
+    pub seats : (seat : ℕ) (view : View Entry Fixed) → get_elem? views seat ≡ some view
+        → Fits number origin standing.ticket standing.serving standing.longest view
+    pub longest : (seat : ℕ) × (view : View Entry Fixed) × (get_elem? views seat ≡ some view) × (view.seen ≡ standing.longest) × (0 < view.share)
+
+  -- the rule of a table whose board was made with a machine in the state `origin`
+  pub record TurnRule (table : State (Option M) (View Entry Fixed)) : Type 0 where
+    pub standing : Standing Entry
+    pub words : table.words ≡ standing.ticket ∷ standing.serving ∷ standing.count ∷ []
+    pub facts : Facts standing table.homes table.views
+    pub faults : AreFaults state origin standing.serving table.homes table.views

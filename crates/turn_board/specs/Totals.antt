@@ -1,0 +1,26 @@
+-- Totals over seats, and how often a number was called.
+use Rattle.std.specs.Prelude.{ℕ, ◌+◌, ◌<◌, ◌==◌, nat_lt, cond, List, [], ◌∷◌}
+use Rattle.apron_base.specs.Histories.{Every}
+use Rattle.turn_board.specs.declared.view.Call.{Call}
+
+-- the total of an amount over these views
+abbrev pub total : {View : Type 0} → (View → ℕ) → List View → ℕ
+total amount [] = 0
+total amount (view ∷ views) = amount view + total amount views
+
+-- 1 where two numbers are the same, and else 0
+abbrev pub same : ℕ → ℕ → ℕ
+same number other = cond (number == other) 1 0
+
+-- 1 where a number is below an end, and else 0
+abbrev pub below : ℕ → ℕ → ℕ
+below number end = cond (nat_lt number end) 1 0
+
+-- how many of the calls have this number
+abbrev pub times : ℕ → List Call → ℕ
+times number [] = 0
+times number (call ∷ calls) = same number call.number + times number calls
+
+-- all calls have lower numbers
+abbrev pub AreBelow : ℕ → List Call → Type 0
+AreBelow number calls = Every (λ (call : Call). call.number < number) calls

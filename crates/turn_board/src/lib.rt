@@ -1,0 +1,15 @@
+//! Turns between seats at one machine, in any number of threads. It knows nothing of what the machine is asked.
+#![tactic(auto)]
+
+mod board;
+mod laws;
+mod plays;
+mod steps;
+#[cfg(test)]
+mod tests;
+mod view;
+mod wait;
+
+pub use board::{SHARES, Seat, TurnBoard};
+pub use laws::later_histories_go_on_from_earlier_ones;
+pub use view::{Call, Start};

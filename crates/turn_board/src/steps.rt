@@ -1,0 +1,156 @@
+// The steps of one call, on the shared part of the table.
+ghost use Rattle.std.specs.Prelude.{◌≡◌, ◌+◌, ◌<◌, ◌≤◌, [], ◌∷◌, length, cond, false, IfSome, IfNone, None, Some};
+ghost use Rattle.turn_board.specs.Plays.{IsTaken};
+ghost use Rattle.turn_board.specs.Totals.{AreBelow};
+ghost use Rattle.turn_board.specs.Turns.{HasActed, IsOver, IsSeatOf};
+ghost use Rattle.turn_board.specs.Views.{acted, call_end, counted, drawn, ended, run_out, turned};
+ghost use Rattle.turn_board.specs.declared.view.Stage.TheVariants.{Idle, Noted, Waiting};
+ghost use Rattle.turn_board.specs.declared.view.Start.{Start};
+
+use crate::plays::{Count, Draw, End, InTurns, Note, Take};
+use crate::view::View;
+use crate::wait::Patience;
+use apron_base::{CALL_END, Machine};
+use atomic_table::{Seat, Shared};
+use std::snapshot::Snapshot;
+use std::sync::Wait;
+
+/// The word with the next ticket.
+pub(crate) const TICKET: usize = 0;
+/// The word with the ticket that is served.
+pub(crate) const SERVING: usize = 1;
+/// The word with the number of entries.
+pub(crate) const COUNT: usize = 2;
+
+/// What the seats of a board share.
+pub(crate) type SharedTable<M> = Shared<
+    Option<M>,
+    View<<M as Machine>::Entry, <M as Machine>::Fixed>,
+    Snapshot<M>,
+    InTurns,
+>;
+
+/// A seat of the table.
+pub(crate) type Place<M> = Seat<Option<M>, View<<M as Machine>::Entry, <M as Machine>::Fixed>>;
+
+// The ticket word after a draw.
+fn after(ticket: u64) -> u64
+    ensures next { ticket < call_end → result ≡ ticket + 1 }
+    ensures full { call_end ≤ ticket → result ≡ ticket }
+{
+    if ticket < CALL_END {
+        ticket + 1
+    } else {
+        ticket
+    }
+}
+
+/// The next number, or none where they have run out.
+pub(crate) fn draw<M: Machine, R: Wait>(
+    rt: &R,
+    table: &SharedTable<M>,
+    place: &mut Place<M>,
+) -> Option<u64>
+    requires table { IsSeatOf table.now.table_id place.old.table_id }
+    requires idle { (place.old.me.0.stage ≡ Idle) × (0 < place.old.me.0.share) }
+    ensures table { place.new.table_id ≡ place.old.table_id }
+    ensures slots { place.new.me.1 ≡ place.old.me.1 }
+    ensures none { IfNone result (place.new.me.0 ≡ run_out place.old.me.0) }
+    ensures drawn { IfSome result (λ number. (number < call_end) × (place.new.me.0 ≡ drawn number place.old.me.0)
+        × AreBelow number place.old.me.0.calls × (place.old.me.0.exhausted ≡ false)) }
+{
+    let mut guess = table.peek(TICKET);
+    for _ in rt.forever() {
+        let next = after(guess);
+        let found = table.compare_exchange::<Draw>(place, TICKET, guess, next);
+        if found == CALL_END {
+            return None;
+        }
+        if found == guess {
+            return Some(found);
+        }
+        guess = found;
+    }
+    unreachable!()
+}
+
+/// The machine, once the number is served.
+pub(crate) fn take<M: Machine, R: Wait>(
+    rt: &R,
+    table: &SharedTable<M>,
+    place: &mut Place<M>,
+    number: u64,
+) -> M
+    requires table { IsSeatOf table.now.table_id place.old.table_id }
+    requires waits { (place.old.me.0.stage ≡ Waiting) × (0 < place.old.me.0.share) × (place.old.me.0.number ≡ number) × (place.old.me.1 ≡ []) }
+    ensures table { place.new.table_id ≡ place.old.table_id }
+    ensures turn { place.new.me ≡ (turned (M.state result) place.old.me.0, (0, None) ∷ []) }
+    ensures taken { IsTaken M.number place.old.me.0 number (M.state result) }
+{
+    let mut patience = Patience::new();
+    for _ in rt.forever() {
+        let found = table.load::<Take>(place, SERVING);
+        if found == number {
+            let Some(machine) = table.exchange(place, 0, None) else {
+                unreachable!()
+            };
+            return machine;
+        }
+        patience.wait(rt, table, found, number);
+    }
+    unreachable!()
+}
+
+// Puts the machine back beside its slot, and notes what its act left.
+fn note<M: Machine>(table: &SharedTable<M>, place: &mut Place<M>, machine: M)
+    requires table { IsSeatOf table.now.table_id place.old.table_id }
+    requires acted { HasActed M.number place.old.me (M.state machine) }
+    ensures table { place.new.table_id ≡ place.old.table_id }
+    ensures noted { place.new.me ≡ (acted (M.state machine) place.old.me.0, (0, Some machine) ∷ []) }
+{
+    let left = table.exchange(place, 0, Some(machine));
+    let None = left else { unreachable!() };
+    table.load::<Note>(place, SERVING);
+}
+
+// Adds to the count where an entry was added.
+fn count<M: Machine>(table: &SharedTable<M>, place: &mut Place<M>, added: bool)
+    requires table { IsSeatOf table.now.table_id place.old.table_id }
+    requires acted { (place.old.me.0.stage ≡ Noted) × (0 < place.old.me.0.share) × (place.old.me.0.owes ≡ cond added 1 0) }
+    ensures table { place.new.table_id ≡ place.old.table_id }
+    ensures counted { place.new.me ≡ (cond added (counted place.old.me.0) place.old.me.0, place.old.me.1) }
+{
+    if added {
+        table.fetch_add::<Count>(place, COUNT, 1);
+    }
+}
+
+// Gives the machine back to its slot, and lets the next number be served.
+fn end<M: Machine>(table: &SharedTable<M>, place: &mut Place<M>)
+    requires table { IsSeatOf table.now.table_id place.old.table_id }
+    requires over { (machine : _) × IsOver M.state place.old.me machine }
+    ensures table { place.new.table_id ≡ place.old.table_id }
+    ensures ended { place.new.me ≡ (ended place.old.me.0, []) }
+{
+    table.fetch_add::<End>(place, SERVING, 1);
+}
+
+/// Ends a call after the machine's act: the machine is back before the next number is served.
+pub(crate) fn finish<M: Machine>(
+    table: &SharedTable<M>,
+    place: &mut Place<M>,
+    machine: M,
+    added: bool,
+)
+    requires table { IsSeatOf table.now.table_id place.old.table_id }
+    requires acted { HasActed M.number place.old.me (M.state machine) }
+    requires added { length (M.state machine).history ≡ length place.old.me.0.seen + cond added 1 0 }
+    requires next { (M.state machine).next ≡ place.old.me.0.number + 1 }
+    requires start { (start : Start M.Fixed) × (place.old.me.0.start ≡ Some start) × ((M.state machine).fixed ≡ start.fixed) }
+    ensures table { place.new.table_id ≡ place.old.table_id }
+    ensures ended { place.new.me ≡ (ended (acted (M.state machine) place.old.me.0), []) }
+{
+    note(table, place, machine);
+    count(table, place, added);
+    end(table, place);
+}
