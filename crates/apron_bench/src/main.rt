@@ -1,12 +1,13 @@
-//! Measures how fast a desk's commits are answered: `apron_bench 100000` has so many of them answered in memory.
+//! Measures how fast a desk's commits are answered, over few visits and over many: `apron_bench airport.toml types.csv`
+//! has them answered in memory, at the large example airport.
 #![tactic(auto)]
 
 mod replies;
 mod requests;
 
 use crate::replies::Replies;
-use crate::requests::{Mix, commits};
-use apron_base::{Memory, SteadyShelf, SteadySource, Word};
+use crate::requests::{Requests, requests_of};
+use apron_base::{FileShelf, Memory, SteadySource, Word};
 use apron_run::run;
 use std::alloc::Global;
 use std::time::Instant;
@@ -16,10 +17,11 @@ use std::{env, io};
 const PIECE: usize = 1460;
 
 // The words of the command that is measured.
-fn words(alloc: Global) -> Result<Vec<Word>, Memory> {
+fn words(alloc: Global, airport: &str, types: &str) -> Result<Vec<Word>, Memory> {
     let mut words = Vec::new(alloc);
     words.push(Word::new(alloc, "desk")?)?;
-    words.push(Word::new(alloc, "demo")?)?;
+    words.push(Word::new(alloc, airport)?)?;
+    words.push(Word::new(alloc, types)?)?;
     Ok(words)
 }
 
@@ -33,42 +35,34 @@ fn in_pieces(alloc: Global, bytes: Vec<u8>) -> Result<SteadySource, Memory> {
     Ok(SteadySource::new(bytes, pieces))
 }
 
-// Has so many commits answered, and prints how many were accepted, how many a second, and how long
-// the first and the last thousand took.
-fn measure(rt: &HostRuntime, name: &str, mix: Mix, times: u32) -> io::Result<()> {
+// Has so many commits answered over so many visits, and prints how many replies were of status 200 and how many not, how many
+// commits were answered a second, and how long the first and the last of them took.
+fn measure(rt: &HostRuntime, words: &[Word], visits: u32, commits: u32) -> io::Result<()> {
     let alloc: Global = rt.alloc();
-    let (Ok(words), Ok(mut source)) = (words(alloc), in_pieces(alloc, commits(alloc, mix, times)?))
-    else {
+    let Requests { bytes, before } = requests_of(alloc, visits, commits)?;
+    let Ok(mut source) = in_pieces(alloc, bytes) else {
         return Err(io::Error::from(io::ErrorKind::OutOfMemory));
     };
-    let mut replies = Replies::new(rt, times);
-    let start = Instant::now(rt)?;
-    let status = run(
-        alloc,
-        words.as_slice(),
-        &mut SteadyShelf::new(Vec::new(alloc)),
-        &mut source,
-        &mut replies,
-    );
-    let micros = microseconds(start, Instant::now(rt)?).max(1);
-    let Replies {
-        accepted,
-        refused,
-        first,
-        last,
-        end,
-        ..
-    } = replies;
-    let rate = accepted.saturating_add(refused).saturating_mul(1_000_000) / micros;
-    println!(rt;
-        "{name}: status {status}, {accepted} accepted, {refused} refused, {rate} requests a second"
-    )?;
-    let (Some(first), Some(last), Some(end)) = (first, last, end) else {
-        return Ok(());
+    let mut shelf = FileShelf::new(rt);
+    let mut replies = Replies::new(rt, before, commits);
+    let status = run(alloc, words, &mut shelf, &mut source, &mut replies);
+    let (accepted, refused, few) = (replies.accepted, replies.refused, replies.few());
+    let (Some(start), Some(first), Some(last), Some(end)) = (
+        replies.start,
+        replies.first,
+        replies.last,
+        replies.end,
+    ) else {
+        return println!(rt;
+            "{commits} commits over {visits} visits: status {status}, and not all were answered"
+        );
     };
+    let rate = (commits as u64).saturating_mul(1_000_000) / microseconds(start, end).max(1);
     let first = microseconds(start, first);
     let last = microseconds(last, end);
-    println!(rt; "{name}: the first thousand took {first} microseconds, the last thousand {last}")
+    println!(rt;
+        "{commits} commits over {visits} visits: status {status}, {accepted} replies of status 200, {refused} others, {rate} commits a second; the first {few} took {first} microseconds, the last {few} took {last}"
+    )
 }
 
 fn microseconds(start: Instant, end: Instant) -> u64 {
@@ -76,16 +70,17 @@ fn microseconds(start: Instant, end: Instant) -> u64 {
 }
 
 fn main(rt: HostRuntime) -> io::Result<()> {
-    let argument = env::args(&rt)?.nth(1);
-    let times = match &argument {
-        Some(text) => text.as_str().parse::<u32>().unwrap_or(0),
-        None => 0,
-    };
-    if times == 0 {
+    let mut arguments = env::args(&rt)?.skip(1);
+    let (Some(airport), Some(types)) = (arguments.next(), arguments.next()) else {
         return println!(rt;
-            "apron_bench TIMES answers so many commits, at most 200000, and then as many of which every second clashes"
+            "apron_bench AIRPORT TYPES has commits answered over 6, 500 and 5000 visits, at an airport with stands A1 to A24 and B1 and the type A320"
         );
+    };
+    let Ok(words) = words(rt.alloc(), airport.as_str(), types.as_str()) else {
+        return Err(io::Error::from(io::ErrorKind::OutOfMemory));
+    };
+    for (visits, commits) in [(6, 100_000), (500, 10_000), (5000, 500)] {
+        measure(&rt, words.as_slice(), visits, commits)?;
     }
-    measure(&rt, "all accepted", Mix::AllAccepted, times)?;
-    measure(&rt, "every second clashes", Mix::HalfRefused, times)
+    Ok(())
 }

@@ -1,4 +1,4 @@
-// A sink that counts the replies, and notes when the first and the last thousand of them came.
+// A sink that counts the replies, and notes when those to the first and to the last commits came.
 ghost use Rattle.std.specs.Prelude.{None, IsOk};
 ghost use Rattle.apron_base.specs.Ends.{Puts};
 
@@ -11,43 +11,58 @@ const THOUSAND: u64 = 1000;
 #[derive(Drop)]
 pub(crate) struct Replies<'a> {
     clock: &'a HostRuntime,
-    // How many there are to be.
+    // How many come before those that are measured.
+    before: u64,
+    // How many are measured.
     times: u64,
     /// Those of status 200.
     pub(crate) accepted: u64,
     /// The others.
     pub(crate) refused: u64,
-    /// When the first thousand had come.
+    /// When all had come that come before.
+    pub(crate) start: Option<Instant>,
+    /// When the first of those that are measured had come.
     pub(crate) first: Option<Instant>,
-    /// When all but the last thousand had come.
+    /// When all but the last of them had come.
     pub(crate) last: Option<Instant>,
     /// When all had come.
     pub(crate) end: Option<Instant>,
 }
 
 impl<'a> Replies<'a> {
-    /// None yet, of so many.
-    pub(crate) fn new(clock: &'a HostRuntime, times: u32) -> Replies<'a> {
+    /// None yet, of so many that come before and so many that are measured.
+    pub(crate) fn new(clock: &'a HostRuntime, before: u32, times: u32) -> Replies<'a> {
         Replies {
             clock,
+            before: before as u64,
             times: times as u64,
             accepted: 0,
             refused: 0,
+            start: None,
             first: None,
             last: None,
             end: None,
         }
     }
 
+    /// How many count as the first, and as the last: a thousand, or all where there are fewer.
+    pub(crate) fn few(&self) -> u64 {
+        self.times.min(THOUSAND)
+    }
+
     fn note_time(&mut self) {
         let count = self.accepted.saturating_add(self.refused);
-        if count == THOUSAND {
+        let all = self.before.saturating_add(self.times);
+        if count == self.before {
+            self.start = Instant::now(self.clock).ok();
+        }
+        if count == self.before.saturating_add(self.few()) {
             self.first = Instant::now(self.clock).ok();
         }
-        if count.saturating_add(THOUSAND) == self.times {
+        if count.saturating_add(self.few()) == all {
             self.last = Instant::now(self.clock).ok();
         }
-        if count == self.times {
+        if count == all {
             self.end = Instant::now(self.clock).ok();
         }
     }

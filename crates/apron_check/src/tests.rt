@@ -440,6 +440,13 @@ fn files_over_a_mebibyte_are_too_long(rt: HostRuntime) -> Result<(), Fail> {
         b"airport file: too long\n".as_slice()
     );
     assert_eq!(rt; found.fine, false);
+    // The type file is not asked for: that read would fail.
+    let found = found_in(alloc, blanks.as_str(), "", &[1], &[])?;
+    assert_eq!(rt;
+        found.line.as_slice(),
+        b"airport file: too long\n".as_slice()
+    );
+    assert_eq!(rt; found.fine, false);
     let found = found_in(alloc, "", blanks.as_str(), &[], &[])?;
     assert_eq!(rt; found.line.as_slice(), b"type file: too long\n".as_slice());
     assert_eq!(rt; found.fine, false);

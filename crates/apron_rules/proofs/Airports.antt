@@ -1,6 +1,7 @@
 -- Parts that are refused for no reason are an airport.
-use Rattle.std.proofs.Common.{◌≡◌, ◌≤◌, ℕ, Bool, true, false, List, [], ◌∷◌, length, refl, arith, Option, None, Some}
-use Rattle.std.specs.Prelude.{IsTrue, nat_le}
+use Rattle.std.proofs.Common.{◌≡◌, ◌<◌, ◌≤◌, ℕ, Bool, true, false, List, [], ◌∷◌, length, refl, arith, Option, None, Some}
+use Rattle.std.specs.Prelude.{IsTrue, nat_le, find, is_none}
+use Rattle.apron_base.specs.Letter.{letter_for}
 use Rattle.std.specs.Option.{option_map, option_or}
 use Rattle.std.specs.List.{list_all, AllByRecursion}
 use Rattle.std.proofs.lemmas.Bool.Decides.{nat_tests}
@@ -13,6 +14,7 @@ use Rattle.apron_rules.specs.declared.parts.TypeRow.{TypeRow}
 use Rattle.apron_rules.specs.declared.limits.TheConstants.{MAX_BUFFER, MAX_DAYS, MAX_LEAST, MAX_OBJECTS, MAX_STANDS, MAX_TOW, MAX_TYPES}
 use Rattle.apron_rules.specs.declared.refusals.Limit.{Limit}
 use Rattle.apron_rules.specs.declared.refusals.Limit.TheVariants as limit
+use Rattle.apron_rules.specs.declared.refusals.AirportFault.TheVariants.{UnknownName, BadHalf, LimitPassed, BadSpan}
 use Rattle.apron_rules.specs.Names.{is_station, frontage_names, stand_names, first_repeated}
 use Rattle.apron_rules.specs.Refusals.{duplicate_of, unknown_of, bad_half_of, limit_of, bad_span_of, first_reason, first_some, later_fault_of, fault_of, passed_limits, unless_kept, is_within, are_objects_kept}
 use Rattle.apron_rules.specs.Rules.{IsAirport}
@@ -109,3 +111,15 @@ airport_of parts station first none =
       buffers = All-from_recursion _ _ (each (λ (row : StandRow). row.buffer ≤ MAX_BUFFER) _ parts.stands (λ row h. grind (arith, nat_tests)) l.buffers);
       objects = All-from_recursion _ _ (each (λ (f : Frontage). length f.objects ≤ MAX_OBJECTS) _ parts.frontages (λ f h. grind (arith, nat_tests)) l.objects);
     }
+
+-- each type has a letter
+pub spans_known : (parts : AirportParts) → fault_of parts ≡ None → find (λ (row : TypeRow). is_none (letter_for row.span)) parts.types ≡ None
+unfolding fault_of later_fault_of
+spans_known parts h =
+    let later = right_none _ (first_reason (unknown_of parts) (bad_half_of parts) (limit_of parts) (bad_span_of parts)) h in
+    let nones = all_none (option_map UnknownName (unknown_of parts) ∷ option_map BadHalf (bad_half_of parts) ∷ option_map LimitPassed (limit_of parts) ∷ option_map BadSpan (bad_span_of parts) ∷ []) later in
+    unmapped (λ (row : TypeRow). row.name) (find (λ (row : TypeRow). is_none (letter_for row.span)) parts.types) (unmapped BadSpan (bad_span_of parts) nones.1.1.1.0)
+
+-- there is a type
+pub some_type : (parts : AirportParts) → fault_of parts ≡ None → 0 < length parts.types
+some_type parts h = let kept = (limited parts (limit_none parts h)).types in grind (arith, nat_tests)

@@ -6,7 +6,7 @@ use Rattle.std.specs.Str.{bytes_eq}
 use Rattle.std.specs.Cmp.Lexicographic.{bytes_decides}
 use Rattle.std.proofs.lemmas.Bool.{ltb-true, ltb-false, false≢true}
 use Rattle.std.proofs.lemmas.Bool.Decides.{nat_tests}
-use Rattle.std.proofs.lemmas.List.{length_push, length-append, length-map}
+use Rattle.std.proofs.lemmas.List.{length_push, length-append, length-map, get_or_default}
 use Rattle.std.proofs.lemmas.List.Folds.{prefix_len-append}
 use Rattle.std.proofs.lemmas.List.Sums.{passes_at_first, prefix_len-le-length}
 use Rattle.std.proofs.lemmas.Option.{cond_some, slice_get-map, slice_get_read}
@@ -22,7 +22,7 @@ use Rattle.apron_rules.specs.declared.parts.TypeRow.{TypeRow}
 use Rattle.apron_rules.specs.Names.{frontage_names, stand_names, place_of, is_known, is_named, repeated_after, first_repeated}
 use Rattle.apron_rules.specs.Refusals.{first_found, unknown_of, unknown_of_stand, fault_of}
 use Rattle.apron_rules.specs.Rules.{is_restricted, rule_between, breaks_of}
-use Rattle.apron_rules.specs.Kept.{IsKept}
+use Rattle.apron_rules.specs.Kept.{IsLinked}
 use Rattle.apron_rules.specs.Links.{is_place, is_one_place, links_of, is_split_at, is_near_at, pairs_at, is_barred, first_rule, is_restricted_at}
 use Rattle.apron_rules.proofs.Symmetry.{bytes_eq_sym}
 use Rattle.apron_rules.proofs.Airports.{left_none, unknown_none, stands_once}
@@ -138,11 +138,11 @@ stand_place parts s x none at =
     place_at (stand_names parts) s x.name (stands_once parts none) (slice_get-map (λ (row : StandRow). row.name) parts.stands s ∙ ap (option_map (λ (row : StandRow). row.name)) at)
 
 -- of two rows, what places say is what the names say
-by_rows : (parts : AirportParts) (stands types : List (List ℕ)) (links : List StandLinks) (pairs : List (List StandPair)) → IsKept parts stands types links pairs
+by_rows : (parts : AirportParts) (links : List StandLinks) (pairs : List (List StandPair)) → IsLinked parts links pairs
     → (s s2 : ℕ) (x y : StandRow) (k l : TypeRow) → slice_get parts.stands s ≡ Some x → slice_get parts.stands s2 ≡ Some y
     → first_rule (s == s2) (is_split_at s (links_of (frontage_names parts) (stand_names parts) x) s2 (links_of (frontage_names parts) (stand_names parts) y)) (is_near_at (links_of (frontage_names parts) (stand_names parts) x) k (links_of (frontage_names parts) (stand_names parts) y) l) (list_any (is_barred s2 k l) (pairs_at pairs s))
     ≡ rule_between parts.pairs (s == s2) x k y l
-by_rows parts stands types links pairs kept s s2 x y k l at_x at_y =
+by_rows parts links pairs kept s s2 x y k l at_x at_y =
     let none = kept.airport.faultless in
     let x_place = stand_place parts s x none at_x in
     let y_place = stand_place parts s2 y none at_y in
@@ -155,7 +155,8 @@ by_rows parts stands types links pairs kept s s2 x y k l at_x at_y =
       restricted_is (stand_names parts) s s2 x y k l parts.pairs x_place y_place,
     ) refl
 
-row_at : {X : Type 0} (xs : List X) (i : ℕ) → i < length xs → (x : X) × (slice_get xs i ≡ Some x)
+-- the row at a place within the list
+pub row_at : {X : Type 0} (xs : List X) (i : ℕ) → i < length xs → (x : X) × (slice_get xs i ≡ Some x)
 row_at [] i inside = absurd (omega (arith, inside))
 row_at (x ∷ xs) zero inside = (x, refl)
 row_at (x ∷ xs) (suc i) inside = row_at xs i (omega (arith, inside))
@@ -164,29 +165,31 @@ some_is : {X : Type 0} (x y : X) → Some x ≡ Some y → x ≡ y
 some_is x y e = cc
 
 -- the links at a stand's number are those of its row
-links_at : (parts : AirportParts) (stands types : List (List ℕ)) (links : List StandLinks) (pairs : List (List StandPair)) → IsKept parts stands types links pairs
+links_at : (parts : AirportParts) (links : List StandLinks) (pairs : List (List StandPair)) → IsLinked parts links pairs
     → (s : ℕ) (row : StandRow) (x : StandLinks) → slice_get parts.stands s ≡ Some row → slice_get links s ≡ Some x → x ≡ links_of (frontage_names parts) (stand_names parts) row
-links_at parts stands types links pairs kept s row x at_row at =
+links_at parts links pairs kept s row x at_row at =
     let f : StandRow → StandLinks = links_of (frontage_names parts) (stand_names parts) in
     some_is x (f row) (sym at ∙ (ap (λ (ls : List StandLinks). slice_get ls s) kept.linked ∙ (slice_get-map f parts.stands s ∙ ap (option_map f) at_row)))
 
 -- the first rule that the places say is the first rule
-pub breaks_by_place : (parts : AirportParts) (stands types : List (List ℕ)) (links : List StandLinks) (pairs : List (List StandPair)) → IsKept parts stands types links pairs
+pub breaks_by_place : (parts : AirportParts) (links : List StandLinks) (pairs : List (List StandPair)) → IsLinked parts links pairs
     → (s : StandNo) (t : TypeNo) (s2 : StandNo) (t2 : TypeNo) → s.0 < length parts.stands → t.0 < length parts.types → s2.0 < length parts.stands → t2.0 < length parts.types
-    → (x y : StandLinks) (k l : TypeRow) (own : List StandPair)
-    → x ≡ get_or links s.0 x → y ≡ get_or links s2.0 y → k ≡ get_or parts.types t.0 k → l ≡ get_or parts.types t2.0 l → own ≡ get_or pairs s.0 own
-    → first_rule (s.0 == s2.0) (is_split_at s.0 x s2.0 y) (is_near_at x k y l) (list_any (is_barred s2.0 k l) own) ≡ breaks_of parts s t s2 t2
-breaks_by_place parts stands types links pairs kept s t s2 t2 inside inside_t inside_2 inside_t2 x y k l own is_x is_y is_k is_l is_own =
+    → (d e : StandLinks) (k l : TypeRow) (own : List StandPair)
+    → k ≡ get_or parts.types t.0 k → l ≡ get_or parts.types t2.0 l → own ≡ get_or pairs s.0 own
+    → first_rule (s.0 == s2.0) (is_split_at s.0 (get_or links s.0 d) s2.0 (get_or links s2.0 e)) (is_near_at (get_or links s.0 d) k (get_or links s2.0 e) l) (list_any (is_barred s2.0 k l) own) ≡ breaks_of parts s t s2 t2
+breaks_by_place parts links pairs kept s t s2 t2 inside inside_t inside_2 inside_t2 d e k l own is_k is_l is_own =
+    let x = get_or links s.0 d in
+    let y = get_or links s2.0 e in
     let row = row_at parts.stands s.0 inside in
     let row_2 = row_at parts.stands s2.0 inside_2 in
     let f : StandRow → StandLinks = links_of (frontage_names parts) (stand_names parts) in
     let linked : length links ≡ length parts.stands = ap (λ (ls : List StandLinks). length ls) kept.linked ∙ length-map parts.stands f in
-    let at_x : slice_get links s.0 ≡ Some x = slice_get_read links (length links) s.0 x refl (omega (arith, linked, inside)) is_x in
-    let at_y : slice_get links s2.0 ≡ Some y = slice_get_read links (length links) s2.0 y refl (omega (arith, linked, inside_2)) is_y in
+    let at_x : slice_get links s.0 ≡ Some x = slice_get_read links (length links) s.0 x refl (omega (arith, linked, inside)) (get_or_default links s.0 d x (omega (arith, linked, inside))) in
+    let at_y : slice_get links s2.0 ≡ Some y = slice_get_read links (length links) s2.0 y refl (omega (arith, linked, inside_2)) (get_or_default links s2.0 e y (omega (arith, linked, inside_2))) in
     let at_k : slice_get parts.types t.0 ≡ Some k = slice_get_read parts.types (length parts.types) t.0 k refl inside_t is_k in
     let at_l : slice_get parts.types t2.0 ≡ Some l = slice_get_read parts.types (length parts.types) t2.0 l refl inside_t2 is_l in
     let at_own : slice_get pairs s.0 ≡ Some own = slice_get_read pairs (length pairs) s.0 own refl (omega (arith, kept.counted, inside)) is_own in
-    let same_x = links_at parts stands types links pairs kept s.0 row.0 x row.1 at_x in
-    let same_y = links_at parts stands types links pairs kept s2.0 row_2.0 y row_2.1 at_y in
-    let rule = by_rows parts stands types links pairs kept s.0 s2.0 row.0 row_2.0 k l row.1 row_2.1 in
+    let same_x = links_at parts links pairs kept s.0 row.0 x row.1 at_x in
+    let same_y = links_at parts links pairs kept s2.0 row_2.0 y row_2.1 at_y in
+    let rule = by_rows parts links pairs kept s.0 s2.0 row.0 row_2.0 k l row.1 row_2.1 in
     rw (at_k, at_l, row.1, row_2.1, same_x, same_y) (rw at_own at rule)

@@ -5,11 +5,12 @@ ghost use Rattle.apron_rules.specs.declared.links.StandPair.{StandPair};
 ghost use Rattle.apron_rules.specs.declared.parts.TypeRow.{TypeRow};
 ghost use Rattle.apron_rules.specs.Links.{is_place, is_one_place, links_of, whole_of, pairs_at, is_split_at, is_near_at, is_barred, first_rule, is_restricted_at, ArePairs};
 ghost use Rattle.apron_base.specs.Letter.{clearance_of_span};
-ghost use Rattle.apron_rules.specs.Rules.{has_letter};
+ghost use Rattle.apron_rules.specs.Kept.{IsLinked};
+ghost use Rattle.apron_rules.specs.Rules.{breaks_of, has_letter};
 
 use crate::names::NameTable;
-use crate::{AirportFault, PairRow, Rule, StandRow, TypeRow};
-use apron_base::{Letter, Listed, StandNo, clearance, letter_of};
+use crate::{AirportFault, AirportParts, PairRow, Rule, StandRow, TypeRow};
+use apron_base::{Letter, Listed, StandNo, TypeNo, clearance, letter_of};
 use std::alloc::Global;
 
 /// Where a stand lies, and of which stand it is a half.
@@ -153,9 +154,34 @@ fn add(
     }
 }
 
-/// The first rule by which two stands exclude each other with types k and l on them, from the links of
-/// both and the pair restrictions of the first.
-pub(crate) fn first_rule(
+/// The first rule by which two stands exclude each other, with the types on them.
+pub(crate) fn breaks_by_place(
+    parts: &AirportParts,
+    links: &[StandLinks],
+    pairs: &[Listed<StandPair>],
+    s: StandNo,
+    t: TypeNo,
+    s2: StandNo,
+    t2: TypeNo,
+) -> Option<Rule>
+    requires linked { IsLinked parts.now links.now pairs.now }
+    requires s { s.0 < length parts.now.stands }
+    requires t { t.0 < length parts.now.types }
+    requires s2 { s2.0 < length parts.now.stands }
+    requires t2 { t2.0 < length parts.now.types }
+    ensures is { result ≡ breaks_of parts.now s t s2 t2 }
+{
+    let types = parts.types.as_slice();
+    let x = &links[s.0 as usize];
+    let k = &types[t.0 as usize];
+    let y = &links[s2.0 as usize];
+    let l = &types[t2.0 as usize];
+    first_rule(s, x, k, s2, y, l, pairs[s.0 as usize].as_slice())
+}
+
+// The first rule by which two stands exclude each other with types k and l on them, from the links of
+// both and the pair restrictions of the first.
+fn first_rule(
     s: StandNo,
     x: &StandLinks,
     k: &TypeRow,

@@ -1,9 +1,10 @@
--- How a session on the built-in plan stops, and what that is to its input.
+-- How a session stops, and what that is to its input.
 use Rattle.std.proofs.Common.{◌≡◌, ◌≢◌, ◌<◌, ◌≤◌, ◌+◌, ◌∙◌, inl, inr, ℕ, List, [], ◌∷◌, ◌++◌, Option, None, Some, true, refl, sym, ap, subst, append-nil, length, length-append, take, arith}
 use Rattle.std.specs.Prelude.{All}
 use Rattle.std.specs.Io.KnownBytes.{Consumes}
 use Rattle.apron_base.specs.declared.outside.Outcome.{Outcome}
 use Rattle.apron_base.specs.declared.outside.Outcome.TheVariants as came
+use Rattle.apron_rules.specs.declared.parts.AirportParts.{AirportParts}
 use Rattle.http_framing.specs.Closing.{is_closing}
 use Rattle.http_framing.specs.Requests.{Request, HasRequest}
 use Rattle.http_framing.specs.Streams.{ended, cut, closed, malformed, IsOpen, Requests, Splits}
@@ -14,10 +15,9 @@ use Rattle.desk_http.specs.Ports.{PortState}
 use Rattle.desk_http.specs.Runs.{Runs}
 use Rattle.desk_http.specs.Session.{ComesFirst, EndsAfter, IsCount, IsRead, Last, Progress, WritesLast, last_text, most_requests, no_progress, nothing, refusal, refusal_text, reply, texts_of}
 use Rattle.desk_http.proofs.SoFar.{runs_push, texts_of-push}
-use Rattle.apron_rules.specs.Demo.{demo_airport}
 use Rattle.apron_check.specs.Lines.{fault_line}
 use Rattle.apron_check.specs.declared.faults.FilesFault.TheVariants as files
-use Rattle.apron_run.specs.Demo.{demo_plan, fresh_port}
+use Rattle.apron_run.specs.Desk.{fresh_port}
 use Rattle.apron_run.specs.Headline.{Carried, CutsRefusal, CutsReply, Exchange, GoesOn, IsUnread, Sends, StopsInside, StopsWith}
 use Rattle.apron_run.specs.Statuses.{status_of_outcome}
 use Rattle.apron_run.specs.declared.status.Status.{Status}
@@ -49,26 +49,26 @@ IsTail came.Memory tail = (count : ℕ) × (tail ≡ take count (fault_line file
 IsTail other tail = tail ≡ []
 
 -- what a session answered of its input, how it stopped, and the port after it
-pub record Meets (carried : Carried) (status : Status) (new : PortState) : Type 0 where
+pub record Meets (airport : AirportParts) (carried : Carried) (status : Status) (new : PortState) : Type 0 where
   pub exchange : Exchange
   pub splits : Splits carried.input exchange.requests exchange.rest
   pub few : length exchange.requests ≤ most_requests
-  pub runs : Runs Sends fresh_port exchange.requests exchange.sents new
-  pub stops : StopsWith status carried exchange
+  pub runs : Runs (Sends airport) fresh_port exchange.requests exchange.sents new
+  pub stops : StopsWith airport status carried exchange
 
--- what comes of a request at the built-in plan
-abbrev Comes : PortState → Request → Answered → PortState → Type 0
-Comes = Answers AloneAsks demo_plan
+module _ (airport : AirportParts) (input taken more : List ℕ) (front : input ≡ taken ++ more) (done : Progress) (served after : PortState)
+    (splits : Splits taken done.requests done.rest) (stay : All IsOpen done.requests) (runs : Runs (Sends airport) fresh_port done.requests done.sents served) where
+  -- what comes of a request at the airport
+  abbrev Comes : PortState → Request → Answered → PortState → Type 0
+  Comes = Answers AloneAsks airport
 
-module _ (input taken more : List ℕ) (front : input ≡ taken ++ more) (done : Progress) (served after : PortState)
-    (splits : Splits taken done.requests done.rest) (stay : All IsOpen done.requests) (runs : Runs Sends fresh_port done.requests done.sents served) where
   -- the bytes of the session, with this output
   abbrev carrying : List ℕ → Carried
   carrying output = record { input = input; left = more; output = output }
 
   -- the bytes of the replies to the requests that left the session open
   abbrev texts : List ℕ
-  texts = texts_of demo_airport done.sents
+  texts = texts_of airport done.sents
 
   -- those requests, in the whole input
   abbrev open_exchange : Exchange
@@ -86,24 +86,24 @@ module _ (input taken more : List ℕ) (front : input ≡ taken ++ more) (done :
       splits_more taken more behind (done.requests ++ request ∷ []) (splits_push taken done.rest behind done.requests request splits first)
 
   -- the session stopped behind those requests
-  open_meets : (output : List ℕ) (status : Status) → after ≡ served → length done.requests ≤ most_requests → StopsWith status (carrying output) open_exchange
-      → Meets (carrying output) status after
+  open_meets : (output : List ℕ) (status : Status) → after ≡ served → length done.requests ≤ most_requests → StopsWith airport status (carrying output) open_exchange
+      → Meets airport (carrying output) status after
   open_meets output status same few stops = record {
     exchange = open_exchange;
     few = few;
     splits = subst (λ i. Splits i done.requests (done.rest ++ more)) (sym front) open_splits;
-    runs = subst (Runs Sends fresh_port done.requests done.sents) (sym same) runs;
+    runs = subst (Runs (Sends airport) fresh_port done.requests done.sents) (sym same) runs;
     stops = stops;
   }
 
   -- the session stopped behind one more
   more_meets : (request : Request) (sent : Sent) (output : List ℕ) (status : Status) → (first : ComesFirst Comes done.rest request (sends sent) served after)
-      → length done.requests < most_requests → StopsWith status (carrying output) (one_more request sent first.behind) → Meets (carrying output) status after
+      → length done.requests < most_requests → StopsWith airport status (carrying output) (one_more request sent first.behind) → Meets airport (carrying output) status after
   more_meets request sent output status first few stops = record {
     exchange = one_more request sent first.behind;
     few = let one : length (done.requests ++ request ∷ []) ≡ length done.requests + 1 = length-append done.requests (request ∷ []) in omega arith;
     splits = subst (λ i. Splits i (done.requests ++ request ∷ []) (first.behind ++ more)) (sym front) (more_splits request first.behind first.first);
-    runs = runs_push Sends fresh_port served after done.requests done.sents request sent runs first.comes;
+    runs = runs_push (Sends airport) fresh_port served after done.requests done.sents request sent runs first.comes;
     stops = stops;
   }
 
@@ -113,7 +113,7 @@ module _ (input taken more : List ℕ) (front : input ≡ taken ++ more) (done :
 
   -- how a session that wanted memory stopped
   wants_memory : (output : List ℕ) → length done.requests < most_requests → ((count : ℕ) × (output ≡ texts ++ take count (fault_line files.Memory)))
-      → EndsAfter Comes came.Memory done nothing served after → Meets (carrying output) Memory after
+      → EndsAfter Comes came.Memory done nothing served after → Meets airport (carrying output) Memory after
   wants_memory output few wrote (inl (request, first)) = open_meets output Memory first.comes.1 (omega arith) (
     record { stay = stay; few = few },
     inr (record { request = request; behind = first.behind ++ more; whole = whole_more done.rest more request first.behind first.first; takes = first.comes.0 }),
@@ -131,8 +131,8 @@ module _ (input taken more : List ℕ) (front : input ≡ taken ++ more) (done :
 
   -- how a session stopped, for each outcome
   pub session_meets : (outcome : Outcome) (last : Last) (written tail : List ℕ) → outcome ≢ came.Spent → EndsAfter Comes outcome done last served after
-      → IsRead outcome (Some more) → IsCount outcome (length done.requests) → WritesLast outcome (last_text demo_airport last) written → IsTail outcome tail
-      → Meets (carrying ((texts ++ written) ++ tail)) (status_of_outcome outcome) after
+      → IsRead outcome (Some more) → IsCount outcome (length done.requests) → WritesLast outcome (last_text airport last) written → IsTail outcome tail
+      → Meets airport (carrying ((texts ++ written) ++ tail)) (status_of_outcome outcome) after
   session_meets came.Ended nothing written tail unspent ends read count wrote end = open_meets _ Done ends.1 (omega arith) (
     inl (
       record { stay = stay; few = count },
@@ -165,7 +165,7 @@ module _ (input taken more : List ℕ) (front : input ≡ taken ++ more) (done :
   session_meets came.Closed (reply request sent) written tail unspent (closing, first) read count wrote end = more_meets request sent _ Done first count (
     inr (subst (λ i. Requests i (done.requests ++ request ∷ []) closed) (sym front)
         (requests_closed (taken ++ more) (first.behind ++ more) done.requests request (more_splits request first.behind first.first) stay closing)),
-    ending_with texts written tail (sent_text demo_airport sent) wrote end ∙ sym (texts_of-push demo_airport done.sents sent),
+    ending_with texts written tail (sent_text airport sent) wrote end ∙ sym (texts_of-push airport done.sents sent),
   )
   session_meets came.WriteFault (reply request sent) written tail unspent first read count wrote end = more_meets request sent _ WriteFault first count
       (inl (record {
@@ -176,7 +176,7 @@ module _ (input taken more : List ℕ) (front : input ≡ taken ++ more) (done :
         requests_are = refl;
         sents_are = refl;
         count = wrote.0;
-        bytes = ending_with texts written tail (take wrote.0 (sent_text demo_airport sent)) wrote.1 end;
+        bytes = ending_with texts written tail (take wrote.0 (sent_text airport sent)) wrote.1 end;
       }))
   session_meets came.WriteFault (refusal why) written tail unspent ends read count wrote end = open_meets _ WriteFault ends.1 (omega arith) (inr (record {
     goes_on = record { stay = stay; few = count };

@@ -1,79 +1,37 @@
--- The headline of a session on the built-in plan.
-use Rattle.std.proofs.Common.{◌≡◌, ◌⊎◌, ◌∙◌, ◌+◌, ◌<◌, ℕ, Bool, true, false, List, [], ◌++◌, Option, None, Some, length, take, inl, inr, refl, sym, ap, subst, zero-add, arith, rules}
+-- The headline of a run of the word `desk`.
+use Rattle.std.proofs.Common.{◌≡◌, ◌⊎◌, ◌∙◌, ◌+◌, ◌<◌, ℕ, Bool, true, false, List, [], ◌++◌, Option, None, Some, length, take, inl, inr, Result, Ok, Err, refl, sym, ap, subst, zero-add, arith}
 use Rattle.std.specs.Prelude.{IfSome, count_by}
-use Rattle.std.specs.Io.KnownBytes.{Consumes}
+use Rattle.std.specs.Io.KnownBytes.{Appends, Consumes}
+use Rattle.std.proofs.lemmas.List.{take_all}
 use Rattle.std.proofs.lemmas.List.Elements.{All-from_recursion}
 use Rattle.apron_base.specs.Ends.{SinkState, Wrote}
 use Rattle.apron_base.specs.declared.outside.Outcome.{Outcome}
 use Rattle.apron_base.specs.declared.outside.Outcome.TheVariants as came
 use Rattle.apron_base.proofs.Runs.{wrote_both, wrote_none}
+use Rattle.apron_rules.specs.declared.parts.AirportParts.{AirportParts}
 use Rattle.http_framing.specs.Streams.{IsOpen}
+use Rattle.visit_book.specs.declared.visits.NewVisit.{NewVisit}
 use Rattle.desk_words.specs.declared.asks.Entry.{Entry}
-use Rattle.history_core.specs.History.{IsFresh, IsLegal, IsSoundPlan}
+use Rattle.history_core.specs.History.{IsLegal}
+use Rattle.history_core.proofs.Added.{visits_added}
 use Rattle.history_core.proofs.Drafts.{drafts_made}
 use Rattle.history_core.proofs.Legal.{front_legal, legal_sound}
 use Rattle.desk_http.specs.Alone.{alone_port, numbers_from}
 use Rattle.desk_http.specs.Ports.{PortState}
 use Rattle.desk_http.specs.Session.{IsRead, is_write_fault, texts_of}
-use Rattle.apron_rules.specs.Demo.{demo_airport}
 use Rattle.apron_check.specs.Lines.{fault_line}
+use Rattle.apron_check.specs.declared.faults.FilesFault.{FilesFault}
 use Rattle.apron_check.specs.declared.faults.FilesFault.TheVariants as files
-use Rattle.apron_run.specs.Demo.{demo_plan, fresh_port}
-use Rattle.apron_run.specs.Desk.{FindsNoMemory, RunsDemo, ServesDemo, TellsOutcome}
-use Rattle.apron_run.specs.Headline.{AllSound, Carried, HasItsEntry, Headline, TellsHeadline, TellsOf, is_given}
-use Rattle.apron_run.specs.Statuses.{code_of, status_of_outcome}
-use Rattle.apron_run.specs.World.{Ends}
+use Rattle.apron_run.specs.Check.{TellsFault}
+use Rattle.apron_run.specs.Desk.{FindsNoMemory, RunsDesk, RunsFound, RunsSession, ServesDesk, TellsOutcome, fresh_port}
+use Rattle.apron_run.specs.Headline.{AllSound, Carried, HasItsEntry, Headline, IsOfItsEntry, TellsEarly, TellsFoundHeadline, TellsHeadline, TellsOf, is_given}
+use Rattle.apron_run.specs.Statuses.{code_of, status_of_fault, status_of_outcome}
+use Rattle.apron_run.specs.Words.{Asked, desk as desk_asked}
+use Rattle.apron_run.specs.World.{Ends, World, ends_of}
 use Rattle.apron_run.specs.declared.status.Status.{Status}
 use Rattle.apron_run.specs.declared.status.Status.TheVariants.{Memory}
 use Rattle.apron_run.proofs.Calls.{Leaves, run_leaves}
 use Rattle.apron_run.proofs.Endings.{HasLeft, IsTail, Meets, has_left, session_meets}
-
--- the built-in visits are on no stand
-demo_is_sound : IsSoundPlan demo_plan
-demo_is_sound = λ p q minute rule in_p in_q at. let none : in_p.0 < 0 = in_p.1 in absurd (omega arith)
-
--- the built-in plan is one that a history can begin with
-demo_begins : IsFresh demo_plan
-demo_begins = record {
-  plan = record { each = search rules; numbered = search rules; sound = demo_is_sound; drafts = search rules; version = omega arith };
-  drafts = refl;
-  version = refl;
-}
-
--- a history without entries is legal
-nothing_is_legal : IsLegal demo_plan []
-nothing_is_legal = record { taken = tt; few = omega arith; numbers = omega arith }
-
--- the plan is sound after each entry of a legal history
-all_sound : (history : List Entry) → IsLegal demo_plan history → AllSound history
-all_sound history legal = λ front back is. legal_sound demo_plan front demo_is_sound (front_legal demo_plan front back (subst (IsLegal demo_plan) is legal))
-
--- each draft of a legal history has its entry
-all_have_entries : (history : List Entry) → IsLegal demo_plan history → (desk : List ℕ) (number version : ℕ) → HasItsEntry history desk number version
-all_have_entries history legal desk number version = drafts_made demo_plan history desk number version demo_begins legal
-
--- what a session met is the headline
-headline_of : (carried : Carried) (status : Status) (new : PortState) → new.faults ≡ 0 → Meets carried status new → Headline carried (code_of status)
-headline_of carried status new no_faults met =
-    let exchange = met.exchange in
-    let count : ℕ = count_by is_given exchange.sents in
-    let leaves : Leaves fresh_port new count = run_leaves fresh_port new exchange.requests exchange.sents met.runs in
-    let legal : IsLegal demo_plan new.seen = leaves.legal nothing_is_legal in
-    record {
-      status = status;
-      code_is = refl;
-      exchange = exchange;
-      new = new;
-      splits = met.splits;
-      runs = met.runs;
-      few = met.few;
-      stops = met.stops;
-      calls = leaves.calls 0 refl ∙ ap (numbers_from 1) (zero-add count);
-      legal = legal;
-      sound = all_sound new.seen legal;
-      drafts = all_have_entries new.seen legal;
-      faults = no_faults;
-    }
 
 -- what is told behind a session that wanted memory is a front of the line, and nothing is behind others
 record Told (outcome : Outcome) (before after : SinkState) (status : Status) : Type 0 where
@@ -106,63 +64,138 @@ told came.ReadFault before after status h = silent came.ReadFault before after s
 told came.WriteFault before after status h = silent came.WriteFault before after status refl h
 told came.Spent before after status h = silent came.Spent before after status refl h
 
--- no session was met
-nothing_meets : (input tail : List ℕ) → IsTail came.Memory tail → Meets (record { input = input; left = input; output = tail }) Memory fresh_port
-nothing_meets input tail (n, is) = record {
-  exchange = record { requests = []; sents = []; rest = input };
-  splits = refl;
-  few = omega arith;
-  runs = refl;
-  stops = (record { stay = All-from_recursion IsOpen [] tt; few = omega arith }, inl (refl, refl), (n, is));
-}
+module _ (airport : AirportParts) where
+  -- a history without entries is legal
+  nothing_is_legal : IsLegal airport []
+  nothing_is_legal = record { taken = tt; numbers = omega arith }
 
--- the headline of a session
-session_headline : (input : List ℕ) (before after : Ends) (sink : SinkState) (outcome : Outcome) (status : Status) → before.source.left ≡ Some input
-    → ServesDemo before after outcome → Told outcome after.sink sink status → TellsOf input before (record { source = after.source; sink = sink }) (code_of status)
-session_headline input before after sink outcome status left serves told =
-    let session = serves.session in
-    let done = session.done in
-    let consumed : Consumes (Some input) after.source.left session.taken = subst (λ l. Consumes l after.source.left session.taken) left (let took = session.took in took.left) in
-    let more : HasLeft input session.taken after.source.left = has_left input session.taken after.source.left consumed in
-    let written : List ℕ = texts_of demo_airport done.sents ++ session.written in
-    let all = wrote_both (is_write_fault outcome) told.failed before.sink after.sink sink written told.tail session.wrote told.wrote in
-    let carried : Carried = record { input = input; left = more.rest; output = written ++ told.tail } in
-    let met : Meets carried (status_of_outcome outcome) (alone_port serves.desk) =
-    session_meets input session.taken more.rest more.front done session.served (alone_port serves.desk) session.splits session.stay session.runs
-    outcome session.last session.written told.tail serves.unspent session.ends (subst (IsRead outcome) more.is session.read) session.count session.last_written told.end in (
-      more.rest,
-      written ++ told.tail,
-      more.is,
-      all.told,
-      subst (λ (s : Status). Headline carried (code_of s)) (sym told.status_is) (headline_of carried (status_of_outcome outcome) (alone_port serves.desk) refl met),
-    )
+  -- the plan is sound after each entry of a legal history
+  all_sound : (history : List Entry) → IsLegal airport history → AllSound airport history
+  all_sound history legal = λ front back is. legal_sound airport front (front_legal airport front back (subst (IsLegal airport) is legal))
 
--- the headline where no session was met
-nothing_headline : (input : List ℕ) (before after : Ends) (sink : SinkState) (outcome : Outcome) (status : Status) → before.source.left ≡ Some input
-    → FindsNoMemory before after outcome → Told outcome after.sink sink status → TellsOf input before (record { source = after.source; sink = sink }) (code_of status)
-nothing_headline input before after sink outcome status left finds told =
-    let wrote : Wrote told.failed before.sink sink told.tail = subst (λ (ends : Ends). Wrote told.failed ends.sink sink told.tail) finds.kept told.wrote in
-    let end : IsTail came.Memory told.tail = subst (λ (o : Outcome). IsTail o told.tail) finds.outcome_is told.end in
-    let is : status ≡ Memory = told.status_is ∙ ap status_of_outcome finds.outcome_is in
-    let carried : Carried = record { input = input; left = input; output = told.tail } in (
-      input,
-      told.tail,
-      ap (λ (ends : Ends). ends.source.left) finds.kept ∙ left,
-      wrote.told,
-      subst (λ (s : Status). Headline carried (code_of s)) (sym is) (headline_of carried Memory fresh_port refl (nothing_meets input told.tail end)),
-    )
+  -- each draft of a legal history has its entry
+  all_have_entries : (history : List Entry) → IsLegal airport history → (desk : List ℕ) (number version : ℕ) → HasItsEntry airport history desk number version
+  all_have_entries history legal desk number version = drafts_made airport history desk number version legal
+
+  -- each visit of a legal history is of its entry
+  all_of_their_entries : (history : List Entry) → IsLegal airport history → (version : ℕ) (added : NewVisit) → IsOfItsEntry airport history version added
+  all_of_their_entries history legal version added = visits_added airport history version added legal
+
+  -- what a session met is the headline
+  headline_of : (carried : Carried) (status : Status) (new : PortState) → new.faults ≡ 0 → Meets airport carried status new → Headline airport carried (code_of status)
+  headline_of carried status new no_faults met =
+      let exchange = met.exchange in
+      let count : ℕ = count_by is_given exchange.sents in
+      let leaves : Leaves airport fresh_port new count = run_leaves airport fresh_port new exchange.requests exchange.sents met.runs in
+      let legal : IsLegal airport new.seen = leaves.legal nothing_is_legal in
+      record {
+        status = status;
+        code_is = refl;
+        exchange = exchange;
+        new = new;
+        splits = met.splits;
+        runs = met.runs;
+        few = met.few;
+        stops = met.stops;
+        calls = leaves.calls 0 refl ∙ ap (numbers_from 1) (zero-add count);
+        legal = legal;
+        sound = all_sound new.seen legal;
+        drafts = all_have_entries new.seen legal;
+        visits = all_of_their_entries new.seen legal;
+        faults = no_faults;
+      }
+
+  -- no session was met
+  nothing_meets : (input tail : List ℕ) → IsTail came.Memory tail → Meets airport (record { input = input; left = input; output = tail }) Memory fresh_port
+  nothing_meets input tail (n, is) = record {
+    exchange = record { requests = []; sents = []; rest = input };
+    splits = refl;
+    few = omega arith;
+    runs = refl;
+    stops = (record { stay = All-from_recursion IsOpen [] tt; few = omega arith }, inl (refl, refl), (n, is));
+  }
+
+  -- the headline of a session
+  session_headline : (input : List ℕ) (before after : Ends) (sink : SinkState) (outcome : Outcome) (status : Status) → before.source.left ≡ Some input
+      → ServesDesk airport before after outcome → Told outcome after.sink sink status → TellsOf airport input before (record { source = after.source; sink = sink }) (code_of status)
+  session_headline input before after sink outcome status left serves told =
+      let session = serves.session in
+      let done = session.done in
+      let consumed : Consumes (Some input) after.source.left session.taken = subst (λ l. Consumes l after.source.left session.taken) left (let took = session.took in took.left) in
+      let more : HasLeft input session.taken after.source.left = has_left input session.taken after.source.left consumed in
+      let written : List ℕ = texts_of airport done.sents ++ session.written in
+      let all = wrote_both (is_write_fault outcome) told.failed before.sink after.sink sink written told.tail session.wrote told.wrote in
+      let carried : Carried = record { input = input; left = more.rest; output = written ++ told.tail } in
+      let met : Meets airport carried (status_of_outcome outcome) (alone_port serves.desk) =
+      session_meets airport input session.taken more.rest more.front done session.served (alone_port serves.desk) session.splits session.stay session.runs
+      outcome session.last session.written told.tail serves.unspent session.ends (subst (IsRead outcome) more.is session.read) session.count session.last_written told.end in (
+        more.rest,
+        written ++ told.tail,
+        more.is,
+        all.told,
+        subst (λ (s : Status). Headline airport carried (code_of s)) (sym told.status_is) (headline_of carried (status_of_outcome outcome) (alone_port serves.desk) refl met),
+      )
+
+  -- the headline where no session was met
+  nothing_headline : (input : List ℕ) (before after : Ends) (sink : SinkState) (outcome : Outcome) (status : Status) → before.source.left ≡ Some input
+      → FindsNoMemory before after outcome → Told outcome after.sink sink status → TellsOf airport input before (record { source = after.source; sink = sink }) (code_of status)
+  nothing_headline input before after sink outcome status left finds told =
+      let wrote : Wrote told.failed before.sink sink told.tail = subst (λ (ends : Ends). Wrote told.failed ends.sink sink told.tail) finds.kept told.wrote in
+      let end : IsTail came.Memory told.tail = subst (λ (o : Outcome). IsTail o told.tail) finds.outcome_is told.end in
+      let is : status ≡ Memory = told.status_is ∙ ap status_of_outcome finds.outcome_is in
+      let carried : Carried = record { input = input; left = input; output = told.tail } in (
+        input,
+        told.tail,
+        ap (λ (ends : Ends). ends.source.left) finds.kept ∙ left,
+        wrote.told,
+        subst (λ (s : Status). Headline airport carried (code_of s)) (sym is) (headline_of carried Memory fresh_port refl (nothing_meets input told.tail end)),
+      )
 
 -- what holds of each value that there may be
 if_some : {A : Type 0} (option : Option A) (P : A → Type 0) → ((value : A) → option ≡ Some value → P value) → IfSome option P
 if_some None P holds = tt
 if_some (Some value) P holds = holds value refl
 
--- the headline of a run on the built-in plan
-pub run_headline : (before after : Ends) (status : Status) → RunsDemo before after status → TellsHeadline before after (code_of status)
-run_headline before after status runs =
+-- the headline of a session at an airport
+session_tells : (airport : AirportParts) (before after : Ends) (status : Status) → RunsSession airport before after status
+    → TellsFoundHeadline (Ok airport) before after (code_of status)
+session_tells airport before after status runs =
     let ended : Ends = record { source = after.source; sink = runs.sink } in
     let told_is : Told runs.outcome runs.sink after.sink status = told runs.outcome runs.sink after.sink status runs.tells in
-    if_some before.source.left (λ input. TellsOf input before after (code_of status)) (λ input left. elim runs.meets [
-      | inl serves ↦ session_headline input before ended after.sink runs.outcome status left serves told_is
-      | inr finds ↦ nothing_headline input before ended after.sink runs.outcome status left finds told_is
+    if_some before.source.left (λ input. TellsOf airport input before after (code_of status)) (λ input left. elim runs.meets [
+      | inl serves ↦ session_headline airport input before ended after.sink runs.outcome status left serves told_is
+      | inr finds ↦ nothing_headline airport input before ended after.sink runs.outcome status left finds told_is
     ])
+
+-- the headline where the files have a fault
+early_tells : (fault : FilesFault) (before after : Ends) (status : Status) → after.source ≡ before.source → TellsFault fault before.sink after.sink status
+    → TellsEarly fault before after (code_of status)
+early_tells fault before after status source (inl (is, wrote)) = record {
+  code_is = ap code_of is;
+  source = source;
+  count = length (fault_line fault);
+  wrote = subst (Appends before.sink.told after.sink.told) (sym (take_all (length (fault_line fault)) (fault_line fault) (omega arith))) wrote.told;
+}
+early_tells fault before after status source (inr (is, (count, wrote))) =
+    record { code_is = ap code_of is; source = source; count = count; wrote = wrote.told }
+
+-- the headline of what was found in the two files
+found_tells : (found : Result AirportParts FilesFault) (before after : Ends) (status : Status) → RunsFound found before after status
+    → TellsFoundHeadline found before after (code_of status)
+found_tells (Ok airport) before after status runs = session_tells airport before after status runs
+found_tells (Err fault) before after status (source, tells) = early_tells fault before after status source tells
+
+-- the headline of a run
+pub run_headline : (airport types : List ℕ) (before after : World) (status : Status) → RunsDesk airport types before after status
+    → TellsHeadline airport types before after (code_of status)
+run_headline airport types before after status runs =
+    record { found = runs.found; finds = runs.finds; tells = found_tells runs.found (ends_of before) (ends_of after) status runs.runs }
+
+-- the headline of what is asked, by whatever names that is told
+pub asked_headline : (asked : Asked) (airport types other_airport other_types : List ℕ) (before after : World) (code : ℕ)
+    → desk_asked airport types ≡ asked → asked ≡ desk_asked other_airport other_types → TellsHeadline airport types before after code
+    → TellsHeadline other_airport other_types before after code
+asked_headline asked airport types other_airport other_types before after code is asks tells =
+    let same_airport : airport ≡ other_airport = cc in
+    let same_types : types ≡ other_types = cc in
+    subst (λ names. TellsHeadline names other_types before after code) same_airport (subst (λ names. TellsHeadline airport names before after code) same_types tells)

@@ -1,24 +1,27 @@
--- The headline: what the output of a session on the built-in plan is to its input.
-use Rattle.std.specs.Prelude.{◌≡◌, ◌⊎◌, ◌<◌, ◌≤◌, ◌↔◌, ℕ, Bool, true, false, All, List, [], ◌∷◌, ◌++◌, length, take, count_by, Some, IfSome}
+-- The headline: what the output of a desk's session is to its input.
+use Rattle.std.specs.Prelude.{◌≡◌, ◌⊎◌, ◌<◌, ◌≤◌, ◌↔◌, ℕ, Bool, true, false, All, List, [], ◌∷◌, ◌++◌, length, take, count_by, Some, IfSome, Result, Ok, Err}
 use Rattle.std.specs.Io.KnownBytes.{Appends}
 use Rattle.http_framing.specs.declared.bodies.Refusal.{Refusal}
 use Rattle.http_framing.specs.Requests.{Request, HasRequest, IsMalformed, IsPartial}
 use Rattle.http_framing.specs.Streams.{ended, cut, closed, malformed, IsOpen, Requests, Splits}
+use Rattle.apron_rules.specs.declared.parts.AirportParts.{AirportParts}
+use Rattle.visit_book.specs.declared.visits.NewVisit.{NewVisit}
 use Rattle.plan_core.specs.Drafts.{draft_version}
 use Rattle.desk_words.specs.declared.asks.Entry.{Entry}
 use Rattle.history_core.specs.History.{IsLegal, IsSoundPlan, replay}
-use Rattle.history_core.specs.Laws.{HasCommit}
+use Rattle.history_core.specs.Laws.{HasAdded, HasCommit, HasVisit}
 use Rattle.desk_http.specs.Answers.{Answers, Sent, TakesMemory, at_once, given, sends, sent_text}
 use Rattle.desk_http.specs.Alone.{AloneAsks, numbers_from}
 use Rattle.desk_http.specs.Ports.{PortState}
 use Rattle.desk_http.specs.Runs.{Runs}
 use Rattle.desk_http.specs.Session.{most_requests, refusal_text, texts_of}
-use Rattle.apron_rules.specs.Demo.{demo_airport}
+use Rattle.apron_check.specs.Files.{Finds}
 use Rattle.apron_check.specs.Lines.{fault_line}
+use Rattle.apron_check.specs.declared.faults.FilesFault.{FilesFault}
 use Rattle.apron_check.specs.declared.faults.FilesFault.TheVariants as files
-use Rattle.apron_run.specs.Demo.{demo_plan, fresh_port}
-use Rattle.apron_run.specs.Statuses.{code_of}
-use Rattle.apron_run.specs.World.{Ends}
+use Rattle.apron_run.specs.Desk.{fresh_port}
+use Rattle.apron_run.specs.Statuses.{code_of, status_of_fault}
+use Rattle.apron_run.specs.World.{Ends, World, ends_of}
 use Rattle.apron_run.specs.declared.status.Status.{Status}
 use Rattle.apron_run.specs.declared.status.Status.TheVariants.{Done, ReadFault, WriteFault, Cut, Memory, Malformed, Limit}
 
@@ -34,10 +37,6 @@ pub record Exchange : Type 0 where
   pub sents : List Sent
   pub rest : List ℕ
 
--- the bytes of all that was sent
-abbrev pub replies_text : Exchange → List ℕ
-replies_text exchange = texts_of demo_airport exchange.sents
-
 -- no request closed the session, and it may answer one more
 pub record GoesOn (exchange : Exchange) : Type 0 where
   pub stay : All IsOpen exchange.requests
@@ -49,95 +48,122 @@ pub record StopsInside (bytes left : List ℕ) : Type 0 where
   pub are : bytes ≡ part ++ left
   pub cut_off : IsPartial part
 
--- a request stands whole at the front of the bytes whose body is a commit's: only to read it takes memory
+-- a request stands whole at the front of the bytes whose body is to be read: only that takes memory before it is asked
 pub record IsUnread (bytes : List ℕ) : Type 0 where
   pub request : Request
   pub behind : List ℕ
   pub whole : HasRequest bytes request behind
   pub takes : TakesMemory request
 
--- all replies were written whole but the last, of which a front was
-pub record CutsReply (exchange : Exchange) (output : List ℕ) : Type 0 where
-  pub before : Exchange
-  pub goes_on : GoesOn before
-  pub request : Request
-  pub sent : Sent
-  pub requests_are : exchange.requests ≡ before.requests ++ request ∷ []
-  pub sents_are : exchange.sents ≡ before.sents ++ sent ∷ []
-  pub count : ℕ
-  pub bytes : output ≡ replies_text before ++ take count (sent_text demo_airport sent)
-
--- all replies were written whole, and a front of the reply to bytes that are refused
-pub record CutsRefusal (exchange : Exchange) (output : List ℕ) : Type 0 where
-  pub goes_on : GoesOn exchange
-  pub why : Refusal
-  pub malformed : IsMalformed exchange.rest why
-  pub count : ℕ
-  pub bytes : output ≡ replies_text exchange ++ take count (refusal_text why)
-
--- Where in its input a session stopped that ended with this status, and what it wrote. With Done, Cut and Malformed it came to the end of the input's
--- requests, and with Limit it answered as many as it may. With ReadFault it stopped inside a request, with WriteFault at a reply, and with Memory before
--- it took anything or at a request whose body is to be read; then the line that tells it was written behind the replies, or a front of it.
-abbrev pub StopsWith : Status → Carried → Exchange → Type 0
-StopsWith Done carried exchange =
-    (GoesOn exchange × Requests carried.input exchange.requests ended ⊎ Requests carried.input exchange.requests closed)
-    × (carried.output ≡ replies_text exchange)
-StopsWith Cut carried exchange = GoesOn exchange × Requests carried.input exchange.requests cut × (carried.output ≡ replies_text exchange)
-StopsWith Malformed carried exchange = GoesOn exchange
-    × ((why : Refusal) × Requests carried.input exchange.requests (malformed why) × (carried.output ≡ replies_text exchange ++ refusal_text why))
-StopsWith Limit carried exchange =
-    All IsOpen exchange.requests × (length exchange.requests ≡ most_requests) × (carried.output ≡ replies_text exchange)
-StopsWith ReadFault carried exchange = GoesOn exchange × StopsInside exchange.rest carried.left × (carried.output ≡ replies_text exchange)
-StopsWith WriteFault carried exchange = CutsReply exchange carried.output ⊎ CutsRefusal exchange carried.output
-StopsWith Memory carried exchange = GoesOn exchange × ((exchange.requests ≡ []) × (carried.left ≡ carried.input) ⊎ IsUnread exchange.rest)
-    × ((count : ℕ) × (carried.output ≡ replies_text exchange ++ take count (fault_line files.Memory)))
-StopsWith status carried exchange = ⊥
-
--- what is sent for a request, and the port after it
-abbrev pub Sends : PortState → Request → Sent → PortState → Type 0
-Sends before request sent after = Answers AloneAsks demo_plan before request (sends sent) after
-
 -- whether a reply was given by the board
 abbrev pub is_given : Sent → Bool
 is_given (at_once reply) = false
 is_given (given answer) = true
 
--- the plan is sound after each entry of the history
-abbrev pub AllSound : List Entry → Type 0
-AllSound history = (front back : List Entry) → history ≡ front ++ back → IsSoundPlan (replay demo_plan front)
+module _ (airport : AirportParts) where
+  -- the bytes of all that was sent
+  abbrev pub replies_text : Exchange → List ℕ
+  replies_text exchange = texts_of airport exchange.sents
 
--- a draft made a version of the plan exactly where the entry of that number is its commit
-abbrev pub HasItsEntry : List Entry → List ℕ → ℕ → ℕ → Type 0
-HasItsEntry history desk number version =
-    (draft_version (replay demo_plan history).drafts desk number ≡ Some version) ↔ HasCommit history version desk number
+  -- all replies were written whole but the last, of which a front was
+  pub record CutsReply (exchange : Exchange) (output : List ℕ) : Type 0 where
+    pub before : Exchange
+    pub goes_on : GoesOn before
+    pub request : Request
+    pub sent : Sent
+    pub requests_are : exchange.requests ≡ before.requests ++ request ∷ []
+    pub sents_are : exchange.sents ≡ before.sents ++ sent ∷ []
+    pub count : ℕ
+    pub bytes : output ≡ replies_text before ++ take count (sent_text airport sent)
 
--- The headline: the requests at the front of the input, a million at most, were answered in order, and the output is the replies, as far as the
--- status says, of one legal history that begins with the four visits. A request that asks nothing of the plan has its fixed reply. Each other one
--- reached the board with the next call number, from 1 on. An ask that has seen a later version than the plan's is told that it is ahead. Any other
--- commit is accepted exactly where it was not made over a later version, its draft is new, its edits apply to the plan as it then is and leave no
--- clash, and the history takes one more entry; a draft that came before is told the version that its entry made, and any other is refused for the
--- first cause against it. A question is told what the plan then is. In the place of each of these replies there may be the one that memory is wanting,
--- and then nothing has changed. No reply says that an append failed. After each entry the plan is sound.
-pub record Headline (carried : Carried) (code : ℕ) : Type 0 where
-  pub status : Status
-  pub code_is : code ≡ code_of status
-  pub exchange : Exchange
-  pub new : PortState
-  pub splits : Splits carried.input exchange.requests exchange.rest
-  pub few : length exchange.requests ≤ most_requests
-  pub runs : Runs Sends fresh_port exchange.requests exchange.sents new
-  pub stops : StopsWith status carried exchange
-  pub calls : new.calls ≡ numbers_from 1 (count_by is_given exchange.sents)
-  pub legal : IsLegal demo_plan new.seen
-  pub sound : AllSound new.seen
-  pub drafts : (desk : List ℕ) (number version : ℕ) → HasItsEntry new.seen desk number version
-  pub faults : new.faults ≡ 0
+  -- all replies were written whole, and a front of the reply to bytes that are refused
+  pub record CutsRefusal (exchange : Exchange) (output : List ℕ) : Type 0 where
+    pub goes_on : GoesOn exchange
+    pub why : Refusal
+    pub malformed : IsMalformed exchange.rest why
+    pub count : ℕ
+    pub bytes : output ≡ replies_text exchange ++ take count (refusal_text why)
 
--- the headline of this input, with what the source and the sink tell afterwards; what the sink told before it tells then too
-abbrev pub TellsOf : List ℕ → Ends → Ends → ℕ → Type 0
-TellsOf input before after code = (left output : List ℕ) × (after.source.left ≡ Some left) × Appends before.sink.told after.sink.told output
-    × Headline (record { input = input; left = left; output = output }) code
+  -- Where in its input a session stopped that ended with this status, and what it wrote. With Done, Cut and Malformed it came to the end of the
+  -- input's requests, and with Limit it answered as many as it may. With ReadFault it stopped inside a request, with WriteFault at a reply, and with
+  -- Memory before it took anything or at a request whose body is to be read; then the line that tells it was written behind the replies, or a front of
+  -- it.
+  abbrev pub StopsWith : Status → Carried → Exchange → Type 0
+  StopsWith Done carried exchange =
+      (GoesOn exchange × Requests carried.input exchange.requests ended ⊎ Requests carried.input exchange.requests closed)
+      × (carried.output ≡ replies_text exchange)
+  StopsWith Cut carried exchange = GoesOn exchange × Requests carried.input exchange.requests cut × (carried.output ≡ replies_text exchange)
+  StopsWith Malformed carried exchange = GoesOn exchange
+      × ((why : Refusal) × Requests carried.input exchange.requests (malformed why) × (carried.output ≡ replies_text exchange ++ refusal_text why))
+  StopsWith Limit carried exchange =
+      All IsOpen exchange.requests × (length exchange.requests ≡ most_requests) × (carried.output ≡ replies_text exchange)
+  StopsWith ReadFault carried exchange = GoesOn exchange × StopsInside exchange.rest carried.left × (carried.output ≡ replies_text exchange)
+  StopsWith WriteFault carried exchange = CutsReply exchange carried.output ⊎ CutsRefusal exchange carried.output
+  StopsWith Memory carried exchange = GoesOn exchange × ((exchange.requests ≡ []) × (carried.left ≡ carried.input) ⊎ IsUnread exchange.rest)
+      × ((count : ℕ) × (carried.output ≡ replies_text exchange ++ take count (fault_line files.Memory)))
+  StopsWith status carried exchange = ⊥
 
--- the headline, where the source tells its bytes
-abbrev pub TellsHeadline : Ends → Ends → ℕ → Type 0
-TellsHeadline before after code = IfSome before.source.left (λ input. TellsOf input before after code)
+  -- what is sent for a request, and the port after it
+  abbrev pub Sends : PortState → Request → Sent → PortState → Type 0
+  Sends before request sent after = Answers AloneAsks airport before request (sends sent) after
+
+  -- the plan is sound after each entry of the history
+  abbrev pub AllSound : List Entry → Type 0
+  AllSound history = (front back : List Entry) → history ≡ front ++ back → IsSoundPlan (replay airport front)
+
+  -- a draft made a version of the plan exactly where the entry of that number is its commit
+  abbrev pub HasItsEntry : List Entry → List ℕ → ℕ → ℕ → Type 0
+  HasItsEntry history desk number version =
+      (draft_version (replay airport history).drafts desk number ≡ Some version) ↔ HasCommit history version desk number
+
+  -- a visit of the plan was added with this, by the entry of this number, exactly where that entry adds one with it
+  abbrev pub IsOfItsEntry : List Entry → ℕ → NewVisit → Type 0
+  IsOfItsEntry history version added = HasVisit (replay airport history).visits version added ↔ HasAdded history version added
+
+  -- The headline: the requests at the front of the input, a million at most, were answered in order, and the output is the replies, as far as the status
+  -- says, of one legal history that begins with no entry. A request that asks nothing of the plan has its fixed reply. Each other one reached the board
+  -- with the next call number, from 1 on. An ask that has seen a later version than the plan's is told that it is ahead. Any other visit is added exactly
+  -- where no visit has its name, and there is a place for one more visit and one more entry; the same visit again is told the version of its entry, and
+  -- other data under its name is refused. Any other commit is accepted exactly where it was not made over a later version, its draft is new, its edits
+  -- (which put, lift, cut and join parts) apply to the plan as it then is and leave no clash, and the history takes one more entry; a draft that came
+  -- before is told the version that its entry made, and any other is refused for the first cause against it. A question is told what the plan then is.
+  -- In the place of each of these replies there may be the one that memory is wanting, and then nothing has changed. No reply says that an append
+  -- failed. After each entry the plan is sound.
+  pub record Headline (carried : Carried) (code : ℕ) : Type 0 where
+    pub status : Status
+    pub code_is : code ≡ code_of status
+    pub exchange : Exchange
+    pub new : PortState
+    pub splits : Splits carried.input exchange.requests exchange.rest
+    pub few : length exchange.requests ≤ most_requests
+    pub runs : Runs Sends fresh_port exchange.requests exchange.sents new
+    pub stops : StopsWith status carried exchange
+    pub calls : new.calls ≡ numbers_from 1 (count_by is_given exchange.sents)
+    pub legal : IsLegal airport new.seen
+    pub sound : AllSound new.seen
+    pub drafts : (desk : List ℕ) (number version : ℕ) → HasItsEntry new.seen desk number version
+    pub visits : (version : ℕ) (added : NewVisit) → IsOfItsEntry new.seen version added
+    pub faults : new.faults ≡ 0
+
+  -- the headline of this input, with what the source and the sink tell afterwards; what the sink told before it tells then too
+  abbrev pub TellsOf : List ℕ → Ends → Ends → ℕ → Type 0
+  TellsOf input before after code = (left output : List ℕ) × (after.source.left ≡ Some left) × Appends before.sink.told after.sink.told output
+      × Headline (record { input = input; left = left; output = output }) code
+
+-- the line of a fault of the files was written, or a front of it, and nothing else; the source is as it was
+pub record TellsEarly (fault : FilesFault) (before after : Ends) (code : ℕ) : Type 0 where
+  pub code_is : code ≡ code_of (status_of_fault fault)
+  pub source : after.source ≡ before.source
+  pub count : ℕ
+  pub wrote : Appends before.sink.told after.sink.told (take count (fault_line fault))
+
+-- the headline of what was found in the two files: of a session at their airport, where the source tells its bytes; or that their fault is told
+abbrev pub TellsFoundHeadline : Result AirportParts FilesFault → Ends → Ends → ℕ → Type 0
+TellsFoundHeadline (Ok airport) before after code = IfSome before.source.left (λ input. TellsOf airport input before after code)
+TellsFoundHeadline (Err fault) before after code = TellsEarly fault before after code
+
+-- the headline, at what was found in the airport file and the type file of these names
+pub record TellsHeadline (airport types : List ℕ) (before after : World) (code : ℕ) : Type 0 where
+  pub found : Result AirportParts FilesFault
+  pub finds : Finds before.shelf after.shelf airport types found
+  pub tells : TellsFoundHeadline found (ends_of before) (ends_of after) code

@@ -4,7 +4,6 @@ pub mod WordsShown
 pub mod Statuses
 pub mod Print
 pub mod Check
-pub mod Demo
 pub mod Desk
 pub mod Headline
 pub mod Run

@@ -11,7 +11,7 @@ Writes text whole cut before after status =
 -- what the word `--help` prints
 unfoldable pub help_text : List ℕ
 help_text =
-    codes "apron: airport stand allocation\n\napron desk demo              answers HTTP requests from standard input on standard output,\n                             for six built-in stands and four built-in visits\napron check AIRPORT TYPES    reads an airport file and a type file, and prints how much they\n                             hold, or the first fault in them\napron --help                 prints this text\napron --version              prints the version\n"
+    codes "apron: airport stand allocation\n\napron desk AIRPORT TYPES     answers HTTP requests from standard input on standard output, at the\n                             airport of an airport file and a type file\napron check AIRPORT TYPES    reads an airport file and a type file, and prints how much they\n                             hold, or the first fault in them\napron --help                 prints this text\napron --version              prints the version\n"
 
 -- what the word `--version` prints
 unfoldable pub version_text : List ℕ

@@ -1,10 +1,10 @@
 -- What the program does with its words, its files and its bytes.
 use Rattle.std.specs.Prelude.{◌≡◌, ◌≤◌, ℕ, Bool, true, false, MatchBool}
 use Rattle.apron_base.specs.Counts.{Counts}
-use Rattle.apron_run.specs.Words.{Asked, demo, check, help, version, faulty}
-use Rattle.apron_run.specs.World.{World, ends_of}
+use Rattle.apron_run.specs.Words.{Asked, desk, check, help, version, faulty}
+use Rattle.apron_run.specs.World.{World}
 use Rattle.apron_run.specs.Statuses.{code_of, is_read_fault, is_shelf_fault, is_told, is_write_fault}
-use Rattle.apron_run.specs.Desk.{RunsDemo}
+use Rattle.apron_run.specs.Desk.{RunsDesk}
 use Rattle.apron_run.specs.Check.{ChecksFiles}
 use Rattle.apron_run.specs.Print.{Writes, help_text, usage_text, version_text}
 use Rattle.apron_run.specs.declared.status.Status.{Status}
@@ -12,7 +12,7 @@ use Rattle.apron_run.specs.declared.status.Status.TheVariants.{Done, Usage, Writ
 
 -- what is done for what the words ask for, from one moment to the other: one line for each
 abbrev pub Does : Asked → World → World → Status → Type 0
-Does demo before after status = RunsDemo (ends_of before) (ends_of after) status
+Does (desk airport types) before after status = RunsDesk airport types before after status
 Does (check airport types) before after status = ChecksFiles airport types before after status
 Does help before after status = Writes help_text Done WriteFault before.sink after.sink status
 Does version before after status = Writes version_text Done WriteFault before.sink after.sink status

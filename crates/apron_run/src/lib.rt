@@ -3,7 +3,6 @@
 #![tactic(auto)]
 
 mod check;
-mod demo;
 mod desk;
 mod print;
 mod program;

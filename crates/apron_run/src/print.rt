@@ -41,7 +41,7 @@ fn print<W: Sink>(sink: &mut W, text: &[u8]) -> Status
 fn help() -> &'static [u8]
     ensures text { result.now ≡ help_text }
 {
-    b"apron: airport stand allocation\n\napron desk demo              answers HTTP requests from standard input on standard output,\n                             for six built-in stands and four built-in visits\napron check AIRPORT TYPES    reads an airport file and a type file, and prints how much they\n                             hold, or the first fault in them\napron --help                 prints this text\napron --version              prints the version\n"
+    b"apron: airport stand allocation\n\napron desk AIRPORT TYPES     answers HTTP requests from standard input on standard output, at the\n                             airport of an airport file and a type file\napron check AIRPORT TYPES    reads an airport file and a type file, and prints how much they\n                             hold, or the first fault in them\napron --help                 prints this text\napron --version              prints the version\n"
 }
 
 // What `--version` prints.

@@ -1,7 +1,7 @@
 // What the words of the command line ask for.
 ghost use Rattle.std.specs.Prelude.{◌≡◌};
 ghost use Rattle.std.specs.Str.{bytes_eq};
-ghost use Rattle.apron_run.specs.Words.{asked_by, asked_by_one};
+ghost use Rattle.apron_run.specs.Words.{asked_by, asked_by_one, asked_of_files};
 ghost use Rattle.apron_run.specs.WordsShown.{shown};
 
 use apron_base::Word;
@@ -9,8 +9,8 @@ use apron_base::Word;
 /// What the words ask for.
 #[derive(Clone, Copy)]
 pub(crate) enum Asked<'w> {
-    /// One session on the built-in airport and visits.
-    Demo,
+    /// One session at the airport of the airport file and the type file of these names.
+    Desk(&'w Word, &'w Word),
     /// A check of the airport file and the type file of these names.
     Check(&'w Word, &'w Word),
     Help,
@@ -25,8 +25,7 @@ pub(crate) fn asked_by(words: &[Word]) -> Asked<'_>
 {
     match words {
         [word] => asked_by_one(word),
-        [word, next] if is(word, "desk") && is(next, "demo") => Asked::Demo,
-        [word, airport, types] if is(word, "check") => Asked::Check(airport, types),
+        [word, airport, types] => asked_of_files(word, airport, types),
         _ => Asked::Faulty,
     }
 }
@@ -38,6 +37,18 @@ fn asked_by_one(word: &Word) -> Asked<'_>
         Asked::Help
     } else if is(word, "--version") {
         Asked::Version
+    } else {
+        Asked::Faulty
+    }
+}
+
+fn asked_of_files<'w>(word: &Word, airport: &'w Word, types: &'w Word) -> Asked<'w>
+    ensures asked { shown result ≡ asked_of_files word.now airport.now types.now }
+{
+    if is(word, "desk") {
+        Asked::Desk(airport, types)
+    } else if is(word, "check") {
+        Asked::Check(airport, types)
     } else {
         Asked::Faulty
     }

@@ -1,3 +1,5 @@
 pub mod Fields
 pub mod Commits
 pub mod CommitsShown
+pub mod Visits
+pub mod VisitsShown

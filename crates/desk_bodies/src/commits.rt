@@ -1,11 +1,11 @@
 // The body of a commit.
 ghost use Rattle.std.specs.Prelude.{◌≡◌, map, Some, None, Err, IfOk, IfSome, length, option_map};
 ghost use Rattle.serde_json.specs.View.{view, items_view};
-ghost use Rattle.desk_bodies.specs.Commits.{body_commit, commit_of, edit_of, edits_of, edits_within, name_at, part_at, visit_at, put_of, lift_of, cut_of, join_of};
+ghost use Rattle.desk_bodies.specs.Commits.{body_commit, commit_of, edit_of, edits_of, edits_within, part_at, visit_at, put_of, lift_of, cut_of, join_of};
 ghost use Rattle.desk_bodies.specs.CommitsShown.{edit_shown, commit_shown, HasFewEdits};
 
 use crate::BodyFault;
-use crate::fields::{number, read_json, small_number, text};
+use crate::fields::{name, number, read_json, small_number, text};
 use apron_base::{Listed, Memory, Name};
 use serde_json::Value;
 use std::alloc::Global;
@@ -72,13 +72,6 @@ fn commit_value(alloc: Global, value: &Value) -> Result<Option<CommitText>, Memo
         })),
         None => Ok(None),
     }
-}
-
-#[tactic(auto, using(crate::proofs::Names::named), unfolding(crate::specs::Commits::name_at))]
-fn name(object: &Value, key: &str) -> Option<Name>
-    ensures value { result ≡ name_at key.now (view object.now) }
-{
-    Name::new(text(object, key)?.as_bytes())
 }
 
 /// The edits of a list of 1 to 64.

@@ -1,8 +1,10 @@
 // The JSON of a body, and the fields of its objects.
-ghost use Rattle.std.specs.Prelude.{◌≡◌, Some, None, Err, IfOk, option_map};
+ghost use Rattle.std.specs.Prelude.{◌≡◌, ◌≤◌, Some, None, Err, IfOk, IfSome, option_map};
 ghost use Rattle.serde_json.specs.View.{view};
+ghost use Rattle.desk_bodies.specs.Commits.{name_at};
 ghost use Rattle.desk_bodies.specs.Fields.{body_data, max_u32, max_u8, number_at, text_at};
 
+use apron_base::Name;
 use serde_json::Value;
 use std::alloc::Global;
 
@@ -42,28 +44,29 @@ pub fn read_json(alloc: Global, body: &[u8]) -> Result<Value, BodyFault>
     }
 }
 
+/// The whole number of at most this under a key. None where none is there.
+pub fn number_to(object: &Value, key: &str, most: u64) -> Option<u64>
+    ensures value { result ≡ number_at key.now most (view object.now) }
+    ensures most { IfSome result (λ n. n ≤ most) }
+{
+    let n = object.get(key)?.as_u64()?;
+    if n <= most { Some(n) } else { None }
+}
+
 /// The whole number of 32 bits under a key. None where none is there.
 pub fn number(object: &Value, key: &str) -> Option<u32>
     ensures value { result ≡ number_at key.now max_u32 (view object.now) }
 {
-    let n = object.get(key)?.as_u64()?;
-    if n <= u32::MAX as u64 {
-        Some(n as u32)
-    } else {
-        None
-    }
+    let n = number_to(object, key, u32::MAX as u64)?;
+    Some(n as u32)
 }
 
 /// The whole number of 8 bits under a key. None where none is there.
 pub fn small_number(object: &Value, key: &str) -> Option<u8>
     ensures value { result ≡ number_at key.now max_u8 (view object.now) }
 {
-    let n = object.get(key)?.as_u64()?;
-    if n <= u8::MAX as u64 {
-        Some(n as u8)
-    } else {
-        None
-    }
+    let n = number_to(object, key, u8::MAX as u64)?;
+    Some(n as u8)
 }
 
 /// The text under a key. None where none is there.
@@ -71,4 +74,12 @@ pub fn text<'v>(object: &'v Value, key: &str) -> Option<&'v str>
     ensures text { option_map (λ s. s.now) result ≡ text_at key.now (view object.now) }
 {
     object.get(key)?.as_str()
+}
+
+/// The name under a key. None where none is there.
+#[tactic(auto, using(crate::proofs::Names::named), unfolding(crate::specs::Commits::name_at))]
+pub fn name(object: &Value, key: &str) -> Option<Name>
+    ensures value { result ≡ name_at key.now (view object.now) }
+{
+    Name::new(text(object, key)?.as_bytes())
 }

@@ -3,9 +3,11 @@
 
 mod commits;
 mod fields;
+mod visits;
 
 pub use commits::{CommitText, EditText, MAX_EDITS, read_commit};
 pub use fields::BodyFault;
+pub use visits::{VisitText, read_visit};
 
 #[cfg(test)]
 mod tests;

@@ -2,6 +2,8 @@
 use super::*;
 use std::alloc::{AllocError, Global};
 
+mod visits;
+
 const FORM: Option<BodyFault> = Some(BodyFault::Form);
 
 fn fault_of(alloc: Global, body: &[u8]) -> Option<BodyFault> {

@@ -1,5 +1,9 @@
 pub mod OneDesk
 pub mod Asking
-pub mod Stands
+pub mod Named
+pub mod Parts
+pub mod Takes
+pub mod Rows
+pub mod Pieces
 pub mod SoFar
 pub mod Ending

@@ -41,9 +41,9 @@ calls_push first next h =
 
 -- an ask of a desk alone gets its turn
 turn : (before after : BoardState) (first : ℕ) (ask : Ask) (given : Given)
-    → IsAlone before first → IsLegal before.start after.history → before.next < call_limit → Gives before.start before.history before.next ask given after.history
+    → IsAlone before first → IsLegal before.airport after.history → before.next < call_limit → Gives before.airport before.history before.next ask given after.history
     → after.next ≡ before.next + 1 → CountsGiven given 0 0
-    → AloneAsks before.start (alone_port (record { board = before; first = first })) ask given (alone_port (record { board = after; first = first }))
+    → AloneAsks before.airport (alone_port (record { board = before; first = first })) ask given (alone_port (record { board = after; first = first }))
 turn before after first ask given h still last gives next cause = (
   record {
     history = before.history;
@@ -68,9 +68,9 @@ turn before after first ask given h still last gives next cause = (
 
 -- what a desk alone shows of an ask
 pub alone_shows : (before after : BoardState) (first : ℕ) (ask : Ask) (acted : Acted)
-    → IsAlone before first → IsLegal before.start after.history → before.next < call_limit → ActsAs before.start before.history before.next ask acted after.history
+    → IsAlone before first → IsLegal before.airport after.history → before.next < call_limit → ActsAs before.airport before.history before.next ask acted after.history
     → after.next ≡ before.next + 1 → acted ≢ Fault
-    → ShowsAsk AloneAsks before.start (alone_port (record { board = before; first = first })) ask acted (alone_port (record { board = after; first = first }))
+    → ShowsAsk AloneAsks before.airport (alone_port (record { board = before; first = first })) ask acted (alone_port (record { board = after; first = first }))
 alone_shows before after first ask (Replied bytes) h still last (replied reply, shows, gives) next free = (replied reply, shows, turn before after first ask (replied reply) h still last gives next (omega arith))
 alone_shows before after first ask (Replied bytes) h still last (no_memory, shows, gives) next free = absurd (cc)
 alone_shows before after first ask (Replied bytes) h still last (keeper_fault, shows, gives) next free = absurd (cc)

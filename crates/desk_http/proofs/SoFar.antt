@@ -5,7 +5,6 @@ use Rattle.std.proofs.lemmas.List.Elements.{All-append, All-from_recursion}
 use Rattle.apron_base.specs.Ends.{Wrote}
 use Rattle.apron_base.proofs.Runs.{took_both, took_none, wrote_both, wrote_none}
 use Rattle.apron_rules.specs.declared.parts.AirportParts.{AirportParts}
-use Rattle.plan_core.specs.PlanState.{PlanState}
 use Rattle.http_framing.specs.Closing.{is_closing}
 use Rattle.http_framing.specs.Requests.{Request}
 use Rattle.http_framing.specs.Streams.{IsOpen}
@@ -80,7 +79,7 @@ module _ (Comes : PortState → Request → Answered → PortState → Type 0) (
   goes_on before middle after rest left count (AtEnd Inside) h t e = absurd (cc)
   goes_on before middle after rest left count SourceFault h t e = absurd (cc)
 
--- a turn at the plan that the history began with, by its other name
-pub turn_at : (comes : PlanState → PortState → Request → Answered → PortState → Type 0) (there here : PlanState) (before after : Moment) (bytes left : List ℕ) (turned : Turned)
-    → there ≡ here → TakesTurn (comes there) there.airport before after bytes left turned → TakesTurn (comes here) here.airport before after bytes left turned
-turn_at comes there here before after bytes left turned same t = subst (λ start. TakesTurn (comes start) start.airport before after bytes left turned) same t
+-- a turn at an airport, by its other name
+pub turn_at : (comes : AirportParts → PortState → Request → Answered → PortState → Type 0) (there here : AirportParts) (before after : Moment) (bytes left : List ℕ) (turned : Turned)
+    → there ≡ here → TakesTurn (comes there) there before after bytes left turned → TakesTurn (comes here) here before after bytes left turned
+turn_at comes there here before after bytes left turned same t = subst (λ airport. TakesTurn (comes airport) airport before after bytes left turned) same t

@@ -1,6 +1,6 @@
 -- One desk alone over a board.
 use Rattle.std.specs.Prelude.{◌≡◌, ◌==◌, ◌+◌, ◌-◌, ◌≤◌, ℕ, zero, suc, List, [], ◌∷◌, length}
-use Rattle.plan_core.specs.PlanState.{PlanState}
+use Rattle.apron_rules.specs.declared.parts.AirportParts.{AirportParts}
 use Rattle.desk_words.specs.declared.asks.Ask.{Ask}
 use Rattle.apron_base.specs.Histories.{Rises}
 use Rattle.history_core.specs.Answer.{Given}
@@ -17,7 +17,7 @@ pub record AloneState : Type 0 where
 pub record IsAlone (board : BoardState) (first : ℕ) : Type 0 where
   pub begun : first ≤ board.next
   pub numbers : Rises call_of 1 board.next board.history
-  pub legal : IsLegal board.start board.history
+  pub legal : IsLegal board.airport board.history
 
 -- so many numbers from the first on, in order
 abbrev pub numbers_from : ℕ → ℕ → List ℕ
@@ -35,6 +35,6 @@ alone_port alone = record {
 }
 
 -- an ask of a desk alone gets its turn at the history that it has seen, and with the next number
-abbrev pub AloneAsks : PlanState → PortState → Ask → Given → PortState → Type 0
-AloneAsks start before ask given after =
-    (turn : Turn start before ask given after) × (turn.history ≡ before.seen) × (turn.call ≡ before.first + length before.calls)
+abbrev pub AloneAsks : AirportParts → PortState → Ask → Given → PortState → Type 0
+AloneAsks airport before ask given after =
+    (turn : Turn airport before ask given after) × (turn.history ≡ before.seen) × (turn.call ≡ before.first + length before.calls)

@@ -2,9 +2,12 @@ pub mod Ports
 pub mod Alone
 pub mod Runs
 pub mod Numbers
+pub mod Names
+pub mod Targets
+pub mod Table
+pub mod Finding
 pub mod CommitsRoute
-pub mod VersionRoute
-pub mod VisitRoute
+pub mod VisitsRoute
 pub mod Routes
 pub mod Answers
 pub mod Session

@@ -4,7 +4,7 @@ use Rattle.apron_base.specs.Counts.{Rose}
 use Rattle.apron_base.specs.Histories.{Every, Rises}
 use Rattle.apron_base.specs.declared.outside.Acted.{Acted}
 use Rattle.apron_base.specs.declared.outside.Acted.TheVariants.{Spent}
-use Rattle.plan_core.specs.PlanState.{PlanState}
+use Rattle.apron_rules.specs.declared.parts.AirportParts.{AirportParts}
 use Rattle.desk_words.specs.declared.asks.Entry.{Entry}
 use Rattle.desk_words.specs.declared.asks.Ask.{Ask}
 use Rattle.history_core.specs.History.{call_limit, call_of, IsLegal}
@@ -31,17 +31,17 @@ CountsGiven keeper_fault before now = (before ≤ now) × Rose before now
 CountsGiven given before now = before ≤ now
 
 -- An ask that got its turn: it found this whole history, which begins with all that the port had seen, and was given its answer there.
-pub record Turn (start : PlanState) (before : PortState) (ask : Ask) (given : Given) (after : PortState) : Type 0 where
+pub record Turn (airport : AirportParts) (before : PortState) (ask : Ask) (given : Given) (after : PortState) : Type 0 where
   pub history : List Entry
   pub call : ℕ
   pub from : before.first ≤ call
   pub later : IsLater before.seen before.calls history
-  pub legal : IsLegal start history
-  pub still : IsLegal start after.seen
+  pub legal : IsLegal airport history
+  pub still : IsLegal airport after.seen
   pub numbers : Rises call_of 1 call history
   pub above : Every (λ own. own < call) before.calls
   pub last : call < call_limit
-  pub gives : Gives start history call ask given after.seen
+  pub gives : Gives airport history call ask given after.seen
   pub first : after.first ≡ before.first
   pub calls : after.calls ≡ before.calls ++ call ∷ []
   pub spent : before.spent ≡ false
@@ -53,6 +53,6 @@ abbrev pub IsExhausted : PortState → PortState → Type 0
 IsExhausted before after = after ≡ record before { spent = true }
 
 -- what an act shows of an ask, where `asks` says what the port gives and becomes
-abbrev pub ShowsAsk : (PlanState → PortState → Ask → Given → PortState → Type 0) → PlanState → PortState → Ask → Acted → PortState → Type 0
-ShowsAsk asks start before ask Spent after = IsExhausted before after
-ShowsAsk asks start before ask acted after = (given : Given) × (acted ≡ shown start.airport given) × asks start before ask given after
+abbrev pub ShowsAsk : (AirportParts → PortState → Ask → Given → PortState → Type 0) → AirportParts → PortState → Ask → Acted → PortState → Type 0
+ShowsAsk asks airport before ask Spent after = IsExhausted before after
+ShowsAsk asks airport before ask acted after = (given : Given) × (acted ≡ shown airport given) × asks airport before ask given after

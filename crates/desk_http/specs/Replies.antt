@@ -1,20 +1,18 @@
 -- The answer to one request, as it is to be written.
 use Rattle.std.specs.Prelude.{◌≡◌, List, ℕ, Option, None, Some, Result, Ok, Err}
 use Rattle.apron_rules.specs.declared.parts.AirportParts.{AirportParts}
-use Rattle.plan_core.specs.PlanState.{PlanState}
 use Rattle.desk_words.specs.Early.{early_text}
 use Rattle.desk_words.specs.declared.asks.Ask.{Ask}
-use Rattle.history_core.specs.Answer.{Given}
-use Rattle.desk_http.specs.Answers.{Answered, sends, exhausted, unread, Sent, sent_text, SendsFor, FindsExhausted}
-use Rattle.desk_http.specs.Ports.{PortState}
-use Rattle.desk_http.specs.declared.routes.Routed.{Routed}
-use Rattle.desk_http.specs.declared.answering.Reply.{Reply}
-use Rattle.desk_http.specs.declared.answering.Reply.TheVariants.{Told, Early, Fixed}
+use Rattle.history_core.specs.Answer.{Given, given_text}
+use Rattle.desk_http.specs.Answers.{Answered, sends, exhausted, unread, Sent, sent_text}
+use Rattle.desk_http.specs.Ports.{PortState, IsExhausted}
+use Rattle.desk_http.specs.declared.answering.PreparedReply.{PreparedReply}
+use Rattle.desk_http.specs.declared.answering.PreparedReply.TheVariants.{Told, Early, Fixed}
 use Rattle.desk_http.specs.declared.answering.Unanswered.{Unanswered}
 use Rattle.desk_http.specs.declared.answering.Unanswered.TheVariants.{Exhausted, Unread}
 
 -- the bytes of a reply
-abbrev pub reply_bytes : Reply → List ℕ
+abbrev pub reply_bytes : PreparedReply → List ℕ
 reply_bytes (Told bytes) = bytes
 reply_bytes (Early early) = early_text early
 reply_bytes (Fixed bytes) = bytes.now
@@ -25,11 +23,11 @@ answered_as Exhausted = exhausted
 answered_as Unread = unread
 
 -- the answer is what came of the request, where `came` says what came of it and what the port became
-abbrev pub IsAnswer : AirportParts → (Answered → PortState → Type 0) → Result Reply Unanswered → PortState → Type 0
+abbrev pub IsAnswer : AirportParts → (Answered → PortState → Type 0) → Result PreparedReply Unanswered → PortState → Type 0
 IsAnswer airport came (Ok reply) after = (sent : Sent) × came (sends sent) after × (reply_bytes reply ≡ sent_text airport sent)
 IsAnswer airport came (Err why) after = came (answered_as why) after
 
--- the reply is what is sent for what is asked; there is none where the port's numbers are exhausted
-abbrev pub IsReply : (PlanState → PortState → Ask → Given → PortState → Type 0) → PlanState → PortState → Routed → Option Reply → PortState → Type 0
-IsReply asks start before asked (Some reply) after = (sent : Sent) × SendsFor asks start before asked sent after × (reply_bytes reply ≡ sent_text start.airport sent)
-IsReply asks start before asked None after = FindsExhausted asks start before asked after
+-- the reply is what the port gives for the ask; there is none where its numbers are exhausted
+abbrev pub IsReply : (AirportParts → PortState → Ask → Given → PortState → Type 0) → AirportParts → PortState → Ask → Option PreparedReply → PortState → Type 0
+IsReply asks airport before ask (Some reply) after = (given : Given) × asks airport before ask given after × (reply_bytes reply ≡ given_text airport given)
+IsReply asks airport before ask None after = IsExhausted before after

@@ -1,28 +1,57 @@
--- What a request asks: of the plan, or nothing, where its reply is fixed before the plan is consulted.
-use Rattle.std.specs.Prelude.{ℕ, List, codes, Option, None, Some, if◌then◌else◌}
-use Rattle.std.specs.Option.{option_map}
+-- What a request asks of the plan, or the reply that is fixed before the plan is consulted.
+use Rattle.std.specs.Prelude.{◌≡◌, ℕ, Bool, true, false, not, List, codes, Option, None, Some, Result, Ok, Err, ok_or, IsSome, if◌then◌else◌}
+use Rattle.std.specs.Str.{bytes_eq}
+use Rattle.apron_base.specs.ResultChain.{◌>>=◌, refuse_if}
 use Rattle.apron_rules.specs.declared.parts.AirportParts.{AirportParts}
 use Rattle.http_framing.specs.Fields.{number_field, pairs}
 use Rattle.http_framing.specs.Requests.{Request}
 use Rattle.http_framing.specs.declared.fields.FieldNumber.{FieldNumber}
 use Rattle.http_framing.specs.declared.fields.FieldNumber.TheVariants.{Absent, Written, Wrong}
-use Rattle.http_framing.specs.declared.front.RequestParts.{RequestParts}
-use Rattle.desk_words.specs.declared.early.Early.TheVariants.{BadSeen, Unbuilt}
-use Rattle.history_core.specs.History.{IsAskOf}
+use Rattle.desk_words.specs.declared.asks.Ask.{Ask}
+use Rattle.desk_words.specs.declared.asks.What.{What}
+use Rattle.desk_words.specs.declared.asks.What.TheVariants as what
+use Rattle.desk_words.specs.declared.early.Early.{Early}
+use Rattle.desk_words.specs.declared.early.Early.TheVariants.{NoRoute, OnlyGet, OnlyPost, BadSeen, Unbuilt}
 use Rattle.desk_http.specs.Numbers.{within}
-use Rattle.desk_http.specs.CommitsRoute.{commits_asked, is_commits}
-use Rattle.desk_http.specs.VersionRoute.{is_version, version_asked}
-use Rattle.desk_http.specs.VisitRoute.{visit_asked, visit_named}
-use Rattle.desk_http.specs.declared.routes.Resource.{Resource}
-use Rattle.desk_http.specs.declared.routes.Resource.TheVariants.{Commits, Version, Visit}
-use Rattle.desk_http.specs.declared.routes.Routed.{Routed}
-use Rattle.desk_http.specs.declared.routes.Routed.TheVariants.{Early as AtOnce, Asks}
+use Rattle.desk_http.specs.CommitsRoute.{commit_asked}
+use Rattle.desk_http.specs.VisitsRoute.{visit_added}
+use Rattle.desk_http.specs.Targets.{route_of}
+use Rattle.desk_http.specs.declared.routes.Route.{Route}
+use Rattle.desk_http.specs.declared.routes.Route.TheVariants.{Visits, Commits, Mvt, Reports, Cancels, Version, Unplaced, Visit, Plan, Chart}
 
--- what a method and a target name, if anything: the commits, the version, or a visit
-abbrev pub resource_of : List ℕ → List ℕ → Option Resource
-resource_of method target =
-    if is_commits method target then Some Commits
-    else (if is_version method target then Some Version else option_map Visit (visit_named method target))
+-- whether the route is there already
+abbrev pub is_built : Route → Bool
+is_built Visits = true
+is_built Commits = true
+is_built Version = true
+is_built (Visit number) = true
+is_built Mvt = false
+is_built Reports = false
+is_built Cancels = false
+is_built Unplaced = false
+is_built (Plan day) = false
+is_built (Chart day) = false
+
+-- whether a body comes with the requests of a route
+abbrev pub takes_body : Route → Bool
+takes_body Visits = true
+takes_body Commits = true
+takes_body Mvt = true
+takes_body Reports = true
+takes_body Cancels = true
+takes_body Version = false
+takes_body Unplaced = false
+takes_body (Visit number) = false
+takes_body (Plan day) = false
+takes_body (Chart day) = false
+
+-- the method of a route: POST where a body comes with its requests, and else GET
+abbrev pub method_of : Route → List ℕ
+method_of route = if takes_body route then codes "POST" else codes "GET"
+
+-- the reply to another method than the route's
+abbrev pub only : Route → Early
+only route = if takes_body route then OnlyPost else OnlyGet
 
 -- the version that a desk says it has seen: 0 where it says none
 abbrev pub seen_of : FieldNumber → Option ℕ
@@ -30,32 +59,58 @@ seen_of Absent = Some 0
 seen_of (Written number) = within number
 seen_of Wrong = None
 
--- what is asked of a resource with this body by a desk that has seen this version
-abbrev pub asked_of : AirportParts → Resource → ℕ → List ℕ → Routed
-asked_of airport Commits seen body = commits_asked airport seen body
-asked_of airport Version seen body = Asks (version_asked seen)
-asked_of airport (Visit number) seen body = Asks (visit_asked seen number)
+-- what is looked at for what a request asks; a version that was not told as it has to be is none
+pub record Said : Type 0 where
+  pub method : List ℕ
+  pub target : List ℕ
+  pub seen : Option ℕ
+  pub body : List ℕ
 
--- the first that is refused is answered: what is named, then the version that the desk says it has seen, then the body
-abbrev pub routed_to : AirportParts → Option Resource → Option ℕ → List ℕ → Routed
-routed_to airport None seen body = AtOnce Unbuilt
-routed_to airport (Some resource) None body = AtOnce BadSeen
-routed_to airport (Some resource) (Some seen) body = asked_of airport resource seen body
+-- what a request says
+abbrev pub said_in : Request → Said
+said_in request = record {
+  method = request.head.method;
+  target = request.head.target;
+  seen = seen_of (number_field (codes "x-seen") (pairs request.head));
+  body = request.body;
+}
 
--- what is asked by a request with these parts
-abbrev pub routed_parts : AirportParts → RequestParts → Routed
-routed_parts airport parts =
-    routed_to airport (resource_of parts.method.now parts.target.now) (seen_of parts.seen) parts.body.now
+-- the route that a request takes: one that is there, by its method
+abbrev pub route_taken : List ℕ → List ℕ → Result Route Early
+route_taken method target = do
+  route ← ok_or (route_of target) NoRoute
+  built ← refuse_if (not (is_built route)) Unbuilt
+  taken ← refuse_if (not (bytes_eq method (method_of route))) (only route)
+  Ok route
 
--- the version that a desk says it has seen with a request
-abbrev pub seen_with : Request → Option ℕ
-seen_with request = seen_of (number_field (codes "x-seen") (pairs request.head))
+-- the body is read: the route takes one, and the version that was seen is told as it has to be
+pub record ReadsBody (said : Said) : Type 0 where
+  pub route : Route
+  pub taken : route_taken said.method said.target ≡ Ok route
+  pub body : takes_body route ≡ true
+  pub seen : IsSome said.seen
+
+-- what is asked of a route with this body
+abbrev pub what_asked : AirportParts → Route → List ℕ → Result What Early
+what_asked airport Visits body = visit_added airport body
+what_asked airport Commits body = commit_asked airport body
+what_asked airport Version body = Ok what.Version
+what_asked airport (Visit number) body = Ok (what.Visit number)
+what_asked airport Mvt body = Err Unbuilt
+what_asked airport Reports body = Err Unbuilt
+what_asked airport Cancels body = Err Unbuilt
+what_asked airport Unplaced body = Err Unbuilt
+what_asked airport (Plan day) body = Err Unbuilt
+what_asked airport (Chart day) body = Err Unbuilt
+
+-- what is asked, or the first reply that is fixed: by the target and the method, then by the version that the desk says it has seen, then by the body
+abbrev pub asked_by : AirportParts → Said → Result Ask Early
+asked_by airport said = do
+  route ← route_taken said.method said.target
+  version ← ok_or said.seen BadSeen
+  asked ← what_asked airport route said.body
+  Ok (record { seen = version; what = asked })
 
 -- what the request asks
-abbrev pub routed : AirportParts → Request → Routed
-routed airport request = routed_to airport (resource_of request.head.method request.head.target) (seen_with request) request.body
-
--- what is asked is of the airport
-abbrev pub IsRoutedOf : AirportParts → Routed → Type 0
-IsRoutedOf airport (AtOnce reply) = Unit {0}
-IsRoutedOf airport (Asks ask) = IsAskOf airport ask
+abbrev pub routed : AirportParts → Request → Result Ask Early
+routed airport request = asked_by airport (said_in request)

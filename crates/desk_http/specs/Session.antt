@@ -6,7 +6,6 @@ use Rattle.apron_base.specs.Ends.{SinkState, SourceState, Took, Wrote}
 use Rattle.apron_base.specs.declared.outside.Outcome.{Outcome}
 use Rattle.apron_base.specs.declared.outside.Outcome.TheVariants.{Ended, Closed, Cut, Malformed, Limit, ReadFault, WriteFault, Spent, Memory}
 use Rattle.apron_rules.specs.declared.parts.AirportParts.{AirportParts}
-use Rattle.plan_core.specs.PlanState.{PlanState}
 use Rattle.http_framing.specs.declared.bodies.Refusal.{Refusal}
 use Rattle.http_framing.specs.Closing.{is_closing}
 use Rattle.http_framing.specs.Requests.{Request, HasRequest, IsPartial, IsMalformed}
@@ -132,6 +131,6 @@ module _ (Comes : PortState → Request → Answered → PortState → Type 0) w
     pub last_written : WritesLast outcome (last_text airport last) written
     pub wrote : Wrote (is_write_fault outcome) before.sink after.sink (texts_of airport done.sents ++ written)
 
--- a session over a port: `asks` says what the port gives for an ask and what it becomes, and `start` is the plan that its history began with
-abbrev pub SessionOf : (PlanState → PortState → Ask → Given → PortState → Type 0) → PlanState → Moment → Moment → Outcome → Type 0
-SessionOf asks start before after outcome = SessionBy (Answers asks start) start.airport before after outcome
+-- a session over a port: `asks` says what a port of the airport gives for an ask and what it becomes
+abbrev pub SessionOf : (AirportParts → PortState → Ask → Given → PortState → Type 0) → AirportParts → Moment → Moment → Outcome → Type 0
+SessionOf asks airport before after outcome = SessionBy (Answers asks airport) airport before after outcome

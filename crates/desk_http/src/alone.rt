@@ -49,13 +49,13 @@ impl<'a> Alone<'a> {
 impl<'a> DeskPort for Alone<'a> {
     ghost use Rattle.desk_http.specs.Alone.{AloneAsks, alone_port};
 
-    ghost start = { λ a. a.board.start };
+    ghost airport_of = { λ a. a.board.airport };
 
     ghost port = { alone_port };
 
     ghost asks = { AloneAsks };
 
-    ghost takes_turns = { λ from before after ask given asked. asked.0 };
+    ghost takes_turns = { λ airport before after ask given asked. asked.0 };
 
     fn airport(&self) -> &Airport {
         self.board.airport()

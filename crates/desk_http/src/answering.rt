@@ -3,20 +3,20 @@ ghost use Rattle.std.specs.Prelude.{◌≡◌};
 ghost use Rattle.apron_base.specs.Ends.{Puts};
 ghost use Rattle.history_core.specs.History.{IsAskOf};
 ghost use Rattle.desk_http.specs.Replies.{IsReply, reply_bytes};
-ghost use Rattle.desk_http.specs.Routes.{IsRoutedOf};
 
 use crate::DeskPort;
-use crate::routes::{Routed, route};
-use apron_base::{Acted, Failed, Listed, Memory, Sink};
+use crate::routes::{Unasked, asked_by};
+use crate::targets::DeskRoutes;
+use apron_base::{Acted, Failed, Listed, Sink};
 use desk_words::asks::Ask;
 use desk_words::early::{Early, early_bytes};
 use desk_words::fixed;
 use http_framing::RequestParts;
 use std::alloc::Global;
 
-/// A reply, as far as it has to be kept until it is written.
+/// What is kept of a reply until it is written.
 #[derive(Debug, Drop)]
-pub(crate) enum Reply {
+pub(crate) enum PreparedReply {
     /// What the plan gave.
     Told(Listed<u8>),
     /// What was fixed before the plan was consulted, whose text takes no memory.
@@ -34,30 +34,30 @@ pub(crate) enum Unanswered {
     Unread,
 }
 
-impl Reply {
+impl PreparedReply {
     /// Writes the reply's text.
     pub(crate) fn put<W: Sink>(&self, sink: &mut W) -> Result<(), Failed>
         ensures puts { Puts (W.state sink.old) (W.state sink.new) result (reply_bytes self.now) }
     {
         match self {
-            Reply::Told(text) => sink.put(text.as_slice()),
-            Reply::Early(early) => sink.put(early_bytes(*early).as_slice()),
-            Reply::Fixed(text) => sink.put(text),
+            PreparedReply::Told(text) => sink.put(text.as_slice()),
+            PreparedReply::Early(early) => sink.put(early_bytes(*early).as_slice()),
+            PreparedReply::Fixed(text) => sink.put(text),
         }
     }
 }
 
 /// What answers the requests of a session over a port.
 pub(crate) trait Answerer<P: DeskPort> {
-    ghost use Rattle.plan_core.specs.PlanState.{PlanState};
+    ghost use Rattle.apron_rules.specs.declared.parts.AirportParts.{AirportParts};
     ghost use Rattle.http_framing.specs.Requests.{Request};
     ghost use Rattle.http_framing.specs.Fronts.{ArePartsOf};
     ghost use Rattle.desk_http.specs.Answers.{Answered};
     ghost use Rattle.desk_http.specs.Ports.{PortState};
     ghost use Rattle.desk_http.specs.Replies.{IsAnswer};
 
-    /// What comes of a request at the plan that the history began with, and what the port becomes.
-    ghost comes: { PlanState → PortState → Request → Answered → PortState → Type 0 };
+    /// What comes of a request at the airport, and what the port becomes.
+    ghost comes: { AirportParts → PortState → Request → Answered → PortState → Type 0 };
 
     /// Answers the request with these parts.
     fn answer(
@@ -65,14 +65,11 @@ pub(crate) trait Answerer<P: DeskPort> {
         alloc: Global,
         port: &mut P,
         parts: &RequestParts<'_>,
-    ) -> Result<Reply, Unanswered>
-        ensures start { P.start port.new ≡ P.start port.old }
+    ) -> Result<PreparedReply, Unanswered>
+        ensures airport { P.airport_of port.new ≡ P.airport_of port.old }
         ensures came { (request : Request) → ArePartsOf request parts.now
-            → IsAnswer (P.start port.old).airport (comes (P.start port.old) (P.port port.old) request) result (P.port port.new) };
+            → IsAnswer (P.airport_of port.old) (comes (P.airport_of port.old) (P.port port.old) request) result (P.port port.new) };
 }
-
-/// The routes of a desk.
-pub(crate) struct DeskRoutes;
 
 impl<P: DeskPort> Answerer<P> for DeskRoutes {
     ghost use Rattle.desk_http.specs.Answers.{Answers};
@@ -84,35 +81,25 @@ impl<P: DeskPort> Answerer<P> for DeskRoutes {
         alloc: Global,
         port: &mut P,
         parts: &RequestParts<'_>,
-    ) -> Result<Reply, Unanswered> {
-        match route(alloc, port.airport(), parts) {
-            Ok(routed) => answer_routed(alloc, port, &routed).ok_or(Unanswered::Exhausted),
-            Err(Memory) => Err(Unanswered::Unread),
+    ) -> Result<PreparedReply, Unanswered> {
+        match asked_by(alloc, self, port.airport(), parts) {
+            Ok(ask) => answer_ask(alloc, port, &ask).ok_or(Unanswered::Exhausted),
+            Err(Unasked::AtOnce(early)) => Ok(PreparedReply::Early(early)),
+            Err(Unasked::Memory) => Err(Unanswered::Unread),
         }
     }
 }
 
-// The reply to what is asked; none where the port's call numbers are exhausted.
-fn answer_routed<P: DeskPort>(alloc: Global, port: &mut P, routed: &Routed) -> Option<Reply>
-    requires valid { IsRoutedOf (P.start port.old).airport routed.now }
-    ensures start { P.start port.new ≡ P.start port.old }
-    ensures came { IsReply P.asks (P.start port.old) (P.port port.old) routed.now result (P.port port.new) }
-{
-    match routed {
-        Routed::Early(early) => Some(Reply::Early(*early)),
-        Routed::Asks(ask) => answer_asked(alloc, port, ask),
-    }
-}
-
-fn answer_asked<P: DeskPort>(alloc: Global, port: &mut P, ask: &Ask) -> Option<Reply>
-    requires valid { IsAskOf (P.start port.old).airport ask.now }
-    ensures start { P.start port.new ≡ P.start port.old }
-    ensures came { IsReply P.asks (P.start port.old) (P.port port.old) (Routed.Asks ask.now) result (P.port port.new) }
+// The reply to an ask; none where the port's call numbers are exhausted.
+fn answer_ask<P: DeskPort>(alloc: Global, port: &mut P, ask: &Ask) -> Option<PreparedReply>
+    requires valid { IsAskOf (P.airport_of port.old) ask.now }
+    ensures airport { P.airport_of port.new ≡ P.airport_of port.old }
+    ensures came { IsReply P.asks (P.airport_of port.old) (P.port port.old) ask.now result (P.port port.new) }
 {
     match port.ask(alloc, ask) {
-        Acted::Reply(bytes) => Some(Reply::Told(bytes)),
-        Acted::Memory => Some(Reply::Fixed(fixed::no_memory())),
-        Acted::Fault => Some(Reply::Fixed(fixed::keeper_fault())),
+        Acted::Reply(bytes) => Some(PreparedReply::Told(bytes)),
+        Acted::Memory => Some(PreparedReply::Fixed(fixed::no_memory())),
+        Acted::Fault => Some(PreparedReply::Fixed(fixed::keeper_fault())),
         Acted::Spent => None,
     }
 }

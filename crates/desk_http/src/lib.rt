@@ -4,13 +4,15 @@
 
 mod alone;
 mod answering;
+mod names;
 mod numbers;
 mod port;
 mod reading;
 mod routes;
 mod serving;
+mod targets;
 
 pub use alone::Alone;
 pub use port::DeskPort;
-pub use routes::{Resource, Routed};
+pub use routes::Route;
 pub use serving::session;

@@ -1,68 +1,158 @@
 // What a request asks.
-ghost use Rattle.std.specs.Prelude.{◌≡◌, IfOk, IsSome, OnErr, Some};
-ghost use Rattle.desk_http.specs.Routes.{IsRoutedOf, asked_of as asked_of_lem, resource_of as resource_of_lem, routed_parts, seen_of as seen_of_lem};
+ghost use Rattle.std.specs.Prelude.{◌≡◌, true, Err, IfOk};
+ghost use Rattle.history_core.specs.History.{IsAskOf, IsWhatOf};
+ghost use Rattle.desk_http.specs.Finding.{Finds, said_by};
+ghost use Rattle.desk_http.specs.Routes.{ReadsBody, asked_by as asked_by_lem, is_built as is_built_lem, method_of as method_of_lem, only as only_lem, route_taken as route_taken_lem, seen_of as seen_of_lem, takes_body as takes_body_lem, what_asked as what_asked_lem};
 
 use crate::numbers::within;
+use crate::targets::DeskRoutes;
 use apron_base::Memory;
 use apron_rules::Airport;
-use desk_words::asks::Ask;
+use desk_bodies::BodyFault;
+use desk_words::asks::{Ask, What};
 use desk_words::early::Early;
 use http_framing::{FieldNumber, RequestParts};
 use std::alloc::Global;
 
 mod commits;
-mod version;
-mod visit;
+mod visits;
 
-use commits::{commits_asked, is_commits};
-use version::{is_version, version_asked};
-use visit::{visit_asked, visit_named};
+use commits::commit_asked;
+use visits::visit_added;
 
-/// What a method and a target name.
+/// What a target names.
 #[derive(Clone, Copy, Debug, PartialEq, Eq)]
-pub enum Resource {
+pub enum Route {
+    Visits,
     Commits,
+    Mvt,
+    Reports,
+    Cancels,
     Version,
+    Unplaced,
     /// The visit of this number.
     Visit(u32),
+    /// The plan of this day.
+    Plan(u32),
+    /// The wall chart of this day.
+    Chart(u32),
 }
 
-/// What a request asks of the plan, or the reply that needs no plan.
-#[derive(Debug, Drop)]
-pub enum Routed {
-    Early(Early),
-    Asks(Ask),
+/// Why nothing is asked of the plan.
+#[derive(Clone, Copy, Debug, PartialEq, Eq)]
+pub(crate) enum Unasked {
+    /// This reply is fixed before the plan is consulted.
+    AtOnce(Early),
+    /// Memory is wanting to read the body.
+    Memory,
+}
+
+impl From<Early> for Unasked {
+    ghost use Rattle.std.specs.Prelude.{◌≡◌};
+    ghost use Rattle.desk_http.specs.declared.routes.Unasked.TheVariants.{AtOnce};
+
+    ghost from_gives = { λ early unasked. unasked ≡ AtOnce early };
+
+    fn from(early: Early) -> Self {
+        Unasked::AtOnce(early)
+    }
+}
+
+impl From<Memory> for Unasked {
+    ghost use Rattle.std.specs.Prelude.{◌≡◌};
+    ghost use Rattle.desk_http.specs.declared.routes.Unasked.TheVariants as unasked;
+
+    ghost from_gives = { λ _ given. given ≡ unasked.Memory };
+
+    fn from(_: Memory) -> Self {
+        Unasked::Memory
+    }
+}
+
+impl From<BodyFault> for Unasked {
+    ghost use Rattle.std.specs.Prelude.{◌≡◌};
+    ghost use Rattle.desk_http.specs.Finding.{of_body_fault};
+
+    ghost from_gives = { λ fault unasked. unasked ≡ of_body_fault fault };
+
+    fn from(fault: BodyFault) -> Self {
+        match fault {
+            BodyFault::Form => Unasked::AtOnce(Early::NotJson),
+            BodyFault::Memory => Unasked::Memory,
+        }
+    }
 }
 
 /// What a request with these parts asks of the plan of this airport.
-pub(crate) fn route(
+pub(crate) fn asked_by(
     alloc: Global,
+    routes: &DeskRoutes,
     airport: &Airport,
     request: &RequestParts<'_>,
-) -> Result<Routed, Memory>
-    ensures asked { IfOk result (λ routed. routed ≡ routed_parts airport.now request.now) }
-    ensures memory { OnErr result (resource_of_lem request.now.method.now request.now.target.now ≡ Some Resource.Commits) }
-    ensures seen { OnErr result (IsSome (seen_of_lem request.now.seen)) }
-    ensures valid { IfOk result (IsRoutedOf airport.now) }
+) -> Result<Ask, Unasked>
+    ensures asked { Finds (asked_by_lem airport.now (said_by request.now)) result }
+    ensures memory { result ≡ Err Unasked.Memory → ReadsBody (said_by request.now) }
+    ensures valid { IfOk result (IsAskOf airport.now) }
 {
-    let Some(resource) = resource_of(request.method, request.target) else {
-        return Ok(Routed::Early(Early::Unbuilt));
-    };
-    let Some(seen) = seen_of(request.seen) else {
-        return Ok(Routed::Early(Early::BadSeen));
-    };
-    asked_of(alloc, airport, resource, seen, request.body)
+    let route = route_taken(routes, request.method, request.target)?;
+    let seen = seen_of(request.seen).ok_or(Early::BadSeen)?;
+    let what = what_asked(alloc, airport, route, request.body)?;
+    Ok(Ask { seen, what })
 }
 
-fn resource_of(method: &[u8], target: &[u8]) -> Option<Resource>
-    ensures is { result ≡ resource_of_lem method.now target.now }
+// The route that a request takes: one that is there, by its method.
+fn route_taken(routes: &DeskRoutes, method: &[u8], target: &[u8]) -> Result<Route, Early>
+    ensures is { result ≡ route_taken_lem method.now target.now }
 {
-    if is_commits(method, target) {
-        Some(Resource::Commits)
-    } else if is_version(method, target) {
-        Some(Resource::Version)
+    let route = routes.route_of(target).ok_or(Early::NoRoute)?;
+    if !is_built(route) {
+        return Err(Early::Unbuilt);
+    }
+    if method != method_of(route) {
+        return Err(only(route));
+    }
+    Ok(route)
+}
+
+fn is_built(route: Route) -> bool
+    ensures is { result ≡ is_built_lem route }
+{
+    match route {
+        Route::Visits | Route::Commits | Route::Version | Route::Visit(_) => true,
+        Route::Mvt
+        | Route::Reports
+        | Route::Cancels
+        | Route::Unplaced
+        | Route::Plan(_)
+        | Route::Chart(_) => false,
+    }
+}
+
+// Whether a body comes with the requests of a route.
+fn takes_body(route: Route) -> bool
+    ensures is { result ≡ takes_body_lem route }
+{
+    match route {
+        Route::Visits | Route::Commits | Route::Mvt | Route::Reports | Route::Cancels => true,
+        Route::Version | Route::Unplaced | Route::Visit(_) | Route::Plan(_) | Route::Chart(_) =>
+            false,
+    }
+}
+
+fn method_of(route: Route) -> &'static [u8]
+    ensures is { result.now ≡ method_of_lem route }
+{
+    if takes_body(route) { b"POST" } else { b"GET" }
+}
+
+// The reply to another method than the route's.
+fn only(route: Route) -> Early
+    ensures is { result ≡ only_lem route }
+{
+    if takes_body(route) {
+        Early::OnlyPost
     } else {
-        Some(Resource::Visit(visit_named(method, target)?))
+        Early::OnlyGet
     }
 }
 
@@ -76,21 +166,22 @@ fn seen_of(seen: FieldNumber) -> Option<u32>
     }
 }
 
-// What is asked of a resource by a desk that has seen this version.
-fn asked_of(
-    alloc: Global,
-    airport: &Airport,
-    resource: Resource,
-    seen: u32,
-    body: &[u8],
-) -> Result<Routed, Memory>
-    ensures asked { IfOk result (λ routed. routed ≡ asked_of_lem airport.now resource seen body.now) }
-    ensures memory { OnErr result (resource ≡ Resource.Commits) }
-    ensures valid { IfOk result (IsRoutedOf airport.now) }
+// What is asked of a route with this body.
+fn what_asked(alloc: Global, airport: &Airport, route: Route, body: &[u8]) -> Result<What, Unasked>
+    ensures asked { Finds (what_asked_lem airport.now route body.now) result }
+    ensures memory { result ≡ Err Unasked.Memory → takes_body_lem route ≡ true }
+    ensures valid { IfOk result (IsWhatOf airport.now) }
 {
-    match resource {
-        Resource::Commits => commits_asked(alloc, airport, seen, body),
-        Resource::Version => Ok(Routed::Asks(version_asked(seen))),
-        Resource::Visit(number) => Ok(Routed::Asks(visit_asked(seen, number))),
+    match route {
+        Route::Visits => visit_added(alloc, airport, body),
+        Route::Commits => commit_asked(alloc, airport, body),
+        Route::Version => Ok(What::Version),
+        Route::Visit(number) => Ok(What::Visit(number)),
+        Route::Mvt
+        | Route::Reports
+        | Route::Cancels
+        | Route::Unplaced
+        | Route::Plan(_)
+        | Route::Chart(_) => Err(Unasked::AtOnce(Early::Unbuilt)),
     }
 }

@@ -6,8 +6,9 @@ ghost use Rattle.desk_http.specs.Session.{SessionBy, SessionOf, refusal_text as 
 ghost use Rattle.desk_http.specs.Serving.{IsServed, TakesTurn, outcome_of as outcome_of_lem};
 
 use crate::DeskPort;
-use crate::answering::{Answerer, DeskRoutes, Unanswered};
+use crate::answering::{Answerer, Unanswered};
 use crate::reading::{More, take_more};
+use crate::targets::DeskRoutes;
 use apron_base::{Failed, Outcome, Sink, Source};
 use desk_words::fixed;
 use http_framing::{End, Front, Incoming, Refusal, RequestParts};
@@ -17,20 +18,23 @@ use std::alloc::Global;
 const MOST_REQUESTS: u32 = 1_000_000;
 
 /// One session of one desk: it answers requests in order until the source ends, one of them closes
-/// it, or something stops it. The memory for its bytes is taken before the first read, so that after
-/// it only the reading of a commit's body can want any without an ask.
+/// it, or something stops it. The memory for its routes and its bytes is taken before the first read,
+/// so that after it only the reading of a body can want any without an ask.
 pub fn session<P: DeskPort, S: Source, W: Sink>(
     alloc: Global,
     port: &mut P,
     source: &mut S,
     sink: &mut W,
 ) -> Outcome
-    ensures of { SessionOf P.asks (P.start port.old)
+    ensures of { SessionOf P.asks (P.airport_of port.old)
         (record { source = S.state source.old; sink = W.state sink.old; port = P.port port.old })
         (record { source = S.state source.new; sink = W.state sink.new; port = P.port port.new }) result }
-    ensures start { P.start port.new ≡ P.start port.old }
+    ensures airport { P.airport_of port.new ≡ P.airport_of port.old }
 {
-    session_by(alloc, &DeskRoutes, port, source, sink)
+    let Ok(routes) = DeskRoutes::new(alloc) else {
+        return Outcome::Memory;
+    };
+    session_by(alloc, &routes, port, source, sink)
 }
 
 // The session of whatever answers over a port.
@@ -41,10 +45,10 @@ fn session_by<P: DeskPort, A: Answerer<P>, S: Source, W: Sink>(
     source: &mut S,
     sink: &mut W,
 ) -> Outcome
-    ensures by { SessionBy (A.comes (P.start port.old)) (P.start port.old).airport
+    ensures by { SessionBy (A.comes (P.airport_of port.old)) (P.airport_of port.old)
         (record { source = S.state source.old; sink = W.state sink.old; port = P.port port.old })
         (record { source = S.state source.new; sink = W.state sink.new; port = P.port port.new }) result }
-    ensures start { P.start port.new ≡ P.start port.old }
+    ensures airport { P.airport_of port.new ≡ P.airport_of port.old }
 {
     let Ok(mut incoming) = Incoming::new(alloc) else {
         return Outcome::Memory;
@@ -115,11 +119,11 @@ fn take_turn<P: DeskPort, A: Answerer<P>, S: Source, W: Sink>(
     sink: &mut W,
     incoming: &mut Incoming,
 ) -> Turned
-    ensures turn { TakesTurn (A.comes (P.start port.old)) (P.start port.old).airport
+    ensures turn { TakesTurn (A.comes (P.airport_of port.old)) (P.airport_of port.old)
         (record { source = S.state source.old; sink = W.state sink.old; port = P.port port.old })
         (record { source = S.state source.new; sink = W.state sink.new; port = P.port port.new })
         incoming.old incoming.new result }
-    ensures start { P.start port.new ≡ P.start port.old }
+    ensures airport { P.airport_of port.new ≡ P.airport_of port.old }
 {
     'reading: loop {
         match incoming.front() {
@@ -148,8 +152,8 @@ fn serve<P: DeskPort, A: Answerer<P>, W: Sink>(
     parts: &RequestParts<'_>,
 ) -> Result<(), Unserved>
     ensures served { (request : Request) → ArePartsOf request parts.now
-        → IsServed (P.start port.old).airport (A.comes (P.start port.old) (P.port port.old) request) (W.state sink.old) (W.state sink.new) result (P.port port.new) }
-    ensures start { P.start port.new ≡ P.start port.old }
+        → IsServed (P.airport_of port.old) (A.comes (P.airport_of port.old) (P.port port.old) request) (W.state sink.old) (W.state sink.new) result (P.port port.new) }
+    ensures airport { P.airport_of port.new ≡ P.airport_of port.old }
 {
     match answerer.answer(alloc, port, parts) {
         Ok(reply) => match reply.put(sink) {

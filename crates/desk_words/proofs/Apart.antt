@@ -1,14 +1,17 @@
 -- Texts that are not the same.
-use Rattle.std.proofs.Common.{◌≡◌, ◌≢◌, ◌&&◌, ℕ, Bool, true, false, not, List, [], ◌∷◌, All, AllPairs, bytes_eq, refl, sym, ◌∙◌, true≢false, arith}
+use Rattle.std.proofs.Common.{◌≡◌, ◌≢◌, ◌==◌, ◌&&◌, ℕ, Bool, true, false, not, List, [], ◌∷◌, drop, All, AllPairs, bytes_eq, refl, sym, ap, ◌∙◌, true≢false, arith}
+use Rattle.std.specs.Prelude.{find, slice_index, unwrap_or, if◌then◌else◌}
 use Rattle.std.specs.Fmt.{digits}
 use Rattle.std.specs.Cmp.Lexicographic.{bytes_decides}
 use Rattle.std.proofs.lemmas.List.Elements.{All-cons, All-nil}
 use Rattle.std.proofs.lemmas.List.Kept.{AllPairs-cons}
 use Rattle.serde_json.proofs.OnLiterals.{serde_json_on_literals}
 use Rattle.desk_words.specs.declared.early.Early.{Early}
-use Rattle.desk_words.specs.declared.early.Early.TheVariants.{BadSeen, NotJson, Unbuilt}
-use Rattle.desk_words.specs.Early.{early_text}
+use Rattle.desk_words.specs.declared.early.Early.TheVariants.{NoRoute, OnlyGet, OnlyPost, BadSeen, NotJson, BadType, BadStand, BadTimes, Unbuilt}
+use Rattle.desk_words.specs.Early.{IsEarly, early_text}
 use Rattle.desk_words.specs.Fixed.{fixed_texts, no_memory_text, keeper_fault_text, bad_head_text}
+use Rattle.desk_words.proofs.Lines.{behind_three}
+use Rattle.desk_words.proofs.Stands.{edit_in, edit_in-body, stand_behind}
 
 pub apart : (a b : List ℕ) → bytes_eq a b ≡ false → a ≢ b
 apart a b e h = true≢false (sym ((bytes_decides a b).1 h) ∙ e)
@@ -46,19 +49,47 @@ fixed_apart = all_apart fixed_texts refl
 
 pub early_apart : (early : Early) → All (λ text. early_text early ≢ text) fixed_texts
 unfolding digits serde_json_on_literals early_text no_memory_text keeper_fault_text bad_head_text
+early_apart NoRoute = differs_apart (early_text NoRoute) fixed_texts refl
+early_apart OnlyGet = differs_apart (early_text OnlyGet) fixed_texts refl
+early_apart OnlyPost = differs_apart (early_text OnlyPost) fixed_texts refl
 early_apart BadSeen = differs_apart (early_text BadSeen) fixed_texts refl
 early_apart NotJson = differs_apart (early_text NotJson) fixed_texts refl
+early_apart BadType = differs_apart (early_text BadType) fixed_texts refl
+early_apart (BadStand edit) = differs_apart (early_text (BadStand edit)) fixed_texts refl
+early_apart BadTimes = differs_apart (early_text BadTimes) fixed_texts refl
 early_apart Unbuilt = differs_apart (early_text Unbuilt) fixed_texts refl
 
--- early replies of one text are one
-pub early_one : (early other : Early) → early_text early ≡ early_text other → early ≡ other
+-- those that are constants
+abbrev constants : List Early
+constants = NoRoute ∷ OnlyGet ∷ OnlyPost ∷ BadSeen ∷ NotJson ∷ BadType ∷ BadTimes ∷ Unbuilt ∷ []
+
+-- the one of this text that is a constant
+abbrev constant_of : List ℕ → Early
+constant_of text = unwrap_or (find (λ early. bytes_eq text (early_text early)) constants) Unbuilt
+
+-- the one of this text, with what stands behind its third line: a body that begins with `{"ed` names an edit
+abbrev read_with : List ℕ → List ℕ → Early
+read_with text behind = if slice_index behind 5 == 100 then BadStand (edit_in (drop 10 behind)) else constant_of text
+
+-- the one of this text
+abbrev read_early : List ℕ → Early
+read_early text = read_with text (behind_three text)
+
+stand_read : (edit : ℕ) → IsEarly (BadStand edit) → read_early (early_text (BadStand edit)) ≡ BadStand edit
+stand_read edit small = ap (read_with (early_text (BadStand edit))) (stand_behind edit) ∙ ap BadStand (edit_in-body edit small)
+
+early_read : (early : Early) → IsEarly early → read_early (early_text early) ≡ early
 unfolding digits serde_json_on_literals early_text
-early_one BadSeen BadSeen same = refl
-early_one BadSeen NotJson same = absurd (apart (early_text BadSeen) (early_text NotJson) refl same)
-early_one BadSeen Unbuilt same = absurd (apart (early_text BadSeen) (early_text Unbuilt) refl same)
-early_one NotJson BadSeen same = absurd (apart (early_text NotJson) (early_text BadSeen) refl same)
-early_one NotJson NotJson same = refl
-early_one NotJson Unbuilt same = absurd (apart (early_text NotJson) (early_text Unbuilt) refl same)
-early_one Unbuilt BadSeen same = absurd (apart (early_text Unbuilt) (early_text BadSeen) refl same)
-early_one Unbuilt NotJson same = absurd (apart (early_text Unbuilt) (early_text NotJson) refl same)
-early_one Unbuilt Unbuilt same = refl
+early_read NoRoute small = refl
+early_read OnlyGet small = refl
+early_read OnlyPost small = refl
+early_read BadSeen small = refl
+early_read NotJson small = refl
+early_read BadType small = refl
+early_read (BadStand edit) small = stand_read edit small
+early_read BadTimes small = refl
+early_read Unbuilt small = refl
+
+-- early replies of one text are one
+pub early_one : (early other : Early) → IsEarly early → IsEarly other → early_text early ≡ early_text other → early ≡ other
+early_one early other small small_other same = sym (early_read early small) ∙ (ap read_early same ∙ early_read other small_other)

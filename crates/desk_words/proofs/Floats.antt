@@ -11,16 +11,17 @@ use Rattle.apron_rules.specs.declared.parts.TypeRow.{TypeRow}
 use Rattle.apron_rules.specs.Rules.{stand_at, type_at}
 use Rattle.apron_rules.specs.declared.rules.UnfitBy.TheVariants.{Letter, Object}
 use Rattle.visit_book.specs.declared.visits.Bump.{Bump}
+use Rattle.visit_book.specs.declared.visits.Key.{Key}
 use Rattle.visit_book.specs.declared.visits.Part.{Part}
 use Rattle.visit_book.specs.declared.visits.Place.{Place}
 use Rattle.visit_book.specs.declared.visits.Place.TheVariants.{Unplaced, Planned, Actual}
 use Rattle.visit_book.specs.declared.visits.Visit.{Visit}
 use Rattle.visit_book.specs.declared.edits.EditFault.{EditFault}
-use Rattle.visit_book.specs.declared.edits.EditFault.TheVariants.{UnknownVisit, Overtaken, NoSuchPart, Unfit, Clash, Memory}
+use Rattle.visit_book.specs.declared.edits.EditFault.TheVariants.{UnknownVisit, Overtaken, Gone, NoSuchPart, OnBlock, BadCut, BadJoin, Unfit, Clash, Memory}
 use Rattle.desk_words.specs.declared.replies.Told.{Told}
-use Rattle.desk_words.specs.declared.replies.Told.TheVariants.{Committed, Version, Visit as AVisit, NoVisit, Ahead, Full, Edit}
+use Rattle.desk_words.specs.declared.replies.Told.TheVariants.{Added, Committed, Version, Visit as AVisit, NoVisit, Ahead, Full, OtherName, Edit}
 use Rattle.desk_words.specs.PartObjects.{name_data, stand_data, type_data}
-use Rattle.desk_words.specs.VisitObjects.{bump_data, place_bump_data, place_stand_data, stay_data, visit_data}
+use Rattle.desk_words.specs.VisitObjects.{bump_data, key_data, place_bump_data, place_stand_data, stay_data, visit_data}
 use Rattle.desk_words.specs.FaultObjects.{fault_data}
 use Rattle.desk_words.specs.Replies.{told_data}
 
@@ -64,26 +65,40 @@ stays_have_none airport (part ∷ parts) =
     neither (has_float (stay_data airport part)) (items_have_float (items_of (map (stay_data airport) parts)))
     (stay_has_none airport part) (stays_have_none airport parts)
 
+key_has_none : (key : Option Key) → has_float (key_data key) ≡ false
+key_has_none None = refl
+key_has_none (Some key) = refl
+
 visit_has_none : (airport : AirportParts) (visit : Visit) (version : ℕ) → has_float (visit_data airport visit version) ≡ false
 visit_has_none airport visit version =
-    neither (items_have_float (items_of (map (stay_data airport) visit.parts))) (has_float (type_data airport visit.kind) || false)
-    (stays_have_none airport visit.parts)
-    (neither (has_float (type_data airport visit.kind)) false (type_has_none airport visit.kind) refl)
+    let kind = has_float (type_data airport visit.kind) || false in
+    let parts = items_have_float (items_of (map (stay_data airport) visit.parts)) in
+    let dep = has_float (key_data visit.dep) in
+    neither (has_float (key_data visit.arr)) (dep || (parts || kind)) (key_has_none visit.arr)
+    (neither dep (parts || kind) (key_has_none visit.dep)
+    (neither parts kind (stays_have_none airport visit.parts)
+    (neither (has_float (type_data airport visit.kind)) false (type_has_none airport visit.kind) refl)))
 
 fault_has_none : (fault : EditFault) (version : ℕ) → has_float (fault_data fault version) ≡ false
 fault_has_none (UnknownVisit edit) version = refl
 fault_has_none (Overtaken edit visit edited) version = refl
+fault_has_none (Gone edit) version = refl
 fault_has_none (NoSuchPart edit) version = refl
+fault_has_none (OnBlock edit) version = refl
+fault_has_none (BadCut edit) version = refl
+fault_has_none (BadJoin edit) version = refl
 fault_has_none (Unfit edit Letter) version = refl
 fault_has_none (Unfit edit (Object place)) version = refl
 fault_has_none (Clash clash) version = refl
 fault_has_none Memory version = refl
 
 pub told_has_none : (airport : AirportParts) (version : ℕ) (told : Told) → has_float (told_data airport version told) ≡ false
+told_has_none airport version (Added entry visit) = refl
 told_has_none airport version (Committed entry) = refl
 told_has_none airport version Version = refl
 told_has_none airport version (AVisit visit) = visit_has_none airport visit version
 told_has_none airport version NoVisit = refl
 told_has_none airport version Ahead = refl
 told_has_none airport version Full = refl
+told_has_none airport version (OtherName visit) = refl
 told_has_none airport version (Edit fault) = fault_has_none fault version

@@ -6,7 +6,7 @@ use Rattle.apron_rules.specs.declared.rules.UnfitBy.{UnfitBy}
 use Rattle.apron_rules.specs.declared.rules.UnfitBy.TheVariants.{Letter, Object}
 use Rattle.apron_rules.specs.declared.rules.Clash.{Clash as TheClash}
 use Rattle.visit_book.specs.declared.edits.EditFault.{EditFault}
-use Rattle.visit_book.specs.declared.edits.EditFault.TheVariants.{UnknownVisit, Overtaken, NoSuchPart, Unfit, Clash, Memory}
+use Rattle.visit_book.specs.declared.edits.EditFault.TheVariants.{UnknownVisit, Overtaken, Gone, NoSuchPart, OnBlock, BadCut, BadJoin, Unfit, Clash, Memory}
 use Rattle.desk_words.specs.PartObjects.{part_data, rule_word, whole}
 
 -- {"error":WORD,"version":N}
@@ -28,6 +28,13 @@ overtaken_data edit visit edited version =
     (member (codes "error") (string (codes "overtaken"))
     (member (codes "version") (whole version)
     (member (codes "visit") (whole visit.0) no_members)))))
+
+-- {"error":"name","version":V,"visit":N}
+abbrev pub other_name_data : VisitNo → ℕ → Data
+other_name_data visit version =
+    object (member (codes "error") (string (codes "name"))
+    (member (codes "version") (whole version)
+    (member (codes "visit") (whole visit.0) no_members)))
 
 -- "letter" or {"object":K}
 abbrev pub by_data : UnfitBy → Data
@@ -56,7 +63,11 @@ clash_data clash version =
 abbrev pub fault_data : EditFault → ℕ → Data
 fault_data (UnknownVisit edit) version = edit_data edit (codes "unknown") version
 fault_data (Overtaken edit visit edited) version = overtaken_data edit visit edited version
+fault_data (Gone edit) version = edit_data edit (codes "gone") version
 fault_data (NoSuchPart edit) version = edit_data edit (codes "part") version
+fault_data (OnBlock edit) version = edit_data edit (codes "onblock") version
+fault_data (BadCut edit) version = edit_data edit (codes "cut") version
+fault_data (BadJoin edit) version = edit_data edit (codes "join") version
 fault_data (Unfit edit by) version = unfit_data by edit version
 fault_data (Clash clash) version = clash_data clash version
 fault_data Memory version = null

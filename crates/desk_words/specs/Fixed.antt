@@ -16,7 +16,7 @@ plain_text code body = text_of code json_media [] (compact_text body)
 unfoldable pub no_memory_text : List ℕ
 no_memory_text = plain_text 507 (error_data (codes "memory"))
 
--- the commit could be accepted, and could not be kept
+-- a command could be accepted, and could not be kept
 unfoldable pub keeper_fault_text : List ℕ
 keeper_fault_text = plain_text 503 (error_data (codes "keeper"))
 

@@ -1,3 +1,4 @@
+pub mod Commands
 pub mod Texts
 pub mod Fixed
 pub mod Early

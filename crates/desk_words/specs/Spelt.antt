@@ -1,10 +1,13 @@
 -- Some replies, byte for byte.
-use Rattle.std.specs.Prelude.{◌≡◌, [], ◌∷◌, false, codes}
+use Rattle.std.specs.Prelude.{◌≡◌, [], ◌∷◌, None, Some, false, codes}
+use Rattle.apron_base.specs.declared.letter.Letter.TheVariants.{C}
 use Rattle.apron_rules.specs.declared.parts.AirportParts.{AirportParts}
-use Rattle.apron_rules.specs.Demo.{demo_airport}
+use Rattle.apron_rules.specs.declared.parts.StandRow.{StandRow}
+use Rattle.apron_rules.specs.declared.parts.TypeRow.{TypeRow}
 use Rattle.apron_rules.specs.declared.rules.Rule.TheVariants.{Clearance}
 use Rattle.apron_rules.specs.declared.rules.UnfitBy.TheVariants.{Object}
 use Rattle.apron_rules.specs.declared.rules.Clash.{Clash as TheClash}
+use Rattle.mvt_grammar.specs.declared.message.Flight.{Flight}
 use Rattle.visit_book.specs.declared.visits.End.TheVariants.{Live}
 use Rattle.visit_book.specs.declared.visits.Part.{Part}
 use Rattle.visit_book.specs.declared.visits.Place.TheVariants.{Planned}
@@ -19,11 +22,41 @@ CommittedIsSpelt =
     (airport : AirportParts) → reply_text airport (record { version = 9; told = Committed 7 })
     ≡ codes "HTTP/1.1 200 OK\r\nContent-Type: application/json\r\nContent-Length: 13\r\nX-Version: 9\r\n\r\n{\"version\":7}"
 
--- from 600 to 660 on the first stand, by the plan
+-- a stand
+abbrev pub example_stand : StandRow
+example_stand = record { name = codes "N1"; frontage = codes "N"; centre = 4000; letter = C; buffer = 10; half_of = None }
+
+-- a type
+abbrev pub example_type : TypeRow
+example_type = record { name = codes "A320"; span = 3580; least = 40 }
+
+-- an airport of that stand and that type
+abbrev pub example_airport : AirportParts
+example_airport = record {
+  station = codes "APR";
+  first = record { year = 2026; month = 3; day = 27 };
+  days = 3;
+  taxi_in = 5;
+  tow = 20;
+  frontages = record { name = codes "N"; objects = [] } ∷ [];
+  stands = example_stand ∷ [];
+  pairs = [];
+  types = example_type ∷ [];
+}
+
+-- from 600 to 660 on the stand, by the plan
 abbrev pub example_part : Part
 example_part = record { from = 600; to = 660; place = Planned (record { 0 = 0 }) }
 
--- a visit of the first type with that part, last edited by the commit that made version 1
+-- flight 27 of LH, which is written without leading zeros
+abbrev pub example_arrival : Flight
+example_arrival = record { airline = codes "LH"; number = 27; suffix = None }
+
+-- flight 1400 of LH with the suffix A
+abbrev pub example_departure : Flight
+example_departure = record { airline = codes "LH"; number = 1400; suffix = Some 65 }
+
+-- a visit of the type with that part and those flights, last edited by the commit that made version 2
 abbrev pub example_visit : Visit
 example_visit = record {
   number = record { 0 = 1 };
@@ -32,17 +65,20 @@ example_visit = record {
   class = 3;
   on = 600;
   off = 660;
+  arr = Some (record { flight = example_arrival; day = 0 });
+  dep = Some (record { flight = example_departure; day = 1 });
   parts = example_part ∷ [];
   on_block = false;
   end = Live;
-  edited = 1;
+  added = 1;
+  edited = 2;
 }
 
--- that visit at the built-in airport, at version 1
+-- that visit at that airport, at version 3
 abbrev pub VisitIsSpelt : Type 0
 VisitIsSpelt =
-    reply_text demo_airport (record { version = 1; told = AVisit example_visit })
-    ≡ codes "HTTP/1.1 200 OK\r\nContent-Type: application/json\r\nContent-Length: 202\r\nX-Version: 1\r\n\r\n{\"arr\":null,\"class\":3,\"dep\":null,\"edited\":1,\"name\":\"V1\",\"off\":660,\"on\":600,\"parts\":[{\"actual\":false,\"bump\":null,\"from\":600,\"stand\":\"N1\",\"to\":660}],\"state\":\"expected\",\"type\":\"A320\",\"version\":1,\"visit\":1}"
+    reply_text example_airport (record { version = 3; told = AVisit example_visit })
+    ≡ codes "HTTP/1.1 200 OK\r\nContent-Type: application/json\r\nContent-Length: 247\r\nX-Version: 3\r\n\r\n{\"arr\":{\"day\":0,\"flight\":\"LH27\"},\"class\":3,\"dep\":{\"day\":1,\"flight\":\"LH1400A\"},\"edited\":2,\"name\":\"V1\",\"off\":660,\"on\":600,\"parts\":[{\"actual\":false,\"bump\":null,\"from\":600,\"stand\":\"N1\",\"to\":660}],\"state\":\"expected\",\"type\":\"A320\",\"version\":3,\"visit\":1}"
 
 -- edit 2 is refused at version 10, as its type would come too near to object 3 of the stand's frontage
 abbrev pub UnfitIsSpelt : Type 0

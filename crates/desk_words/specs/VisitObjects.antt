@@ -1,12 +1,14 @@
 -- A visit, as replies tell it.
-use Rattle.std.specs.Prelude.{ℕ, Bool, List, None, Some, codes, map, if◌then◌else◌}
+use Rattle.std.specs.Prelude.{ℕ, Bool, List, Option, None, Some, codes, map, if◌then◌else◌}
 use Rattle.serde_json.specs.Data.{Data, null, boolean, string, array, object, member, no_members}
 use Rattle.serde_json.specs.View.{items_of}
+use Rattle.mvt_grammar.specs.Canonical.{flight_text}
 use Rattle.apron_rules.specs.declared.parts.AirportParts.{AirportParts}
 use Rattle.visit_book.specs.Places.{is_actual}
 use Rattle.visit_book.specs.declared.visits.Bump.{Bump}
 use Rattle.visit_book.specs.declared.visits.End.{End}
 use Rattle.visit_book.specs.declared.visits.End.TheVariants.{Live, Gone, Cancelled}
+use Rattle.visit_book.specs.declared.visits.Key.{Key}
 use Rattle.visit_book.specs.declared.visits.Part.{Part}
 use Rattle.visit_book.specs.declared.visits.Place.{Place}
 use Rattle.visit_book.specs.declared.visits.Place.TheVariants.{Unplaced, Planned, Actual}
@@ -50,12 +52,17 @@ state_word Cancelled on_block = codes "cancelled"
 state_word Gone on_block = codes "gone"
 state_word Live on_block = if on_block then codes "onblock" else codes "expected"
 
--- a visit with its parts; its flights are null
+-- {"day":D,"flight":FLIGHT}, the number of the flight without leading zeros, or null
+abbrev pub key_data : Option Key → Data
+key_data None = null
+key_data (Some key) = object (member (codes "day") (whole key.day) (member (codes "flight") (string (flight_text key.flight)) no_members))
+
+-- a visit with its parts
 abbrev pub visit_data : AirportParts → Visit → ℕ → Data
 visit_data airport visit version =
-    object (member (codes "arr") null
+    object (member (codes "arr") (key_data visit.arr)
     (member (codes "class") (whole visit.class)
-    (member (codes "dep") null
+    (member (codes "dep") (key_data visit.dep)
     (member (codes "edited") (whole visit.edited)
     (member (codes "name") (string visit.name)
     (member (codes "off") (whole visit.off)

@@ -1,10 +1,12 @@
 // What may be asked of the keeper of the plan.
 use apron_base::{Listed, Name};
-use visit_book::Edit;
+use visit_book::{Edit, NewVisit};
 
 /// What may change the plan.
 #[derive(Debug, Drop)]
 pub enum Command {
+    /// A visit is added, or one of its name and the same data is there already.
+    AddVisit(NewVisit),
     /// The 1 to 64 edits of a desk's draft, in order. The desk made the draft over the plan's version `base`.
     Commit {
         desk: Name,

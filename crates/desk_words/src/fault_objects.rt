@@ -1,9 +1,10 @@
 // Why a command is refused, as replies tell it.
 ghost use Rattle.std.specs.Prelude.{◌≡◌, ◌≢◌, IfOk};
 ghost use Rattle.serde_json.specs.View.{view};
-ghost use Rattle.desk_words.specs.FaultObjects.{by_data, clash_data, fault_data, refused_data};
+ghost use Rattle.desk_words.specs.FaultObjects.{by_data, clash_data, edit_data, fault_data, other_name_data, refused_data};
 
 use crate::part_objects::{part_value, rule_word};
+use apron_base::VisitNo;
 use apron_rules::{Clash, UnfitBy};
 use serde_json::{Value, json};
 use std::alloc::{AllocError, Global};
@@ -15,6 +16,17 @@ pub(crate) fn refused_value(alloc: Global, error: &str, version: u32) -> Result<
     json!(in alloc; {"error": error, "version": version})
 }
 
+// A visit of this number has the name, and other data.
+pub(crate) fn other_name_value(
+    alloc: Global,
+    visit: VisitNo,
+    version: u32,
+) -> Result<Value, AllocError>
+    ensures is { IfOk result (λ v. view v ≡ other_name_data visit version) }
+{
+    json!(in alloc; {"error": "name", "version": version, "visit": visit.0})
+}
+
 pub(crate) fn fault_value(
     alloc: Global,
     fault: EditFault,
@@ -24,9 +36,7 @@ pub(crate) fn fault_value(
     ensures is { IfOk result (λ v. view v ≡ fault_data fault version) }
 {
     match fault {
-        EditFault::UnknownVisit { edit } => {
-            json!(in alloc; {"edit": edit, "error": "unknown", "version": version})
-        }
+        EditFault::UnknownVisit { edit } => edit_value(alloc, edit, "unknown", version),
         EditFault::Overtaken {
             edit,
             visit,
@@ -40,9 +50,11 @@ pub(crate) fn fault_value(
                 "visit": visit.0
             })
         }
-        EditFault::NoSuchPart { edit } => {
-            json!(in alloc; {"edit": edit, "error": "part", "version": version})
-        }
+        EditFault::Gone { edit } => edit_value(alloc, edit, "gone", version),
+        EditFault::NoSuchPart { edit } => edit_value(alloc, edit, "part", version),
+        EditFault::OnBlock { edit } => edit_value(alloc, edit, "onblock", version),
+        EditFault::BadCut { edit } => edit_value(alloc, edit, "cut", version),
+        EditFault::BadJoin { edit } => edit_value(alloc, edit, "join", version),
         EditFault::Unfit { edit, by } => {
             let by = by_value(alloc, by)?;
             json!(in alloc; {"by": by, "edit": edit, "error": "unfit", "version": version})
@@ -50,6 +62,12 @@ pub(crate) fn fault_value(
         EditFault::Clash(clash) => clash_value(alloc, clash, version),
         EditFault::Memory => unreachable!(),
     }
+}
+
+fn edit_value(alloc: Global, edit: u8, error: &str, version: u32) -> Result<Value, AllocError>
+    ensures is { IfOk result (λ v. view v ≡ edit_data edit error.now version) }
+{
+    json!(in alloc; {"edit": edit, "error": error, "version": version})
 }
 
 fn by_value(alloc: Global, by: UnfitBy) -> Result<Value, AllocError>

@@ -9,7 +9,7 @@ pub fn no_memory() -> &'static [u8]
     b"HTTP/1.1 507 Insufficient Storage\r\nContent-Type: application/json\r\nContent-Length: 18\r\n\r\n{\"error\":\"memory\"}"
 }
 
-/// The commit could be accepted, but could not be kept, and so is no part of the plan.
+/// A command could be accepted, but could not be kept, and so is no part of the plan.
 pub fn keeper_fault() -> &'static [u8]
     ensures text { result.now ≡ keeper_fault_text }
 {

@@ -3,7 +3,7 @@ ghost use Rattle.std.specs.Prelude.{◌≡◌, ◌≢◌, true, false, All, AllP
 ghost use Rattle.apron_rules.specs.declared.parts.AirportParts.{AirportParts};
 ghost use Rattle.desk_words.specs.declared.early.Early.{Early};
 ghost use Rattle.desk_words.specs.declared.replies.Reply.{Reply};
-ghost use Rattle.desk_words.specs.Early.{early_text};
+ghost use Rattle.desk_words.specs.Early.{IsEarly, early_text};
 ghost use Rattle.desk_words.specs.Fixed.{fixed_texts};
 ghost use Rattle.desk_words.specs.Replies.{reply_text};
 ghost use Rattle.desk_words.specs.Spelt.{CommittedIsSpelt, VisitIsSpelt, UnfitIsSpelt, ClashIsSpelt};
@@ -26,7 +26,7 @@ pub fn no_reply_is_early_or_fixed()
 pub fn fixed_texts_differ()
     ensures fixed { AllPairs (λ text other. text ≢ other) fixed_texts }
     ensures early { (early : Early) → All (λ text. early_text early ≢ text) fixed_texts }
-    ensures one { (early other : Early) → early_text early ≡ early_text other → early ≡ other }
+    ensures one { (early other : Early) → IsEarly early → IsEarly other → early_text early ≡ early_text other → early ≡ other }
 {}
 
 /// Some replies are spelt so.

@@ -1,13 +1,12 @@
 // Replies that the plan gave the cause of, and their bytes.
 ghost use Rattle.std.specs.Prelude.{◌≡◌, ◌∷◌, [], length, string_bytes, IfOk};
 ghost use Rattle.serde_json.specs.View.{view};
-ghost use Rattle.serde_json.specs.Written.{compact_text};
 ghost use Rattle.desk_words.specs.Texts.{head_of, text_of, version_line};
-ghost use Rattle.desk_words.specs.Replies.{IsTellable, code_of, fault_code, reply_text, told_data};
+ghost use Rattle.desk_words.specs.Replies.{IsTellable, body_text, code_of, fault_code, reply_text, told_data};
 
-use crate::fault_objects::{fault_value, refused_value};
+use crate::fault_objects::{fault_value, other_name_value, refused_value};
 use crate::visit_objects::visit_value;
-use apron_base::{Listed, Memory};
+use apron_base::{Listed, Memory, VisitNo};
 use apron_rules::{Airport, AirportParts};
 use http::StatusCode;
 use serde_json::{Value, json};
@@ -18,8 +17,10 @@ use visit_book::{EditFault, Visit};
 const JSON: &str = "application/json";
 
 /// What came of what was asked.
-#[derive(Clone, Copy, Debug, PartialEq, Eq)]
+#[derive(Debug, Drop)]
 pub enum Told {
+    /// The visit's entry made version `entry`: now, or when the same visit came before.
+    Added { entry: u32, visit: VisitNo },
     /// The commit's entry made version `entry`: now, or when the same draft came before.
     Committed { entry: u32 },
     /// The plan's version.
@@ -32,12 +33,14 @@ pub enum Told {
     Ahead,
     /// The history takes no more entries.
     Full,
+    /// The visit of this number has the name, and other data.
+    OtherName { visit: VisitNo },
     /// The commit was refused, and the plan stays as it is.
     Edit(EditFault),
 }
 
 /// What came of what was asked, with the plan's version after it.
-#[derive(Clone, Copy, Debug, PartialEq, Eq)]
+#[derive(Debug, Drop)]
 pub struct Reply {
     pub version: u32,
     pub told: Told,
@@ -63,9 +66,10 @@ fn code(told: &Told) -> StatusCode
     ensures is { result ≡ code_of told.now }
 {
     match told {
-        Told::Committed { .. } | Told::Version | Told::Visit(_) => StatusCode::OK,
+        Told::Added { .. } | Told::Committed { .. } | Told::Version | Told::Visit(_) =>
+            StatusCode::OK,
         Told::NoVisit => StatusCode::NOT_FOUND,
-        Told::Ahead | Told::Full => StatusCode::CONFLICT,
+        Told::Ahead | Told::Full | Told::OtherName { .. } => StatusCode::CONFLICT,
         Told::Edit(fault) => fault_code(*fault),
     }
 }
@@ -116,7 +120,7 @@ fn told_body(
     told: &Told,
 ) -> Result<Vec<u8>, AllocError>
     requires tellable { IsTellable told.now }
-    ensures text { IfOk result (λ v. v.items ≡ compact_text (told_data airport.now version told.now)) }
+    ensures text { IfOk result (λ v. v.items ≡ body_text airport.now version told.now) }
 {
     let value = told_value(alloc, airport, version, told)?;
     value.to_vec(alloc)
@@ -132,12 +136,14 @@ fn told_value(
     ensures is { IfOk result (λ v. view v ≡ told_data airport.now version told.now) }
 {
     match told {
+        Told::Added { entry, visit } => { json!(in alloc; {"version": *entry, "visit": visit.0}) }
         Told::Committed { entry } => json!(in alloc; {"version": *entry}),
         Told::Version => json!(in alloc; {"version": version}),
         Told::Visit(visit) => visit_value(alloc, airport, visit, version),
         Told::NoVisit => refused_value(alloc, "visit", version),
         Told::Ahead => refused_value(alloc, "ahead", version),
         Told::Full => refused_value(alloc, "full", version),
+        Told::OtherName { visit } => other_name_value(alloc, *visit, version),
         Told::Edit(fault) => fault_value(alloc, *fault, version),
     }
 }

@@ -1,5 +1,5 @@
 // Texts that take no memory.
-ghost use Rattle.std.specs.Prelude.{◌≡◌, ◌≤◌, length};
+ghost use Rattle.std.specs.Prelude.{◌≡◌, ◌≤◌, ◌+◌, ◌++◌, length};
 
 use arrayvec::ArrayVec;
 use std::marker::Model;
@@ -37,5 +37,13 @@ impl ShortText {
         let mut kept = ArrayVec::new();
         let _fits = kept.try_extend_from_slice(bytes);
         ShortText { kept }
+    }
+
+    // Adds these bytes at the end.
+    pub(crate) fn push(&mut self, bytes: &[u8])
+        requires few { length self.old + length bytes.now ≤ MOST_SHORT }
+        ensures bytes { self.new ≡ self.old ++ bytes.now }
+    {
+        let _fits = self.kept.try_extend_from_slice(bytes);
     }
 }

@@ -1,9 +1,14 @@
-// Each reply, byte for byte, at the built-in airport.
+// Each reply, byte for byte.
+ghost use Rattle.std.specs.Prelude.{IsTrue, IfSome};
+ghost use Rattle.visit_book.specs.NewVisits.{HasFlight, IsNewVisit, new_of};
+
 use crate::replies::{Reply, Told, reply_bytes};
-use apron_base::{PartId, VisitNo};
-use apron_rules::Airport;
+use apron_base::{Letter, Listed, Name, PartId, VisitNo};
+use apron_rules::{Airport, AirportParts, Date, Frontage, StandRow, TypeRow};
+use mvt_grammar::is_flight;
 use std::alloc::Global;
-use visit_book::EditFault;
+use std::test::Fail;
+use visit_book::{EditFault, Key, Visit};
 
 mod fixed;
 mod refusals;
@@ -12,19 +17,85 @@ mod visits;
 
 // The reply's text, in two pieces that the rows write beside each other.
 fn has_text(alloc: Global, airport: &Airport, reply: &Reply, head: &str, body: &str) -> bool {
-    let bytes = match reply.told {
+    let bytes = match &reply.told {
         Told::Edit(EditFault::Memory) => return false,
-        Told::Committed { .. }
+        Told::Visit(visit) if !is_new_visit(visit) => return false,
+        Told::Added { .. }
+        | Told::Committed { .. }
         | Told::Version
         | Told::Visit(_)
         | Told::NoVisit
         | Told::Ahead
         | Told::Full
+        | Told::OtherName { .. }
         | Told::Edit(_) => reply_bytes(alloc, airport, reply),
     };
     match (bytes, format!(in alloc; "{head}\r\n\r\n{body}")) {
         (Ok(bytes), Ok(want)) => bytes.as_slice() == want.as_bytes(),
         _ => false,
+    }
+}
+
+fn stand(name: Name, centre: u32) -> StandRow {
+    StandRow {
+        name,
+        frontage: Name::literal(b"N"),
+        centre,
+        letter: Letter::C,
+        buffer: 10,
+        half_of: None,
+    }
+}
+
+// Two stands, N1 and N2, and one type, A320.
+fn airport(alloc: Global) -> Result<Airport, Fail> {
+    let stands = [
+        stand(Name::literal(b"N1"), 4_000),
+        stand(Name::literal(b"N2"), 8_030),
+    ];
+    let kind = TypeRow {
+        name: Name::literal(b"A320"),
+        span: 3_580,
+        least: 40,
+    };
+    let frontage = Frontage {
+        name: Name::literal(b"N"),
+        objects: Listed::new(alloc),
+    };
+    let parts = AirportParts {
+        station: Name::literal(b"APR"),
+        first: Date {
+            year: 2026,
+            month: 3,
+            day: 27,
+        },
+        days: 3,
+        taxi_in: 5,
+        tow: 20,
+        frontages: Listed::from_vec(Vec::from_array(alloc, [frontage])?),
+        stands: Listed::from_vec(Vec::from_array(alloc, stands)?),
+        pairs: Listed::new(alloc),
+        types: Listed::from_vec(Vec::from_array(alloc, [kind])?),
+    };
+    match Airport::new(alloc, parts) {
+        Ok(airport) => Ok(airport),
+        Err(_) => Err(Fail::new("an airport without fault")),
+    }
+}
+
+// What the visit was added with can be said at any airport.
+fn is_new_visit(visit: &Visit) -> bool
+    ensures new { IsTrue result → IsNewVisit (new_of visit.now) }
+{
+    visit.class <= 9 && has_flight(&visit.arr) && has_flight(&visit.dep)
+}
+
+fn has_flight(key: &Option<Key>) -> bool
+    ensures flight { IsTrue result → IfSome key.now HasFlight }
+{
+    match key {
+        Some(key) => is_flight(&key.flight),
+        None => true,
     }
 }
 

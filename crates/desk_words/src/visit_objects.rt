@@ -1,13 +1,19 @@
 // A visit, as replies tell it.
-ghost use Rattle.std.specs.Prelude.{◌≡◌, map, IfOk};
+ghost use Rattle.std.specs.Prelude.{◌≡◌, map, string_bytes, IfOk, IfSome};
+ghost use Rattle.std.specs.Str.{IsAscii};
 ghost use Rattle.serde_json.specs.View.{view};
-ghost use Rattle.desk_words.specs.VisitObjects.{bump_data, place_bump_data, place_stand_data, stay_data, state_word, visit_data};
+ghost use Rattle.mvt_grammar.specs.Canonical.{flight_text};
+ghost use Rattle.mvt_grammar.specs.Readable.{IsFlight};
+ghost use Rattle.visit_book.specs.NewVisits.{HasFlight, IsNewVisit, new_of};
+ghost use Rattle.desk_words.specs.VisitObjects.{bump_data, key_data, place_bump_data, place_stand_data, stay_data, state_word, visit_data};
 
 use crate::part_objects::{part_value, rule_word, stand_value, type_value};
+use apron_base::Memory;
 use apron_rules::AirportParts;
+use mvt_grammar::{Flight, push_flight};
 use serde_json::{Value, json};
 use std::alloc::{AllocError, Global};
-use visit_book::{Bump, End, Part, Place, Visit};
+use visit_book::{Bump, End, Key, Part, Place, Visit};
 
 pub(crate) fn visit_value(
     alloc: Global,
@@ -15,14 +21,17 @@ pub(crate) fn visit_value(
     visit: &Visit,
     version: u32,
 ) -> Result<Value, AllocError>
+    requires new { IsNewVisit (new_of visit.now) }
     ensures is { IfOk result (λ v. view v ≡ visit_data airport.now visit.now version) }
 {
+    let arr = key_value(alloc, &visit.arr)?;
+    let dep = key_value(alloc, &visit.dep)?;
     let parts = stay_values(alloc, airport, visit.parts.as_slice())?;
     let kind = type_value(alloc, airport, visit.kind)?;
     json!(in alloc; {
-        "arr": null,
+        "arr": arr,
         "class": visit.class,
-        "dep": null,
+        "dep": dep,
         "edited": visit.edited,
         "name": visit.name.text(),
         "off": visit.off,
@@ -33,6 +42,41 @@ pub(crate) fn visit_value(
         "version": version,
         "visit": visit.number.0
     })
+}
+
+// A flight and its day, or null where there is none.
+fn key_value(alloc: Global, key: &Option<Key>) -> Result<Value, AllocError>
+    requires flight { IfSome key.now HasFlight }
+    ensures is { IfOk result (λ v. view v ≡ key_data key.now) }
+{
+    match key {
+        Some(key) => {
+            let flight = flight_text(alloc, &key.flight)?;
+            json!(in alloc; {"day": key.day, "flight": flight})
+        }
+        None => Ok(Value::Null),
+    }
+}
+
+fn flight_text(alloc: Global, flight: &Flight) -> Result<String, AllocError>
+    requires flight { IsFlight flight.now }
+    ensures text { IfOk result (λ text. string_bytes text ≡ flight_text flight.now) }
+{
+    let mut bytes = Vec::new(alloc);
+    match push_flight(&mut bytes, flight) {
+        Ok(()) => Ok(ascii_text(bytes)),
+        Err(Memory) => Err(AllocError),
+    }
+}
+
+fn ascii_text(bytes: Vec<u8>) -> String
+    requires ascii { IsAscii bytes.items }
+    ensures text { string_bytes result ≡ bytes.items }
+{
+    match String::from_utf8(bytes) {
+        Ok(text) => text,
+        Err(_) => unreachable!(),
+    }
 }
 
 fn state_word(visit: &Visit) -> &'static str

@@ -1,20 +1,40 @@
 -- Which entries made the drafts of a plan.
-use Rattle.std.proofs.Common.{◌≡◌, ◌∙◌, ◌⊎◌, ◌+◌, ◌++◌, ◌∷◌, ◌&&◌, ◌==◌, [], ℕ, Bool, true, false, List, length, None, Some, cond, refl, sym, ap, subst, arith, inl, inr}
+use Rattle.std.proofs.Common.{◌≡◌, ◌∙◌, ◌⊎◌, ◌+◌, ◌++◌, ◌∷◌, ◌&&◌, ◌==◌, [], ℕ, Bool, true, false, List, length, Option, None, Some, cond, refl, sym, ap, subst, arith, inl, inr}
 use Rattle.std.specs.Cmp.Lexicographic.{bytes_decides}
 use Rattle.std.specs.Str.{bytes_eq}
 use Rattle.std.proofs.lemmas.Bool.Decides.{nat_tests}
-use Rattle.plan_core.specs.Drafts.{Draft, draft_version, id_of, is_draft}
-use Rattle.plan_core.specs.PlanState.{PlanState}
+use Rattle.apron_rules.specs.declared.parts.AirportParts.{AirportParts}
+use Rattle.visit_book.specs.declared.edits.Edit.{Edit}
+use Rattle.plan_core.specs.Drafts.{Draft, draft_of, draft_version, id_of, is_draft}
+use Rattle.plan_core.specs.PlanState.{PlanState, empty_plan}
 use Rattle.plan_core.proofs.DraftIndex.{version_pushed}
 use Rattle.desk_words.specs.declared.asks.Command.{Command}
-use Rattle.desk_words.specs.declared.asks.Command.TheVariants.{Commit}
+use Rattle.desk_words.specs.declared.asks.Command.TheVariants.{AddVisit, Commit}
 use Rattle.desk_words.specs.declared.asks.Entry.{Entry}
-use Rattle.history_core.specs.History.{AreTaken, IsFresh, IsLegal, replay}
+use Rattle.history_core.specs.History.{AreTakenFrom, IsLegal, after_entries, replay}
 use Rattle.history_core.specs.Laws.{HasCommit, HasEntry, IsCommitOf}
-use Rattle.history_core.specs.Steps.{after_command}
+use Rattle.history_core.specs.Steps.{IsTaken, after_command}
 use Rattle.history_core.proofs.Replay.{Commits, command_version, commits}
 
 module _ (desk : List ℕ) (number : ℕ) where
+  -- the version that this draft made
+  abbrev version_in : PlanState → Option ℕ
+  version_in plan = draft_version plan.drafts desk number
+
+  -- a command is the commit of this draft, which made no version before and makes the next one
+  record MakesThis (plan : PlanState) (command : Command) : Type 0 where
+    is : IsCommitOf desk number command
+    before : version_in plan ≡ None
+    after : version_in (after_command plan command) ≡ Some (plan.version + 1)
+
+  -- a command is something else, and leaves the version of this draft
+  record LeavesThis (plan : PlanState) (command : Command) : Type 0 where
+    other : IsCommitOf desk number command → ⊥
+    same : version_in (after_command plan command) ≡ version_in plan
+
+  abbrev DoesToThis : PlanState → Command → Type 0
+  DoesToThis plan command = MakesThis plan command ⊎ LeavesThis plan command
+
   both_tests : (names : Bool) (of : List ℕ) (draft : ℕ) → bytes_eq desk of ≡ names → (names && (number == draft)) ≡ true → (of ≡ desk) × (draft ≡ number)
   both_tests true of draft is h = (sym ((bytes_decides desk of).0 is), grind (arith, nat_tests))
   both_tests false of draft is h = absurd (cc)
@@ -23,28 +43,41 @@ module _ (desk : List ℕ) (number : ℕ) where
   is_this : (draft : Draft) → is_draft desk number (id_of draft) ≡ true → (draft.desk ≡ desk) × (draft.number ≡ number)
   is_this draft is = both_tests (bytes_eq desk draft.desk) draft.desk draft.number refl is
 
-  -- the version of this draft after a command that is taken
-  pushed : (plan : PlanState) (command : Command) (made : Commits plan command) (this : Bool) → is_draft desk number (id_of made.draft) ≡ this
-      → draft_version (after_command plan command).drafts desk number ≡ cond this (Some (plan.version + 1)) (draft_version plan.drafts desk number)
-  pushed plan command made this is =
-      let draft : Draft = made.draft in
-      ap (λ (p : PlanState). draft_version p.drafts desk number) made.makes
-      ∙ version_pushed plan.drafts (record { id = id_of draft; version = plan.version + 1 }) desk number this is
-      (λ yes. let same = is_this draft (is ∙ yes) in
-      subst (λ (d : List ℕ). draft_version plan.drafts d number ≡ None) same.0
-      (subst (λ (n : ℕ). draft_version plan.drafts draft.desk n ≡ None) same.1 made.unused))
-
-  commit_of : (plan : PlanState) (command : Command) (made : Commits plan command) → is_draft desk number (id_of made.draft) ≡ true → IsCommitOf desk number command
-  commit_of plan command made is =
-      let draft : Draft = made.draft in subst (IsCommitOf desk number) (sym made.is) (is_this draft is)
-
-  is_commit : (plan : PlanState) (command : Command) (made : Commits plan command) → IsCommitOf desk number command → is_draft desk number (id_of made.draft) ≡ true
-  is_commit plan command made of =
-      let draft : Draft = made.draft in
-      let same : IsCommitOf desk number (Commit draft.desk draft.number draft.base draft.edits) = subst (IsCommitOf desk number) made.is of in
-      let names : bytes_eq desk draft.desk ≡ true = (bytes_decides desk draft.desk).1 (sym same.0) in
-      let numbers : (number == draft.number) ≡ true = grind (arith, nat_tests, same.1) in
+  this_is : (draft : Draft) → draft.desk ≡ desk → draft.number ≡ number → is_draft desk number (id_of draft) ≡ true
+  this_is draft same_desk same_number =
+      let names : bytes_eq desk draft.desk ≡ true = (bytes_decides desk draft.desk).1 (sym same_desk) in
+      let numbers : (number == draft.number) ≡ true = grind (arith, nat_tests, same_number) in
       rw (names, numbers) refl
+
+  unused_this : (plan : PlanState) (draft : Draft) → draft_version plan.drafts draft.desk draft.number ≡ None → is_draft desk number (id_of draft) ≡ true
+      → version_in plan ≡ None
+  unused_this plan draft unused is =
+      let same = is_this draft is in
+      subst (λ (d : List ℕ). draft_version plan.drafts d number ≡ None) same.0
+      (subst (λ (n : ℕ). draft_version plan.drafts draft.desk n ≡ None) same.1 unused)
+
+  -- the version of this draft after a commit that is taken
+  pushed : (plan : PlanState) (draft : Draft) (made : Commits plan draft) (this : Bool) → is_draft desk number (id_of draft) ≡ this
+      → version_in (after_command plan (Commit draft.desk draft.number draft.base draft.edits)) ≡ cond this (Some (plan.version + 1)) (version_in plan)
+  pushed plan draft made this is =
+      ap version_in made.makes
+      ∙ version_pushed plan.drafts (record { id = id_of draft; version = plan.version + 1 }) desk number this is (λ this_one. unused_this plan draft made.unused (is ∙ this_one))
+
+  commit_does : (plan : PlanState) (of_desk : List ℕ) (draft base : ℕ) (edits : List Edit) → Commits plan (draft_of of_desk draft base edits)
+      → (this : Bool) → is_draft desk number (id_of (draft_of of_desk draft base edits)) ≡ this → DoesToThis plan (Commit of_desk draft base edits)
+  commit_does plan of_desk draft base edits made true is =
+      let sent = draft_of of_desk draft base edits in
+      inl (record { is = is_this sent is; before = unused_this plan sent made.unused is; after = pushed plan sent made true is })
+  commit_does plan of_desk draft base edits made false is =
+      let sent = draft_of of_desk draft base edits in
+      inr (record { other = λ same. absurd (let this_one = this_is sent same.0 same.1 in cc); same = pushed plan sent made false is })
+
+  -- a taken command makes the version of this draft, or leaves it
+  does_to_this : (plan : PlanState) (command : Command) → IsTaken plan command → DoesToThis plan command
+  does_to_this plan (AddVisit new) taken = inr (record { other = λ same. same; same = refl })
+  does_to_this plan (Commit of_desk draft base edits) taken =
+      commit_does plan of_desk draft base edits (commits plan of_desk draft base edits taken)
+      (is_draft desk number (id_of (draft_of of_desk draft base edits))) refl
 
   -- this draft made the version, by the entry of this number among these, before which there were so many
   record Made (count : ℕ) (history : List Entry) (version : ℕ) : Type 0 where
@@ -90,43 +123,40 @@ module _ (desk : List ℕ) (number : ℕ) where
       let has : HasEntry (first ∷ history) made.place commit.0 = commit.1 in
       parted count first commit.0 has.before has.after history version made.place has.is has.counted made.is commit.2
 
-  -- what the first entry makes of it
-  forth : (plan : PlanState) (entry : Entry) (history : List Entry) (version : ℕ) (made : Commits plan entry.command) (this : Bool)
-      → is_draft desk number (id_of made.draft) ≡ this
-      → (draft_version (after_command plan entry.command).drafts desk number ≡ Some version) ⊎ Made (plan.version + 1) history version
-      → (draft_version plan.drafts desk number ≡ Some version) ⊎ Made plan.version (entry ∷ history) version
-  forth plan entry history version made true is (inl found) =
-      let now = pushed plan entry.command made true is in
-      let same : version ≡ plan.version + 1 = cc in
-      inr (made_first plan.version entry history version (commit_of plan entry.command made is) same)
-  forth plan entry history version made false is (inl found) = inl (sym (pushed plan entry.command made false is) ∙ found)
-  forth plan entry history version made this is (inr later) = inr (made_later plan.version entry history version later)
+  abbrev MadeFrom : PlanState → ℕ → List Entry → ℕ → Type 0
+  MadeFrom plan count history version = (version_in plan ≡ Some version) ⊎ Made count history version
 
-  back : (plan : PlanState) (entry : Entry) (history : List Entry) (version : ℕ) (made : Commits plan entry.command) (this : Bool)
-      → is_draft desk number (id_of made.draft) ≡ this
-      → (draft_version plan.drafts desk number ≡ Some version) ⊎ Made plan.version (entry ∷ history) version
-      → (draft_version (after_command plan entry.command).drafts desk number ≡ Some version) ⊎ Made (plan.version + 1) history version
-  back plan entry history version made true is (inl found) =
-      let draft : Draft = made.draft in
-      let same = is_this draft is in
-      let none : draft_version plan.drafts desk number ≡ None =
-      subst (λ (d : List ℕ). draft_version plan.drafts d number ≡ None) same.0 (subst (λ (n : ℕ). draft_version plan.drafts draft.desk n ≡ None) same.1 made.unused) in
-      absurd (cc)
-  back plan entry history version made false is (inl found) = inl (pushed plan entry.command made false is ∙ found)
-  back plan entry history version made this is (inr some) = elim (made_parted plan.version entry history version some) [
-    | inl first ↦ inl (pushed plan entry.command made true (is_commit plan entry.command made first.0) ∙ ap Some (sym first.1))
+  -- what the first entry does to it
+  forth : (plan : PlanState) (entry : Entry) (history : List Entry) (version : ℕ) → DoesToThis plan entry.command
+      → MadeFrom (after_command plan entry.command) (plan.version + 1) history version → MadeFrom plan plan.version (entry ∷ history) version
+  forth plan entry history version (inl makes) (inl found) =
+      let now = makes.after in
+      let same : version ≡ plan.version + 1 = cc in
+      inr (made_first plan.version entry history version makes.is same)
+  forth plan entry history version (inr leaves) (inl found) = inl (sym leaves.same ∙ found)
+  forth plan entry history version does (inr later) = inr (made_later plan.version entry history version later)
+
+  back : (plan : PlanState) (entry : Entry) (history : List Entry) (version : ℕ) → DoesToThis plan entry.command
+      → MadeFrom plan plan.version (entry ∷ history) version → MadeFrom (after_command plan entry.command) (plan.version + 1) history version
+  back plan entry history version (inl makes) (inl found) = let none = makes.before in absurd (cc)
+  back plan entry history version (inr leaves) (inl found) = inl (leaves.same ∙ found)
+  back plan entry history version (inl makes) (inr some) = elim (made_parted plan.version entry history version some) [
+    | inl first ↦ inl (makes.after ∙ ap Some (sym first.1))
+    | inr later ↦ inr later
+  ]
+  back plan entry history version (inr leaves) (inr some) = elim (made_parted plan.version entry history version some) [
+    | inl first ↦ absurd (leaves.other first.0)
     | inr later ↦ inr later
   ]
 
-  all_forth : (start : PlanState) (history : List Entry) (version : ℕ) → AreTaken start history → draft_version (replay start history).drafts desk number ≡ Some version
-      → (draft_version start.drafts desk number ≡ Some version) ⊎ Made start.version history version
-  all_forth start [] version taken found = inl found
-  all_forth start (entry ∷ history) version taken found =
-      let made = commits start entry.command taken.1 in
-      let next : (after_command start entry.command).version ≡ start.version + 1 = command_version start entry.command taken.1 in
-      forth start entry history version made (is_draft desk number (id_of made.draft)) refl
-      (subst (λ (n : ℕ). (draft_version (after_command start entry.command).drafts desk number ≡ Some version) ⊎ Made n history version) next
-      (all_forth (after_command start entry.command) history version taken.2 found))
+  all_forth : (plan : PlanState) (count : ℕ) (history : List Entry) (version : ℕ) → AreTakenFrom plan count history
+      → version_in (after_entries plan history) ≡ Some version → MadeFrom plan plan.version history version
+  all_forth plan count [] version taken found = inl found
+  all_forth plan count (entry ∷ history) version taken found =
+      let after = after_command plan entry.command in
+      let next : after.version ≡ plan.version + 1 = command_version plan entry.command taken.1.0 in
+      forth plan entry history version (does_to_this plan entry.command taken.1.0)
+      (subst (λ (n : ℕ). MadeFrom after n history version) next (all_forth after (count + 1) history version taken.2 found))
 
   nothing_made : {A : Type 0} (count version : ℕ) → Made count [] version → A
   nothing_made count version made =
@@ -138,35 +168,31 @@ module _ (desk : List ℕ) (number : ℕ) where
       nothing_before entry [] after is = absurd (cc)
       nothing_before entry (other ∷ before) after is = absurd (cc)
 
-  all_back : (start : PlanState) (history : List Entry) (version : ℕ) → AreTaken start history
-      → (draft_version start.drafts desk number ≡ Some version) ⊎ Made start.version history version → draft_version (replay start history).drafts desk number ≡ Some version
-  all_back start [] version taken (inl found) = found
-  all_back start [] version taken (inr made) = nothing_made start.version version made
-  all_back start (entry ∷ history) version taken some =
-      let made = commits start entry.command taken.1 in
-      let next : (after_command start entry.command).version ≡ start.version + 1 = command_version start entry.command taken.1 in
-      all_back (after_command start entry.command) history version taken.2
-      (subst (λ (n : ℕ). (draft_version (after_command start entry.command).drafts desk number ≡ Some version) ⊎ Made n history version) (sym next)
-      (back start entry history version made (is_draft desk number (id_of made.draft)) refl some))
+  all_back : (plan : PlanState) (count : ℕ) (history : List Entry) (version : ℕ) → AreTakenFrom plan count history
+      → MadeFrom plan plan.version history version → version_in (after_entries plan history) ≡ Some version
+  all_back plan count [] version taken (inl found) = found
+  all_back plan count [] version taken (inr made) = nothing_made plan.version version made
+  all_back plan count (entry ∷ history) version taken some =
+      let after = after_command plan entry.command in
+      let next : after.version ≡ plan.version + 1 = command_version plan entry.command taken.1.0 in
+      all_back after (count + 1) history version taken.2
+      (subst (λ (n : ℕ). MadeFrom after n history version) (sym next)
+      (back plan entry history version (does_to_this plan entry.command taken.1.0) some))
 
-  none_begun : (start : PlanState) (version : ℕ) → IsFresh start → draft_version start.drafts desk number ≡ Some version → ⊥
-  none_begun start version begun found =
-      let none : draft_version start.drafts desk number ≡ None = rw begun.drafts refl in absurd (cc)
-
-  of_all : (start : PlanState) (history : List Entry) (version : ℕ) → start.version ≡ 0 → Made start.version history version → HasCommit history version desk number
-  of_all start history version first made =
-      let place : made.place ≡ version = let is : version ≡ start.version + made.place = made.is in omega arith in
+  of_all : (history : List Entry) (version : ℕ) → Made 0 history version → HasCommit history version desk number
+  of_all history version made =
+      let place : made.place ≡ version = let is : version ≡ 0 + made.place = made.is in omega arith in
       subst (λ (n : ℕ). HasCommit history n desk number) place made.commit
 
 -- a draft made a version exactly where the entry of that number is its commit
-pub drafts_made : (start : PlanState) (history : List Entry) (desk : List ℕ) (number version : ℕ) → IsFresh start → IsLegal start history
-    → (draft_version (replay start history).drafts desk number ≡ Some version → HasCommit history version desk number)
-    × (HasCommit history version desk number → draft_version (replay start history).drafts desk number ≡ Some version)
-drafts_made start history desk number version begun legal = (
-  λ found. elim (all_forth desk number start history version legal.taken found) [
-    | inl before ↦ absurd (none_begun desk number start version begun before)
-    | inr made ↦ of_all desk number start history version begun.version made
+pub drafts_made : (airport : AirportParts) (history : List Entry) (desk : List ℕ) (number version : ℕ) → IsLegal airport history
+    → (draft_version (replay airport history).drafts desk number ≡ Some version → HasCommit history version desk number)
+    × (HasCommit history version desk number → draft_version (replay airport history).drafts desk number ≡ Some version)
+drafts_made airport history desk number version legal = (
+  λ found. elim (all_forth desk number (empty_plan airport) 0 history version legal.taken found) [
+    | inl before ↦ absurd (cc)
+    | inr made ↦ of_all desk number history version made
   ],
-  λ commit. let first : start.version ≡ 0 = begun.version in
-      all_back desk number start history version legal.taken (inr (record { place = version; is = omega arith; commit = commit })),
+  λ commit. all_back desk number (empty_plan airport) 0 history version legal.taken
+      (inr (record { place = version; is = omega arith; commit = commit })),
 )

@@ -1,91 +1,71 @@
 -- Which entry edited a visit last.
-use Rattle.std.proofs.Common.{◌≡◌, ◌∙◌, ◌≤◌, ◌+◌, ◌∷◌, [], ℕ, Bool, true, false, nat_lt, List, Some, Ok, ok_or, refl, sym, ap, subst, arith, if◌then◌else◌}
+use Rattle.std.proofs.Common.{◌≡◌, ◌∙◌, ◌≤◌, ◌<◌, ◌+◌, ◌∷◌, [], ℕ, Bool, true, false, List, length, length-append, Some, Ok, refl, sym, ap, subst, arith, inl, inr, if◌then◌else◌}
+use Rattle.std.proofs.lemmas.Bool.{or_cases}
+use Rattle.std.proofs.lemmas.List.{length-map}
+use Rattle.std.proofs.lemmas.Bool.Decides.{nat_tests}
 use Rattle.apron_base.specs.Histories.{Every}
-use Rattle.apron_base.specs.declared.numbers.VisitNo.{VisitNo}
 use Rattle.apron_rules.specs.declared.parts.AirportParts.{AirportParts}
-use Rattle.apron_rules.specs.Rules.{unfit_of}
-use Rattle.std.proofs.lemmas.List.Elements.{recursion_from_All}
-use Rattle.std.specs.List.{AllByRecursion}
 use Rattle.visit_book.specs.declared.edits.Edit.{Edit}
-use Rattle.visit_book.specs.declared.edits.Edit.TheVariants.{Put}
-use Rattle.visit_book.specs.declared.edits.EditFault.TheVariants.{NoSuchPart, Overtaken}
-use Rattle.visit_book.specs.declared.visits.Part.{Part}
 use Rattle.visit_book.specs.declared.visits.Visit.{Visit}
-use Rattle.visit_book.specs.Edits.{part_of, visit_of}
-use Rattle.visit_book.specs.Numbers.{has_number, visit_at, with_visit}
-use Rattle.visit_book.specs.PartFields.{part_at}
-use Rattle.plan_core.specs.Drafts.{Draft}
-use Rattle.apron_base.specs.ResultChain.{◌>>=◌}
-use Rattle.plan_core.specs.Edits.{after_edit, after_edits, edit_part, edit_visit, is_edited, planned_on, refuse_if, refuse_unfit, with_part}
-use Rattle.plan_core.specs.PlanState.{IsPlan, IsVisitAt, PlanState}
+use Rattle.visit_book.specs.Edits.{visit_of}
+use Rattle.visit_book.specs.Numbers.{IsNumbered, IsNumberedAbove, has_number, visit_at}
+use Rattle.plan_core.specs.Adding.{next_visit}
+use Rattle.plan_core.specs.Edits.{after_edit, after_edits, is_edited, is_of_visit}
+use Rattle.plan_core.specs.PlanState.{PlanState, empty_plan}
 use Rattle.plan_core.specs.Rebase.{edited_last, stamped}
-use Rattle.plan_core.proofs.EditKept.{EditsVisit, edits_visit, visit_number}
-use Rattle.plan_core.proofs.Results.{ok_is, then_ok}
+use Rattle.plan_core.proofs.EditKept.{EditsVisit, edits_visit}
+use Rattle.plan_core.proofs.Results.{then_ok}
 use Rattle.desk_words.specs.declared.asks.Command.{Command}
+use Rattle.desk_words.specs.declared.asks.Command.TheVariants.{AddVisit, Commit}
 use Rattle.desk_words.specs.declared.asks.Entry.{Entry}
-use Rattle.history_core.specs.History.{AreTaken, IsFresh, IsLegal, replay}
+use Rattle.history_core.specs.History.{AreTakenFrom, IsLegal, after_entries, replay}
 use Rattle.history_core.specs.Laws.{edits_visit as edits_this, last_edit}
 use Rattle.history_core.specs.Steps.{IsTaken, after_command}
-use Rattle.history_core.proofs.Replay.{Commits, command_version, commits}
+use Rattle.plan_core.proofs.ByNumber.{found_number}
+use Rattle.plan_core.proofs.Changed.{Follows, edits_follow}
+use Rattle.history_core.proofs.Kept.{all_last, edit_leaves, edits_leave, found_has}
+use Rattle.history_core.proofs.Replay.{command_numbered, command_version, commits}
 
--- an edit of a part leaves the version of the visit's last edit
-part_edited : (airport : AirportParts) (number : ℕ) (edit : Edit) (visit : Visit) (part : Part) (new : Visit) → edit_part airport number edit visit part ≡ Ok new
-    → new.edited ≡ visit.edited
-part_edited airport number (Put of place stand) visit part new e =
-    let made = then_ok (refuse_unfit number (unfit_of airport stand visit.kind)) (λ fits. Ok (with_part visit place (planned_on stand part))) new e in
-    ap (λ (v : Visit). v.edited) (sym (ok_is (with_part visit place (planned_on stand part)) new made.2))
+-- each visit has at most this number
+abbrev IsUpTo : ℕ → Visit → Type 0
+IsUpTo count visit = visit.number.0 ≤ count
 
--- and so does an edit of a visit
-visit_edited : (airport : AirportParts) (base number : ℕ) (edit : Edit) (visit new : Visit) → edit_visit airport base number edit visit ≡ Ok new
-    → new.edited ≡ visit.edited
-visit_edited airport base number edit visit new e =
-    let fresh = then_ok (refuse_if (nat_lt base visit.edited) (Overtaken number visit.number visit.edited))
-    (λ fresh. ok_or (part_at visit.parts (part_of edit)) (NoSuchPart number) >>= λ part. edit_part airport number edit visit part) new e in
-    let found = then_ok (ok_or (part_at visit.parts (part_of edit)) (NoSuchPart number)) (λ part. edit_part airport number edit visit part) new fresh.2 in
-    part_edited airport number edit visit found.0 new found.2
+numbered_up_to : (number count : ℕ) (visits : List Visit) → IsNumberedAbove number visits → number + length visits ≤ count → Every (IsUpTo count) visits
+numbered_up_to number count [] numbered few = tt
+numbered_up_to number count (visit ∷ visits) numbered few =
+    let first : visit.number.0 ≡ number + 1 = numbered.0 in
+    (omega (arith, first, few), numbered_up_to (number + 1) count visits numbered.1 (omega (arith, few)))
 
--- each visit was edited last by what `last` has for its number
+-- visits that edits apply to are there
+edited_up_to : (airport : AirportParts) (base number : ℕ) (edits : List Edit) (visits new : List Visit) (count named : ℕ)
+    → after_edits airport base number edits visits ≡ Ok new → Every (IsUpTo count) visits → is_edited edits named ≡ true → named ≤ count
+edited_up_to airport base number [] visits new count named is all edited = absurd (cc)
+edited_up_to airport base number (edit ∷ edits) visits new count named is all edited =
+    let made = then_ok (after_edit airport base number edit visits) (λ after. after_edits airport base (number + 1) edits after) new is in
+    elim (or_cases (is_of_visit named edit) (is_edited edits named) edited) [
+      | inl first ↦
+          let of : EditsVisit airport base number edit visits made.0 = edits_visit airport base number edit visits made.0 made.1 in
+          let few : of.visit.number.0 ≤ count = found_has (IsUpTo count) (has_number (visit_of edit)) visits of.visit all of.found in
+          let same : of.visit.number.0 ≡ (visit_of edit).0 = found_number visits (visit_of edit) of.visit of.found in
+          let named_is : (visit_of edit).0 ≡ named = grind (arith, nat_tests, first) in
+          omega arith
+      | inr later ↦
+          edited_up_to airport base (number + 1) edits made.0 new count named made.2
+          (edit_leaves (IsUpTo count) (λ visit parts few. few) airport base number edit visits made.0 made.1 all) later
+    ]
+
+-- each visit was edited last by what `last` has for its number, and `last` has 0 for the numbers of no visit
+record AreEditedBy (last : ℕ → ℕ) (visits : List Visit) : Type 0 where
+  edited : Every (λ (visit : Visit). visit.edited ≡ last visit.number.0) visits
+  none : (number : ℕ) → length visits < number → last number ≡ 0
+
+-- what `last` is after a command that makes this version
+abbrev last_after : (ℕ → ℕ) → ℕ → Command → ℕ → ℕ
+last_after last version command number = if edits_this command number then version else last number
+
 module _ (last : ℕ → ℕ) where
   abbrev IsEditedBy : Visit → Type 0
   IsEditedBy visit = visit.edited ≡ last visit.number.0
-
-  first_or_later : (number : VisitNo) (first visit : Visit) (visits : List Visit) (here : Bool) → (if here then Some first else visit_at visits number) ≡ Some visit
-      → IsEditedBy first → (visit_at visits number ≡ Some visit → IsEditedBy visit) → IsEditedBy visit
-  first_or_later number first visit visits true found is later = let same : first ≡ visit = cc in subst IsEditedBy same is
-  first_or_later number first visit visits false found is later = later found
-
-  found_edited : (visits : List Visit) (number : VisitNo) (visit : Visit) → Every IsEditedBy visits → visit_at visits number ≡ Some visit → IsEditedBy visit
-  found_edited [] number visit all found = absurd (cc)
-  found_edited (first ∷ visits) number visit all found =
-      first_or_later number first visit visits (has_number number first) found all.0 (found_edited visits number visit all.1)
-
-  put_edited : (visit first : Visit) (visits : List Visit) (here : Bool) → IsEditedBy visit → IsEditedBy first → Every IsEditedBy visits
-      → Every IsEditedBy (with_visit visits visit) → Every IsEditedBy (if here then visit ∷ visits else first ∷ with_visit visits visit)
-  put_edited visit first visits true is first_is all rest = (is, all)
-  put_edited visit first visits false is first_is all rest = (first_is, rest)
-
-  with_edited : (visits : List Visit) (visit : Visit) → IsEditedBy visit → Every IsEditedBy visits → Every IsEditedBy (with_visit visits visit)
-  with_edited [] visit is all = tt
-  with_edited (first ∷ visits) visit is all =
-      put_edited visit first visits (has_number visit.number first) is all.0 all.1 (with_edited visits visit is all.1)
-
-  one_edited : (airport : AirportParts) (base number : ℕ) (edit : Edit) (visits new : List Visit) → after_edit airport base number edit visits ≡ Ok new
-      → Every IsEditedBy visits → Every IsEditedBy new
-  one_edited airport base number edit visits new e all =
-      let made : EditsVisit airport base number edit visits new = edits_visit airport base number edit visits new e in
-      let before : IsEditedBy made.visit = found_edited visits (visit_of edit) made.visit all made.found in
-      let numbers : made.after.number ≡ made.visit.number = visit_number airport base number edit made.visit made.after made.makes in
-      let after : IsEditedBy made.after =
-      visit_edited airport base number edit made.visit made.after made.makes ∙ (before ∙ ap (λ (n : VisitNo). last n.0) (sym numbers)) in
-      subst (Every IsEditedBy) made.puts (with_edited visits made.after after all)
-
-  -- edits leave it so
-  edits_edited : (airport : AirportParts) (base number : ℕ) (edits : List Edit) (visits new : List Visit) → after_edits airport base number edits visits ≡ Ok new
-      → Every IsEditedBy visits → Every IsEditedBy new
-  edits_edited airport base number [] visits new e all = subst (Every IsEditedBy) (ok_is visits new e) all
-  edits_edited airport base number (edit ∷ edits) visits new e all =
-      let made = then_ok (after_edit airport base number edit visits) (λ after. after_edits airport base (number + 1) edits after) new e in
-      edits_edited airport base (number + 1) edits made.0 new made.2 (one_edited airport base number edit visits made.0 made.1 all)
 
   stamped_one : (version : ℕ) (visit : Visit) (here : Bool) → IsEditedBy visit
       → (if here then edited_last version visit else visit).edited ≡ (if here then version else last visit.number.0)
@@ -107,41 +87,54 @@ module _ (last : ℕ → ℕ) where
         stamped_edited version edits visits all.1,
       )
 
+  none_after : (count version named : ℕ) (edited : Bool) → (edited ≡ true → named ≤ count) → count < named → last named ≡ 0
+      → (if edited then version else last named) ≡ 0
+  none_after count version named true within above none = absurd (let few = within refl in omega arith)
+  none_after count version named false within above none = none
+
+follows_length : (e : ℕ → Bool) (number : ℕ) (olds news : List Visit) → Follows e number olds news → length news ≡ length olds
+follows_length e number [] [] follows = refl
+follows_length e number (old ∷ olds) (new ∷ news) follows =
+    let rest : length news ≡ length olds = follows_length e (number + 1) olds news follows.1 in omega arith
+follows_length e number [] (new ∷ news) follows = absurd follows
+follows_length e number (old ∷ olds) [] follows = absurd follows
+
 -- the last edits after a command that is taken
-command_edited : (last : ℕ → ℕ) (plan : PlanState) (command : Command) → IsTaken plan command → Every (IsEditedBy last) plan.visits
-    → Every (IsEditedBy (λ n. if edits_this command n then plan.version + 1 else last n)) (after_command plan command).visits
-command_edited last plan command taken all =
-    let made : Commits plan command = commits plan command taken in
-    let draft : Draft = made.draft in
-    let new = edits_edited last plan.airport draft.base 1 draft.edits plan.visits made.new made.apply all in
-    subst (λ (p : PlanState). Every (IsEditedBy (λ n. if edits_this command n then plan.version + 1 else last n)) p.visits) (sym made.makes)
-    (subst (λ (c : Command). Every (IsEditedBy (λ n. if edits_this c n then plan.version + 1 else last n)) (stamped (plan.version + 1) draft.edits made.new)) (sym made.is)
-    (stamped_edited last (plan.version + 1) draft.edits made.new new))
+command_edited : (last : ℕ → ℕ) (plan : PlanState) (command : Command) → IsTaken plan command → IsNumbered plan.visits → AreEditedBy last plan.visits
+    → AreEditedBy (last_after last (plan.version + 1) command) (after_command plan command).visits
+command_edited last plan (AddVisit new) taken numbered all = record {
+  edited = all_last (IsEditedBy last) plan.visits (next_visit plan new) all.edited (sym (all.none (length plan.visits + 1) (omega arith)));
+  none = λ number above. all.none number (let longer = length-append plan.visits (next_visit plan new ∷ []) in omega (arith, above, longer));
+}
+command_edited last plan (Commit desk draft base edits) taken numbered all =
+    let made = commits plan desk draft base edits taken in
+    let follows = edits_follow plan.airport base 1 edits plan.visits made.new numbered made.apply in
+    let left = edits_leave (IsEditedBy last) (λ visit parts is. is) plan.airport base 1 edits plan.visits made.new made.apply all.edited in
+    let within = edited_up_to plan.airport base 1 edits plan.visits made.new (length plan.visits) in
+    let size : length (stamped (plan.version + 1) edits made.new) ≡ length plan.visits =
+    length-map made.new _ ∙ follows_length (is_edited edits) 0 plan.visits made.new follows in
+    subst (λ (p : PlanState). AreEditedBy (last_after last (plan.version + 1) (Commit desk draft base edits)) p.visits) (sym made.makes)
+    (record {
+      edited = stamped_edited last (plan.version + 1) edits made.new left;
+      none = λ number above. none_after last (length plan.visits) (plan.version + 1) number (is_edited edits number)
+          (within number made.apply (numbered_up_to 0 (length plan.visits) plan.visits numbered (omega arith)))
+          (omega (arith, above, size)) (all.none number (omega (arith, above, size)));
+    })
 
-all_edited : (last : ℕ → ℕ) (start : PlanState) (history : List Entry) → AreTaken start history → Every (IsEditedBy last) start.visits
-    → Every (IsEditedBy (λ n. last_edit n start.version (last n) history)) (replay start history).visits
-all_edited last start [] taken all = all
-all_edited last start (entry ∷ history) taken all =
-    let after = after_command start entry.command in
-    let next : after.version ≡ start.version + 1 = command_version start entry.command taken.1 in
-    let more : ℕ → ℕ = λ n. if edits_this entry.command n then start.version + 1 else last n in
-    subst (λ (count : ℕ). Every (IsEditedBy (λ n. last_edit n count (more n) history)) (replay after history).visits) next
-    (all_edited more after history taken.2 (command_edited last start entry.command taken.1 all))
-
-none_edited : (airport : AirportParts) (version : ℕ) (visits : List Visit) → version ≡ 0 → AllByRecursion (IsVisitAt airport version) visits
-    → Every (IsEditedBy (λ _. 0)) visits
-none_edited airport version [] first all = tt
-none_edited airport version (visit ∷ visits) first all =
-    let at : IsVisitAt airport version visit = all.0 in
-    let edited : visit.edited ≤ version = at.edited in
-    (omega arith, none_edited airport version visits first all.1)
+all_edited : (last : ℕ → ℕ) (plan : PlanState) (count : ℕ) (history : List Entry) → AreTakenFrom plan count history → IsNumbered plan.visits
+    → AreEditedBy last plan.visits → Every (IsEditedBy (λ n. last_edit n plan.version (last n) history)) (after_entries plan history).visits
+all_edited last plan count [] taken numbered all = all.edited
+all_edited last plan count (entry ∷ history) taken numbered all =
+    let after = after_command plan entry.command in
+    let next : after.version ≡ plan.version + 1 = command_version plan entry.command taken.1.0 in
+    let more : ℕ → ℕ = last_after last (plan.version + 1) entry.command in
+    subst (λ (version : ℕ). Every (IsEditedBy (λ n. last_edit n version (more n) history)) (after_entries after history).visits) next
+    (all_edited more after (count + 1) history taken.2 (command_numbered plan entry.command taken.1.0 numbered)
+    (command_edited last plan entry.command taken.1.0 numbered all))
 
 -- a visit was edited last by the last entry that edits it
-pub edited_by_last : (start : PlanState) (history : List Entry) (visit : Visit) → IsFresh start → IsLegal start history
-    → visit_at (replay start history).visits visit.number ≡ Some visit → visit.edited ≡ last_edit visit.number.0 0 0 history
-edited_by_last start history visit begun legal found =
-    let plan : IsPlan start = begun.plan in
-    let none = none_edited start.airport start.version start.visits begun.version (recursion_from_All (IsVisitAt start.airport start.version) start.visits plan.each) in
-    found_edited (λ n. last_edit n start.version 0 history) (replay start history).visits visit.number visit
-    (all_edited (λ _. 0) start history legal.taken none) found
-    ∙ ap (λ (count : ℕ). last_edit visit.number.0 count 0 history) begun.version
+pub edited_by_last : (airport : AirportParts) (history : List Entry) (visit : Visit) → IsLegal airport history
+    → visit_at (replay airport history).visits visit.number ≡ Some visit → visit.edited ≡ last_edit visit.number.0 0 0 history
+edited_by_last airport history visit legal found =
+    found_has (IsEditedBy (λ n. last_edit n 0 0 history)) (has_number visit.number) (replay airport history).visits visit
+    (all_edited (λ _. 0) (empty_plan airport) 0 history legal.taken tt (record { edited = tt; none = λ number above. refl })) found

@@ -1,40 +1,48 @@
 -- What a legal history has: a sound plan, legal fronts, and an entry for each version.
-use Rattle.std.proofs.Common.{◌≡◌, ◌≤◌, ◌<◌, ◌+◌, ◌-◌, ℕ, zero, suc, List, [], ◌∷◌, ◌++◌, length, length-append, refl, sym, ap, subst, arith, Result}
+use Rattle.std.proofs.Common.{◌≡◌, ◌∙◌, ◌≤◌, ◌<◌, ◌+◌, ◌-◌, ℕ, zero, suc, List, [], ◌∷◌, ◌++◌, append-nil, length, refl, sym, ap, subst, arith, Result}
 use Rattle.apron_base.specs.Histories.{Rises}
+use Rattle.apron_rules.specs.declared.parts.AirportParts.{AirportParts}
 use Rattle.apron_rules.specs.Clash.{IsSound}
 use Rattle.visit_book.specs.declared.visits.Visit.{Visit}
 use Rattle.visit_book.specs.declared.edits.EditFault.{EditFault}
+use Rattle.visit_book.specs.Slots.{slots_of}
+use Rattle.plan_core.specs.Adding.{next_visit}
 use Rattle.plan_core.specs.Drafts.{draft_of}
-use Rattle.plan_core.specs.PlanState.{PlanState}
+use Rattle.plan_core.specs.PlanState.{PlanState, empty_plan}
 use Rattle.plan_core.proofs.Changed.{stamped_slots}
+use Rattle.plan_core.proofs.SlotLists.{slots_of-push}
 use Rattle.desk_words.specs.declared.asks.Command.{Command}
-use Rattle.desk_words.specs.declared.asks.Command.TheVariants.{Commit}
+use Rattle.desk_words.specs.declared.asks.Command.TheVariants.{AddVisit, Commit}
 use Rattle.desk_words.specs.declared.asks.Entry.{Entry}
-use Rattle.history_core.specs.Steps.{IsTaken, after_command, committed_if, most_entries}
-use Rattle.history_core.specs.History.{AreTaken, IsFresh, IsLegal, IsSoundPlan, call_limit, call_of, replay}
+use Rattle.history_core.specs.Steps.{IsTaken, after_command, committed_if}
+use Rattle.history_core.specs.History.{AreTakenFrom, IsLegal, IsSoundPlan, after_entries, call_limit, call_of, replay}
 use Rattle.history_core.specs.Laws.{HasEntry}
 use Rattle.history_core.proofs.Replay.{versions_count}
 
 -- the plan after a taken command is sound
-command_sound : (plan : PlanState) (command : Command) → IsTaken plan command → IsSoundPlan (after_command plan command)
-command_sound plan (Commit desk draft base edits) (new, (visits, rebases)) =
+command_sound : (plan : PlanState) (command : Command) → IsTaken plan command → IsSoundPlan plan → IsSoundPlan (after_command plan command)
+command_sound plan (AddVisit new) taken sound =
+    let pushed = slots_of-push plan.airport plan.visits (next_visit plan new) ∙ append-nil (slots_of plan.airport plan.visits) in
+    subst (IsSound plan.airport) (sym pushed) sound
+command_sound plan (Commit desk draft base edits) (new, (visits, rebases)) sound =
     subst (λ (r : Result (List Visit) EditFault). IsSoundPlan (committed_if plan (draft_of desk draft base edits) r)) (sym rebases.apply)
     (subst (λ slots. IsSound plan.airport slots) (sym (stamped_slots plan.airport (plan.version + 1) edits visits)) rebases.sound)
 
-taken_sound : (start : PlanState) (history : List Entry) → IsSoundPlan start → AreTaken start history → IsSoundPlan (replay start history)
-taken_sound start [] sound h = sound
-taken_sound start (e ∷ history) sound h = taken_sound (after_command start e.command) history (command_sound start e.command h.1) h.2
+taken_sound : (plan : PlanState) (count : ℕ) (history : List Entry) → IsSoundPlan plan → AreTakenFrom plan count history → IsSoundPlan (after_entries plan history)
+taken_sound plan count [] sound h = sound
+taken_sound plan count (e ∷ history) sound h =
+    taken_sound (after_command plan e.command) (count + 1) history (command_sound plan e.command h.1.0 sound) h.2
+
+empty_sound : (airport : AirportParts) → IsSoundPlan (empty_plan airport)
+empty_sound airport slot other minute rule here there clash = absurd (omega (arith, here.1))
 
 -- the plan of a legal history is sound
-pub legal_sound : (start : PlanState) (history : List Entry) → IsSoundPlan start → IsLegal start history → IsSoundPlan (replay start history)
-legal_sound start history sound h = taken_sound start history sound h.taken
+pub legal_sound : (airport : AirportParts) (history : List Entry) → IsLegal airport history → IsSoundPlan (replay airport history)
+legal_sound airport history h = taken_sound (empty_plan airport) 0 history (empty_sound airport) h.taken
 
-front_taken : (start : PlanState) (front back : List Entry) → AreTaken start (front ++ back) → AreTaken start front
-front_taken start [] back h = tt
-front_taken start (e ∷ front) back h = (h.0, h.1, front_taken (after_command start e.command) front back h.2)
-
-front_few : (front back : List Entry) → length (front ++ back) ≤ most_entries → length front ≤ most_entries
-front_few front back few = let all : length (front ++ back) ≡ length front + length back = length-append front back in omega (arith, few)
+front_taken : (plan : PlanState) (count : ℕ) (front back : List Entry) → AreTakenFrom plan count (front ++ back) → AreTakenFrom plan count front
+front_taken plan count [] back h = tt
+front_taken plan count (e ∷ front) back h = (h.0, h.1, front_taken (after_command plan e.command) (count + 1) front back h.2)
 
 rises_order : {E : Type 0} (number : E → ℕ) (low high : ℕ) (es : List E) → Rises number low high es → low ≤ high
 rises_order number low high [] h = h
@@ -45,12 +53,15 @@ front_rises number low high [] back h = rises_order number low high back h
 front_rises number low high (e ∷ front) back h = (h.0, front_rises number (number e + 1) high front back h.1)
 
 -- the fronts of a legal history are legal
-pub front_legal : (start : PlanState) (front back : List Entry) → IsLegal start (front ++ back) → IsLegal start front
-front_legal start front back h = record {
-  taken = front_taken start front back h.taken;
-  few = front_few front back h.few;
+pub front_legal : (airport : AirportParts) (front back : List Entry) → IsLegal airport (front ++ back) → IsLegal airport front
+front_legal airport front back h = record {
+  taken = front_taken (empty_plan airport) 0 front back h.taken;
   numbers = front_rises call_of 1 call_limit front back h.numbers;
 }
+
+-- each entry makes the next version
+pub legal_counted : (airport : AirportParts) (history : List Entry) → IsLegal airport history → (replay airport history).version ≡ length history
+legal_counted airport history legal = let counted = versions_count (empty_plan airport) 0 history legal.taken in omega arith
 
 -- the entry of a number, behind so many others
 entry_at : (history : List Entry) (count : ℕ) → count < length history → (entry : Entry) × HasEntry history (count + 1) entry
@@ -62,10 +73,9 @@ entry_at (e ∷ history) (suc count) below =
     (found.0, record { before = e ∷ has.before; after = has.after; is = ap (λ (es : List Entry). e ∷ es) has.is; counted = let counted = has.counted in omega arith })
 
 -- each version was made by an entry
-pub version_entry : (start : PlanState) (history : List Entry) (version : ℕ) → IsFresh start → IsLegal start history
-    → 1 ≤ version → version ≤ (replay start history).version → (entry : Entry) × HasEntry history version entry
-version_entry start history version begun legal some few =
-    let counted : (replay start history).version ≡ start.version + length history = versions_count start history legal.taken in
-    let first : start.version ≡ 0 = begun.version in
+pub version_entry : (airport : AirportParts) (history : List Entry) (version : ℕ) → IsLegal airport history
+    → 1 ≤ version → version ≤ (replay airport history).version → (entry : Entry) × HasEntry history version entry
+version_entry airport history version legal some few =
+    let counted : (replay airport history).version ≡ length history = legal_counted airport history legal in
     let same : (version - 1) + 1 ≡ version = omega arith in
     subst (λ (n : ℕ). (entry : Entry) × HasEntry history n entry) same (entry_at history (version - 1) (omega arith))

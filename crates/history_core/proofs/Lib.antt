@@ -1,7 +1,11 @@
-pub mod Takings
 pub mod Replay
-pub mod Boards
+pub mod Kept
 pub mod Legal
-pub mod Texts
 pub mod Drafts
 pub mod Edited
+pub mod Added
+pub mod NewVisits
+pub mod Takings
+pub mod Boards
+pub mod Texts
+pub mod Crosses

@@ -6,72 +6,89 @@ use Rattle.visit_book.specs.declared.visits.Visit.{Visit}
 use Rattle.visit_book.specs.declared.edits.Edit.{Edit}
 use Rattle.visit_book.specs.declared.edits.EditFault.{EditFault}
 use Rattle.visit_book.specs.Numbers.{IsNumbered, IsNumberedAbove}
+use Rattle.plan_core.specs.Adding.{next_visit}
 use Rattle.plan_core.specs.Drafts.{Draft, draft_of, draft_version}
 use Rattle.plan_core.specs.Edits.{after_all_edits, is_edited}
-use Rattle.plan_core.specs.PlanState.{PlanState}
+use Rattle.plan_core.specs.PlanState.{PlanState, empty_plan}
 use Rattle.plan_core.specs.Rebase.{committed, edited_last, stamped}
 use Rattle.plan_core.proofs.Changed.{edits_follow, follows_numbered}
+use Rattle.plan_core.proofs.Puts.{last_numbered}
+use Rattle.desk_words.specs.Commands.{IsCommandOf}
 use Rattle.desk_words.specs.declared.asks.Command.{Command}
-use Rattle.desk_words.specs.declared.asks.Command.TheVariants.{Commit}
+use Rattle.desk_words.specs.declared.asks.Command.TheVariants.{AddVisit, Commit}
 use Rattle.desk_words.specs.declared.asks.Entry.{Entry}
-use Rattle.history_core.specs.Steps.{IsCommandOf, IsTaken, after_command, committed_if}
-use Rattle.history_core.specs.History.{AreTaken, replay}
+use Rattle.history_core.specs.Steps.{IsTaken, Steps, accepted, after_command, committed_if}
+use Rattle.history_core.specs.History.{AreTakenFrom, after_entries, replay}
 
 -- the plan after one more command
-pub replay-push : (start : PlanState) (history : List Entry) (entry : Entry) → replay start (history ++ entry ∷ []) ≡ after_command (replay start history) entry.command
-replay-push start [] entry = refl
-replay-push start (e ∷ history) entry = replay-push (after_command start e.command) history entry
+pub after-push : (plan : PlanState) (history : List Entry) (entry : Entry) → after_entries plan (history ++ entry ∷ []) ≡ after_command (after_entries plan history) entry.command
+after-push plan [] entry = refl
+after-push plan (e ∷ history) entry = after-push (after_command plan e.command) history entry
 
 committed_airport : (plan : PlanState) (draft : Draft) (visits : Result (List Visit) EditFault) → (committed_if plan draft visits).airport ≡ plan.airport
 committed_airport plan draft (Ok visits) = refl
 committed_airport plan draft (Err fault) = refl
 
 command_airport : (plan : PlanState) (command : Command) → (after_command plan command).airport ≡ plan.airport
+command_airport plan (AddVisit new) = refl
 command_airport plan (Commit desk draft base edits) =
     committed_airport plan (draft_of desk draft base edits) (after_all_edits plan.airport base edits plan.visits)
 
+after-airport : (plan : PlanState) (history : List Entry) → (after_entries plan history).airport ≡ plan.airport
+after-airport plan [] = refl
+after-airport plan (e ∷ history) = after-airport (after_command plan e.command) history ∙ command_airport plan e.command
+
 -- the airport of a plan stays
-pub replay-airport : (start : PlanState) (history : List Entry) → (replay start history).airport ≡ start.airport
-replay-airport start [] = refl
-replay-airport start (e ∷ history) = replay-airport (after_command start e.command) history ∙ command_airport start e.command
+pub replay-airport : (airport : AirportParts) (history : List Entry) → (replay airport history).airport ≡ airport
+replay-airport airport history = after-airport (empty_plan airport) history
 
 -- one more command that is taken
-pub taken_push : (start : PlanState) (history : List Entry) (entry : Entry) → AreTaken start history → IsCommandOf start.airport entry.command
-    → IsTaken (replay start history) entry.command → AreTaken start (history ++ entry ∷ [])
-taken_push start [] entry h valid taken = (valid, taken, tt)
-taken_push start (e ∷ history) entry h valid taken =
-    let same : (after_command start e.command).airport ≡ start.airport = command_airport start e.command in
-    (h.0, h.1, taken_push (after_command start e.command) history entry h.2 (subst (λ (a : AirportParts). IsCommandOf a entry.command) (sym same) valid) taken)
+pub taken_push : (plan : PlanState) (count : ℕ) (history : List Entry) (entry : Entry) → AreTakenFrom plan count history → IsCommandOf plan.airport entry.command
+    → Steps (after_entries plan history) (count + length history) entry.command accepted → AreTakenFrom plan count (history ++ entry ∷ [])
+taken_push plan count [] entry h valid steps =
+    let same : count + length {A = Entry} [] ≡ count = omega arith in (valid, subst (λ (n : ℕ). Steps plan n entry.command accepted) same steps, tt)
+taken_push plan count (e ∷ history) entry h valid steps =
+    let same : (after_command plan e.command).airport ≡ plan.airport = command_airport plan e.command in
+    let counted : count + length (e ∷ history) ≡ count + 1 + length history = omega arith in
+    let later = subst (λ (n : ℕ). Steps (after_entries plan (e ∷ history)) n entry.command accepted) counted steps in
+    (h.0, h.1, taken_push (after_command plan e.command) (count + 1) history entry h.2 (subst (λ (a : AirportParts). IsCommandOf a entry.command) (sym same) valid) later)
 
--- a taken command makes the plan of its commit
-pub record Commits (plan : PlanState) (command : Command) : Type 0 where
-  pub draft : Draft
+-- a command of legal entries is of the airport
+pub taken_of : (plan : PlanState) (count : ℕ) (before : List Entry) (entry : Entry) (after : List Entry) → AreTakenFrom plan count (before ++ entry ∷ after)
+    → IsCommandOf plan.airport entry.command
+taken_of plan count [] entry after h = h.0
+taken_of plan count (e ∷ before) entry after h =
+    let later : IsCommandOf (after_command plan e.command).airport entry.command = taken_of (after_command plan e.command) (count + 1) before entry after h.2 in
+    subst (λ (a : AirportParts). IsCommandOf a entry.command) (command_airport plan e.command) later
+
+-- a taken commit makes the plan of its draft
+pub record Commits (plan : PlanState) (draft : Draft) : Type 0 where
   pub new : List Visit
   pub apply : after_all_edits plan.airport draft.base draft.edits plan.visits ≡ Ok new
   pub unused : draft_version plan.drafts draft.desk draft.number ≡ None
-  pub is : command ≡ Commit draft.desk draft.number draft.base draft.edits
-  pub makes : after_command plan command ≡ committed plan draft new
+  pub makes : after_command plan (Commit draft.desk draft.number draft.base draft.edits) ≡ committed plan draft new
 
-pub commits : (plan : PlanState) (command : Command) → IsTaken plan command → Commits plan command
-commits plan (Commit desk draft base edits) (new, (visits, rebases)) = record {
-  draft = draft_of desk draft base edits;
+pub commits : (plan : PlanState) (desk : List ℕ) (draft base : ℕ) (edits : List Edit) → IsTaken plan (Commit desk draft base edits)
+    → Commits plan (draft_of desk draft base edits)
+commits plan desk draft base edits (new, (visits, rebases)) = record {
   new = visits;
   apply = rebases.apply;
   unused = new.unused;
-  is = refl;
   makes = rw rebases.apply refl;
 }
 
 pub command_version : (plan : PlanState) (command : Command) → IsTaken plan command → (after_command plan command).version ≡ plan.version + 1
-command_version plan command taken = let made = commits plan command taken in rw made.makes refl
+command_version plan (AddVisit new) taken = refl
+command_version plan (Commit desk draft base edits) taken =
+    let made = commits plan desk draft base edits taken in ap (λ (p : PlanState). p.version) made.makes
 
 -- each entry makes the next version
-pub versions_count : (start : PlanState) (history : List Entry) → AreTaken start history → (replay start history).version ≡ start.version + length history
-versions_count start [] h = omega arith
-versions_count start (e ∷ history) h =
-    let one : (after_command start e.command).version ≡ start.version + 1 = command_version start e.command h.1 in
-    let rest : (replay (after_command start e.command) history).version ≡ (after_command start e.command).version + length history =
-    versions_count (after_command start e.command) history h.2 in
+pub versions_count : (plan : PlanState) (count : ℕ) (history : List Entry) → AreTakenFrom plan count history → (after_entries plan history).version ≡ plan.version + length history
+versions_count plan count [] h = omega arith
+versions_count plan count (e ∷ history) h =
+    let one : (after_command plan e.command).version ≡ plan.version + 1 = command_version plan e.command h.1.0 in
+    let rest : (after_entries (after_command plan e.command) history).version ≡ (after_command plan e.command).version + length history =
+    versions_count (after_command plan e.command) (count + 1) history h.2 in
     omega arith
 
 stamp_number : (version : ℕ) (visit : Visit) (b : Bool) → (if b then edited_last version visit else visit).number ≡ visit.number
@@ -84,14 +101,16 @@ stamped_numbered number version edits (visit ∷ visits) h =
     (ap (λ (n : VisitNo). n.0) (stamp_number version visit (is_edited edits visit.number.0)) ∙ h.0, stamped_numbered (number + 1) version edits visits h.1)
 
 -- a taken command keeps the visits numbered
-command_numbered : (plan : PlanState) (command : Command) → IsTaken plan command → IsNumbered plan.visits → IsNumbered (after_command plan command).visits
-command_numbered plan command taken h =
-    let made = commits plan command taken in
-    let draft : Draft = made.draft in
-    let follows = edits_follow plan.airport draft.base 1 draft.edits plan.visits made.new h made.apply in
+pub command_numbered : (plan : PlanState) (command : Command) → IsTaken plan command → IsNumbered plan.visits → IsNumbered (after_command plan command).visits
+command_numbered plan (AddVisit new) taken h = last_numbered 0 plan.visits (next_visit plan new) h (omega arith)
+command_numbered plan (Commit desk draft base edits) taken h =
+    let made = commits plan desk draft base edits taken in
+    let follows = edits_follow plan.airport base 1 edits plan.visits made.new h made.apply in
     subst (λ (p : PlanState). IsNumbered p.visits) (sym made.makes)
-    (stamped_numbered 0 (plan.version + 1) draft.edits made.new (follows_numbered (is_edited draft.edits) 0 plan.visits made.new follows))
+    (stamped_numbered 0 (plan.version + 1) edits made.new (follows_numbered (is_edited edits) 0 plan.visits made.new follows))
 
-pub replay_numbered : (start : PlanState) (history : List Entry) → AreTaken start history → IsNumbered start.visits → IsNumbered (replay start history).visits
-replay_numbered start [] h numbered = numbered
-replay_numbered start (e ∷ history) h numbered = replay_numbered (after_command start e.command) history h.2 (command_numbered start e.command h.1 numbered)
+pub taken_numbered : (plan : PlanState) (count : ℕ) (history : List Entry) → AreTakenFrom plan count history → IsNumbered plan.visits
+    → IsNumbered (after_entries plan history).visits
+taken_numbered plan count [] h numbered = numbered
+taken_numbered plan count (e ∷ history) h numbered =
+    taken_numbered (after_command plan e.command) (count + 1) history h.2 (command_numbered plan e.command h.1.0 numbered)

@@ -1,22 +1,29 @@
 -- What comes of a command.
-use Rattle.std.proofs.Common.{◌≡◌, ◌≢◌, ◌∙◌, ◌⊎◌, ◌<◌, ◌≤◌, ℕ, List, Option, None, Some, refl, sym, ap, arith, inl, inr}
+use Rattle.std.proofs.Common.{◌≡◌, ◌≢◌, ◌∙◌, ◌⊎◌, ◌<◌, ◌≤◌, ◌+◌, ℕ, List, length, Option, None, Some, refl, sym, ap, subst, arith, inl, inr}
 use Rattle.std.proofs.lemmas.Bool.{cases_lt}
+use Rattle.apron_base.specs.declared.numbers.VisitNo.{VisitNo}
 use Rattle.visit_book.specs.declared.edits.Edit.{Edit}
 use Rattle.visit_book.specs.declared.edits.EditFault.{EditFault}
 use Rattle.visit_book.specs.declared.edits.EditFault.TheVariants.{Memory}
+use Rattle.visit_book.specs.declared.visits.NewVisit.{NewVisit}
 use Rattle.visit_book.specs.declared.visits.Visit.{Visit}
+use Rattle.visit_book.specs.NewVisits.{new_of}
 use Rattle.visit_book.specs.Numbers.{IsNumbered}
 use Rattle.plan_core.specs.Drafts.{Draft, draft_of, draft_version}
-use Rattle.plan_core.specs.PlanState.{ChangeState, IsInstallable, PlanState}
+use Rattle.plan_core.specs.Names.{visit_named}
+use Rattle.plan_core.specs.PlanState.{ChangeState, IsInstallable, PlanState, most_visits, version_limit}
 use Rattle.plan_core.specs.Rebase.{IsRebased, Rebases, Refuses}
 use Rattle.plan_core.proofs.AnswerExists.{answer}
 use Rattle.plan_core.proofs.Kept.{rebase_commits}
 use Rattle.plan_core.proofs.OneRefusal.{rebased_or_refused, refusals_are_one}
 use Rattle.desk_words.specs.declared.asks.Command.{Command}
-use Rattle.desk_words.specs.declared.asks.Command.TheVariants.{Commit}
-use Rattle.desk_words.specs.declared.replies.Told.TheVariants.{Committed, Edit as Refused}
-use Rattle.history_core.specs.Steps.{HasPlace, IsNew, IsTaken, Stepped, Steps, accepted, ahead, committed_if, edit, full, most_entries, refused, repeated}
-use Rattle.history_core.specs.Taking.{IsAnswered, IsChangeOf}
+use Rattle.desk_words.specs.declared.asks.Command.TheVariants.{AddVisit, Commit}
+use Rattle.desk_words.specs.declared.replies.Told.{Told}
+use Rattle.desk_words.specs.declared.replies.Told.TheVariants.{Added, Committed, OtherName, Edit as Refused}
+use Rattle.history_core.specs.Steps.{HasPlace, IsNew, IsTaken, Stepped, Steps, TakesEntry, accepted, ahead, committed_if, edit, full, most_entries, name, refused, repeated}
+use Rattle.history_core.specs.declared.taking.Taken.TheVariants.{Accepted}
+use Rattle.history_core.specs.Taking.{Finds, IsAnswered, IsChangeOf}
+use Rattle.history_core.proofs.NewVisits.{AreDecided, new_decided}
 
 -- a commit that is rebased is taken
 pub rebased_taken : (plan : PlanState) (draft : Draft) (change : ChangeState) → IsRebased plan draft change → (new : List Visit) × Rebases plan draft new
@@ -31,17 +38,39 @@ rebased_makes plan desk draft base edits change numbered installable rebased = r
       ∙ ap (committed_if plan (draft_of desk draft base edits)) (sym rebased.rebases.apply);
 }
 
+-- a plan has a place for a command, or it has none
+abbrev IsPlaced : PlanState → ℕ → Command → Type 0
+IsPlaced plan entries command = HasPlace plan entries command ⊎ ¬ (HasPlace plan entries command)
+
+pub entry_placed : (entries : ℕ) → TakesEntry entries ⊎ ¬ (TakesEntry entries)
+entry_placed entries = elim (cases_lt entries most_entries) [ inl below ↦ inl below | inr above ↦ inr (λ below. absurd (omega (arith, below, above))) ]
+
+pub visit_placed : (entries count : ℕ) → TakesEntry entries ⊎ ¬ (TakesEntry entries) → (count < most_visits) ⊎ (most_visits ≤ count)
+    → (TakesEntry entries × (count < most_visits)) ⊎ ¬ (TakesEntry entries × (count < most_visits))
+visit_placed entries count (inl entry) (inl few) = inl (entry, few)
+visit_placed entries count (inr none) few = inr (λ has. none has.0)
+visit_placed entries count (inl entry) (inr many) = inr (λ has. absurd (let few = has.1 in omega (arith, few, many)))
+
+abbrev placed : (plan : PlanState) (entries : ℕ) (command : Command) → IsPlaced plan entries command
+placed plan entries (AddVisit new) = visit_placed entries (length plan.visits) (entry_placed entries) (cases_lt (length plan.visits) most_visits)
+placed plan entries (Commit desk draft base edits) = entry_placed entries
+
 -- a taken command is accepted where there is place, and full where there is none
-abbrev IsPlaced : ℕ → Type 0
-IsPlaced entries = (entries < most_entries) ⊎ (most_entries ≤ entries)
-
-pub no_place : (entries : ℕ) → most_entries ≤ entries → ¬ (HasPlace entries)
-no_place entries above has = absurd (omega (arith, has))
-
-abbrev placed_step : (plan : PlanState) (entries : ℕ) (command : Command) → IsTaken plan command → IsPlaced entries
+abbrev placed_step : (plan : PlanState) (entries : ℕ) (command : Command) → IsTaken plan command → IsPlaced plan entries command
     → (stepped : Stepped) × Steps plan entries command stepped
 placed_step plan entries command taken (inl has) = (accepted, (taken, has))
-placed_step plan entries command taken (inr above) = (full, (taken, no_place entries above))
+placed_step plan entries command taken (inr none) = (full, (taken, none))
+
+-- a visit has a new name, or there is one of it
+abbrev named_step : (plan : PlanState) (entries : ℕ) (new : NewVisit) (visit : Visit) → visit_named plan.visits new.name ≡ Some visit
+    → AreDecided (new_of visit) new → (stepped : Stepped) × Steps plan entries (AddVisit new) stepped
+named_step plan entries new visit is (inl same) = (repeated visit.added, (visit, (is, same), refl))
+named_step plan entries new visit is (inr other) = (refused (name visit.number), (visit, (is, other), refl))
+
+abbrev visit_step : (plan : PlanState) (entries : ℕ) (new : NewVisit) (found : Option Visit) → visit_named plan.visits new.name ≡ found
+    → (stepped : Stepped) × Steps plan entries (AddVisit new) stepped
+visit_step plan entries new None is = placed_step plan entries (AddVisit new) is (placed plan entries (AddVisit new))
+visit_step plan entries new (Some visit) is = named_step plan entries new visit is (new_decided (new_of visit) new)
 
 -- the edits of a draft apply, or they are refused
 abbrev HasAnswer : PlanState → Draft → Type 0
@@ -50,7 +79,7 @@ HasAnswer plan draft = ((new : List Visit) × Rebases plan draft new) ⊎ ((faul
 abbrev new_step : (plan : PlanState) (entries : ℕ) (desk : List ℕ) (draft base : ℕ) (edits : List Edit) → IsNew plan (draft_of desk draft base edits)
     → HasAnswer plan (draft_of desk draft base edits) → (stepped : Stepped) × Steps plan entries (Commit desk draft base edits) stepped
 new_step plan entries desk draft base edits new (inl rebases) =
-    placed_step plan entries (Commit desk draft base edits) (new, rebases) (cases_lt entries most_entries)
+    placed_step plan entries (Commit desk draft base edits) (new, rebases) (placed plan entries (Commit desk draft base edits))
 new_step plan entries desk draft base edits new (inr (fault, some, refuses)) = (refused (edit fault), (new, refuses, some))
 
 abbrev drafted_step : (plan : PlanState) (entries : ℕ) (desk : List ℕ) (draft base : ℕ) (edits : List Edit) (made : Option ℕ) → draft_version plan.drafts desk draft ≡ made
@@ -67,9 +96,56 @@ based_step plan entries desk draft base edits (inr over) =
 
 -- each command has a step
 abbrev pub some_step : (plan : PlanState) (entries : ℕ) (command : Command) → (stepped : Stepped) × Steps plan entries command stepped
+some_step plan entries (AddVisit new) = visit_step plan entries new (visit_named plan.visits new.name) refl
 some_step plan entries (Commit desk draft base edits) = based_step plan entries desk draft base edits (cases_lt plan.version base)
 
 -- which is the only one
+only_full : (plan : PlanState) (entries : ℕ) (command : Command) (taken : IsTaken plan command) (place : IsPlaced plan entries command)
+    → ¬ (HasPlace plan entries command) → full ≡ (placed_step plan entries command taken place).0
+only_full plan entries command taken (inl has) none = absurd (none has)
+only_full plan entries command taken (inr none) _ = refl
+
+only_accepted : (plan : PlanState) (entries : ℕ) (command : Command) (taken : IsTaken plan command) (place : IsPlaced plan entries command)
+    → HasPlace plan entries command → accepted ≡ (placed_step plan entries command taken place).0
+only_accepted plan entries command taken (inl has) _ = refl
+only_accepted plan entries command taken (inr none) has = absurd (none has)
+
+module _ (plan : PlanState) (entries : ℕ) (new : NewVisit) where
+  one_name : {A : Type 0} (visit : Visit) → visit_named plan.visits new.name ≡ Some visit → visit_named plan.visits new.name ≡ None → A
+  one_name visit is none = absurd (cc)
+
+  one_visit : (visit other : Visit) → visit_named plan.visits new.name ≡ Some visit → visit_named plan.visits new.name ≡ Some other → other ≡ visit
+  one_visit visit other is also = cc
+
+  only_unnamed : (stepped : Stepped) (is : visit_named plan.visits new.name ≡ None) → Steps plan entries (AddVisit new) stepped
+      → stepped ≡ (placed_step plan entries (AddVisit new) is (placed plan entries (AddVisit new))).0
+  only_unnamed ahead is steps = absurd steps
+  only_unnamed (repeated entry) is steps = one_name steps.0 steps.1.0 is
+  only_unnamed (refused (name number)) is steps = one_name steps.0 steps.1.0 is
+  only_unnamed (refused (edit fault)) is steps = absurd steps
+  only_unnamed full is steps = only_full plan entries (AddVisit new) is (placed plan entries (AddVisit new)) steps.1
+  only_unnamed accepted is steps = only_accepted plan entries (AddVisit new) is (placed plan entries (AddVisit new)) steps.1
+
+  only_named : (stepped : Stepped) (visit : Visit) (is : visit_named plan.visits new.name ≡ Some visit) (same : AreDecided (new_of visit) new)
+      → Steps plan entries (AddVisit new) stepped → stepped ≡ (named_step plan entries new visit is same).0
+  only_named ahead visit is same steps = absurd steps
+  only_named (repeated entry) visit is (inl same) steps =
+      let one = one_visit visit steps.0 is steps.1.0 in ap repeated (steps.2 ∙ ap (λ (v : Visit). v.added) one)
+  only_named (repeated entry) visit is (inr other) steps =
+      let one = one_visit visit steps.0 is steps.1.0 in absurd (other (subst (λ (v : Visit). new_of v ≡ new) one steps.1.1))
+  only_named (refused (name number)) visit is (inl same) steps =
+      let one = one_visit visit steps.0 is steps.1.0 in absurd (steps.1.1 (subst (λ (v : Visit). new_of v ≡ new) (sym one) same))
+  only_named (refused (name number)) visit is (inr other) steps =
+      let one = one_visit visit steps.0 is steps.1.0 in ap (λ (n : VisitNo). refused (name n)) (steps.2 ∙ ap (λ (v : Visit). v.number) one)
+  only_named (refused (edit fault)) visit is same steps = absurd steps
+  only_named full visit is same steps = one_name visit is steps.0
+  only_named accepted visit is same steps = one_name visit is steps.0
+
+  only_visit : (stepped : Stepped) (found : Option Visit) (is : visit_named plan.visits new.name ≡ found) → Steps plan entries (AddVisit new) stepped
+      → stepped ≡ (visit_step plan entries new found is).0
+  only_visit stepped None is steps = only_unnamed stepped is steps
+  only_visit stepped (Some visit) is steps = only_named stepped visit is (new_decided (new_of visit) new) steps
+
 module _ (plan : PlanState) (entries : ℕ) (desk : List ℕ) (draft base : ℕ) (edits : List Edit) where
   not_over : {A : Type 0} → base ≤ plan.version → plan.version < base → A
   not_over over later = absurd (omega arith)
@@ -77,6 +153,7 @@ module _ (plan : PlanState) (entries : ℕ) (desk : List ℕ) (draft base : ℕ)
   only_ahead : (stepped : Stepped) → Steps plan entries (Commit desk draft base edits) stepped → plan.version < base → stepped ≡ ahead
   only_ahead ahead steps later = refl
   only_ahead (repeated entry) steps later = not_over steps.0 later
+  only_ahead (refused (name number)) steps later = absurd steps
   only_ahead (refused (edit fault)) steps later = let new = steps.0 in not_over new.made_over later
   only_ahead full steps later = let new = steps.0.0 in not_over new.made_over later
   only_ahead accepted steps later = let new = steps.0.0 in not_over new.made_over later
@@ -91,32 +168,24 @@ module _ (plan : PlanState) (entries : ℕ) (desk : List ℕ) (draft base : ℕ)
       → draft_version plan.drafts desk draft ≡ Some entry → stepped ≡ repeated entry
   only_repeated ahead entry steps over is = not_over over steps
   only_repeated (repeated other) entry steps over is = ap repeated (same_entry entry other is steps.1)
+  only_repeated (refused (name number)) entry steps over is = absurd steps
   only_repeated (refused (edit fault)) entry steps over is = not_new entry is steps.0
   only_repeated full entry steps over is = not_new entry is steps.0.0
   only_repeated accepted entry steps over is = not_new entry is steps.0.0
-
-  only_full : (taken : IsTaken plan (Commit desk draft base edits)) (placed : IsPlaced entries) → ¬ (HasPlace entries)
-      → full ≡ (placed_step plan entries (Commit desk draft base edits) taken placed).0
-  only_full taken (inl has) none = absurd (none has)
-  only_full taken (inr above) none = refl
-
-  only_accepted : (taken : IsTaken plan (Commit desk draft base edits)) (placed : IsPlaced entries) → HasPlace entries
-      → accepted ≡ (placed_step plan entries (Commit desk draft base edits) taken placed).0
-  only_accepted taken (inl has) place = refl
-  only_accepted taken (inr above) place = absurd (no_place entries above place)
 
   only_new : (stepped : Stepped) (new : IsNew plan (draft_of desk draft base edits)) (answered : HasAnswer plan (draft_of desk draft base edits))
       → IsNumbered plan.visits → Steps plan entries (Commit desk draft base edits) stepped → stepped ≡ (new_step plan entries desk draft base edits new answered).0
   only_new ahead new answered numbered steps = not_over new.made_over steps
   only_new (repeated entry) new answered numbered steps = not_new entry steps.1 new
+  only_new (refused (name number)) new answered numbered steps = absurd steps
   only_new (refused (edit fault)) new (inl rebases) numbered steps =
       absurd (rebased_or_refused plan (draft_of desk draft base edits) rebases.0 fault steps.2 rebases.1 steps.1)
   only_new (refused (edit fault)) new (inr (other, some, refuses)) numbered steps =
       ap (λ (f : EditFault). refused (edit f)) (refusals_are_one plan (draft_of desk draft base edits) fault other numbered steps.2 some steps.1 refuses)
-  only_new full new (inl rebases) numbered steps = only_full (new, rebases) (cases_lt entries most_entries) steps.1
+  only_new full new (inl rebases) numbered steps = only_full plan entries (Commit desk draft base edits) (new, rebases) (placed plan entries (Commit desk draft base edits)) steps.1
   only_new full new (inr (fault, some, refuses)) numbered steps =
       let rebases = steps.0.1 in absurd (rebased_or_refused plan (draft_of desk draft base edits) rebases.0 fault some rebases.1 refuses)
-  only_new accepted new (inl rebases) numbered steps = only_accepted (new, rebases) (cases_lt entries most_entries) steps.1
+  only_new accepted new (inl rebases) numbered steps = only_accepted plan entries (Commit desk draft base edits) (new, rebases) (placed plan entries (Commit desk draft base edits)) steps.1
   only_new accepted new (inr (fault, some, refuses)) numbered steps =
       let rebases = steps.0.1 in absurd (rebased_or_refused plan (draft_of desk draft base edits) rebases.0 fault some rebases.1 refuses)
 
@@ -133,6 +202,7 @@ module _ (plan : PlanState) (entries : ℕ) (desk : List ℕ) (draft base : ℕ)
 
 the_step : (plan : PlanState) (entries : ℕ) (command : Command) (stepped : Stepped) → IsNumbered plan.visits → Steps plan entries command stepped
     → stepped ≡ (some_step plan entries command).0
+the_step plan entries (AddVisit new) stepped numbered steps = only_visit plan entries new stepped (visit_named plan.visits new.name) refl steps
 the_step plan entries (Commit desk draft base edits) stepped numbered steps =
     only_based plan entries desk draft base edits stepped (cases_lt plan.version base) numbered steps
 
@@ -162,3 +232,49 @@ refused_answered plan entries desk draft base edits fault version over unused re
   other = λ same. absurd (cc);
   is = ap (λ (v : ℕ). record { version = v; told = Refused fault }) is;
 }
+
+-- the answer where a visit has the name of one to be added
+same_answered : (plan : PlanState) (entries : ℕ) (new : NewVisit) (visit : Visit) (version : ℕ) → visit_named plan.visits new.name ≡ Some visit → new_of visit ≡ new
+    → version ≡ plan.version → IsAnswered plan entries (AddVisit new) (record { version = version; told = Added visit.added visit.number })
+same_answered plan entries new visit version named same is = record {
+  stepped = repeated visit.added;
+  steps = (visit, (named, same), refl);
+  other = λ equal. absurd (cc);
+  is = rw (named, is) refl;
+}
+
+other_answered : (plan : PlanState) (entries : ℕ) (new : NewVisit) (visit : Visit) (version : ℕ) → visit_named plan.visits new.name ≡ Some visit → new_of visit ≢ new
+    → version ≡ plan.version → IsAnswered plan entries (AddVisit new) (record { version = version; told = OtherName visit.number })
+other_answered plan entries new visit version named other is = record {
+  stepped = refused (name visit.number);
+  steps = (visit, (named, other), refl);
+  other = λ equal. absurd (cc);
+  is = ap (λ (v : ℕ). record { version = v; told = OtherName visit.number }) is;
+}
+
+decided_answered : (plan : PlanState) (entries : ℕ) (new : NewVisit) (visit : Visit) (version : ℕ) (told : Told) → AreDecided (new_of visit) new
+    → visit_named plan.visits new.name ≡ Some visit → version ≡ plan.version → (new_of visit ≡ new → told ≡ Added visit.added visit.number)
+    → (new_of visit ≢ new → told ≡ OtherName visit.number) → IsAnswered plan entries (AddVisit new) (record { version = version; told = told })
+decided_answered plan entries new visit version told (inl same) named is told_same told_other =
+    subst (λ (t : Told). IsAnswered plan entries (AddVisit new) (record { version = version; told = t })) (sym (told_same same))
+    (same_answered plan entries new visit version named same is)
+decided_answered plan entries new visit version told (inr other) named is told_same told_other =
+    subst (λ (t : Told). IsAnswered plan entries (AddVisit new) (record { version = version; told = t })) (sym (told_other other))
+    (other_answered plan entries new visit version named other is)
+
+pub named_answered : (plan : PlanState) (entries : ℕ) (new : NewVisit) (visit : Visit) (version : ℕ) (told : Told)
+    → visit_named plan.visits new.name ≡ Some visit → version ≡ plan.version → (new_of visit ≡ new → told ≡ Added visit.added visit.number)
+    → (new_of visit ≢ new → told ≡ OtherName visit.number) → IsAnswered plan entries (AddVisit new) (record { version = version; told = told })
+named_answered plan entries new visit version told = decided_answered plan entries new visit version told (new_decided (new_of visit) new)
+
+-- what comes of a draft that is rebased, where the history takes one more entry
+pub committed_finds : (plan : PlanState) (entries : ℕ) (desk : List ℕ) (draft base : ℕ) (edits : List Edit) (change : ChangeState) → IsNumbered plan.visits
+    → plan.version ≡ entries → base ≤ plan.version → draft_version plan.drafts desk draft ≡ None → TakesEntry entries
+    → IsRebased plan (draft_of desk draft base edits) change → (plan.version + 1 < version_limit → IsInstallable plan change)
+    → Finds plan entries (Commit desk draft base edits) (Accepted change (record { version = change.version; told = Committed change.version }))
+committed_finds plan entries desk draft base edits change numbered counted over unused place rebased fits =
+    let last : plan.version + 1 < version_limit = omega (arith, counted, place) in (
+      ((record { made_over = over; unused = unused }, rebased_taken plan (draft_of desk draft base edits) change rebased), place),
+      rebased_makes plan desk draft base edits change numbered (fits last) rebased,
+      ap (λ (v : ℕ). record { version = v; told = Committed v }) rebased.version,
+    )

@@ -75,8 +75,8 @@ GivesAt plan before call asked no_memory after = after ≡ before
 GivesAt plan before call asked keeper_fault after = IsAccepted plan (length before) asked × (after ≡ before)
 
 -- what an ask with this call number is given at the history before it, and the history after it
-abbrev pub Gives : PlanState → List Entry → ℕ → Ask → Given → List Entry → Type 0
-Gives start before call ask given after = GivesAt (replay start before) before call (sought (replay start before) ask) given after
+abbrev pub Gives : AirportParts → List Entry → ℕ → Ask → Given → List Entry → Type 0
+Gives airport before call ask given after = GivesAt (replay airport before) before call (sought (replay airport before) ask) given after
 
 -- how an act shows what is given
 abbrev pub shown : AirportParts → Given → Acted
@@ -85,8 +85,8 @@ shown airport no_memory = NoMemory
 shown airport keeper_fault = Fault
 
 -- an act that got its turn: it shows what the ask is given
-abbrev pub ActsAs : PlanState → List Entry → ℕ → Ask → Acted → List Entry → Type 0
-ActsAs start before call ask acted after = (given : Given) × (acted ≡ shown start.airport given) × Gives start before call ask given after
+abbrev pub ActsAs : AirportParts → List Entry → ℕ → Ask → Acted → List Entry → Type 0
+ActsAs airport before call ask acted after = (given : Given) × (acted ≡ shown airport given) × Gives airport before call ask given after
 
 -- the bytes are those of the plan's reply to what is sought with this call number, and these are the history before and after it
 abbrev pub TextOf : PlanState → List Entry → ℕ → Sought → List ℕ → List Entry → Type 0

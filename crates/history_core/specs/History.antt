@@ -1,16 +1,17 @@
 -- The plan that a history of commands makes, and which histories are legal.
-use Rattle.std.specs.Prelude.{◌≡◌, ◌≤◌, ℕ, List, [], ◌∷◌, length}
+use Rattle.std.specs.Prelude.{◌+◌, ℕ, List, [], ◌∷◌}
 use Rattle.apron_base.specs.Histories.{Rises}
 use Rattle.apron_base.specs.declared.machine.TheConstants.{CALL_END}
 use Rattle.apron_rules.specs.declared.parts.AirportParts.{AirportParts}
 use Rattle.apron_rules.specs.Clash.{IsSound}
 use Rattle.visit_book.specs.Slots.{slots_of}
-use Rattle.plan_core.specs.PlanState.{IsPlan, PlanState}
+use Rattle.plan_core.specs.PlanState.{PlanState, empty_plan}
+use Rattle.desk_words.specs.Commands.{IsCommandOf}
 use Rattle.desk_words.specs.declared.asks.Entry.{Entry}
 use Rattle.desk_words.specs.declared.asks.What.{What}
 use Rattle.desk_words.specs.declared.asks.What.TheVariants.{Change}
 use Rattle.desk_words.specs.declared.asks.Ask.{Ask}
-use Rattle.history_core.specs.Steps.{IsCommandOf, IsTaken, after_command, most_entries}
+use Rattle.history_core.specs.Steps.{Steps, accepted, after_command}
 
 -- the number of the call that added the entry
 abbrev pub call_of : Entry → ℕ
@@ -25,33 +26,34 @@ IsWhatOf airport _ = Unit {0}
 abbrev pub IsAskOf : AirportParts → Ask → Type 0
 IsAskOf airport ask = IsWhatOf airport ask.what
 
--- the plan after a history: each of its commands in order
-abbrev pub replay : PlanState → List Entry → PlanState
-replay start [] = start
-replay start (entry ∷ entries) = replay (after_command start entry.command) entries
+-- the plan after these entries, from this one on: each of their commands in order
+abbrev pub after_entries : PlanState → List Entry → PlanState
+after_entries plan [] = plan
+after_entries plan (entry ∷ entries) = after_entries (after_command plan entry.command) entries
 
--- each command is of the airport, and taken by the plan that the entries before it make
-abbrev pub AreTaken : PlanState → List Entry → Type 0
-AreTaken start [] = Unit {0}
-AreTaken start (entry ∷ entries) =
-    IsCommandOf start.airport entry.command × IsTaken start entry.command × AreTaken (after_command start entry.command) entries
+-- the plan of an airport after a history, which begins with no visit
+abbrev pub replay : AirportParts → List Entry → PlanState
+replay airport history = after_entries (empty_plan airport) history
+
+-- each command is of the airport, is taken by the plan that this one and the entries before it make, and has a place there, where so many entries came
+-- before them all
+abbrev pub AreTakenFrom : PlanState → ℕ → List Entry → Type 0
+AreTakenFrom plan count [] = Unit {0}
+AreTakenFrom plan count (entry ∷ entries) =
+    IsCommandOf plan.airport entry.command × Steps plan count entry.command accepted × AreTakenFrom (after_command plan entry.command) (count + 1) entries
+
+-- each command of a history is taken at the entries before it
+abbrev pub AreTaken : AirportParts → List Entry → Type 0
+AreTaken airport history = AreTakenFrom (empty_plan airport) 0 history
 
 -- each number of a call is below this one
 abbrev pub call_limit : ℕ
 call_limit = CALL_END
 
--- a history that desks can have made, from the plan that it began with: it has no more entries than a history takes, each command is taken at the
--- entries before it, and the call numbers rise strictly from at least 1
-pub record IsLegal (start : PlanState) (history : List Entry) : Type 0 where
-  pub taken : AreTaken start history
-  pub few : length history ≤ most_entries
+-- a history that desks can have made: each command is accepted at the entries before it, and the call numbers rise strictly from at least 1
+pub record IsLegal (airport : AirportParts) (history : List Entry) : Type 0 where
+  pub taken : AreTaken airport history
   pub numbers : Rises call_of 1 call_limit history
-
--- a plan that a history can begin with: no command has changed it
-pub record IsFresh (start : PlanState) : Type 0 where
-  pub plan : IsPlan start
-  pub drafts : start.drafts ≡ []
-  pub version : start.version ≡ 0
 
 -- each clash of two parts of the plan, at any minute, is between two actual parts
 abbrev pub IsSoundPlan : PlanState → Type 0

@@ -1,8 +1,12 @@
 -- What laws say of histories.
-use Rattle.std.specs.Prelude.{◌≡◌, ◌+◌, ℕ, Bool, List, [], ◌∷◌, ◌++◌, length, if◌then◌else◌}
+use Rattle.std.specs.Prelude.{◌≡◌, ◌+◌, ℕ, Bool, false, Some, List, [], ◌∷◌, ◌++◌, length, if◌then◌else◌}
+use Rattle.visit_book.specs.declared.visits.NewVisit.{NewVisit}
+use Rattle.visit_book.specs.declared.visits.Visit.{Visit}
+use Rattle.visit_book.specs.NewVisits.{new_of}
 use Rattle.plan_core.specs.Edits.{is_edited}
+use Rattle.plan_core.specs.Names.{visit_named}
 use Rattle.desk_words.specs.declared.asks.Command.{Command}
-use Rattle.desk_words.specs.declared.asks.Command.TheVariants.{Commit}
+use Rattle.desk_words.specs.declared.asks.Command.TheVariants.{AddVisit, Commit}
 use Rattle.desk_words.specs.declared.asks.Entry.{Entry}
 
 -- this entry is the one of the history with this number, counted from 1
@@ -15,14 +19,28 @@ pub record HasEntry (history : List Entry) (number : ℕ) (entry : Entry) : Type
 -- the command is a commit of this desk's draft of this number
 abbrev pub IsCommitOf : List ℕ → ℕ → Command → Type 0
 IsCommitOf desk number (Commit of_desk draft base edits) = (of_desk ≡ desk) × (draft ≡ number)
+IsCommitOf desk number command = ⊥
 
 -- the entry of this number is a commit of this desk's draft
 abbrev pub HasCommit : List Entry → ℕ → List ℕ → ℕ → Type 0
 HasCommit history version desk number = (entry : Entry) × HasEntry history version entry × IsCommitOf desk number entry.command
 
+-- the entry of this number adds a visit with this
+abbrev pub HasAdded : List Entry → ℕ → NewVisit → Type 0
+HasAdded history version new = (entry : Entry) × HasEntry history version entry × (entry.command ≡ AddVisit new)
+
+-- the visit was added with this, by the entry of this number
+abbrev pub IsAddedBy : ℕ → NewVisit → Visit → Type 0
+IsAddedBy version new visit = (new_of visit ≡ new) × (visit.added ≡ version)
+
+-- one of the visits has the name of this, and was added with it by the entry of this number
+abbrev pub HasVisit : List Visit → ℕ → NewVisit → Type 0
+HasVisit visits version new = (visit : Visit) × (visit_named visits new.name ≡ Some visit) × IsAddedBy version new visit
+
 -- whether a command edits the visit of this number
 abbrev pub edits_visit : Command → ℕ → Bool
 edits_visit (Commit desk draft base edits) number = is_edited edits number
+edits_visit command number = false
 
 -- the number of the last of these entries that edits the visit of this number, where so many came before them, or this one where none does
 abbrev pub last_edit : ℕ → ℕ → ℕ → List Entry → ℕ

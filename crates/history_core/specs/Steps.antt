@@ -1,35 +1,40 @@
 -- How a plan takes a command.
-use Rattle.std.specs.Prelude.{◌≡◌, ◌≢◌, ◌≤◌, ◌<◌, ◌+◌, ℕ, List, length, All, None, Some, Result, Ok, Err}
+use Rattle.std.specs.Prelude.{◌≡◌, ◌≢◌, ◌≤◌, ◌<◌, ◌+◌, ℕ, List, length, None, Some, option_map, unwrap_or, Result, Ok, Err}
 use Rattle.apron_base.specs.declared.keeper.TheConstants.{MAX_ENTRIES}
-use Rattle.apron_rules.specs.declared.parts.AirportParts.{AirportParts}
+use Rattle.apron_base.specs.declared.numbers.VisitNo.{VisitNo}
 use Rattle.visit_book.specs.declared.edits.EditFault.{EditFault}
 use Rattle.visit_book.specs.declared.edits.EditFault.TheVariants.{Memory}
+use Rattle.visit_book.specs.declared.visits.NewVisit.{NewVisit}
 use Rattle.visit_book.specs.declared.visits.Visit.{Visit}
-use Rattle.visit_book.specs.Edits.{most_edits}
+use Rattle.visit_book.specs.NewVisits.{new_of}
+use Rattle.plan_core.specs.Adding.{with_added}
 use Rattle.plan_core.specs.Drafts.{Draft, draft_of, draft_version}
-use Rattle.plan_core.specs.Edits.{IsEditOf, after_all_edits}
-use Rattle.plan_core.specs.PlanState.{PlanState}
+use Rattle.plan_core.specs.Edits.{after_all_edits}
+use Rattle.plan_core.specs.Names.{visit_named}
+use Rattle.plan_core.specs.PlanState.{PlanState, most_visits}
 use Rattle.plan_core.specs.Rebase.{Rebases, Refuses, committed}
 use Rattle.desk_words.specs.declared.asks.Command.{Command}
-use Rattle.desk_words.specs.declared.asks.Command.TheVariants.{Commit}
+use Rattle.desk_words.specs.declared.asks.Command.TheVariants.{AddVisit, Commit}
 use Rattle.desk_words.specs.declared.replies.Reply.{Reply}
 use Rattle.desk_words.specs.declared.replies.Told.{Told}
-use Rattle.desk_words.specs.declared.replies.Told.TheVariants.{Committed, Ahead, Full, Edit as Refused}
-
--- the command is of the airport: it has some edits but not too many, on stands of it
-abbrev pub IsCommandOf : AirportParts → Command → Type 0
-IsCommandOf airport (Commit desk draft base edits) = (1 ≤ length edits) × (length edits ≤ most_edits) × All (IsEditOf airport) edits
+use Rattle.desk_words.specs.declared.replies.Told.TheVariants.{Added, Committed, Ahead, Full, OtherName, Edit as Refused}
 
 -- the most entries of a history
 abbrev pub most_entries : ℕ
 most_entries = MAX_ENTRIES
 
 -- a history of so many entries takes one more
-abbrev pub HasPlace : ℕ → Type 0
-HasPlace entries = entries < most_entries
+abbrev pub TakesEntry : ℕ → Type 0
+TakesEntry entries = entries < most_entries
+
+-- a plan, whose history has so many entries, has a place for the command: there are not too many entries, and for a visit not too many visits
+abbrev pub HasPlace : PlanState → ℕ → Command → Type 0
+HasPlace plan entries (AddVisit new) = TakesEntry entries × (length plan.visits < most_visits)
+HasPlace plan entries command = TakesEntry entries
 
 -- why a command is refused for its own sake
 pub data Refusal : Type 0 where
+  name : VisitNo → Refusal
   edit : EditFault → Refusal
 
 -- how a command is taken
@@ -47,19 +52,32 @@ pub record IsNew (plan : PlanState) (draft : Draft) : Type 0 where
 
 -- the command was made over a later version than the plan's
 abbrev pub IsAhead : PlanState → Command → Type 0
+IsAhead plan (AddVisit new) = ⊥
 IsAhead plan (Commit desk draft base edits) = plan.version < base
 
--- the entry of this number is of the same draft, whatever its edits are
+-- a visit of the plan has the name, and was added with the same
+abbrev pub IsSameName : PlanState → NewVisit → Visit → Type 0
+IsSameName plan new visit = (visit_named plan.visits new.name ≡ Some visit) × (new_of visit ≡ new)
+
+-- a visit of the plan has the name, and was added with other data
+abbrev pub IsOtherName : PlanState → NewVisit → Visit → Type 0
+IsOtherName plan new visit = (visit_named plan.visits new.name ≡ Some visit) × (new_of visit ≢ new)
+
+-- the entry of this number added the same visit, or is of the same draft, whatever its edits are
 abbrev pub IsRepeated : PlanState → Command → ℕ → Type 0
+IsRepeated plan (AddVisit new) entry = (visit : Visit) × IsSameName plan new visit × (entry ≡ visit.added)
 IsRepeated plan (Commit desk draft base edits) entry = (base ≤ plan.version) × (draft_version plan.drafts desk draft ≡ Some entry)
 
 -- the command is refused so; want of memory is no cause
 abbrev pub IsRefused : PlanState → Command → Refusal → Type 0
+IsRefused plan (AddVisit new) (name number) = (visit : Visit) × IsOtherName plan new visit × (number ≡ visit.number)
 IsRefused plan (Commit desk draft base edits) (edit fault) =
     IsNew plan (draft_of desk draft base edits) × Refuses plan (draft_of desk draft base edits) fault × (fault ≢ Memory)
+IsRefused plan command why = ⊥
 
--- the command is neither ahead nor repeated, and it applies: the edits of a commit leave some visits, which are sound
+-- the command is neither ahead nor repeated, and it applies: a visit has a new name; the edits of a commit leave some visits, which are sound
 abbrev pub IsTaken : PlanState → Command → Type 0
+IsTaken plan (AddVisit new) = visit_named plan.visits new.name ≡ None
 IsTaken plan (Commit desk draft base edits) =
     IsNew plan (draft_of desk draft base edits) × ((new : List Visit) × Rebases plan (draft_of desk draft base edits) new)
 
@@ -68,28 +86,34 @@ abbrev pub Steps : PlanState → ℕ → Command → Stepped → Type 0
 Steps plan entries command ahead = IsAhead plan command
 Steps plan entries command (repeated entry) = IsRepeated plan command entry
 Steps plan entries command (refused why) = IsRefused plan command why
-Steps plan entries command full = IsTaken plan command × ¬ (HasPlace entries)
-Steps plan entries command accepted = IsTaken plan command × HasPlace entries
+Steps plan entries command full = IsTaken plan command × ¬ (HasPlace plan entries command)
+Steps plan entries command accepted = IsTaken plan command × HasPlace plan entries command
 
 -- what is told at a version of the plan
 abbrev pub reply_at : ℕ → Told → Reply
 reply_at version told = record { version = version; told = told }
 
--- what is told of a command whose entry made this version, now or before
-abbrev pub made_told : ℕ → Command → Told
-made_told entry (Commit desk draft base edits) = Committed entry
+-- the number of the visit of this name, or the next number where there is none
+abbrev pub number_for : List Visit → List ℕ → VisitNo
+number_for visits text = unwrap_or (option_map (λ visit. visit.number) (visit_named visits text)) (record { 0 = length visits + 1 })
+
+-- what is told of a command whose entry made this version, now or before, by the plan before it is taken
+abbrev pub made_told : PlanState → ℕ → Command → Told
+made_told plan entry (AddVisit new) = Added entry (number_for plan.visits new.name)
+made_told plan entry (Commit desk draft base edits) = Committed entry
 
 -- what is told of a refusal
 abbrev pub refusal_told : Refusal → Told
+refusal_told (name number) = OtherName number
 refusal_told (edit fault) = Refused fault
 
 -- the reply to a command: an accepted one makes the next version, and after any other the plan is as it was
 abbrev pub stepped_reply : PlanState → Command → Stepped → Reply
 stepped_reply plan command ahead = reply_at plan.version Ahead
-stepped_reply plan command (repeated entry) = reply_at plan.version (made_told entry command)
+stepped_reply plan command (repeated entry) = reply_at plan.version (made_told plan entry command)
 stepped_reply plan command (refused why) = reply_at plan.version (refusal_told why)
 stepped_reply plan command full = reply_at plan.version Full
-stepped_reply plan command accepted = reply_at (plan.version + 1) (made_told (plan.version + 1) command)
+stepped_reply plan command accepted = reply_at (plan.version + 1) (made_told plan (plan.version + 1) command)
 
 -- the plan after a commit of the draft, if its edits apply
 abbrev pub committed_if : PlanState → Draft → Result (List Visit) EditFault → PlanState
@@ -98,4 +122,5 @@ committed_if plan draft (Err fault) = plan
 
 -- the plan after a command that is taken
 abbrev pub after_command : PlanState → Command → PlanState
+after_command plan (AddVisit new) = with_added plan new
 after_command plan (Commit desk draft base edits) = committed_if plan (draft_of desk draft base edits) (after_all_edits plan.airport base edits plan.visits)

@@ -1,14 +1,16 @@
 // Laws of histories.
-ghost use Rattle.std.specs.Prelude.{◌≡◌, ◌<◌, ◌≤◌, ◌+◌, ◌++◌, ◌∷◌, [], ◌↔◌, List, ℕ, Some, length};
+ghost use Rattle.std.specs.Prelude.{◌≡◌, ◌≤◌, ◌++◌, ◌↔◌, List, ℕ, Some, length};
+ghost use Rattle.apron_rules.specs.declared.parts.AirportParts.{AirportParts};
 ghost use Rattle.visit_book.specs.Numbers.{IsNumbered, visit_at};
+ghost use Rattle.visit_book.specs.declared.visits.NewVisit.{NewVisit};
 ghost use Rattle.visit_book.specs.declared.visits.Visit.{Visit};
 ghost use Rattle.plan_core.specs.Drafts.{draft_version};
 ghost use Rattle.plan_core.specs.PlanState.{PlanState};
 ghost use Rattle.desk_words.specs.declared.asks.Command.{Command};
 ghost use Rattle.desk_words.specs.declared.asks.Entry.{Entry};
 ghost use Rattle.history_core.specs.Steps.{Stepped, Steps};
-ghost use Rattle.history_core.specs.History.{IsFresh, IsLegal, IsSoundPlan, replay};
-ghost use Rattle.history_core.specs.Laws.{HasCommit, HasEntry, last_edit};
+ghost use Rattle.history_core.specs.History.{IsLegal, IsSoundPlan, replay};
+ghost use Rattle.history_core.specs.Laws.{HasAdded, HasCommit, HasEntry, HasVisit, last_edit};
 
 /// Want of memory aside, each command has exactly one step at a plan.
 pub fn commands_have_one_step()
@@ -17,31 +19,38 @@ pub fn commands_have_one_step()
         → IsNumbered plan.visits → Steps plan entries command stepped → Steps plan entries command other → stepped ≡ other }
 {}
 
-/// The plan of a legal history is sound where the plan that it began with is.
+/// The plan of a legal history is sound.
 pub fn legal_histories_make_sound_plans()
-    ensures sound { (start : PlanState) (history : List Entry) → IsSoundPlan start → IsLegal start history → IsSoundPlan (replay start history) }
+    ensures sound { (airport : AirportParts) (history : List Entry) → IsLegal airport history → IsSoundPlan (replay airport history) }
 {}
 
 /// Each entry of a legal history makes the next version, and each version of its plan was made by one.
 pub fn entries_of_legal_histories_make_versions()
-    ensures counted { (start : PlanState) (history : List Entry) → IsLegal start history → (replay start history).version ≡ start.version + length history }
-    ensures made { (start : PlanState) (history : List Entry) (version : ℕ) → IsFresh start → IsLegal start history
-        → 1 ≤ version → version ≤ (replay start history).version → (entry : Entry) × HasEntry history version entry }
+    ensures counted { (airport : AirportParts) (history : List Entry) → IsLegal airport history → (replay airport history).version ≡ length history }
+    ensures made { (airport : AirportParts) (history : List Entry) (version : ℕ) → IsLegal airport history
+        → 1 ≤ version → version ≤ (replay airport history).version → (entry : Entry) × HasEntry history version entry }
 {}
 
 /// What was there before some entries of a legal history was legal too.
 pub fn fronts_of_legal_histories_are_legal()
-    ensures legal { (start : PlanState) (front back : List Entry) → IsLegal start (front ++ back) → IsLegal start front }
+    ensures legal { (airport : AirportParts) (front back : List Entry) → IsLegal airport (front ++ back) → IsLegal airport front }
 {}
 
 /// A draft made a version of the plan of a legal history exactly where the entry of that number is its commit.
 pub fn drafts_are_of_entries()
-    ensures made { (start : PlanState) (history : List Entry) (desk : List ℕ) (number version : ℕ) → IsFresh start → IsLegal start history
-        → (draft_version (replay start history).drafts desk number ≡ Some version) ↔ HasCommit history version desk number }
+    ensures made { (airport : AirportParts) (history : List Entry) (desk : List ℕ) (number version : ℕ) → IsLegal airport history
+        → (draft_version (replay airport history).drafts desk number ≡ Some version) ↔ HasCommit history version desk number }
 {}
 
 /// A visit of the plan of a legal history was edited last by the last entry that edits it, and by none where none does.
 pub fn edits_are_of_the_last_entry()
-    ensures last { (start : PlanState) (history : List Entry) (visit : Visit) → IsFresh start → IsLegal start history
-        → visit_at (replay start history).visits visit.number ≡ Some visit → visit.edited ≡ last_edit visit.number.0 0 0 history }
+    ensures last { (airport : AirportParts) (history : List Entry) (visit : Visit) → IsLegal airport history
+        → visit_at (replay airport history).visits visit.number ≡ Some visit → visit.edited ≡ last_edit visit.number.0 0 0 history }
+{}
+
+/// The visits of the plan of a legal history are those that its entries added: a visit tells the number of its entry
+/// and what that added it with.
+pub fn visits_are_of_entries()
+    ensures added { (airport : AirportParts) (history : List Entry) (version : ℕ) (new : NewVisit) → IsLegal airport history
+        → HasVisit (replay airport history).visits version new ↔ HasAdded history version new }
 {}

@@ -3,11 +3,12 @@
 
 mod board;
 mod laws;
+mod machine;
 mod taking;
 
 pub use board::Board;
 pub use laws::{
     commands_have_one_step, drafts_are_of_entries, edits_are_of_the_last_entry,
     entries_of_legal_histories_make_versions, fronts_of_legal_histories_are_legal,
-    legal_histories_make_sound_plans,
+    legal_histories_make_sound_plans, visits_are_of_entries,
 };

@@ -127,9 +127,9 @@ replaced_from : (e : ℕ → Bool) (n : ℕ) (others olds news : List Visit) →
 replaced_from e n others [] [] numbered now h found = refl
 replaced_from e n others (o ∷ olds) (v ∷ news) numbered now h found =
     let first : newest others o ≡ v =
-    newest_first e n others o v news (e v.number.0) refl numbered.0 h.0 h.1 now.1 (found o.number (omega (arith, numbered.0))) in
-    let rest : replaced olds others ≡ news = replaced_from e (n + 1) others olds news numbered.1 now.1 h.2
-    (λ m above. found m (omega arith) ∙ later_found e n v news m (e v.number.0) refl h.0 above) in
+    newest_first e n others o v news (e v.number.0) refl numbered.0 h.0.number h.0.kept now.1 (found o.number (omega (arith, numbered.0))) in
+    let rest : replaced olds others ≡ news = replaced_from e (n + 1) others olds news numbered.1 now.1 h.1
+    (λ m above. found m (omega arith) ∙ later_found e n v news m (e v.number.0) refl h.0.number above) in
     rw (first, rest) refl
 replaced_from e n others [] (v ∷ news) numbered now h found = absurd h
 replaced_from e n others (o ∷ olds) [] numbered now h found = absurd h

@@ -1,6 +1,6 @@
 -- Visits found and replaced by their numbers.
 use Rattle.std.proofs.Common.{◌≡◌, ◌<◌, ◌≤◌, ◌+◌, ℕ, suc, Bool, true, false, List, [], ◌∷◌, refl, arith, length, sym, ap, ◌∙◌, Option, None, Some, not, nat_lt, cond}
-use Rattle.std.specs.Prelude.{slice_get, slice_set, slice_index_or, position, filter}
+use Rattle.std.specs.Prelude.{slice_get, slice_set, slice_index_or, find, position, filter}
 use Rattle.std.specs.List.{position_or_len}
 use Rattle.std.proofs.lemmas.Bool.Decides.{nat_tests}
 use Rattle.std.proofs.lemmas.List.Folds.{find_at}
@@ -29,19 +29,26 @@ no_place p visits e = place_past (position_or_len p visits) (length visits) (nat
 pub no_place_is : (p : Visit → Bool) (visits : List Visit) → position p visits ≡ None → position_or_len p visits ≡ length visits
 no_place_is p visits e = omega (arith, no_place p visits e, prefix_len-le-length (λ (visit : Visit). not (p visit)) visits)
 
+-- what stands in that place is the first visit that passes
+pub found_by : (p : Visit → Bool) (visits : List Visit) (i : ℕ) (d : Visit) → position p visits ≡ Some i
+    → (i < length visits) × (find p visits ≡ Some (slice_index_or visits i d))
+found_by p visits i d e =
+    let at = place_of p visits i e in
+    let here : i ≡ position_or_len p visits = at.0 in
+    (at.1, find_at p visits ∙ (ap (slice_get visits) (sym here) ∙ slice_get-get_or visits i d at.1))
+
+-- where there is no place no visit passes
+pub not_found_by : (p : Visit → Bool) (visits : List Visit) → position p visits ≡ None → find p visits ≡ None
+not_found_by p visits e = find_at p visits ∙ slice_get_past visits (position_or_len p visits) (no_place p visits e)
+
 -- what stands in its place is the visit of the number
 pub found_at : (visits : List Visit) (number : VisitNo) (i : ℕ) (d : Visit) → position (has_number number) visits ≡ Some i
     → (i < length visits) × (visit_at visits number ≡ Some (slice_index_or visits i d))
-found_at visits number i d e =
-    let at = place_of (has_number number) visits i e in
-    let here : i ≡ position_or_len (has_number number) visits = at.0 in
-    (at.1, find_at (has_number number) visits ∙ (ap (slice_get visits) (sym here) ∙ slice_get-get_or visits i d at.1))
+found_at visits number = found_by (has_number number) visits
 
 -- there is no visit of a number that has no place
 pub not_found : (visits : List Visit) (number : VisitNo) → position (has_number number) visits ≡ None → visit_at visits number ≡ None
-not_found visits number e =
-    find_at (has_number number) visits
-    ∙ slice_get_past visits (position_or_len (has_number number) visits) (no_place (has_number number) visits e)
+not_found visits number = not_found_by (has_number number) visits
 
 one_more : (n : ℕ) → 1 + n ≡ suc n
 one_more n = omega arith

@@ -6,15 +6,18 @@ use Rattle.apron_rules.specs.Rules.{unfit_of}
 use Rattle.visit_book.specs.declared.visits.Part.{Part}
 use Rattle.visit_book.specs.declared.visits.Visit.{Visit}
 use Rattle.visit_book.specs.declared.edits.Edit.{Edit}
-use Rattle.visit_book.specs.declared.edits.Edit.TheVariants.{Put}
+use Rattle.visit_book.specs.declared.edits.Edit.TheVariants.{Put, Lift, Cut, Join}
 use Rattle.visit_book.specs.declared.edits.EditFault.{EditFault}
-use Rattle.visit_book.specs.declared.edits.EditFault.TheVariants.{UnknownVisit, Overtaken, NoSuchPart, Unfit, Clash, Memory}
+use Rattle.visit_book.specs.declared.edits.EditFault.TheVariants.{UnknownVisit, Overtaken, Gone, NoSuchPart, OnBlock, BadCut, BadJoin, Unfit, Clash, Memory}
+use Rattle.visit_book.specs.declared.visits.Place.TheVariants.{Planned, Unplaced}
+use Rattle.visit_book.specs.Changes.{cut_of, has_actual_behind, join_of}
 use Rattle.visit_book.specs.Edits.{part_of, visit_of}
 use Rattle.visit_book.specs.Numbers.{visit_at, with_visit}
 use Rattle.visit_book.specs.PartFields.{part_at}
+use Rattle.visit_book.specs.Places.{is_actual}
 use Rattle.plan_core.specs.Drafts.{Draft}
-use Rattle.apron_base.specs.ResultChain.{◌>>=◌}
-use Rattle.plan_core.specs.Edits.{after_all_edits, after_edit, after_edits, edit_part, edit_visit, planned_on, refuse_if, refuse_unfit, with_part}
+use Rattle.apron_base.specs.ResultChain.{◌>>=◌, refuse_if}
+use Rattle.plan_core.specs.Edits.{after_all_edits, after_edit, after_edits, edit_part, edit_visit, is_over, placed, refuse_unfit, with_part}
 use Rattle.plan_core.specs.PlanState.{PlanState}
 use Rattle.plan_core.specs.Rebase.{Refuses}
 
@@ -45,17 +48,29 @@ unfit_by_edit : (k : ℕ) (unfit : Option UnfitBy) → FailsByEdit (refuse_unfit
 unfit_by_edit k (Some by) = tt
 unfit_by_edit k None = tt
 
+-- where a fact doesn't forbid it, an edit fails by a fault of an edit
+unless_on_block : (k : ℕ) (test : Bool) (next : Result Visit EditFault) → FailsByEdit next → FailsByEdit (refuse_if test (OnBlock k) >>= λ planned. next)
+unless_on_block k test next h = then_by_edit (refuse_if test (OnBlock k)) (λ planned. next) (refused_by_edit test (OnBlock k) tt) (λ planned. h)
+
 part_by_edit : (a : AirportParts) (k : ℕ) (edit : Edit) (v : Visit) (part : Part) → FailsByEdit (edit_part a k edit v part)
 part_by_edit a k (Put n j s) v part =
-    then_by_edit (refuse_unfit k (unfit_of a s v.kind)) (λ fits. Ok (with_part v j (planned_on s part))) (unfit_by_edit k (unfit_of a s v.kind)) (λ fits. tt)
+    unless_on_block k (is_actual part.place) (refuse_unfit k (unfit_of a s v.kind) >>= λ fits. Ok (with_part v j (placed (Planned s) part)))
+    (then_by_edit (refuse_unfit k (unfit_of a s v.kind)) (λ fits. Ok (with_part v j (placed (Planned s) part))) (unfit_by_edit k (unfit_of a s v.kind)) (λ fits. tt))
+part_by_edit a k (Lift n j) v part = unless_on_block k (is_actual part.place) (Ok (with_part v j (placed (Unplaced None) part))) tt
+part_by_edit a k (Cut n j at) v part =
+    unless_on_block k (has_actual_behind j v) (ok_or (cut_of a j at v) (BadCut k)) (found_by_edit (cut_of a j at v) (BadCut k) tt)
+part_by_edit a k (Join n j) v part =
+    unless_on_block k (has_actual_behind j v) (ok_or (join_of j v) (BadJoin k)) (found_by_edit (join_of j v) (BadJoin k) tt)
 
 visit_by_edit : (a : AirportParts) (base k : ℕ) (edit : Edit) (v : Visit) → FailsByEdit (edit_visit a base k edit v)
 visit_by_edit a base k edit v =
     then_by_edit (refuse_if (nat_lt base v.edited) (Overtaken k v.number v.edited))
-    (λ fresh. ok_or (part_at v.parts (part_of edit)) (NoSuchPart k) >>= λ part. edit_part a k edit v part)
+    (λ fresh. refuse_if (is_over v) (Gone k) >>= λ live. ok_or (part_at v.parts (part_of edit)) (NoSuchPart k) >>= λ part. edit_part a k edit v part)
     (refused_by_edit (nat_lt base v.edited) (Overtaken k v.number v.edited) tt)
-    (λ fresh. then_by_edit (ok_or (part_at v.parts (part_of edit)) (NoSuchPart k)) (λ part. edit_part a k edit v part)
-    (found_by_edit (part_at v.parts (part_of edit)) (NoSuchPart k) tt) (λ part. part_by_edit a k edit v part))
+    (λ fresh. then_by_edit (refuse_if (is_over v) (Gone k)) (λ live. ok_or (part_at v.parts (part_of edit)) (NoSuchPart k) >>= λ part. edit_part a k edit v part)
+    (refused_by_edit (is_over v) (Gone k) tt)
+    (λ live. then_by_edit (ok_or (part_at v.parts (part_of edit)) (NoSuchPart k)) (λ part. edit_part a k edit v part)
+    (found_by_edit (part_at v.parts (part_of edit)) (NoSuchPart k) tt) (λ part. part_by_edit a k edit v part)))
 
 after_by_edit : (a : AirportParts) (base k : ℕ) (edit : Edit) (visits : List Visit) → FailsByEdit (after_edit a base k edit visits)
 after_by_edit a base k edit visits =
@@ -79,7 +94,11 @@ fault_is_of_edit plan draft fault e =
 refuses_by : (plan : PlanState) (draft : Draft) (fault : EditFault) → IsOfEdit fault → after_all_edits plan.airport draft.base draft.edits plan.visits ≡ Err fault → Refuses plan draft fault
 refuses_by plan draft (UnknownVisit k) h e = e
 refuses_by plan draft (Overtaken k n version) h e = e
+refuses_by plan draft (Gone k) h e = e
 refuses_by plan draft (NoSuchPart k) h e = e
+refuses_by plan draft (OnBlock k) h e = e
+refuses_by plan draft (BadCut k) h e = e
+refuses_by plan draft (BadJoin k) h e = e
 refuses_by plan draft (Unfit k by) h e = e
 refuses_by plan draft (Clash c) h e = absurd h
 refuses_by plan draft Memory h e = absurd h

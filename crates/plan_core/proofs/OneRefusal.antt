@@ -6,7 +6,7 @@ use Rattle.apron_rules.proofs.Symmetry.{none_from_sound}
 use Rattle.apron_rules.proofs.Unique.{first_unique}
 use Rattle.visit_book.specs.declared.visits.Visit.{Visit}
 use Rattle.visit_book.specs.declared.edits.EditFault.{EditFault}
-use Rattle.visit_book.specs.declared.edits.EditFault.TheVariants.{UnknownVisit, Overtaken, NoSuchPart, Unfit, Clash as ByClash, Memory}
+use Rattle.visit_book.specs.declared.edits.EditFault.TheVariants.{UnknownVisit, Overtaken, Gone, NoSuchPart, OnBlock, BadCut, BadJoin, Unfit, Clash as ByClash, Memory}
 use Rattle.visit_book.specs.Numbers.{IsNumbered}
 use Rattle.visit_book.specs.Slots.{slots_of}
 use Rattle.plan_core.specs.Drafts.{Draft}
@@ -33,7 +33,11 @@ record LeavesClash (plan : PlanState) (draft : Draft) (fault : EditFault) : Type
 cause_of : (plan : PlanState) (draft : Draft) (fault : EditFault) → fault ≢ Memory → Refuses plan draft fault → (edited plan draft ≡ Err fault) ⊎ LeavesClash plan draft fault
 cause_of plan draft (UnknownVisit k) cause h = inl h
 cause_of plan draft (Overtaken k n version) cause h = inl h
+cause_of plan draft (Gone k) cause h = inl h
 cause_of plan draft (NoSuchPart k) cause h = inl h
+cause_of plan draft (OnBlock k) cause h = inl h
+cause_of plan draft (BadCut k) cause h = inl h
+cause_of plan draft (BadJoin k) cause h = inl h
 cause_of plan draft (Unfit k by) cause h = inl h
 cause_of plan draft (ByClash c) cause h = inr (record { clash = c; new = h.0; is = refl; apply = h.1; first = h.2 })
 cause_of plan draft Memory cause h = absurd (cause refl)

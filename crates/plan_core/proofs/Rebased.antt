@@ -13,7 +13,7 @@ use Rattle.visit_book.specs.WellFormed.{IsWellFormed}
 use Rattle.plan_core.specs.Drafts.{Draft, id_of}
 use Rattle.plan_core.specs.Edits.{after_all_edits, edited_visits, is_edited}
 use Rattle.plan_core.specs.Working.{replaced}
-use Rattle.plan_core.specs.PlanState.{ChangeState, IsLive, IsPlan, PlanState}
+use Rattle.plan_core.specs.PlanState.{ChangeState, IsPlan, PlanState}
 use Rattle.plan_core.specs.Rebase.{IsRebased, edited_last}
 use Rattle.plan_core.proofs.Among.{edited_among, refused_among, replaced_edited}
 
@@ -24,9 +24,6 @@ moved P a b vs ws airport visits h = subst (P b) visits (subst (λ x. P x vs) ai
 pub edited_formed : (plan : PlanState) (edits : List Edit) → IsPlan plan → All (IsWellFormed plan.airport) (edited_visits edits plan.visits)
 edited_formed plan edits h =
     All-filter (λ visit. is_edited edits visit.number.0) (IsWellFormed plan.airport) plan.visits (λ k d within. (h.each k d within).well_formed)
-
-pub edited_live : (plan : PlanState) (edits : List Edit) → IsPlan plan → All IsLive (edited_visits edits plan.visits)
-edited_live plan edits h = All-filter (λ visit. is_edited edits visit.number.0) IsLive plan.visits (λ k d within. (h.each k d within).live)
 
 -- the edits apply to the plan's visits, of which these are the edited ones
 pub record Applied (plan : PlanState) (draft : Draft) (edited : List Visit) : Type 0 where

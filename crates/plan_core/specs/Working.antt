@@ -2,8 +2,13 @@
 use Rattle.std.specs.Prelude.{nat_le, Bool, List, insert, is_some, map, unwrap_or, if◌then◌else◌}
 use Rattle.std.specs.List.{position_or_len}
 use Rattle.apron_base.specs.declared.numbers.VisitNo.{VisitNo}
+use Rattle.visit_book.specs.declared.edits.Edit.{Edit}
+use Rattle.visit_book.specs.declared.edits.Edit.TheVariants.{Put, Lift, Cut, Join}
+use Rattle.visit_book.specs.declared.visits.Part.{Part}
 use Rattle.visit_book.specs.declared.visits.Visit.{Visit}
+use Rattle.visit_book.specs.Changes.{has_actual_behind}
 use Rattle.visit_book.specs.Numbers.{visit_at}
+use Rattle.visit_book.specs.Places.{is_actual}
 
 -- the visit has this number or a greater one
 abbrev pub is_from : VisitNo → Visit → Bool
@@ -21,3 +26,10 @@ newest others visit = unwrap_or (visit_at others visit.number) visit
 -- the visits, each replaced by the one of its number among others
 abbrev pub replaced : List Visit → List Visit → List Visit
 replaced visits others = map (newest others) visits
+
+-- the part is actual, where it is to be put or lifted, or a later one is, where it is to be cut or joined
+abbrev pub is_on_block : Edit → Visit → Part → Bool
+is_on_block (Put of k stand) visit part = is_actual part.place
+is_on_block (Lift of k) visit part = is_actual part.place
+is_on_block (Cut of k at) visit part = has_actual_behind k visit
+is_on_block (Join of k) visit part = has_actual_behind k visit

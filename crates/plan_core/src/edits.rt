@@ -1,19 +1,21 @@
 // Edits on a working copy of the visits that they are of. Edits are counted from 1.
-ghost use Rattle.std.specs.Prelude.{◌≡◌, ◌≤◌, ◌<◌, ◌++◌, ◌∷◌, [], All, Ok, Err, Some, IfErr, IfOk, OnOk, length, map, position};
+ghost use Rattle.std.specs.Prelude.{◌≡◌, ◌≤◌, ◌<◌, ◌++◌, ◌∷◌, [], All, Ok, Err, Some, IfErr, IfOk, OnOk, false, length, map, position};
 ghost use Rattle.std.specs.List.{position_or_len};
-ghost use Rattle.visit_book.specs.Edits.{most_edits, part_of, visit_of};
+ghost use Rattle.visit_book.specs.Edits.{IsEditOf, most_edits, part_of, visit_of};
 ghost use Rattle.visit_book.specs.Numbers.{IsNumbered, has_number};
 ghost use Rattle.visit_book.specs.PartFields.{part_at};
 ghost use Rattle.visit_book.specs.WellFormed.{IsWellFormed};
-ghost use Rattle.plan_core.specs.Edits.{IsEditOf, after_all_edits, after_edit, edit_part, edit_visit, edited_visits, with_part};
-ghost use Rattle.plan_core.specs.Working.{is_from, with_visit_once};
-ghost use Rattle.plan_core.specs.PlanState.{IsLive};
+ghost use Rattle.plan_core.specs.Edits.{after_all_edits, after_edit, edit_part, edit_visit, edited_visits, is_over, placed, with_part};
+ghost use Rattle.plan_core.specs.Working.{is_from, is_on_block, with_visit_once};
 ghost use Rattle.plan_core.specs.Rebase.{edited_last};
 
 use apron_base::{Memory, VisitNo};
 use apron_rules::Airport;
 use std::alloc::Global;
-use visit_book::{Edit, EditFault, Part, Place, Visit, part_of, visit_at, visit_of};
+use visit_book::{
+    BadCut, BadJoin, Edit, EditFault, End, Part, Place, Visit, cut, has_actual_behind, is_actual,
+    join, part_of, visit_at, visit_of,
+};
 
 /// The visits that the edits are of, in order of number.
 pub(crate) fn edited_visits(
@@ -33,8 +35,8 @@ pub(crate) fn edited_visits(
     Ok(edited)
 }
 
-// Adds a visit before those of greater numbers, unless one of its number is there.
-fn add_visit_once(visits: &mut Vec<Visit>, visit: Visit) -> Result<(), Memory>
+/// Adds a visit before those of greater numbers, unless one of its number is there.
+pub(crate) fn add_visit_once(visits: &mut Vec<Visit>, visit: Visit) -> Result<(), Memory>
     ensures ok { OnOk result (visits.new.items ≡ with_visit_once visits.old.items visit) }
 {
     if place_of(visits.as_slice(), visit.number).is_none() {
@@ -74,13 +76,11 @@ pub(crate) fn after_all_edits(
     visits: &mut [Visit],
 ) -> Result<(), EditFault>
     requires each { All (IsWellFormed airport.now) visits.old }
-    requires live { All IsLive visits.old }
     requires stands { All (IsEditOf airport.now) edits.now }
     requires few { length edits.now ≤ most_edits }
     ensures ok { OnOk result (after_all_edits airport.now base edits.now visits.old ≡ Ok visits.new) }
     ensures err { IfErr result (λ fault. after_all_edits airport.now base edits.now visits.old ≡ Err fault) }
     ensures each { OnOk result (All (IsWellFormed airport.now) visits.new) }
-    ensures live { OnOk result (All IsLive visits.new) }
 {
     let mut number = 1;
     for edit in edits {
@@ -101,6 +101,7 @@ fn after_edit(
     requires stand { IsEditOf airport.now edit.now }
     ensures ok { OnOk result (after_edit airport.now base number edit.now visits.old ≡ Ok visits.new) }
     ensures err { IfErr result (λ fault. after_edit airport.now base number edit.now visits.old ≡ Err fault) }
+    ensures each { OnOk result (All (IsWellFormed airport.now) visits.new) }
 {
     let Some(place) = place_of(visits, visit_of(edit)) else {
         return Err(EditFault::UnknownVisit { edit: number });
@@ -116,9 +117,10 @@ fn edit_visit(
     edit: &Edit,
     visit: &Visit,
 ) -> Result<Visit, EditFault>
-    requires kind { visit.now.kind.0 < length airport.now.types }
+    requires well_formed { IsWellFormed airport.now visit.now }
     requires stand { IsEditOf airport.now edit.now }
     ensures is { result ≡ edit_visit airport.now base number edit.now visit.now }
+    ensures well_formed { IfOk result (IsWellFormed airport.now) }
 {
     if visit.edited > base {
         return Err(EditFault::Overtaken {
@@ -127,10 +129,22 @@ fn edit_visit(
             edited: visit.edited,
         });
     }
+    if is_over(visit) {
+        return Err(EditFault::Gone { edit: number });
+    }
     let Some(part) = visit.parts.get(part_of(edit)) else {
         return Err(EditFault::NoSuchPart { edit: number });
     };
     edit_part(airport, number, edit, visit, part)
+}
+
+fn is_over(visit: &Visit) -> bool
+    ensures is { result ≡ is_over visit.now }
+{
+    match visit.end {
+        End::Live => false,
+        End::Gone | End::Cancelled => true,
+    }
 }
 
 // What the edit makes of the visit that has this part.
@@ -141,20 +155,50 @@ fn edit_part(
     visit: &Visit,
     part: Part,
 ) -> Result<Visit, EditFault>
-    requires kind { visit.now.kind.0 < length airport.now.types }
+    requires well_formed { IsWellFormed airport.now visit.now }
+    requires live { is_over visit.now ≡ false }
     requires stand { IsEditOf airport.now edit.now }
     requires part { part_at visit.now.parts (part_of edit.now) ≡ Some part }
     ensures is { result ≡ edit_part airport.now number edit.now visit.now part }
+    ensures well_formed { IfOk result (IsWellFormed airport.now) }
 {
+    if is_on_block(edit, visit, &part) {
+        return Err(EditFault::OnBlock { edit: number });
+    }
+    let place = part_of(edit);
     match *edit {
         Edit::Put { stand, .. } => {
             if let Err(by) = airport.fits(stand, visit.kind) {
                 return Err(EditFault::Unfit { edit: number, by });
             }
-            let place = Place::Planned(stand);
-            Ok(with_part(visit, part_of(edit), Part { place, ..part }))
+            Ok(with_part(visit, place, placed(Place::Planned(stand), part)))
         }
+        Edit::Lift { .. } => Ok(with_part(visit, place, placed(Place::Unplaced(None), part))),
+        Edit::Cut { at, .. } => match cut(visit, airport, place, at) {
+            Ok(made) => Ok(made),
+            Err(BadCut) => Err(EditFault::BadCut { edit: number }),
+        },
+        Edit::Join { .. } => match join(visit, place) {
+            Ok(made) => Ok(made),
+            Err(BadJoin) => Err(EditFault::BadJoin { edit: number }),
+        },
     }
+}
+
+// Whether the part is actual, where it is to be put or lifted, or a later one is, where it is to be cut or joined.
+fn is_on_block(edit: &Edit, visit: &Visit, part: &Part) -> bool
+    ensures is { result ≡ is_on_block edit.now visit.now part.now }
+{
+    match *edit {
+        Edit::Put { .. } | Edit::Lift { .. } => is_actual(&part.place),
+        Edit::Cut { part, .. } | Edit::Join { part, .. } => has_actual_behind(visit, part),
+    }
+}
+
+fn placed(place: Place, part: Part) -> Part
+    ensures is { result ≡ placed place part }
+{
+    Part { place, ..part }
 }
 
 fn with_part(visit: &Visit, number: u8, part: Part) -> Visit

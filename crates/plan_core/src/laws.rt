@@ -5,8 +5,10 @@ ghost use Rattle.apron_rules.specs.Clash.{HaveDifferentParts};
 ghost use Rattle.visit_book.specs.declared.edits.EditFault.{EditFault};
 ghost use Rattle.visit_book.specs.declared.edits.EditFault.TheVariants.{Memory};
 ghost use Rattle.visit_book.specs.declared.visits.Visit.{Visit};
+ghost use Rattle.visit_book.specs.NewVisits.{new_of};
 ghost use Rattle.visit_book.specs.Numbers.{IsNumbered};
 ghost use Rattle.visit_book.specs.Slots.{slots_of};
+ghost use Rattle.plan_core.specs.Adding.{IsAddable, adding, with_added};
 ghost use Rattle.plan_core.specs.Drafts.{Draft, draft_version};
 ghost use Rattle.plan_core.specs.PlanState.{ChangeState, IsInstallable, IsPlan, PlanState, installed};
 ghost use Rattle.plan_core.specs.Rebase.{IsRebased, Rebases, Refuses, committed};
@@ -36,6 +38,11 @@ pub fn answer_exists()
 pub fn rebased_is_committed()
     ensures installed { (plan : PlanState) (draft : Draft) (change : ChangeState)
         → IsNumbered plan.visits → (rebased : IsRebased plan draft change) → installed plan change ≡ committed plan draft rebased.new }
+{}
+
+/// The change that adds a visit makes the plan that has this visit last.
+pub fn added_is_with_added()
+    ensures installed { (plan : PlanState) (visit : Visit) → IsAddable plan visit → installed plan (adding plan visit) ≡ with_added plan (new_of visit) }
 {}
 
 /// A plan stays a plan, and the version that a draft made is one that the plan had.

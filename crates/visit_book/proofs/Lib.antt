@@ -1,1 +1,11 @@
 pub mod ByPlace
+pub mod Least
+pub mod Early
+pub mod Times
+pub mod Stands
+pub mod Kept
+pub mod Lists
+pub mod Arrivals
+pub mod OnStands
+pub mod MovesKept
+pub mod Leaving

@@ -1,6 +1,11 @@
 pub mod PartFields
 pub mod Places
 pub mod WellFormed
+pub mod NewVisits
+pub mod Changes
+pub mod Movements
+pub mod Ends
+pub mod Reports
 pub mod Slots
 pub mod Numbers
 pub mod Edits

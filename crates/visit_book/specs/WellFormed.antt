@@ -6,7 +6,6 @@ use Rattle.apron_rules.specs.Rules.{least_of}
 use Rattle.visit_book.specs.declared.visits.Visit.{Visit}
 use Rattle.visit_book.specs.declared.visits.Part.{Part}
 use Rattle.visit_book.specs.declared.visits.End.TheVariants.{Cancelled}
-use Rattle.visit_book.specs.declared.visits.Place.TheVariants.{Unplaced}
 use Rattle.visit_book.specs.PartFields.{most_parts}
 use Rattle.visit_book.specs.Places.{IsPlaceOf, is_actual, stand_of}
 
@@ -44,7 +43,3 @@ pub record IsWellFormed (airport : AirportParts) (visit : Visit) : Type 0 where
   pub places : All (λ part. IsPlaceOf airport part.place) visit.parts
   pub facts : visit.on_block ≡ false → All (λ part. is_actual part.place ≡ false) visit.parts
   pub cancelled : visit.end ≡ Cancelled → All (λ part. stand_of part.place ≡ None) visit.parts
-
--- all parts are unplaced, and none has a record of what took its stand
-abbrev pub IsUnplaced : Visit → Type 0
-IsUnplaced visit = All (λ part. part.place ≡ Unplaced None) visit.parts

@@ -2,17 +2,33 @@
 ghost use Rattle.std.specs.Prelude.{◌≡◌};
 ghost use Rattle.visit_book.specs.Edits.{part_of, visit_of};
 
-use apron_base::{StandNo, VisitNo};
+use apron_base::{Minute, StandNo, VisitNo};
 use apron_rules::{Clash, UnfitBy};
 
 /// One change that a commit asks for.
 #[derive(Clone, Copy, Debug, PartialEq, Eq)]
 pub enum Edit {
-    /// Plans a part, counted from 1, on a stand, whatever place it had.
+    /// Plans a part, counted from 1, that is not actual on a stand.
     Put {
         visit: VisitNo,
         part: u8,
         stand: StandNo,
+    },
+    /// Takes a part, counted from 1, that is not actual from its stand, and its record of what took a stand from it.
+    Lift {
+        visit: VisitNo,
+        part: u8,
+    },
+    /// Ends a part, counted from 1, at a minute, and lets an unplaced one follow it the airport's tow minutes later.
+    Cut {
+        visit: VisitNo,
+        part: u8,
+        at: Minute,
+    },
+    /// Makes a part, counted from 1, and the one behind it one part on the stand of the first.
+    Join {
+        visit: VisitNo,
+        part: u8,
     },
 }
 
@@ -21,7 +37,10 @@ pub fn visit_of(edit: &Edit) -> VisitNo
     ensures is { result ≡ visit_of edit.now }
 {
     match *edit {
-        Edit::Put { visit, .. } => visit,
+        Edit::Put { visit, .. }
+        | Edit::Lift { visit, .. }
+        | Edit::Cut { visit, .. }
+        | Edit::Join { visit, .. } => visit,
     }
 }
 
@@ -30,7 +49,10 @@ pub fn part_of(edit: &Edit) -> u8
     ensures is { result ≡ part_of edit.now }
 {
     match *edit {
-        Edit::Put { part, .. } => part,
+        Edit::Put { part, .. }
+        | Edit::Lift { part, .. }
+        | Edit::Cut { part, .. }
+        | Edit::Join { part, .. } => part,
     }
 }
 
@@ -47,8 +69,24 @@ pub enum EditFault {
         visit: VisitNo,
         edited: u32,
     },
+    /// The visit is gone or cancelled.
+    Gone {
+        edit: u8,
+    },
     /// The visit has no part of this number.
     NoSuchPart {
+        edit: u8,
+    },
+    /// The part is actual, where it is to be put or lifted; a later part is, where it is to be cut or joined.
+    OnBlock {
+        edit: u8,
+    },
+    /// The visit has three parts, or one of the two pieces would be shorter than the least minutes of the type.
+    BadCut {
+        edit: u8,
+    },
+    /// There is no part behind this one.
+    BadJoin {
         edit: u8,
     },
     /// The visit's type doesn't fit the stand.

@@ -1,15 +1,25 @@
-//! Visits and their parts: what a well-formed one is, the stands that its parts hold, and what may be asked of it.
-//! It knows no plan and no versions.
+//! Visits and their parts: what a well-formed one is, the stands that its parts hold, what may be asked of it, and what
+//! its changes and reports of it make of it. It knows no plan and no versions.
 #![tactic(auto)]
 
+mod changes;
 mod edits;
+mod laws;
+mod movements;
+mod new_visits;
 mod numbers;
 mod parts;
+mod reports;
 mod slots;
 mod visits;
 
+pub use changes::{BadCut, BadJoin, cut, has_actual_behind, join, push};
 pub use edits::{Edit, EditFault, part_of, visit_of};
+pub use laws::added_visits_are_well_formed;
+pub use movements::{BadTime, arrive, depart, estimate_off};
+pub use new_visits::{added_visit, is_in_time, new_of};
 pub use numbers::visit_at;
 pub use parts::Parts;
-pub use slots::slot_of;
-pub use visits::{Bump, End, Part, Place, Visit};
+pub use reports::{Event, ReportFault, is_live, report};
+pub use slots::{is_actual, slot_of};
+pub use visits::{Bump, End, Key, NewVisit, Part, Place, Visit};

@@ -46,7 +46,8 @@ fn stand_of(place: &Place) -> Option<StandNo>
     }
 }
 
-fn is_actual(place: &Place) -> bool
+/// Whether an aircraft is or was there in fact.
+pub fn is_actual(place: &Place) -> bool
     ensures is { result ≡ is_actual place.now }
 {
     matches!(place, Place::Actual(_))

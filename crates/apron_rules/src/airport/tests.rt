@@ -137,6 +137,29 @@ fn an_aircraft_fits_up_to_its_clearance(rt: HostRuntime) -> Result<(), Fail> {
     Ok(())
 }
 
+#[test]
+fn neighbours_are_the_stands_that_some_two_types_exclude(rt: HostRuntime) -> Result<(), Fail> {
+    let airport = airport(rt.alloc())?;
+    let cases: [(&str, &[StandNo]); 8] = [
+        ("A", &[StandNo(0), StandNo(1)]),
+        ("B", &[StandNo(0), StandNo(1), StandNo(2)]),
+        ("C", &[StandNo(1), StandNo(2)]),
+        ("W", &[StandNo(3), StandNo(4), StandNo(5)]),
+        ("WR", &[StandNo(3), StandNo(4), StandNo(5)]),
+        ("P", &[StandNo(6), StandNo(7)]),
+        ("Q", &[StandNo(6), StandNo(7)]),
+        ("X", &[StandNo(8)]),
+    ];
+    for (name, want) in &cases {
+        let Some(s) = number(&airport, name) else {
+            return Err(Fail::new("a stand of this name"));
+        };
+        assert!(rt; (s.0 as usize) < airport.parts().stands.len());
+        assert_eq!(rt; airport.neighbours(s), *want, "of {name}");
+    }
+    Ok(())
+}
+
 fn number(airport: &Airport, name: &str) -> Option<StandNo> {
     airport.stand_of(&Name::new(name.as_bytes())?)
 }

@@ -1,111 +1,83 @@
-// The commits: POST /commits.
-ghost use Rattle.std.specs.Prelude.{◌≡◌, ◌<◌, ◌≤◌, All, IfOk, IfSome, length, map};
-ghost use Rattle.plan_core.specs.Edits.{IsEditOf};
-ghost use Rattle.desk_bodies.specs.Commits.{body_commit};
-ghost use Rattle.desk_bodies.specs.CommitsShown.{HasFewEdits, commit_shown, edit_shown};
-ghost use Rattle.desk_http.specs.CommitsRoute.{asked_by_commit, asked_by_edits, commits_asked as commits_asked_lem, edit_named as edit_named_lem, edits_named as edits_named_lem, is_commits as is_commits_lem, stand_named as stand_named_lem};
-ghost use Rattle.desk_http.specs.Routes.{IsRoutedOf};
+// What the body of POST /commits asks.
+ghost use Rattle.std.specs.Prelude.{◌≡◌, ◌≤◌, All, IfOk, length, map};
+ghost use Rattle.history_core.specs.History.{IsWhatOf};
+ghost use Rattle.visit_book.specs.Edits.{IsEditOf};
+ghost use Rattle.desk_bodies.specs.CommitsShown.{edit_shown};
+ghost use Rattle.desk_http.specs.CommitsRoute.{commit_asked as commit_asked_lem, edit_named as edit_named_lem, edits_named as edits_named_lem};
+ghost use Rattle.desk_http.specs.Finding.{Finds};
 
-use crate::Routed;
-use apron_base::{Listed, Memory, Name, StandNo, VisitNo};
+use super::Unasked;
+use crate::names::stand_named;
+use apron_base::{Listed, VisitNo};
 use apron_rules::Airport;
-use desk_bodies::{BodyFault, CommitText, EditText, read_commit};
-use desk_words::asks::{Ask, Command, What};
+use desk_bodies::{EditText, MAX_EDITS, read_commit};
+use desk_words::asks::{Command, What};
 use desk_words::early::Early;
 use std::alloc::Global;
 use visit_book::Edit;
 
-/// Whether the method and the target name the commits.
-pub(crate) fn is_commits(method: &[u8], target: &[u8]) -> bool
-    ensures is { result ≡ is_commits_lem method.now target.now }
+/// What is asked with this body.
+pub(crate) fn commit_asked(alloc: Global, airport: &Airport, body: &[u8]) -> Result<What, Unasked>
+    ensures asked { Finds (commit_asked_lem airport.now body.now) result }
+    ensures valid { IfOk result (IsWhatOf airport.now) }
 {
-    method == b"POST".as_slice() && target == b"/commits".as_slice()
-}
-
-/// What is asked with this body by a desk that has seen this version.
-pub(crate) fn commits_asked(
-    alloc: Global,
-    airport: &Airport,
-    seen: u32,
-    body: &[u8],
-) -> Result<Routed, Memory>
-    ensures asked { IfOk result (λ routed. routed ≡ commits_asked_lem airport.now seen body.now) }
-    ensures valid { IfOk result (IsRoutedOf airport.now) }
-{
-    match read_commit(alloc, body) {
-        Ok(commit) => commit_asked(alloc, airport, seen, &commit),
-        Err(BodyFault::Form) => Ok(Routed::Early(Early::NotJson)),
-        Err(BodyFault::Memory) => Err(Memory),
-    }
-}
-
-fn commit_asked(
-    alloc: Global,
-    airport: &Airport,
-    seen: u32,
-    commit: &CommitText,
-) -> Result<Routed, Memory>
-    requires few { HasFewEdits commit.now.edits }
-    ensures asked { IfOk result (λ routed. routed ≡ asked_by_edits seen (commit_shown commit.now) (edits_named_lem airport.now (map edit_shown commit.now.edits))) }
-    ensures valid { IfOk result (IsRoutedOf airport.now) }
-{
-    let Some(edits) = edits_named(alloc, airport, commit.edits.as_slice())? else {
-        return Ok(Routed::Early(Early::Unbuilt));
-    };
-    Ok(Routed::Asks(Ask {
-        seen,
-        what: What::Change(Command::Commit {
-            desk: commit.desk,
-            draft: commit.draft,
-            base: commit.base,
-            edits,
-        }),
+    let commit = read_commit(alloc, body)?;
+    let edits = edits_named(alloc, airport, commit.edits.as_slice())?;
+    Ok(What::Change(Command::Commit {
+        desk: commit.desk,
+        draft: commit.draft,
+        base: commit.base,
+        edits,
     }))
 }
 
-// The edits with their stands by number, where each of them is built.
+// The edits with their stands by number, or the first that names no stand.
 fn edits_named(
     alloc: Global,
     airport: &Airport,
     texts: &[EditText],
-) -> Result<Option<Listed<Edit>>, Memory>
-    ensures named { IfOk result (λ found. found ≡ edits_named_lem airport.now (map edit_shown texts.now)) }
-    ensures stands { IfOk result (λ found. IfSome found (All (IsEditOf airport.now))) }
-    ensures count { IfOk result (λ found. IfSome found (λ edits. length edits ≡ length texts.now)) }
+) -> Result<Listed<Edit>, Unasked>
+    requires few { length texts.now ≤ MAX_EDITS }
+    ensures named { Finds (edits_named_lem airport.now 1 (map edit_shown texts.now)) result }
+    ensures stands { IfOk result (All (IsEditOf airport.now)) }
+    ensures count { IfOk result (λ edits. length edits ≡ length texts.now) }
 {
     let mut edits = Listed::new(alloc);
+    let mut number = 1;
     for text in texts {
-        match edit_named(airport, text) {
-            Some(edit) => edits.push(edit)?,
-            None => return Ok(None),
-        }
+        edits.push(edit_named(airport, number, text)?)?;
+        number += 1;
     }
-    Ok(Some(edits))
+    Ok(edits)
 }
 
-fn edit_named(airport: &Airport, text: &EditText) -> Option<Edit>
-    ensures named { result ≡ edit_named_lem airport.now (edit_shown text.now) }
-    ensures stand { IfSome result (IsEditOf airport.now) }
+fn edit_named(airport: &Airport, number: u8, text: &EditText) -> Result<Edit, Early>
+    ensures named { result ≡ edit_named_lem airport.now number (edit_shown text.now) }
+    ensures stand { IfOk result (IsEditOf airport.now) }
 {
     match text {
         EditText::Put { visit, part, stand } => {
-            let stand = stand_named(airport, stand.as_bytes())?;
-            Some(Edit::Put {
+            let Some(stand) = stand_named(airport, stand.as_bytes()) else {
+                return Err(Early::BadStand { edit: number });
+            };
+            Ok(Edit::Put {
                 visit: VisitNo(*visit),
                 part: *part,
                 stand,
             })
         }
-        EditText::Lift { .. } | EditText::Cut { .. } | EditText::Join { .. } => None,
-    }
-}
-
-fn stand_named(airport: &Airport, text: &[u8]) -> Option<StandNo>
-    ensures named { result ≡ stand_named_lem airport.now text.now }
-    ensures inside { IfSome result (λ stand. stand.0 < length airport.now.stands) }
-{
-    match Name::new(text) {
-        Some(name) => airport.stand_of(&name),
-        None => None,
+        EditText::Lift { visit, part } => Ok(Edit::Lift {
+            visit: VisitNo(*visit),
+            part: *part,
+        }),
+        EditText::Cut { visit, part, at } => Ok(Edit::Cut {
+            visit: VisitNo(*visit),
+            part: *part,
+            at: *at,
+        }),
+        EditText::Join { visit, part } => Ok(Edit::Join {
+            visit: VisitNo(*visit),
+            part: *part,
+        }),
     }
 }

@@ -4,14 +4,42 @@ use crate::fixed::{bad_head, keeper_fault, no_memory};
 
 #[test]
 fn early_replies_are_these_bytes(rt: HostRuntime) {
-    let rows: [(Early, &[u8]); 3] = [
+    let rows: [(Early, &[u8]); 10] = [
+        (
+            Early::NoRoute,
+            b"HTTP/1.1 404 Not Found\r\nContent-Type: application/json\r\nContent-Length: 17\r\n\r\n{\"error\":\"route\"}",
+        ),
+        (
+            Early::OnlyGet,
+            b"HTTP/1.1 405 Method Not Allowed\r\nContent-Type: application/json\r\nContent-Length: 18\r\nAllow: GET\r\n\r\n{\"error\":\"method\"}",
+        ),
+        (
+            Early::OnlyPost,
+            b"HTTP/1.1 405 Method Not Allowed\r\nContent-Type: application/json\r\nContent-Length: 18\r\nAllow: POST\r\n\r\n{\"error\":\"method\"}",
+        ),
+        (
+            Early::BadSeen,
+            b"HTTP/1.1 400 Bad Request\r\nContent-Type: application/json\r\nContent-Length: 16\r\n\r\n{\"error\":\"seen\"}",
+        ),
         (
             Early::NotJson,
             b"HTTP/1.1 400 Bad Request\r\nContent-Type: application/json\r\nContent-Length: 16\r\n\r\n{\"error\":\"json\"}",
         ),
         (
-            Early::BadSeen,
-            b"HTTP/1.1 400 Bad Request\r\nContent-Type: application/json\r\nContent-Length: 16\r\n\r\n{\"error\":\"seen\"}",
+            Early::BadType,
+            b"HTTP/1.1 422 Unprocessable Entity\r\nContent-Type: application/json\r\nContent-Length: 16\r\n\r\n{\"error\":\"type\"}",
+        ),
+        (
+            Early::BadStand { edit: 1 },
+            b"HTTP/1.1 422 Unprocessable Entity\r\nContent-Type: application/json\r\nContent-Length: 26\r\n\r\n{\"edit\":1,\"error\":\"stand\"}",
+        ),
+        (
+            Early::BadStand { edit: 64 },
+            b"HTTP/1.1 422 Unprocessable Entity\r\nContent-Type: application/json\r\nContent-Length: 27\r\n\r\n{\"edit\":64,\"error\":\"stand\"}",
+        ),
+        (
+            Early::BadTimes,
+            b"HTTP/1.1 422 Unprocessable Entity\r\nContent-Type: application/json\r\nContent-Length: 17\r\n\r\n{\"error\":\"times\"}",
         ),
         (
             Early::Unbuilt,

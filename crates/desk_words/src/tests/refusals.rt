@@ -1,8 +1,8 @@
 // Refused edits.
-use super::{has_text, part};
+use super::{airport, has_text, part};
 use crate::replies::{Reply, Told};
 use apron_base::VisitNo;
-use apron_rules::{Airport, Clash, Rule, UnfitBy};
+use apron_rules::{Clash, Rule, UnfitBy};
 use std::test::Fail;
 use visit_book::EditFault;
 
@@ -18,7 +18,7 @@ fn clash(rule: Rule) -> EditFault {
 #[test]
 fn refused_edits_are_these_bytes(rt: HostRuntime) -> Result<(), Fail> {
     let alloc = rt.alloc();
-    let airport = Airport::demo(alloc)?;
+    let airport = airport(alloc)?;
     let rows = [
         (
             Reply {
@@ -42,11 +42,43 @@ fn refused_edits_are_these_bytes(rt: HostRuntime) -> Result<(), Fail> {
         ),
         (
             Reply {
+                version: 11,
+                told: Told::Edit(EditFault::Gone { edit: 4 }),
+            },
+            "HTTP/1.1 422 Unprocessable Entity\r\nContent-Type: application/json\r\nContent-Length: 38\r\nX-Version: 11",
+            r#"{"edit":4,"error":"gone","version":11}"#,
+        ),
+        (
+            Reply {
                 version: 9,
                 told: Told::Edit(EditFault::NoSuchPart { edit: 64 }),
             },
             "HTTP/1.1 422 Unprocessable Entity\r\nContent-Type: application/json\r\nContent-Length: 38\r\nX-Version: 9",
             r#"{"edit":64,"error":"part","version":9}"#,
+        ),
+        (
+            Reply {
+                version: 5,
+                told: Told::Edit(EditFault::OnBlock { edit: 1 }),
+            },
+            "HTTP/1.1 422 Unprocessable Entity\r\nContent-Type: application/json\r\nContent-Length: 40\r\nX-Version: 5",
+            r#"{"edit":1,"error":"onblock","version":5}"#,
+        ),
+        (
+            Reply {
+                version: 4294967294,
+                told: Told::Edit(EditFault::BadCut { edit: 17 }),
+            },
+            "HTTP/1.1 422 Unprocessable Entity\r\nContent-Type: application/json\r\nContent-Length: 46\r\nX-Version: 4294967294",
+            r#"{"edit":17,"error":"cut","version":4294967294}"#,
+        ),
+        (
+            Reply {
+                version: 6,
+                told: Told::Edit(EditFault::BadJoin { edit: 64 }),
+            },
+            "HTTP/1.1 422 Unprocessable Entity\r\nContent-Type: application/json\r\nContent-Length: 38\r\nX-Version: 6",
+            r#"{"edit":64,"error":"join","version":6}"#,
         ),
         (
             Reply {
@@ -103,8 +135,8 @@ fn refused_edits_are_these_bytes(rt: HostRuntime) -> Result<(), Fail> {
             r#"{"a":{"part":1,"visit":3},"b":{"part":2,"visit":40},"error":"clash","minute":480,"rule":"pair","version":12}"#,
         ),
     ];
-    for (reply, head, body) in rows {
-        assert!(rt; has_text(alloc, &airport, &reply, head, body), "at {body}");
+    for (reply, head, body) in &rows {
+        assert!(rt; has_text(alloc, &airport, reply, head, body), "at {body}");
     }
     Ok(())
 }

@@ -1,14 +1,25 @@
 // What tells a version and little else.
-use super::has_text;
+use super::{airport, has_text};
 use crate::replies::{Reply, Told};
-use apron_rules::Airport;
+use apron_base::VisitNo;
 use std::test::Fail;
 
 #[test]
 fn replies_of_versions_are_these_bytes(rt: HostRuntime) -> Result<(), Fail> {
     let alloc = rt.alloc();
-    let airport = Airport::demo(alloc)?;
+    let airport = airport(alloc)?;
     let rows = [
+        (
+            Reply {
+                version: 9,
+                told: Told::Added {
+                    entry: 3,
+                    visit: VisitNo(2),
+                },
+            },
+            "HTTP/1.1 200 OK\r\nContent-Type: application/json\r\nContent-Length: 23\r\nX-Version: 9",
+            r#"{"version":3,"visit":2}"#,
+        ),
         (
             Reply {
                 version: 7,
@@ -81,9 +92,19 @@ fn replies_of_versions_are_these_bytes(rt: HostRuntime) -> Result<(), Fail> {
             "HTTP/1.1 409 Conflict\r\nContent-Type: application/json\r\nContent-Length: 37\r\nX-Version: 4294967294",
             r#"{"error":"full","version":4294967294}"#,
         ),
+        (
+            Reply {
+                version: 41,
+                told: Told::OtherName {
+                    visit: VisitNo(20000),
+                },
+            },
+            "HTTP/1.1 409 Conflict\r\nContent-Type: application/json\r\nContent-Length: 43\r\nX-Version: 41",
+            r#"{"error":"name","version":41,"visit":20000}"#,
+        ),
     ];
-    for (reply, head, body) in rows {
-        assert!(rt; has_text(alloc, &airport, &reply, head, body), "at {body}");
+    for (reply, head, body) in &rows {
+        assert!(rt; has_text(alloc, &airport, reply, head, body), "at {body}");
     }
     Ok(())
 }

@@ -1,14 +1,15 @@
 // Visits.
-use super::{has_text, part};
+use super::{airport, has_text, part};
 use crate::replies::{Reply, Told};
 use apron_base::{Name, StandNo, TypeNo, VisitNo};
-use apron_rules::{Airport, Rule};
+use apron_rules::Rule;
+use mvt_grammar::Flight;
 use std::test::Fail;
-use visit_book::{Bump, End, Part, Parts, Place, Visit};
+use visit_book::{Bump, End, Key, Part, Parts, Place, Visit};
 
 fn bump() -> Bump {
     Bump {
-        stand: StandNo(3),
+        stand: StandNo(1),
         entry: 8,
         blocker: part(40, 2),
         minute: 615,
@@ -24,6 +25,8 @@ fn first_visit(place: Place, on_block: bool, end: End) -> Visit {
         class: 3,
         on: 600,
         off: 660,
+        arr: None,
+        dep: None,
         parts: Parts::one(Part {
             from: 600,
             to: 660,
@@ -31,6 +34,7 @@ fn first_visit(place: Place, on_block: bool, end: End) -> Visit {
         }),
         on_block,
         end,
+        added: 1,
         edited: 1,
     }
 }
@@ -39,32 +43,65 @@ fn last_visit() -> Visit {
     Visit {
         number: VisitNo(4294967295),
         name: Name::literal(b"KL-0641-27-A"),
-        kind: TypeNo(6),
+        kind: TypeNo(0),
         class: 0,
         on: 0,
         off: 4319,
+        arr: None,
+        dep: Some(Key {
+            flight: Flight {
+                airline: Name::literal(b"AAL"),
+                number: 0,
+                suffix: Some(b'Z'),
+            },
+            day: 255,
+        }),
         parts: Parts::one(Part {
             from: 1,
             to: 4320,
-            place: Place::Planned(StandNo(2)),
+            place: Place::Planned(StandNo(1)),
         }),
         on_block: false,
         end: End::Live,
+        added: 2,
         edited: 4294967294,
     }
 }
 
-// The built-in airport has six stands and seven types.
+// A visit with both flights.
+fn connecting_visit() -> Visit {
+    let airline = Name::literal(b"LH");
+    let mut visit = first_visit(Place::Planned(StandNo(0)), false, End::Live);
+    visit.arr = Some(Key {
+        flight: Flight {
+            airline,
+            number: 27,
+            suffix: None,
+        },
+        day: 0,
+    });
+    visit.dep = Some(Key {
+        flight: Flight {
+            airline,
+            number: 1400,
+            suffix: Some(b'A'),
+        },
+        day: 1,
+    });
+    visit
+}
+
+// The airport has two stands and one type.
 fn nameless_visit() -> Visit {
-    let mut visit = first_visit(Place::Planned(StandNo(6)), false, End::Live);
-    visit.kind = TypeNo(7);
+    let mut visit = first_visit(Place::Planned(StandNo(2)), false, End::Live);
+    visit.kind = TypeNo(1);
     visit
 }
 
 #[test]
 fn visits_are_these_bytes(rt: HostRuntime) -> Result<(), Fail> {
     let alloc = rt.alloc();
-    let airport = Airport::demo(alloc)?;
+    let airport = airport(alloc)?;
     let rows = [
         (
             Reply {
@@ -85,10 +122,10 @@ fn visits_are_these_bytes(rt: HostRuntime) -> Result<(), Fail> {
         (
             Reply {
                 version: 12,
-                told: Told::Visit(first_visit(Place::Actual(StandNo(5)), true, End::Gone)),
+                told: Told::Visit(first_visit(Place::Actual(StandNo(1)), true, End::Gone)),
             },
             "HTTP/1.1 200 OK\r\nContent-Type: application/json\r\nContent-Length: 198\r\nX-Version: 12",
-            r#"{"arr":null,"class":3,"dep":null,"edited":1,"name":"V1","off":660,"on":600,"parts":[{"actual":true,"bump":null,"from":600,"stand":"S3","to":660}],"state":"gone","type":"A320","version":12,"visit":1}"#,
+            r#"{"arr":null,"class":3,"dep":null,"edited":1,"name":"V1","off":660,"on":600,"parts":[{"actual":true,"bump":null,"from":600,"stand":"N2","to":660}],"state":"gone","type":"A320","version":12,"visit":1}"#,
         ),
         (
             Reply {
@@ -112,15 +149,23 @@ fn visits_are_these_bytes(rt: HostRuntime) -> Result<(), Fail> {
                 told: Told::Visit(first_visit(Place::Unplaced(Some(bump())), false, End::Live)),
             },
             "HTTP/1.1 200 OK\r\nContent-Type: application/json\r\nContent-Length: 281\r\nX-Version: 9",
-            r#"{"arr":null,"class":3,"dep":null,"edited":1,"name":"V1","off":660,"on":600,"parts":[{"actual":false,"bump":{"blocker":{"part":2,"visit":40},"entry":8,"minute":615,"rule":"pair","stand":"S1"},"from":600,"stand":null,"to":660}],"state":"expected","type":"A320","version":9,"visit":1}"#,
+            r#"{"arr":null,"class":3,"dep":null,"edited":1,"name":"V1","off":660,"on":600,"parts":[{"actual":false,"bump":{"blocker":{"part":2,"visit":40},"entry":8,"minute":615,"rule":"pair","stand":"N2"},"from":600,"stand":null,"to":660}],"state":"expected","type":"A320","version":9,"visit":1}"#,
         ),
         (
             Reply {
                 version: 4294967294,
                 told: Told::Visit(last_visit()),
             },
-            "HTTP/1.1 200 OK\r\nContent-Type: application/json\r\nContent-Length: 237\r\nX-Version: 4294967294",
-            r#"{"arr":null,"class":0,"dep":null,"edited":4294967294,"name":"KL-0641-27-A","off":4319,"on":0,"parts":[{"actual":false,"bump":null,"from":1,"stand":"N3","to":4320}],"state":"expected","type":"X360","version":4294967294,"visit":4294967295}"#,
+            "HTTP/1.1 200 OK\r\nContent-Type: application/json\r\nContent-Length: 261\r\nX-Version: 4294967294",
+            r#"{"arr":null,"class":0,"dep":{"day":255,"flight":"AAL0Z"},"edited":4294967294,"name":"KL-0641-27-A","off":4319,"on":0,"parts":[{"actual":false,"bump":null,"from":1,"stand":"N2","to":4320}],"state":"expected","type":"A320","version":4294967294,"visit":4294967295}"#,
+        ),
+        (
+            Reply {
+                version: 3,
+                told: Told::Visit(connecting_visit()),
+            },
+            "HTTP/1.1 200 OK\r\nContent-Type: application/json\r\nContent-Length: 247\r\nX-Version: 3",
+            r#"{"arr":{"day":0,"flight":"LH27"},"class":3,"dep":{"day":1,"flight":"LH1400A"},"edited":1,"name":"V1","off":660,"on":600,"parts":[{"actual":false,"bump":null,"from":600,"stand":"N1","to":660}],"state":"expected","type":"A320","version":3,"visit":1}"#,
         ),
         (
             Reply {
@@ -131,8 +176,8 @@ fn visits_are_these_bytes(rt: HostRuntime) -> Result<(), Fail> {
             r#"{"arr":null,"class":3,"dep":null,"edited":1,"name":"V1","off":660,"on":600,"parts":[{"actual":false,"bump":null,"from":600,"stand":null,"to":660}],"state":"expected","type":null,"version":1,"visit":1}"#,
         ),
     ];
-    for (reply, head, body) in rows {
-        assert!(rt; has_text(alloc, &airport, &reply, head, body), "at {body}");
+    for (reply, head, body) in &rows {
+        assert!(rt; has_text(alloc, &airport, reply, head, body), "at {body}");
     }
     Ok(())
 }

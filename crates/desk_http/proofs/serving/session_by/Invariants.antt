@@ -5,9 +5,9 @@ use Rattle.desk_http.proofs.serving.session_by.Given as goal
 -- what was taken, answered and handed on so far
 abbrev pub invariant-loop-count : goal.invariant-loop-count
 invariant-loop-count g l = record {
-  so_far : SoFar (g.A.Answerer.comes (g.P.DeskPort.start l.fn.port)) (let start = g.P.DeskPort.start l.fn.port in start.airport)
+  so_far : SoFar (g.A.Answerer.comes (g.P.DeskPort.airport_of l.fn.port)) (g.P.DeskPort.airport_of l.fn.port)
       (record { source = g.S.Source.state l.fn.source; sink = g.W.Sink.state l.fn.sink; port = g.P.DeskPort.port l.fn.port })
       (record { source = g.S.Source.state l.source; sink = g.W.Sink.state l.sink; port = g.P.DeskPort.port l.port })
       l.incoming l.count;
-  start : g.P.DeskPort.start l.port ≡ g.P.DeskPort.start l.fn.port;
+  airport : g.P.DeskPort.airport_of l.port ≡ g.P.DeskPort.airport_of l.fn.port;
 }

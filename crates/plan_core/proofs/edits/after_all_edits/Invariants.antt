@@ -2,7 +2,6 @@ use Rattle.std.proofs.Common.{◌≡◌, ◌+◌, drop}
 use Rattle.std.specs.Prelude.{All}
 use Rattle.visit_book.specs.WellFormed.{IsWellFormed}
 use Rattle.plan_core.specs.Edits.{after_all_edits, after_edits}
-use Rattle.plan_core.specs.PlanState.{IsLive}
 use Rattle.plan_core.proofs.edits.after_all_edits.Given as goal
 
 -- what is left to apply to what there is now gives what all edits give to what there was
@@ -11,5 +10,4 @@ invariant-loop-edit l = record {
   number : l.number ≡ l.edit-index + 1;
   told : after_edits l.airport l.base l.number (drop l.edit-index l.edits) l.visits ≡ after_all_edits l.airport l.base l.edits l.fn.visits;
   each : All (IsWellFormed l.airport) l.visits;
-  live : All IsLive l.visits;
 }

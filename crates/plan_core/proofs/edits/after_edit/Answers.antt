@@ -1,5 +1,6 @@
 use Rattle.std.proofs.Common.{◌≡◌, ◌∙◌, ℕ, List, Option, None, Some, Ok, Err, refl, subst, sym, ap}
 use Rattle.std.specs.Prelude.{position, slice_index_or, slice_set}
+use Rattle.std.proofs.lemmas.List.Elements.{All-set}
 use Rattle.std.proofs.lemmas.Result.{err_from_is_err_and}
 use Rattle.apron_base.specs.declared.numbers.VisitNo.{VisitNo}
 use Rattle.apron_rules.specs.declared.parts.AirportParts.{AirportParts}
@@ -8,6 +9,7 @@ use Rattle.visit_book.specs.declared.edits.EditFault.{EditFault}
 use Rattle.visit_book.specs.declared.visits.Visit.{Visit}
 use Rattle.visit_book.specs.Edits.{visit_of}
 use Rattle.visit_book.specs.Numbers.{has_number}
+use Rattle.visit_book.specs.WellFormed.{IsWellFormed}
 use Rattle.plan_core.specs.Edits.{after_edit, edit_visit}
 use Rattle.plan_core.proofs.ByNumber.{found_at, found_number, not_found, with_visit_found}
 use Rattle.plan_core.proofs.EditKept.{visit_number}
@@ -48,3 +50,7 @@ returns-clause-ok c =
     after_ok c.args.airport.now c.args.base c.args.number c.args.edit.now c.args.visits.now c.in-Some.place c.index-visits-place.result c.in_ok-visits.field-0
     (found_place c.args.edit.now c.args.visits.now c.visit_of.result (Some c.in-Some.place) c.visit_of.ensures.is c.in-Some.ensures.place)
     (sym c.in_ok-visits.ensures.is)
+
+pub returns-clause-each : goal.returns-clause-each
+returns-clause-each c =
+    All-set (IsWellFormed c.args.airport.now) c.args.visits.now c.in-Some.place c.in_ok-visits.field-0 c.in_ok-visits.ensures.well_formed c.requires.each

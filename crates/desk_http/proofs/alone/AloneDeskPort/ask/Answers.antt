@@ -13,8 +13,8 @@ returns-clause-shows c =
     let call : c.next_call-call.result ≡ before.next = c.next_call-call.ensures.value in
     let few : c.next_call-call.result ≤ call_limit = c.next_call-call.ensures.few in
     let last : before.next < call_limit = omega arith in
-    let acts : ActsAs before.start before.history before.next c.args.ask.now c.ask.result after.history =
-    subst (λ n. ActsAs before.start before.history n c.args.ask.now c.ask.result after.history) call c.ask.ensures.acts in
-    subst (λ (a : AloneState). ShowsAsk AloneAsks a.board.start (alone_port a) c.args.ask.now c.ask.result (alone_port (record { board = after; first = c.self.inside.first }))) c.self.view_is
+    let acts : ActsAs before.airport before.history before.next c.args.ask.now c.ask.result after.history =
+    subst (λ n. ActsAs before.airport before.history n c.args.ask.now c.ask.result after.history) call c.ask.ensures.acts in
+    subst (λ (a : AloneState). ShowsAsk AloneAsks a.board.airport (alone_port a) c.args.ask.now c.ask.result (alone_port (record { board = after; first = c.self.inside.first }))) c.self.view_is
     (alone_shows before after c.self.inside.first c.args.ask.now c.ask.result c.self.invariant
-    (subst (λ start. IsLegal start after.history) c.ask.ensures.start c.ask.ensures.legal) last acts (c.ask.ensures.next ∙ ap (λ n. n + 1) call) c.ask.ensures.no_fault)
+    (subst (λ airport. IsLegal airport after.history) c.ask.ensures.airport c.ask.ensures.legal) last acts (c.ask.ensures.next ∙ ap (λ n. n + 1) call) c.ask.ensures.no_fault)

@@ -1,0 +1,57 @@
+-- The body of a visit that is to be added.
+use Rattle.std.specs.Prelude.{ℕ, List, codes, Option, Some, None, option_map, option_and_then}
+use Rattle.serde_json.specs.Data.{Data, null}
+use Rattle.serde_json.specs.Find.{get}
+use Rattle.mvt_grammar.specs.Flights.{flight_of}
+use Rattle.visit_book.specs.WellFormed.{greatest_class}
+use Rattle.visit_book.specs.declared.visits.Key.{Key}
+use Rattle.desk_bodies.specs.Commits.{name_at}
+use Rattle.desk_bodies.specs.Fields.{body_data, max_u32, max_u8, number_at, text_at}
+
+-- what is said of a visit, its name and its type by their bytes
+pub record VisitSaid : Type 0 where
+  pub name : List ℕ
+  pub kind : List ℕ
+  pub class : ℕ
+  pub on : ℕ
+  pub off : ℕ
+  pub arr : Option Key
+  pub dep : Option Key
+
+-- {"flight":FLIGHT,"day":D}
+abbrev pub key_of : Data → Option Key
+key_of d =
+    option_and_then (λ flight. option_map (λ day. record { flight = flight; day = day }) (number_at (codes "day") max_u8 d))
+    (option_and_then flight_of (text_at (codes "flight") d))
+
+-- a key, or none where it is null or missing
+abbrev pub key_if : Option Data → Option (Option Key)
+key_if None = Some None
+key_if (Some null) = Some None
+key_if (Some d) = option_map Some (key_of d)
+
+-- the key under a name
+abbrev pub key_at : List ℕ → Data → Option (Option Key)
+key_at name d = key_if (get name d)
+
+-- {"name":NAME,"type":TYPE,"class":C,"on":M,"off":M,"arr":KEY,"dep":KEY}
+unfoldable pub visit_of : Data → Option VisitSaid
+visit_of d =
+    option_and_then (λ name.
+    option_and_then (λ kind.
+    option_and_then (λ class.
+    option_and_then (λ on.
+    option_and_then (λ off.
+    option_and_then (λ arr.
+    option_map (λ dep. record { name = name; kind = kind; class = class; on = on; off = off; arr = arr; dep = dep })
+    (key_at (codes "dep") d))
+    (key_at (codes "arr") d))
+    (number_at (codes "off") max_u32 d))
+    (number_at (codes "on") max_u32 d))
+    (number_at (codes "class") greatest_class d))
+    (text_at (codes "type") d))
+    (name_at (codes "name") d)
+
+-- the visit of a body
+abbrev pub body_visit : List ℕ → Option VisitSaid
+body_visit bytes = option_and_then visit_of (body_data bytes)

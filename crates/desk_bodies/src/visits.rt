@@ -1,0 +1,109 @@
+// The body of a visit that is to be added.
+ghost use Rattle.std.specs.Prelude.{◌≡◌, ◌≤◌, Some, None, Err, IfOk, IfSome, codes, option_map};
+ghost use Rattle.serde_json.specs.View.{view};
+ghost use Rattle.visit_book.specs.NewVisits.{HasFlight};
+ghost use Rattle.visit_book.specs.WellFormed.{greatest_class};
+ghost use Rattle.desk_bodies.specs.Fields.{number_at};
+ghost use Rattle.desk_bodies.specs.Visits.{body_visit, key_at, key_of, visit_of};
+ghost use Rattle.desk_bodies.specs.VisitsShown.{HasForm, visit_shown};
+
+use crate::BodyFault;
+use crate::fields::{name, number, number_to, read_json, small_number, text};
+use apron_base::{Memory, Minute, Name};
+use mvt_grammar::read_flight;
+use serde_json::Value;
+use std::alloc::Global;
+use visit_book::Key;
+
+// The greatest class of a visit.
+const GREATEST_CLASS: u64 = 9;
+
+/// A visit as a desk writes it, its type by name.
+#[derive(Debug, Drop)]
+pub struct VisitText {
+    pub name: Name,
+    /// The text that names the type.
+    pub kind: String,
+    /// 0 to 9.
+    pub class: u8,
+    /// The scheduled minute on block, from 00:00 UTC of the first day; any number may be written.
+    pub on: Minute,
+    /// The scheduled minute off block, likewise.
+    pub off: Minute,
+    /// The flight that the visit comes by, of any day.
+    pub arr: Option<Key>,
+    /// The flight that the visit leaves by, of any day.
+    pub dep: Option<Key>,
+}
+
+/// The visit of a body: `Form` where the body isn't of the form, and `Memory` for want of memory.
+pub fn read_visit(alloc: Global, body: &[u8]) -> Result<VisitText, BodyFault>
+    ensures ok { IfOk result (λ visit. body_visit body.now ≡ Some (visit_shown visit)) }
+    ensures has_form { IfOk result HasForm }
+    ensures form { result ≡ Err BodyFault.Form → body_visit body.now ≡ None }
+{
+    let value = read_json(alloc, body)?;
+    match visit_of(alloc, &value)? {
+        Some(visit) => Ok(visit),
+        None => Err(BodyFault::Form),
+    }
+}
+
+#[tactic(auto, unfolding(crate::specs::Visits::visit_of))]
+fn visit_of(alloc: Global, value: &Value) -> Result<Option<VisitText>, Memory>
+    ensures is { IfOk result (λ o. option_map visit_shown o ≡ visit_of (view value.now)) }
+    ensures has_form { IfOk result (λ o. IfSome o HasForm) }
+{
+    let (Some(name), Some(kind), Some(class)) = (
+        name(value, "name"),
+        text(value, "type"),
+        class(value),
+    ) else {
+        return Ok(None);
+    };
+    let (Some(on), Some(off)) = (number(value, "on"), number(value, "off")) else {
+        return Ok(None);
+    };
+    let (Some(arr), Some(dep)) = (key_at(value, "arr"), key_at(value, "dep")) else {
+        return Ok(None);
+    };
+    let kind = String::from_str(alloc, kind)?;
+    Ok(Some(VisitText {
+        name,
+        kind,
+        class,
+        on,
+        off,
+        arr,
+        dep,
+    }))
+}
+
+fn class(object: &Value) -> Option<u8>
+    ensures value { result ≡ number_at (codes "class") greatest_class (view object.now) }
+    ensures most { IfSome result (λ class. class ≤ greatest_class) }
+{
+    let class = number_to(object, "class", GREATEST_CLASS)?;
+    Some(class as u8)
+}
+
+// The key under a name, and `Some(None)` where it is null or missing. None where it is of another form.
+#[tactic(auto, using(crate::proofs::Keys::null_key, crate::proofs::Keys::other_key))]
+fn key_at(object: &Value, name: &str) -> Option<Option<Key>>
+    ensures value { result ≡ key_at name.now (view object.now) }
+    ensures flight { IfSome result (λ key. IfSome key HasFlight) }
+{
+    match object.get(name) {
+        Some(key) if !key.is_null() => Some(Some(key_of(key)?)),
+        _ => Some(None),
+    }
+}
+
+fn key_of(object: &Value) -> Option<Key>
+    ensures value { result ≡ key_of (view object.now) }
+    ensures flight { IfSome result HasFlight }
+{
+    let flight = read_flight(text(object, "flight")?.as_bytes())?;
+    let day = small_number(object, "day")?;
+    Some(Key { flight, day })
+}

@@ -1,0 +1,17 @@
+-- Commands that can be said at an airport.
+use Rattle.std.specs.Prelude.{◌≤◌, length, All}
+use Rattle.apron_rules.specs.declared.parts.AirportParts.{AirportParts}
+use Rattle.visit_book.specs.Edits.{IsEditOf, most_edits}
+use Rattle.visit_book.specs.NewVisits.{IsNewVisit, IsNewVisitOf}
+use Rattle.desk_words.specs.declared.asks.Command.{Command}
+use Rattle.desk_words.specs.declared.asks.Command.TheVariants.{AddVisit, Commit}
+
+-- the command can be said at any airport: what a visit is added with is such, and a commit has some edits but not too many
+abbrev pub IsCommand : Command → Type 0
+IsCommand (AddVisit new) = IsNewVisit new
+IsCommand (Commit desk draft base edits) = (1 ≤ length edits) × (length edits ≤ most_edits)
+
+-- the command is of the airport: what a visit is added with can be said at it; a commit has some edits but not too many, on stands of it
+abbrev pub IsCommandOf : AirportParts → Command → Type 0
+IsCommandOf airport (AddVisit new) = IsNewVisitOf airport new
+IsCommandOf airport (Commit desk draft base edits) = (1 ≤ length edits) × (length edits ≤ most_edits) × All (IsEditOf airport) edits

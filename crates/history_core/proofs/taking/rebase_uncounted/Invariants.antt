@@ -1,4 +1,0 @@
-use Rattle.history_core.proofs.taking.rebase_uncounted.Given as goal
-
-abbrev pub ghosts-rebase_from : goal.ghosts-rebase_from
-ghosts-rebase_from a = record { name = a.blank.name; parts = a.blank.parts }

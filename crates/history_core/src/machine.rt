@@ -1,0 +1,38 @@
+// A board as a machine, at which several desks can take turns.
+use crate::Board;
+use apron_base::{Acted, Machine};
+use apron_rules::AirportParts;
+use desk_words::asks::{Ask, Entry};
+use std::alloc::Global;
+
+impl<'a> Machine for Board<'a> {
+    ghost use Rattle.history_core.specs.Answer.{ActsAs};
+    ghost use Rattle.history_core.specs.Board.{machine_state};
+    ghost use Rattle.history_core.specs.History.{IsAskOf, call_of};
+
+    type Ask = Ask;
+
+    type Entry = Entry;
+
+    type Fixed = AirportParts;
+
+    ghost state = { machine_state };
+
+    ghost number = { call_of };
+
+    ghost valid = { IsAskOf };
+
+    ghost answers = { ActsAs };
+
+    fn next_call(&self) -> u64 {
+        self.next_call()
+    }
+
+    fn length(&self) -> u64 {
+        self.history().len() as u64
+    }
+
+    fn act(&mut self, alloc: Global, call: u64, ask: &Ask) -> Acted {
+        self.ask(alloc, call, ask)
+    }
+}

@@ -1,0 +1,73 @@
+-- A visit that comes into a plan.
+use Rattle.std.proofs.Common.{◌≡◌, ◌<◌, ◌+◌, ◌∙◌, false, List, [], ◌∷◌, ◌++◌, append-nil, refl, arith, ap, length, nat_le, sym, subst, None}
+use Rattle.std.proofs.lemmas.Bool.Decides.{nat_tests}
+use Rattle.std.proofs.lemmas.List.Elements.{All-from_recursion}
+use Rattle.apron_rules.specs.Clash.{IsSound}
+use Rattle.visit_book.specs.declared.visits.Visit.{Visit}
+use Rattle.visit_book.specs.NewVisits.{new_of}
+use Rattle.visit_book.specs.Numbers.{visit_at}
+use Rattle.visit_book.specs.Slots.{slots_of, slots_of_visit}
+use Rattle.visit_book.proofs.ByPlace.{visit_at-outside}
+use Rattle.plan_core.specs.Adding.{IsAddable, adding, next_visit, with_added}
+use Rattle.plan_core.specs.PlanState.{IsInstallable, IsPlan, IsVisitAt, KeepsOrAdds, PlanState, installed, put_one, version_limit}
+use Rattle.plan_core.proofs.SlotLists.{slots_of-push}
+
+-- the visit has the next number
+added_number : (plan : PlanState) (visit : Visit) → IsAddable plan visit → visit.number.0 ≡ length plan.visits + 1
+added_number plan visit h = ap (λ (v : Visit). v.number.0) h.is
+
+-- so it comes last
+put_last : (plan : PlanState) (visit : Visit) → IsAddable plan visit → put_one plan.visits visit ≡ plan.visits ++ visit ∷ []
+put_last plan visit h =
+    let number : visit.number.0 ≡ length plan.visits + 1 = added_number plan visit h in
+    let past : nat_le visit.number.0 (length plan.visits) ≡ false = grind (arith, nat_tests) in
+    rw past refl
+
+-- the change that adds a visit makes the plan that has it last
+pub adding_adds : (plan : PlanState) (visit : Visit) → IsAddable plan visit → installed plan (adding plan visit) ≡ with_added plan (new_of visit)
+adding_adds plan visit h =
+    let visits : put_one plan.visits visit ≡ plan.visits ++ next_visit plan (new_of visit) ∷ [] =
+    put_last plan visit h ∙ ap (λ (v : Visit). plan.visits ++ v ∷ []) h.is in
+    plan_is plan (put_one plan.visits visit) (plan.visits ++ next_visit plan (new_of visit) ∷ []) visits
+  where
+    plan_is : (plan : PlanState) (vs ws : List Visit) → vs ≡ ws
+        → ◌≡◌ {A = PlanState} (record { airport = plan.airport; visits = vs; drafts = plan.drafts; version = plan.version + 1 })
+        (record { airport = plan.airport; visits = ws; drafts = plan.drafts; version = plan.version + 1 })
+    plan_is plan vs ws same = cc
+
+-- it holds no stand yet
+added_sound : (plan : PlanState) (visit : Visit) → IsAddable plan visit → IsSound plan.airport (slots_of plan.airport plan.visits)
+    → IsSound plan.airport (slots_of plan.airport (put_one plan.visits visit))
+added_sound plan visit h sound =
+    let none : slots_of_visit plan.airport visit ≡ [] = ap (slots_of_visit plan.airport) h.is in
+    let same : slots_of plan.airport (put_one plan.visits visit) ≡ slots_of plan.airport plan.visits =
+    ap (slots_of plan.airport) (put_last plan visit h) ∙ (slots_of-push plan.airport plan.visits visit
+    ∙ (ap (λ slots. slots_of plan.airport plan.visits ++ slots) none ∙ append-nil (slots_of plan.airport plan.visits))) in
+    subst (IsSound plan.airport) (sym same) sound
+
+adds_new : (plan : PlanState) (visit : Visit) → IsPlan plan → IsAddable plan visit → KeepsOrAdds plan.visits visit
+adds_new plan visit plan_is h =
+    let number : visit.number.0 ≡ length plan.visits + 1 = added_number plan visit h in
+    let none : visit_at plan.visits visit.number ≡ None = visit_at-outside plan.visits visit.number plan_is.numbered (λ some. omega arith) in
+    rw none h.name
+
+-- a visit that a plan may be asked to add can be installed
+pub adding_fits : (plan : PlanState) (visit : Visit) → IsPlan plan → IsAddable plan visit → plan.version + 1 < version_limit → IsInstallable plan (adding plan visit)
+adding_fits plan visit plan_is h last = record {
+  version = refl;
+  last = last;
+  each = All-from_recursion (IsVisitAt plan.airport (plan.version + 1)) (visit ∷ []) (
+    record {
+      well_formed = h.well_formed;
+      new = h.new;
+      added_some = omega (arith, ap (λ (v : Visit). v.added) h.is);
+      added = omega (arith, ap (λ (v : Visit). v.added) h.is);
+      edited = omega (arith, ap (λ (v : Visit). v.edited) h.is);
+    },
+    tt,
+  );
+  rise = (omega (arith, added_number plan visit h), omega (arith, added_number plan visit h));
+  same = All-from_recursion (KeepsOrAdds plan.visits) (visit ∷ []) (adds_new plan visit plan_is h, tt);
+  draft = tt;
+  sound = added_sound plan visit h plan_is.sound;
+}

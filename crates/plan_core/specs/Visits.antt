@@ -1,0 +1,21 @@
+-- The visits that a plan keeps, and where each name is among them.
+use Rattle.std.specs.Prelude.{◌≡◌, ◌≤◌, ◌+◌, ℕ, List, position}
+use Rattle.std.specs.HashMap.{HashMap, get_by}
+use Rattle.std.specs.Str.{bytes_eq}
+use Rattle.visit_book.specs.declared.visits.Visit.{Visit}
+use Rattle.visit_book.specs.Numbers.{IsNumbered}
+use Rattle.plan_core.specs.Names.{has_name}
+
+-- visits in order of number, and how many can be added to them without memory
+pub record VisitsHeld : Type 0 where
+  pub kept : List Visit
+  pub room : ℕ
+
+-- the visits are numbered in order, and the map has the place of each name among them
+pub record AreListed {S : Type 0} (places : HashMap (List ℕ) ℕ S) (visits : List Visit) : Type 0 where
+  pub numbered : IsNumbered visits
+  pub index : (name : List ℕ) → get_by (bytes_eq name) places ≡ position (has_name name) visits
+
+-- the visit's number is one of so many first ones, or the next
+abbrev pub IsThereOrNext : ℕ → Visit → Type 0
+IsThereOrNext count visit = (1 ≤ visit.number.0) × (visit.number.0 ≤ count + 1)
