@@ -1,0 +1,20 @@
+-- How many steps it takes to look for clashes.
+use Rattle.std.specs.Prelude.{ℕ, zero, suc, ◌+◌, List, length, sum_by}
+use Rattle.apron_base.specs.declared.slot.Slot.{Slot}
+use Rattle.apron_rules.specs.declared.parts.AirportParts.{AirportParts}
+use Rattle.apron_rules.specs.Neighbours.{neighbours_of}
+use Rattle.stand_index.specs.Slots.{StandSlots, at_stand}
+use Rattle.stand_index.specs.Steps.{most_steps}
+
+-- the most steps of one look at each neighbour of the slot's stand
+abbrev pub steps_near : AirportParts → List StandSlots → Slot → ℕ
+steps_near airport index slot = sum_by (λ stand. most_steps (at_stand index stand) slot.from slot.end) (neighbours_of airport slot.stand)
+
+-- how many pairs there are among so many
+abbrev pub pairs_among : ℕ → ℕ
+pairs_among zero = 0
+pairs_among (suc before) = pairs_among before + before
+
+-- the most steps for changed slots: a look at each neighbour stand of each, and one for each pair of them
+abbrev pub steps_of : AirportParts → List StandSlots → List Slot → ℕ
+steps_of airport index changed = sum_by (steps_near airport index) changed + pairs_among (length changed)

@@ -1,0 +1,12 @@
+//! Which slots clash with changed ones, found among the neighbours of their stands. It knows neither visits
+//! nor versions.
+#![tactic(auto)]
+
+mod clashes;
+mod first;
+mod laws;
+mod near;
+
+pub use clashes::clashes_of;
+pub use first::{first_clash, first_clash_without};
+pub use laws::{clear_is_clear_without_any, meetings_are_first, order_by_part_is_one};
