@@ -1,0 +1,111 @@
+-- What a movement message does to a visit.
+use Rattle.std.specs.Prelude.{◌+◌, ◌==◌, ◌&&◌, ℕ, Bool, true, false, List, Option, None, Some, find, nat_eq, nat_lt, not, if◌then◌else◌}
+use Rattle.std.specs.Option.{option_eq, option_map, option_map_or, option_or}
+use Rattle.std.specs.Str.{bytes_eq}
+use Rattle.apron_base.specs.OptionChain.{◌>>=◌}
+use Rattle.mvt_grammar.specs.declared.message.Clock.{Clock}
+use Rattle.mvt_grammar.specs.declared.message.Flight.{Flight}
+use Rattle.mvt_grammar.specs.declared.message.Mvt.{Mvt}
+use Rattle.apron_rules.specs.declared.parts.AirportParts.{AirportParts}
+use Rattle.visit_effects.specs.declared.effects.Moment.{Moment}
+use Rattle.visit_effects.specs.declared.effects.Moment.TheVariants.{Touchdown, OnBlock, ExpectedOff, OffBlock}
+use Rattle.visit_effects.specs.declared.effects.Told.{Told}
+use Rattle.visit_book.specs.declared.visits.Key.{Key}
+use Rattle.visit_book.specs.declared.visits.Visit.{Visit}
+use Rattle.visit_book.specs.Changes.{push_of}
+use Rattle.visit_book.specs.Ends.{is_live}
+use Rattle.visit_book.specs.Movements.{arrive_of, depart_of, estimate_off_of}
+use Rattle.visit_effects.specs.ClockTimes.{is_of_month, latest_day, minute_of}
+use Rattle.visit_book.specs.WellFormed.{plan_end}
+
+-- Which element counts.
+
+-- the moment, at this time
+abbrev pub told_at : Moment → Clock → Told
+told_at moment clock = record { moment = moment; clock = clock }
+
+-- an arrival tells of the time on block where it has one, and else of the touchdown
+abbrev pub told_by_arrival : Clock × Option Clock → Told
+told_by_arrival (touchdown, None) = told_at Touchdown touchdown
+told_by_arrival (touchdown, Some on) = told_at OnBlock on
+
+-- the airport's own station tells of the arrival, else of the departure, else of the expected departure
+abbrev pub told_here : Mvt → Option Told
+told_here message =
+    option_or (option_map told_by_arrival message.aa)
+    (option_or (option_map (λ times. told_at OffBlock times.0) message.ad) (option_map (told_at ExpectedOff) message.ed))
+
+-- another station tells of the expected arrival, where that is at the airport
+abbrev pub told_elsewhere : AirportParts → Mvt → Option Told
+told_elsewhere airport message = do
+  estimate ← message.ea
+  if bytes_eq estimate.1 airport.station then Some (told_at Touchdown estimate.0) else None
+
+-- what the message tells at the airport
+abbrev pub told_of : AirportParts → Mvt → Option Told
+told_of airport message = if bytes_eq message.station airport.station then told_here message else told_elsewhere airport message
+
+-- Which visit is meant.
+
+-- the flight of the visit that it is told of: the one that it comes by, or the one that it leaves by
+abbrev pub key_of : Moment → Visit → Option Key
+key_of Touchdown visit = visit.arr
+key_of OnBlock visit = visit.arr
+key_of ExpectedOff visit = visit.dep
+key_of OffBlock visit = visit.dep
+
+-- the airline, the number and the suffix are the same
+abbrev pub is_same_flight : Flight → Flight → Bool
+is_same_flight flight other = bytes_eq flight.airline other.airline && flight.number == other.number && option_eq nat_eq flight.suffix other.suffix
+
+-- the key is of this flight and this day
+abbrev pub is_key_of : Flight → ℕ → Key → Bool
+is_key_of flight day key = is_same_flight key.flight flight && key.day == day
+
+-- the visit is live, and has a key of this flight and this day
+abbrev pub is_meant : Moment → Flight → ℕ → Visit → Bool
+is_meant moment flight day visit = is_live visit && option_map_or (is_key_of flight day) (key_of moment visit) false
+
+-- the first visit that is meant, on the latest day of the plan, or the day before it, that has the message's day of the month
+abbrev pub visit_meant : AirportParts → List Visit → Moment → Mvt → Option Visit
+visit_meant airport visits moment message = do
+  day ← latest_day (is_of_month airport message.day) 0 (airport.days + 1)
+  find (is_meant moment message.flight day) visits
+
+-- What is done to it.
+
+-- the scheduled minute of the moment
+abbrev pub scheduled : Moment → Visit → ℕ
+scheduled Touchdown visit = visit.on
+scheduled OnBlock visit = visit.on
+scheduled ExpectedOff visit = visit.off
+scheduled OffBlock visit = visit.off
+
+-- the visit that is not on block yet, expected on block the taxi-in minutes after it has landed, which is a minute of the plan
+abbrev pub landed : AirportParts → ℕ → Visit → Option Visit
+landed airport at visit =
+    if not visit.on_block && nat_lt (at + airport.taxi_in) (plan_end airport) then Some (push_of airport 1 (at + airport.taxi_in) visit) else None
+
+-- the visit that is not on block yet, on block at this minute where it stands by the plan
+abbrev pub on_block_at : AirportParts → ℕ → Visit → Option Visit
+on_block_at airport at visit = if visit.on_block then None else arrive_of airport 1 at None visit
+
+-- what the moment does to the visit at this minute
+abbrev pub changed_at : AirportParts → Moment → ℕ → Visit → Option Visit
+changed_at airport Touchdown at visit = landed airport at visit
+changed_at airport OnBlock at visit = on_block_at airport at visit
+changed_at airport ExpectedOff at visit = Some (estimate_off_of airport at visit)
+changed_at airport OffBlock at visit = depart_of at visit
+
+-- what is told does to the visit
+abbrev pub changed_by : AirportParts → Told → Visit → Option Visit
+changed_by airport told visit = do
+  at ← minute_of airport (scheduled told.moment visit) told.clock
+  changed_at airport told.moment at visit
+
+-- the visit as the message changes it, or none where it does nothing
+abbrev pub effect_of : AirportParts → List Visit → Mvt → Option Visit
+effect_of airport visits message = do
+  told ← told_of airport message
+  visit ← visit_meant airport visits told.moment message
+  changed_by airport told visit

@@ -1,0 +1,2 @@
+pub mod ClockTimes
+pub mod Effects

@@ -1,0 +1,238 @@
+// What movement messages do to visits.
+ghost use Rattle.std.specs.Prelude.{◌≡◌, ◌<◌, false, All, IfSome, find, option_copied};
+ghost use Rattle.std.specs.Option.{option_map_or};
+ghost use Rattle.mvt_grammar.specs.Readable.{IsReadable};
+ghost use Rattle.visit_effects.specs.Effects.{changed_at, changed_by, effect_of, is_key_of, is_meant, is_same_flight, key_of, landed, on_block_at, scheduled, told_by_arrival, told_elsewhere, told_here, told_of, visit_meant};
+ghost use Rattle.visit_book.specs.WellFormed.{IsWellFormed, plan_end};
+ghost use Rattle.visit_book.specs.declared.visits.End.TheVariants.{Live};
+
+use crate::clock_times::{day_of_month, minute_of};
+use apron_base::Minute;
+use apron_rules::Airport;
+use mvt_grammar::{Clock, Flight, Mvt};
+use visit_book::{Key, Visit, arrive, depart, estimate_off, is_live, push};
+
+/// What happens to a visit at the time that a message tells.
+#[derive(Clone, Copy, Debug, PartialEq, Eq)]
+enum Moment {
+    /// It lands, as is expected or in fact.
+    Touchdown,
+    /// It comes on block.
+    OnBlock,
+    /// It is expected off block.
+    ExpectedOff,
+    /// It goes off block.
+    OffBlock,
+}
+
+/// What counts of a message.
+#[derive(Clone, Copy, Debug, PartialEq, Eq)]
+struct Told {
+    moment: Moment,
+    clock: Clock,
+}
+
+/// The visit as the message changes it, or None where it changes nothing. Visits stand in order of number. A message of
+/// the airport's own station tells of the arrival, else of the departure, else of the expected departure; one of another
+/// station of the expected arrival, where that is at the airport. It is of the first live visit that comes, or leaves, by
+/// its flight on the latest day with its day of the month. Nothing changes without such a visit, at a time outside the
+/// plan, where a visit that lands or comes on block is on block, and where it would go before it came. It takes no
+/// memory.
+pub fn effect_of(airport: &Airport, visits: &[Visit], message: &Mvt) -> Option<Visit>
+    requires each { All (IsWellFormed airport.now) visits.now }
+    requires readable { IsReadable message.now }
+    ensures is { result ≡ effect_of airport.now visits.now message.now }
+    ensures well_formed { IfSome result (IsWellFormed airport.now) }
+{
+    let told = told_of(airport, message)?;
+    let visit = visit_meant(airport, visits, told.moment, message)?;
+    changed_by(airport, &told, visit)
+}
+
+fn told_of(airport: &Airport, message: &Mvt) -> Option<Told>
+    requires readable { IsReadable message.now }
+    ensures is { result ≡ told_of airport.now message.now }
+    ensures minute { IfSome result (λ told. told.clock.minute < 1440) }
+{
+    if message.station.is_same(&airport.parts().station) {
+        told_here(message)
+    } else {
+        told_elsewhere(airport, message)
+    }
+}
+
+fn told_here(message: &Mvt) -> Option<Told>
+    requires readable { IsReadable message.now }
+    ensures is { result ≡ told_here message.now }
+    ensures minute { IfSome result (λ told. told.clock.minute < 1440) }
+{
+    match (message.aa, message.ad, message.ed) {
+        (Some((touchdown, on)), _, _) => Some(told_by_arrival(touchdown, on)),
+        (None, Some((off, _)), _) => Some(Told {
+            moment: Moment::OffBlock,
+            clock: off,
+        }),
+        (None, None, Some(off)) => Some(Told {
+            moment: Moment::ExpectedOff,
+            clock: off,
+        }),
+        (None, None, None) => None,
+    }
+}
+
+fn told_by_arrival(touchdown: Clock, on: Option<Clock>) -> Told
+    ensures is { result ≡ told_by_arrival (touchdown, on) }
+{
+    match on {
+        Some(on) => Told {
+            moment: Moment::OnBlock,
+            clock: on,
+        },
+        None => Told {
+            moment: Moment::Touchdown,
+            clock: touchdown,
+        },
+    }
+}
+
+fn told_elsewhere(airport: &Airport, message: &Mvt) -> Option<Told>
+    requires readable { IsReadable message.now }
+    ensures is { result ≡ told_elsewhere airport.now message.now }
+    ensures minute { IfSome result (λ told. told.clock.minute < 1440) }
+{
+    match message.ea {
+        Some((touchdown, station)) if station.is_same(&airport.parts().station) => Some(Told {
+            moment: Moment::Touchdown,
+            clock: touchdown,
+        }),
+        _ => None,
+    }
+}
+
+fn visit_meant<'a>(
+    airport: &Airport,
+    visits: &'a [Visit],
+    moment: Moment,
+    message: &Mvt,
+) -> Option<&'a Visit>
+    requires each { All (IsWellFormed airport.now) visits.now }
+    ensures is { option_copied result ≡ visit_meant airport.now visits.now moment message.now }
+    ensures well_formed { IfSome (option_copied result) (IsWellFormed airport.now) }
+    ensures live { IfSome (option_copied result) (λ visit. visit.end ≡ Live) }
+{
+    let day = day_of_month(airport, message.day, 0, airport.parts().days + 1)?;
+    first_meant(visits, moment, &message.flight, day)
+}
+
+fn first_meant<'a>(
+    visits: &'a [Visit],
+    moment: Moment,
+    flight: &Flight,
+    day: u32,
+) -> Option<&'a Visit>
+    ensures is { option_copied result ≡ find (is_meant moment flight.now day) visits.now }
+{
+    visits
+        .iter()
+        .find(|visit| is_meant(moment, flight, day, visit))
+}
+
+fn is_meant(moment: Moment, flight: &Flight, day: u32, visit: &Visit) -> bool
+    ensures is { result ≡ is_meant moment flight.now day visit.now }
+{
+    is_live(visit) && is_by(key_of(moment, visit), flight, day)
+}
+
+// Whether there is a key, of this flight and this day.
+fn is_by(key: Option<Key>, flight: &Flight, day: u32) -> bool
+    ensures is { result ≡ option_map_or (is_key_of flight.now day) key false }
+{
+    match key {
+        Some(key) => is_same_flight(&key.flight, flight) && key.day as u32 == day,
+        None => false,
+    }
+}
+
+fn key_of(moment: Moment, visit: &Visit) -> Option<Key>
+    ensures is { result ≡ key_of moment visit.now }
+{
+    match moment {
+        Moment::Touchdown | Moment::OnBlock => visit.arr,
+        Moment::ExpectedOff | Moment::OffBlock => visit.dep,
+    }
+}
+
+fn is_same_flight(flight: &Flight, other: &Flight) -> bool
+    ensures is { result ≡ is_same_flight flight.now other.now }
+{
+    flight.airline.is_same(&other.airline)
+        && flight.number == other.number
+        && flight.suffix == other.suffix
+}
+
+fn changed_by(airport: &Airport, told: &Told, visit: &Visit) -> Option<Visit>
+    requires minute { told.now.clock.minute < 1440 }
+    requires well_formed { IsWellFormed airport.now visit.now }
+    requires live { visit.now.end ≡ Live }
+    ensures is { result ≡ changed_by airport.now told.now visit.now }
+    ensures well_formed { IfSome result (IsWellFormed airport.now) }
+{
+    let at = minute_of(airport, scheduled(told.moment, visit), &told.clock)?;
+    changed_at(airport, told.moment, at, visit)
+}
+
+fn scheduled(moment: Moment, visit: &Visit) -> Minute
+    ensures is { result ≡ scheduled moment visit.now }
+{
+    match moment {
+        Moment::Touchdown | Moment::OnBlock => visit.on,
+        Moment::ExpectedOff | Moment::OffBlock => visit.off,
+    }
+}
+
+fn changed_at(airport: &Airport, moment: Moment, at: Minute, visit: &Visit) -> Option<Visit>
+    requires at { at < plan_end airport.now }
+    requires well_formed { IsWellFormed airport.now visit.now }
+    requires live { visit.now.end ≡ Live }
+    ensures is { result ≡ changed_at airport.now moment at visit.now }
+    ensures well_formed { IfSome result (IsWellFormed airport.now) }
+{
+    match moment {
+        Moment::Touchdown => landed(airport, at, visit),
+        Moment::OnBlock => on_block_at(airport, at, visit),
+        Moment::ExpectedOff => Some(estimate_off(visit, airport, at)),
+        Moment::OffBlock => match depart(visit, at) {
+            Ok(new) => Some(new),
+            Err(_) => None,
+        },
+    }
+}
+
+fn landed(airport: &Airport, at: Minute, visit: &Visit) -> Option<Visit>
+    requires at { at < plan_end airport.now }
+    requires well_formed { IsWellFormed airport.now visit.now }
+    ensures is { result ≡ landed airport.now at visit.now }
+    ensures well_formed { IfSome result (IsWellFormed airport.now) }
+{
+    let taxi_in = airport.parts().taxi_in;
+    if visit.on_block || taxi_in >= airport.minutes() - at {
+        return None;
+    }
+    Some(push(visit, airport, 1, at + taxi_in))
+}
+
+fn on_block_at(airport: &Airport, at: Minute, visit: &Visit) -> Option<Visit>
+    requires at { at < plan_end airport.now }
+    requires well_formed { IsWellFormed airport.now visit.now }
+    requires live { visit.now.end ≡ Live }
+    ensures is { result ≡ on_block_at airport.now at visit.now }
+    ensures well_formed { IfSome result (IsWellFormed airport.now) }
+{
+    if visit.on_block {
+        return None;
+    }
+    match arrive(visit, airport, 1, at, None) {
+        Ok(new) => Some(new),
+        Err(_) => None,
+    }
+}
