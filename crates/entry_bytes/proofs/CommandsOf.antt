@@ -1,0 +1,9 @@
+-- A command of an airport can be said at any.
+use Rattle.apron_rules.specs.declared.parts.AirportParts.{AirportParts}
+use Rattle.desk_words.specs.Commands.{IsCommand, IsCommandOf}
+use Rattle.desk_words.specs.declared.asks.Command.{Command}
+use Rattle.desk_words.specs.declared.asks.Command.TheVariants.{AddVisit, Commit}
+
+pub command_of : (airport : AirportParts) (command : Command) → IsCommandOf airport command → IsCommand command
+command_of airport (AddVisit new) h = h.new_visit
+command_of airport (Commit desk draft base edits) h = (h.0, h.1)

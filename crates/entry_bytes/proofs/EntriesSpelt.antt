@@ -1,0 +1,227 @@
+-- Entries are read just as they are spelt.
+use Rattle.std.proofs.Common.{◌≡◌, ℕ, zero, suc, ◌+◌, ◌^◌, ◌<◌, ◌≤◌, Bool, true, false, cond, eqb, List, [], ◌∷◌, ◌++◌, length, Option, Some, None, Result, Ok, Err, refl, sym, ap, subst, ◌∙◌, append_assoc, inl, inr, arith}
+use Rattle.std.specs.List.{AllByRecursion}
+use Rattle.std.specs.Prelude.{◌⊎◌, ◌==◌, All, IsSome, nat_lt}
+use Rattle.std.specs.Int.{w64, to_le_bytes}
+use Rattle.std.proofs.lemmas.Bool.{eqb-true, ltb-true, lt-ltb}
+use Rattle.std.proofs.lemmas.List.{append-nil, nil_from_length}
+use Rattle.std.proofs.lemmas.List.Elements.{All-from_recursion, All-head, All-tail}
+use Rattle.apron_base.specs.declared.machine.TheConstants.{CALL_END}
+use Rattle.apron_rules.specs.declared.parts.AirportParts.{AirportParts}
+use Rattle.visit_book.specs.declared.edits.Edit.{Edit}
+use Rattle.visit_book.specs.declared.visits.NewVisit.{NewVisit}
+use Rattle.desk_words.specs.declared.asks.Command.{Command}
+use Rattle.desk_words.specs.declared.asks.Command.TheVariants.{AddVisit, Commit}
+use Rattle.desk_words.specs.declared.asks.Entry.{Entry}
+use Rattle.entry_bytes.specs.declared.faults.EntryFault.{EntryFault}
+use Rattle.entry_bytes.specs.declared.faults.EntryFault.TheVariants.{BadField, BadKind, TrailingBytes}
+use Rattle.entry_bytes.specs.declared.faults.ReadFault.{ReadFault}
+use Rattle.entry_bytes.specs.declared.faults.ReadFault.TheVariants as faults
+use Rattle.entry_bytes.specs.Gives.{Fails}
+use Rattle.visit_book.specs.Edits.{IsEditOf}
+use Rattle.desk_words.specs.Commands.{IsCommandOf}
+use Rattle.entry_bytes.specs.Widths.{EditFits, Fits, IsEntryOf}
+use Rattle.entry_bytes.specs.Commits.{commit_at, commit_text}
+use Rattle.entry_bytes.specs.Entries.{command_at, command_text, decoded, entry_at, entry_text, fields_of, with_none_left}
+use Rattle.entry_bytes.specs.Faults.{IsWithin, fault_of}
+use Rattle.entry_bytes.specs.Laws.{AreBytes}
+use Rattle.entry_bytes.specs.NewVisits.{new_visit_at, new_visit_text}
+use Rattle.entry_bytes.specs.Readings.{Left, Reading, ◌>>=◌, give, number, such_that}
+use Rattle.entry_bytes.proofs.Fields.{byte-spells, byte-front, number-spells, number-front, wide64}
+use Rattle.entry_bytes.proofs.VisitsSpelt.{IsVisitOf, new_visit-spells, visit_of}
+use Rattle.entry_bytes.proofs.CommitsSpelt.{AreEditsSpelt, IsCommitOf, IsCommitSpelt, IsEditSpelt, commit-spells, commit_back}
+use Rattle.entry_bytes.proofs.Spells.{Announces, Announces-or, IsWithin-wider, Spells, Spells-as, Spells-give, Spells-such, Spells-tagged, Spells-then, err_is, left_at, ok_is}
+
+abbrev kind_of : Command → ℕ
+kind_of (AddVisit new) = 1
+kind_of (Commit desk draft base edits) = 2
+
+abbrev back_of : Command → List ℕ
+back_of (AddVisit new) = new_visit_text new
+back_of (Commit desk draft base edits) = commit_text desk draft base edits
+
+abbrev new_in : Command → NewVisit
+new_in (AddVisit new) = new
+new_in (Commit desk draft base edits) = visit_of [] 0 0 0 0 None None
+
+-- a command at an airport, whose numbers and names are of their types
+abbrev IsSpelt : AirportParts → Command → Type 0
+IsSpelt airport (AddVisit new) = IsVisitOf airport new
+IsSpelt airport (Commit desk draft base edits) = IsCommitSpelt airport desk draft base edits
+
+abbrev HasKind : AirportParts → ℕ → Command → Type 0
+HasKind airport kind command = (kind_of command ≡ kind) × IsSpelt airport command
+
+-- ---- kind 1
+
+only_visit : (airport : AirportParts) (new : NewVisit) (command : Command) → (new_in command ≡ new) × HasKind airport 1 command → command ≡ AddVisit new
+only_visit airport new (AddVisit other) h = ap AddVisit h.0
+only_visit airport new (Commit desk draft base edits) h = absurd (omega (arith, h.1.0))
+
+visit_there : (airport : AirportParts) (command : Command) → HasKind airport 1 command → IsVisitOf airport (new_in command)
+visit_there airport (AddVisit new) h = h.1
+visit_there airport (Commit desk draft base edits) h = absurd (omega (arith, h.0))
+
+visit_same : (airport : AirportParts) (command : Command) → HasKind airport 1 command → back_of command ≡ new_visit_text (new_in command) ++ []
+visit_same airport (AddVisit new) h = sym (append-nil (new_visit_text new))
+visit_same airport (Commit desk draft base edits) h = absurd (omega (arith, h.0))
+
+visit-spells : (airport : AirportParts) → Spells (new_visit_at airport >>= λ new. give (AddVisit new)) back_of (HasKind airport 1) 662
+visit-spells airport = Spells-as back_of (HasKind airport 1) 662
+    (Spells-then new_in (HasKind airport 1) (new_visit-spells airport)
+    (λ new h. Spells-give (AddVisit new) (λ command. (new_in command ≡ new) × HasKind airport 1 command) (refl, (refl, h)) (λ command e. only_visit airport new command e))
+    (visit_there airport))
+    (λ command h. h) (λ command h. h) (visit_same airport) (omega arith)
+
+-- ---- kind 2
+
+commit_there : (airport : AirportParts) (command : Command) → IsCommitOf airport command → HasKind airport 2 command
+commit_there airport (AddVisit new) h = absurd h
+commit_there airport (Commit desk draft base edits) h = (refl, h)
+
+commit_here : (airport : AirportParts) (command : Command) → HasKind airport 2 command → IsCommitOf airport command
+commit_here airport (AddVisit new) h = absurd (omega (arith, h.0))
+commit_here airport (Commit desk draft base edits) h = h.1
+
+commit_same : (airport : AirportParts) (command : Command) → HasKind airport 2 command → back_of command ≡ commit_back command
+commit_same airport (AddVisit new) h = absurd (omega (arith, h.0))
+commit_same airport (Commit desk draft base edits) h = refl
+
+second-spells : (airport : AirportParts) → Spells (commit_at airport) back_of (HasKind airport 2) 662
+second-spells airport = Spells-as back_of (HasKind airport 2) 662 (commit-spells airport) (commit_there airport) (commit_here airport) (commit_same airport) (omega arith)
+
+-- ---- any command
+
+kind_is : (airport : AirportParts) (kind known : ℕ) (fields : Reading Command) → Spells fields back_of (HasKind airport known) 662 → (kind == known) ≡ true → Spells fields back_of (HasKind airport kind) 662
+kind_is airport kind known fields s e = subst (λ k. Spells fields back_of (HasKind airport k) 662) (sym (eqb-true kind known e)) s
+
+at_kind : (airport : AirportParts) (kind : ℕ) → Announces (fields_of airport kind) back_of (HasKind airport kind) 662
+at_kind airport kind =
+    let P = HasKind airport kind in
+    let first : Reading Command = new_visit_at airport >>= λ new. give (AddVisit new) in
+    Announces-or (kind == 1) first (cond (kind == 2) (Some (commit_at airport)) None) back_of P 662 (kind_is airport kind 1 first (visit-spells airport))
+    (Announces-or (kind == 2) (commit_at airport) None back_of P 662 (kind_is airport kind 2 (commit_at airport) (second-spells airport)) tt)
+
+has_fields : (airport : AirportParts) (command : Command) → IsSpelt airport command → IsSome (fields_of airport (kind_of command))
+has_fields airport (AddVisit new) h = refl
+has_fields airport (Commit desk draft base edits) h = refl
+
+same_bytes : (command : Command) → command_text command ≡ kind_of command ∷ back_of command
+same_bytes (AddVisit new) = refl
+same_bytes (Commit desk draft base edits) = refl
+
+command-spells : (airport : AirportParts) → Spells (command_at airport) command_text (IsSpelt airport) 663
+unfolding command_at
+command-spells airport = Spells-as command_text (IsSpelt airport) 663
+    (Spells-tagged (λ at. BadKind) (fields_of airport) kind_of back_of (IsSpelt airport) 662 byte-spells byte-front (λ at. tt) (at_kind airport) (has_fields airport))
+    (λ command h. h) (λ command h. h) (λ command h. same_bytes command) (omega arith)
+
+-- ---- what is asked of a command, said in both ways
+
+fits_of : (airport : AirportParts) (edits : List Edit) → AllByRecursion (IsEditSpelt airport) edits → AllByRecursion EditFits edits × AllByRecursion (IsEditOf airport) edits
+fits_of airport [] h = (tt, tt)
+fits_of airport (edit ∷ edits) h = let rest = fits_of airport edits h.1 in ((h.0.0, rest.0), (h.0.1, rest.1))
+
+spelt_of : (airport : AirportParts) (edits : List Edit) → All EditFits edits → All (IsEditOf airport) edits → AllByRecursion (IsEditSpelt airport) edits
+spelt_of airport [] f h = tt
+spelt_of airport (edit ∷ edits) f h =
+    ((All-head EditFits edit edits f, All-head (IsEditOf airport) edit edits h), spelt_of airport edits (All-tail EditFits edit edits f) (All-tail (IsEditOf airport) edit edits h))
+
+said : (airport : AirportParts) (command : Command) → IsSpelt airport command → Fits command × IsCommandOf airport command
+said airport (AddVisit new) h = (h.fits, h.at_airport)
+said airport (Commit desk draft base edits) h =
+    let each = fits_of airport edits h.edits.each in (
+      record { desk = h.desk; draft = h.draft; base = h.base; edits = All-from_recursion EditFits edits each.0 },
+      (h.edits.count.0, h.edits.count.1, All-from_recursion (IsEditOf airport) edits each.1),
+    )
+
+spelt : (airport : AirportParts) (command : Command) → Fits command → IsCommandOf airport command → IsSpelt airport command
+spelt airport (AddVisit new) f h = record { fits = f; at_airport = h }
+spelt airport (Commit desk draft base edits) f h = record {
+  desk = f.desk;
+  draft = f.draft;
+  base = f.base;
+  edits = record { count = (h.0, h.1); each = spelt_of airport edits f.edits h.2 };
+}
+
+-- ---- the whole
+
+call-spells : Spells (such_that (λ call. nat_lt call CALL_END) (number w64)) (to_le_bytes w64) (λ call. call < CALL_END) 8
+call-spells = Spells-such (λ call. nat_lt call CALL_END) (number w64) (to_le_bytes w64) (λ n. n < 2 ^ 64) (λ call. call < CALL_END) 8 8 (number-spells w64 (2 ^ 64) wide64) (number-front w64)
+    (λ n h test. ltb-true n CALL_END test) (λ n h. omega arith) (λ n h. lt-ltb n CALL_END h) (λ n h. omega arith)
+
+abbrev entry_of : ℕ → Command → Entry
+entry_of call command = record { call = call; command = command }
+
+same_entry : (a b : ℕ) (c d : Command) → a ≡ b → c ≡ d → entry_of a c ≡ entry_of b d
+same_entry a b c d e f = cc
+
+regrouped : (entry : Entry) → entry_text entry ≡ to_le_bytes w64 entry.call ++ (command_text entry.command ++ [])
+regrouped entry = ap (λ t. to_le_bytes w64 entry.call ++ t) (sym (append-nil (command_text entry.command)))
+
+abbrev Called : AirportParts → ℕ → Entry → Type 0
+Called airport call entry = (entry.call ≡ call) × IsEntryOf airport entry
+
+entry-spells : (airport : AirportParts) → Spells (entry_at airport) entry_text (IsEntryOf airport) 671
+unfolding entry_at
+entry-spells airport = Spells-as entry_text (IsEntryOf airport) 671
+    (Spells-then (λ entry. entry.call) (IsEntryOf airport) call-spells
+    (λ call c. Spells-then (λ entry. entry.command) (Called airport call) (command-spells airport)
+    (λ command d. let told = said airport command d in
+    Spells-give (entry_of call command) (λ entry. (entry.command ≡ command) × Called airport call entry)
+    (refl, (refl, record { call = c; fits = told.0; command = told.1 }))
+    (λ entry h. same_entry entry.call call entry.command command h.1.0 h.0))
+    (λ entry h. spelt airport entry.command h.1.fits h.1.command))
+    (λ entry h. h.call))
+    (λ entry h. h) (λ entry h. h) (λ entry h. regrouped entry) (omega arith)
+
+-- ---- the laws
+
+pub entry_is_read_back : (airport : AirportParts) (entry : Entry) → IsEntryOf airport entry → decoded airport (entry_text entry) ≡ Ok entry
+unfolding decoded
+entry_is_read_back airport entry h =
+    ap (λ bytes. with_none_left (entry_at airport (left_at 0 bytes))) (sym (append-nil (entry_text entry)))
+    ∙ ap with_none_left ((entry-spells airport).again entry 0 [] h)
+
+ended_ok : (read : Result (Entry × Left) EntryFault) (entry : Entry) → with_none_left read ≡ Ok entry → (x : Entry × Left) × (read ≡ Ok x) × (length x.1.bytes ≡ 0) × (x.0 ≡ entry)
+ended_ok (Ok x) entry e = let parts = tested (eqb (length x.1.bytes) 0) x.0 entry (TrailingBytes x.1.at) e in (x, refl, eqb-true (length x.1.bytes) 0 parts.0, parts.1)
+  where
+    tested : (test : Bool) (y z : Entry) (fault : EntryFault) → cond test (Ok y) (Err fault) ≡ Ok z → (test ≡ true) × (y ≡ z)
+    tested true y z fault e = (refl, ok_is y z e)
+    tested false y z fault e = absurd cc
+ended_ok (Err fault) entry e = absurd cc
+
+pub entry_is_spelt : (airport : AirportParts) (bytes : List ℕ) (entry : Entry) → AreBytes bytes → decoded airport bytes ≡ Ok entry → (bytes ≡ entry_text entry) × IsEntryOf airport entry
+unfolding decoded
+entry_is_spelt airport bytes entry fits e =
+    let x = ended_ok (entry_at airport (left_at 0 bytes)) entry e in
+    let taken = (entry-spells airport).takes (left_at 0 bytes) x.0 fits x.1 in
+    let nothing : x.0.1.bytes ≡ [] = nil_from_length x.0.1.bytes x.2 in
+    let whole : bytes ≡ entry_text x.0.0 = taken.0.parts ∙ ap (λ rest. entry_text x.0.0 ++ rest) nothing ∙ append-nil (entry_text x.0.0) in
+    subst (λ other. (bytes ≡ entry_text other) × IsEntryOf airport other) x.3 (whole, taken.1)
+
+ended_near : (read : Result (Entry × Left) EntryFault) (fault : EntryFault) → with_none_left read ≡ Err fault
+    → (read ≡ Err fault) ⊎ ((x : Entry × Left) × (read ≡ Ok x) × (TrailingBytes x.1.at ≡ fault))
+ended_near (Ok x) fault e = inr (x, refl, tested (eqb (length x.1.bytes) 0) x.0 (TrailingBytes x.1.at) fault e)
+  where
+    tested : (test : Bool) (y : Entry) (missing found : EntryFault) → cond test (Ok y) (Err missing) ≡ Err found → missing ≡ found
+    tested true y missing found e = absurd cc
+    tested false y missing found e = err_is {A = Entry} missing found e
+ended_near (Err found) fault e = inl (ap Err (err_is {A = Entry} found fault e))
+
+pub fault_is_near : (airport : AirportParts) (bytes : List ℕ) (fault : EntryFault) → AreBytes bytes → decoded airport bytes ≡ Err fault → IsWithin 671 fault
+unfolding decoded
+fault_is_near airport bytes fault fits e = elim (ended_near (entry_at airport (left_at 0 bytes)) fault e) [
+  | inl bad ↦ IsWithin-wider (0 + 671) 671 fault (omega arith) ((entry-spells airport).near (left_at 0 bytes) fault fits bad)
+  | inr (x, good, trailing) ↦
+      let taken = (entry-spells airport).takes (left_at 0 bytes) x fits good in
+      let short = (entry-spells airport).short x.0 taken.1 in
+      let place : x.1.at ≤ 671 = omega (arith, taken.0.place, short) in
+      subst (IsWithin 671) trailing place
+]
+
+pub near_of : (airport : AirportParts) (bytes : List ℕ) (fault : ReadFault) → AreBytes bytes → Fails fault (decoded airport bytes) → IsWithin 671 (fault_of fault)
+near_of airport bytes faults.BadKind fits e = tt
+near_of airport bytes (faults.BadField at) fits e = fault_is_near airport bytes (BadField at) fits e
+near_of airport bytes (faults.TrailingBytes at) fits e = fault_is_near airport bytes (TrailingBytes at) fits e
+near_of airport bytes faults.Memory fits e = tt

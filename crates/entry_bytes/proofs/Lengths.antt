@@ -1,0 +1,62 @@
+-- How long entries are.
+use Rattle.std.proofs.Common.{◌≡◌, ℕ, ◌+◌, ◌*◌, ◌≤◌, List, [], ◌∷◌, ◌++◌, length, Option, Some, None, All, length-append, arith}
+use Rattle.std.specs.List.{flat_map}
+use Rattle.std.specs.Prelude.{IfSome}
+use Rattle.std.specs.Int.{w16, w32, w64, to_le_bytes}
+use Rattle.visit_book.specs.NewVisits.{HasFlight, IsNewVisit}
+use Rattle.visit_book.specs.declared.edits.Edit.{Edit}
+use Rattle.visit_book.specs.declared.edits.Edit.TheVariants.{Put, Lift, Cut, Join}
+use Rattle.visit_book.specs.declared.visits.Key.{Key}
+use Rattle.visit_book.specs.declared.visits.NewVisit.{NewVisit}
+use Rattle.desk_words.specs.declared.asks.Command.{Command}
+use Rattle.desk_words.specs.declared.asks.Command.TheVariants.{AddVisit, Commit}
+use Rattle.desk_words.specs.declared.asks.Entry.{Entry}
+use Rattle.desk_words.specs.Commands.{IsCommand}
+use Rattle.entry_bytes.specs.Widths.{Fits, VisitFits}
+use Rattle.entry_bytes.specs.Commits.{commit_text, edit_text}
+use Rattle.entry_bytes.specs.Entries.{command_text, entry_text}
+use Rattle.entry_bytes.specs.Keys.{key_text, optional_key_text, suffix_byte, sized_text}
+use Rattle.entry_bytes.specs.NewVisits.{new_visit_text}
+use Rattle.entry_bytes.proofs.KeysSpelt.{length-airline}
+
+length-key : (key : Key) → HasFlight key → length (key_text key) ≤ 8
+length-key key h =
+    let airline = length-airline key.flight.airline h.airline in
+    omega (arith, length-append (sized_text key.flight.airline ++ to_le_bytes w16 key.flight.number) (suffix_byte key.flight.suffix ∷ key.day ∷ []), length-append key.flight.airline (to_le_bytes w16 key.flight.number))
+
+length-optional_key : (key : Option Key) → IfSome key HasFlight → length (optional_key_text key) ≤ 9
+length-optional_key None h = omega arith
+length-optional_key (Some key) h = let one = length-key key h in omega arith
+
+length-new_visit : (new : NewVisit) → VisitFits new → IsNewVisit new → length (new_visit_text new) ≤ 42
+length-new_visit new f h =
+    let few = f.name.few in
+    let arr = length-optional_key new.arr h.arr in
+    let dep = length-optional_key new.dep h.dep in
+    let fixed = sized_text new.name ++ to_le_bytes w16 new.kind.0 ++ new.class ∷ [] ++ to_le_bytes w32 new.on ++ to_le_bytes w32 new.off in
+    let named : length fixed ≤ 24 = omega (arith, length-append new.name (to_le_bytes w16 new.kind.0), length-append (new.name ++ to_le_bytes w16 new.kind.0) (new.class ∷ []), length-append (new.name ++ to_le_bytes w16 new.kind.0 ++ new.class ∷ []) (to_le_bytes w32 new.on), length-append (new.name ++ to_le_bytes w16 new.kind.0 ++ new.class ∷ [] ++ to_le_bytes w32 new.on) (to_le_bytes w32 new.off)) in
+    omega (arith, named, length-append (fixed ++ optional_key_text new.arr) (optional_key_text new.dep), length-append fixed (optional_key_text new.arr))
+
+length-edit : (edit : Edit) → length (edit_text edit) ≤ 10
+length-edit (Put visit part stand) = omega arith
+length-edit (Lift visit part) = omega arith
+length-edit (Cut visit part at) = omega arith
+length-edit (Join visit part) = omega arith
+
+length-edits : (edits : List Edit) → length (flat_map edit_text edits) ≤ 10 * length edits
+length-edits [] = omega arith
+length-edits (edit ∷ edits) = omega (arith, length-append (edit_text edit) (flat_map edit_text edits), length-edit edit, length-edits edits)
+
+length-commit : (desk : List ℕ) (draft base : ℕ) (edits : List Edit) → length desk ≤ 12 → length edits ≤ 64 → length (commit_text desk draft base edits) ≤ 662
+length-commit desk draft base edits few some =
+    let fixed = sized_text desk ++ to_le_bytes w32 draft ++ to_le_bytes w32 base ++ length edits ∷ [] in
+    let begun : length fixed ≤ 22 = omega (arith, length-append desk (to_le_bytes w32 draft), length-append (desk ++ to_le_bytes w32 draft) (to_le_bytes w32 base), length-append (desk ++ to_le_bytes w32 draft ++ to_le_bytes w32 base) (length edits ∷ [])) in
+    omega (arith, begun, length-append fixed (flat_map edit_text edits), length-edits edits)
+
+length-command : (command : Command) → Fits command → IsCommand command → length (command_text command) ≤ 663
+length-command (AddVisit new) f h = let one = length-new_visit new f h in omega arith
+length-command (Commit desk draft base edits) f h = let one = length-commit desk draft base edits f.desk.few h.1 in omega arith
+
+-- an entry has at most 671 bytes
+pub length-entry : (entry : Entry) → Fits entry.command → IsCommand entry.command → length (entry_text entry) ≤ 671
+length-entry entry f h = omega (arith, length-append (to_le_bytes w64 entry.call) (command_text entry.command), length-command entry.command f h)

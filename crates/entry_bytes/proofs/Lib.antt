@@ -1,0 +1,9 @@
+pub mod Spells
+pub mod Fields
+pub mod KeysSpelt
+pub mod VisitsSpelt
+pub mod CommitsSpelt
+pub mod EntriesSpelt
+pub mod Loops
+pub mod Lengths
+pub mod CommandsOf

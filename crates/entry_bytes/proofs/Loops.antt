@@ -1,0 +1,69 @@
+-- So many edits, one after the other, as a loop reads and writes them.
+use Rattle.std.proofs.Common.{◌≡◌, ℕ, suc, ◌-◌, ◌+◌, ◌≤◌, ◌<◌, List, [], ◌∷◌, ◌++◌, length, get_or, take, All, subst, Result, Ok, Err, refl, sym, ap, ◌∙◌, append_assoc, arith}
+use Rattle.std.specs.List.{flat_map}
+use Rattle.std.proofs.lemmas.List.{append-nil, take_more}
+use Rattle.std.proofs.lemmas.List.Concat.{flat_map-append}
+use Rattle.std.proofs.lemmas.List.Elements.{All-push}
+use Rattle.visit_book.specs.declared.edits.Edit.{Edit}
+use Rattle.entry_bytes.specs.Widths.{EditFits}
+use Rattle.entry_bytes.specs.Commits.{edit_text}
+use Rattle.entry_bytes.specs.declared.faults.EntryFault.{EntryFault}
+use Rattle.entry_bytes.specs.declared.faults.ReadFault.{ReadFault}
+use Rattle.entry_bytes.specs.declared.faults.ReadFault.TheVariants as faults
+use Rattle.entry_bytes.specs.Gives.{Fails}
+use Rattle.entry_bytes.specs.Readings.{Left, Reading, ◌>>=◌, going_on, give, repeated}
+
+-- what was read before, and what is still read
+abbrev pub with_front : {A : Type 0} → List A → Result (List A × Left) EntryFault → Result (List A × Left) EntryFault
+with_front front read = going_on read (λ others. give (front ++ others))
+
+regrouped : {A : Type 0} (front : List A) (x : A) (read : Result (List A × Left) EntryFault)
+    → with_front front (going_on read (λ others. give (x ∷ others))) ≡ with_front (front ++ x ∷ []) read
+regrouped front x (Ok read) = ap (λ xs. Ok (xs, read.1)) (sym (append_assoc front (x ∷ []) read.0))
+regrouped front x (Err fault) = refl
+
+abbrev behind_first : {A : Type 0} → Reading A → ℕ → A → Reading (List A)
+behind_first field count first = repeated count field >>= λ others. give (first ∷ others)
+
+pub goes_on : {A : Type 0} (field : Reading A) (front : List A) (count i : ℕ) (left after : Left) (x : A) (total : Result (List A × Left) EntryFault) → i < count → field left ≡ Ok (x, after)
+    → with_front front (repeated (count - i) field left) ≡ total → with_front (front ++ x ∷ []) (repeated (count - (i + 1)) field after) ≡ total
+unfolding repeated
+goes_on field front count i left after x total lt h so_far =
+    let k : count - i ≡ suc (count - (i + 1)) = omega arith in
+    sym (regrouped front x (repeated (count - (i + 1)) field after))
+    ∙ ap (λ r. with_front front (going_on r (behind_first field (count - (i + 1))))) (sym h)
+    ∙ ap (λ n. with_front front (repeated n field left)) (sym k)
+    ∙ so_far
+
+pub ends : {A : Type 0} (fault : ReadFault) (field : Reading A) (front : List A) (count i : ℕ) (left : Left) (total : Result (List A × Left) EntryFault) → i < count → Fails fault (field left)
+    → with_front front (repeated (count - i) field left) ≡ total → Fails fault total
+unfolding repeated
+ends faults.Memory field front count i left total lt h so_far = tt
+ends faults.BadKind field front count i left total lt h so_far =
+    let k : count - i ≡ suc (count - (i + 1)) = omega arith in
+    sym so_far ∙ ap (λ n. with_front front (repeated n field left)) k ∙ ap (λ r. with_front front (going_on r (behind_first field (count - (i + 1))))) h
+ends (faults.BadField at) field front count i left total lt h so_far =
+    let k : count - i ≡ suc (count - (i + 1)) = omega arith in
+    sym so_far ∙ ap (λ n. with_front front (repeated n field left)) k ∙ ap (λ r. with_front front (going_on r (behind_first field (count - (i + 1))))) h
+ends (faults.TrailingBytes at) field front count i left total lt h so_far =
+    let k : count - i ≡ suc (count - (i + 1)) = omega arith in
+    sym so_far ∙ ap (λ n. with_front front (repeated n field left)) k ∙ ap (λ r. with_front front (going_on r (behind_first field (count - (i + 1))))) h
+
+pub is_done : {A : Type 0} (field : Reading A) (front : List A) (count i : ℕ) (left : Left) (total : Result (List A × Left) EntryFault) → count ≤ i
+    → with_front front (repeated (count - i) field left) ≡ total → total ≡ Ok (front, left)
+unfolding repeated
+is_done field front count i left total le so_far =
+    let k : count - i ≡ 0 = omega arith in
+    sym so_far ∙ ap (λ n. with_front front (repeated n field left)) k ∙ ap (λ xs. Ok (xs, left)) (append-nil front)
+
+-- one more edit is written behind those before it
+pub written_more : (edits : List Edit) (i : ℕ) (d : Edit) (start out new : List ℕ) → i < length edits → out ≡ start ++ flat_map edit_text (take i edits) → new ≡ out ++ edit_text (get_or edits i d)
+    → new ≡ start ++ flat_map edit_text (take (i + 1) edits)
+written_more edits i d start out new lt so_far e =
+    let edit = get_or edits i d in
+    let text : flat_map edit_text (take (i + 1) edits) ≡ flat_map edit_text (take i edits) ++ edit_text edit =
+    ap (flat_map edit_text) (take_more edits i d lt) ∙ flat_map-append edit_text (take i edits) (edit ∷ []) ∙ ap (λ t. flat_map edit_text (take i edits) ++ t) (append-nil (edit_text edit)) in
+    e ∙ ap (λ t. t ++ edit_text edit) so_far ∙ append_assoc start (flat_map edit_text (take i edits)) (edit_text edit) ∙ ap (λ t. start ++ t) (sym text)
+
+pub fits_more : (edits : List Edit) (i : ℕ) (d : Edit) → i < length edits → All EditFits (take i edits) → EditFits (get_or edits i d) → All EditFits (take (i + 1) edits)
+fits_more edits i d lt so_far fits = subst (All EditFits) (sym (take_more edits i d lt)) (All-push EditFits (take i edits) (get_or edits i d) so_far fits)

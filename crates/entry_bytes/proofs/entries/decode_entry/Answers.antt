@@ -1,0 +1,12 @@
+use Rattle.std.proofs.Common.{◌<◌, ℕ, arith}
+use Rattle.entry_bytes.proofs.EntriesSpelt.{entry_is_spelt, near_of}
+use Rattle.entry_bytes.proofs.entries.decode_entry.Goals as goal
+
+pub returns-in-Ok-clause-spelt : goal.returns-in-Ok-clause-spelt
+returns-in-Ok-clause-spelt c = (entry_is_spelt c.args.airport.now c.args.bytes.now c.in-Ok.entry (λ i. omega (arith, c.type_inv.bytes i)) c.in-Ok.ensures.is).0
+
+pub returns-in-Ok-clause-entry : goal.returns-in-Ok-clause-entry
+returns-in-Ok-clause-entry c = (entry_is_spelt c.args.airport.now c.args.bytes.now c.in-Ok.entry (λ i. omega (arith, c.type_inv.bytes i)) c.in-Ok.ensures.is).1
+
+pub fault_of-requires : goal.fault_of-requires
+fault_of-requires c = record { near = near_of c.args.airport.now c.args.bytes.now c.in-Err.fault (λ i. omega (arith, c.type_inv.bytes i)) c.in-Err.ensures.is }

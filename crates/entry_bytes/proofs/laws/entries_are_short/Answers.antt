@@ -1,0 +1,5 @@
+use Rattle.entry_bytes.proofs.Lengths.{length-entry}
+use Rattle.entry_bytes.proofs.laws.entries_are_short.Goals as goal
+
+pub returns : goal.returns
+returns c = record { short = length-entry }

@@ -1,0 +1,9 @@
+pub mod Readings
+pub mod Keys
+pub mod NewVisits
+pub mod Commits
+pub mod Entries
+pub mod Widths
+pub mod Faults
+pub mod Gives
+pub mod Laws

@@ -1,0 +1,44 @@
+-- Which entries have bytes, and which of them can be read at an airport.
+use Rattle.std.specs.Prelude.{◌<◌, ◌^◌, ℕ, List, All}
+use Rattle.apron_base.specs.Name.{IsName}
+use Rattle.apron_base.specs.declared.machine.TheConstants.{CALL_END}
+use Rattle.apron_rules.specs.declared.parts.AirportParts.{AirportParts}
+use Rattle.visit_book.specs.declared.edits.Edit.{Edit}
+use Rattle.visit_book.specs.declared.edits.Edit.TheVariants.{Put, Lift, Cut, Join}
+use Rattle.visit_book.specs.declared.visits.NewVisit.{NewVisit}
+use Rattle.desk_words.specs.Commands.{IsCommandOf}
+use Rattle.desk_words.specs.declared.asks.Command.{Command}
+use Rattle.desk_words.specs.declared.asks.Command.TheVariants.{AddVisit, Commit}
+use Rattle.desk_words.specs.declared.asks.Entry.{Entry}
+
+-- the name is one, and each number fits the bytes that it is written in
+pub record VisitFits (new : NewVisit) : Type 0 where
+  pub name : IsName new.name
+  pub kind : new.kind.0 < 2 ^ 16
+  pub on : new.on < 2 ^ 32
+  pub off : new.off < 2 ^ 32
+
+-- each number of the edit fits the bytes that it is written in
+abbrev pub EditFits : Edit → Type 0
+EditFits (Put visit part stand) = (visit.0 < 2 ^ 32) × (stand.0 < 2 ^ 16)
+EditFits (Lift visit part) = visit.0 < 2 ^ 32
+EditFits (Cut visit part at) = (visit.0 < 2 ^ 32) × (at < 2 ^ 32)
+EditFits (Join visit part) = visit.0 < 2 ^ 32
+
+-- the desk's name is one, and each number fits the bytes that it is written in
+pub record CommitFits (name : List ℕ) (number made_over : ℕ) (changes : List Edit) : Type 0 where
+  pub desk : IsName name
+  pub draft : number < 2 ^ 32
+  pub base : made_over < 2 ^ 32
+  pub edits : All EditFits changes
+
+-- the numbers and names of a command are of their types: what a definition has to name, since numbers and texts range over all of them there
+abbrev pub Fits : Command → Type 0
+Fits (AddVisit new) = VisitFits new
+Fits (Commit desk draft base edits) = CommitFits desk draft base edits
+
+-- an entry that has bytes, and can be read at the airport
+pub record IsEntryOf (airport : AirportParts) (entry : Entry) : Type 0 where
+  pub call : entry.call < CALL_END
+  pub fits : Fits entry.command
+  pub command : IsCommandOf airport entry.command

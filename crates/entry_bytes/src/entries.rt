@@ -1,0 +1,120 @@
+// Entries as bytes: the call number, the kind of the command, and its fields.
+ghost use Rattle.std.specs.Prelude.{◌≡◌, ◌≢◌, ◌≤◌, ◌<◌, ◌++◌, IfOk, OnOk, length, Err, Ok};
+ghost use Rattle.apron_base.specs.declared.machine.TheConstants.{CALL_END};
+ghost use Rattle.apron_rules.specs.declared.parts.AirportParts.{AirportParts};
+ghost use Rattle.desk_words.specs.Commands.{IsCommand, IsCommandOf};
+ghost use Rattle.entry_bytes.specs.Widths.{Fits, IsEntryOf};
+ghost use Rattle.entry_bytes.specs.Entries.{command_at, command_text, decoded, entry_at, entry_text, with_none_left};
+ghost use Rattle.entry_bytes.specs.Gives.{Answers, Fails, Gives};
+ghost use Rattle.entry_bytes.specs.Faults.{IsWithin, fault_of};
+ghost use Rattle.entry_bytes.specs.Laws.{most_bytes};
+
+use crate::commits::{commit_at, push_commit};
+use crate::faults::{EntryFault, ReadFault};
+use crate::new_visits::{new_visit_at, push_new_visit};
+use crate::reader::{Reader, in_form};
+use apron_base::{CALL_END, Listed, Memory};
+use apron_rules::Airport;
+use desk_words::asks::{Command, Entry};
+use std::alloc::Global;
+
+fn push_command(out: &mut Vec<u8>, command: &Command) -> Result<(), Memory>
+    requires command { IsCommand command.now }
+    ensures text { OnOk result (out.new.items ≡ out.old.items ++ command_text command.now) }
+    ensures fits { OnOk result (Fits command.now) }
+{
+    match command {
+        Command::AddVisit(new) => {
+            out.push(1)?;
+            push_new_visit(out, new)
+        }
+        Command::Commit {
+            desk,
+            draft,
+            base,
+            edits,
+        } => {
+            out.push(2)?;
+            push_commit(out, desk, *draft, *base, edits.as_slice())
+        }
+    }
+}
+
+/// The bytes of an entry: its one spelling, which has 1 to 671 bytes and is read back at each airport that the command
+/// is of. At `Err` memory is wanting.
+pub fn encode_entry(alloc: Global, entry: &Entry) -> Result<Listed<u8>, Memory>
+    requires call { entry.now.call < CALL_END }
+    requires command { IsCommand entry.now.command }
+    ensures text { IfOk result (λ bytes. bytes ≡ entry_text entry.now) }
+    ensures some { IfOk result (λ bytes. 1 ≤ length bytes) }
+    ensures most { IfOk result (λ bytes. length bytes ≤ most_bytes) }
+    ensures read_back { IfOk result (λ bytes. (airport : AirportParts) → IsCommandOf airport entry.now.command → decoded airport bytes ≡ Ok entry.now) }
+{
+    let mut out = Vec::new(alloc);
+    out.extend_from_slice(&entry.call.to_le_bytes())?;
+    push_command(&mut out, &entry.command)?;
+    Ok(Listed::from_vec(out))
+}
+
+#[tactic(auto, unfolding(crate::specs::Entries::command_at))]
+fn command_at(
+    alloc: Global,
+    reader: &mut Reader<'_>,
+    airport: &Airport,
+) -> Result<Command, ReadFault>
+    ensures is { Gives result reader.new (command_at airport.now reader.old) }
+{
+    match reader.byte()? {
+        1 => Ok(Command::AddVisit(new_visit_at(reader, airport)?)),
+        2 => commit_at(alloc, reader, airport),
+        _ => Err(ReadFault::BadKind),
+    }
+}
+
+#[tactic(auto, unfolding(crate::specs::Entries::entry_at))]
+fn entry_at(alloc: Global, reader: &mut Reader<'_>, airport: &Airport) -> Result<Entry, ReadFault>
+    ensures is { Gives result reader.new (entry_at airport.now reader.old) }
+{
+    let at = reader.at();
+    let call = reader.u64()?;
+    in_form(at, call < CALL_END)?;
+    let command = command_at(alloc, reader, airport)?;
+    Ok(Entry { call, command })
+}
+
+#[tactic(auto, unfolding(crate::specs::Entries::decoded))]
+fn read_entry(alloc: Global, airport: &Airport, bytes: &[u8]) -> Result<Entry, ReadFault>
+    ensures is { Answers result (decoded airport.now bytes.now) }
+{
+    let mut reader = Reader::new(bytes);
+    let entry = entry_at(alloc, &mut reader, airport)?;
+    if !reader.is_empty() {
+        return Err(ReadFault::TrailingBytes(reader.at()));
+    }
+    Ok(entry)
+}
+
+fn fault_of(fault: ReadFault) -> EntryFault
+    requires near { IsWithin most_bytes (fault_of fault) }
+    ensures is { result ≡ fault_of fault }
+{
+    match fault {
+        ReadFault::BadKind => EntryFault::BadKind,
+        ReadFault::BadField(at) => EntryFault::BadField(at as u32),
+        ReadFault::TrailingBytes(at) => EntryFault::TrailingBytes(at as u32),
+        ReadFault::Memory => EntryFault::Memory,
+    }
+}
+
+/// The entry that the bytes spell for an airport, all of the bytes. At `Err` they spell none, for the first fault from
+/// left to right, or memory is wanting.
+pub fn decode_entry(alloc: Global, airport: &Airport, bytes: &[u8]) -> Result<Entry, EntryFault>
+    ensures is { result ≢ Err EntryFault.Memory → result ≡ decoded airport.now bytes.now }
+    ensures spelt { IfOk result (λ entry. bytes.now ≡ entry_text entry) }
+    ensures entry { IfOk result (IsEntryOf airport.now) }
+{
+    match read_entry(alloc, airport, bytes) {
+        Ok(entry) => Ok(entry),
+        Err(fault) => Err(fault_of(fault)),
+    }
+}

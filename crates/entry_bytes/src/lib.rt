@@ -1,0 +1,18 @@
+//! The entries of a history as bytes, both ways. It doesn't know where the bytes are kept, and which entries are legal
+//! at which place of a history.
+#![tactic(auto)]
+
+mod commits;
+mod entries;
+mod faults;
+mod keys;
+mod laws;
+mod new_visits;
+mod reader;
+#[cfg(test)]
+mod tests;
+mod writing;
+
+pub use entries::{decode_entry, encode_entry};
+pub use faults::EntryFault;
+pub use laws::{entries_are_read_back, entries_are_short, entries_are_spelt, faults_are_near};
