@@ -5,6 +5,7 @@ pub mod NewVisits
 pub mod Changes
 pub mod Movements
 pub mod Ends
+pub mod Flights
 pub mod Reports
 pub mod Slots
 pub mod Numbers

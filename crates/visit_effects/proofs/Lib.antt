@@ -1,2 +1,4 @@
 pub mod Days
 pub mod Meant
+pub mod Happenings
+pub mod OneVisit

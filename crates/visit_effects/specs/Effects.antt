@@ -1,6 +1,6 @@
 -- What a movement message does to a visit.
-use Rattle.std.specs.Prelude.{◌+◌, ◌==◌, ◌&&◌, ℕ, Bool, true, false, List, Option, None, Some, find, nat_eq, nat_lt, not, if◌then◌else◌}
-use Rattle.std.specs.Option.{option_eq, option_map, option_map_or, option_or}
+use Rattle.std.specs.Prelude.{◌+◌, ◌&&◌, ℕ, Bool, false, List, Option, None, Some, find, nat_lt, not, if◌then◌else◌}
+use Rattle.std.specs.Option.{option_map, option_map_or, option_or}
 use Rattle.std.specs.Str.{bytes_eq}
 use Rattle.apron_base.specs.OptionChain.{◌>>=◌}
 use Rattle.mvt_grammar.specs.declared.message.Clock.{Clock}
@@ -9,11 +9,14 @@ use Rattle.mvt_grammar.specs.declared.message.Mvt.{Mvt}
 use Rattle.apron_rules.specs.declared.parts.AirportParts.{AirportParts}
 use Rattle.visit_effects.specs.declared.effects.Moment.{Moment}
 use Rattle.visit_effects.specs.declared.effects.Moment.TheVariants.{Touchdown, OnBlock, ExpectedOff, OffBlock}
+use Rattle.visit_effects.specs.declared.effects.Movement.{Movement}
+use Rattle.visit_effects.specs.declared.effects.Movement.TheVariants.{Arrival, Departure}
 use Rattle.visit_effects.specs.declared.effects.Told.{Told}
 use Rattle.visit_book.specs.declared.visits.Key.{Key}
 use Rattle.visit_book.specs.declared.visits.Visit.{Visit}
 use Rattle.visit_book.specs.Changes.{push_of}
 use Rattle.visit_book.specs.Ends.{is_live}
+use Rattle.visit_book.specs.Flights.{is_key_of, live_arriving, live_departing}
 use Rattle.visit_book.specs.Movements.{arrive_of, depart_of, estimate_off_of}
 use Rattle.visit_effects.specs.ClockTimes.{is_of_month, latest_day, minute_of}
 use Rattle.visit_book.specs.WellFormed.{plan_end}
@@ -54,14 +57,6 @@ key_of OnBlock visit = visit.arr
 key_of ExpectedOff visit = visit.dep
 key_of OffBlock visit = visit.dep
 
--- the airline, the number and the suffix are the same
-abbrev pub is_same_flight : Flight → Flight → Bool
-is_same_flight flight other = bytes_eq flight.airline other.airline && flight.number == other.number && option_eq nat_eq flight.suffix other.suffix
-
--- the key is of this flight and this day
-abbrev pub is_key_of : Flight → ℕ → Key → Bool
-is_key_of flight day key = is_same_flight key.flight flight && key.day == day
-
 -- the visit is live, and has a key of this flight and this day
 abbrev pub is_meant : Moment → Flight → ℕ → Visit → Bool
 is_meant moment flight day visit = is_live visit && option_map_or (is_key_of flight day) (key_of moment visit) false
@@ -71,6 +66,25 @@ abbrev pub visit_meant : AirportParts → List Visit → Moment → Mvt → Opti
 visit_meant airport visits moment message = do
   day ← latest_day (is_of_month airport message.day) 0 (airport.days + 1)
   find (is_meant moment message.flight day) visits
+
+-- the flight that is told of at a moment: one that a visit comes by, or one that it leaves by
+abbrev pub movement_of : Moment → Key → Movement
+movement_of Touchdown key = Arrival key
+movement_of OnBlock key = Arrival key
+movement_of ExpectedOff key = Departure key
+movement_of OffBlock key = Departure key
+
+-- the flight that the message is of, on the latest day of the plan, or the day before it, that has its day of the month
+abbrev pub movement_meant : AirportParts → Mvt → Option Movement
+movement_meant airport message = do
+  told ← told_of airport message
+  day ← latest_day (is_of_month airport message.day) 0 (airport.days + 1)
+  Some (movement_of told.moment (record { flight = message.flight; day = day }))
+
+-- the first live visit of a flight
+abbrev pub live_of : List Visit → Movement → Option Visit
+live_of visits (Arrival key) = live_arriving visits key
+live_of visits (Departure key) = live_departing visits key
 
 -- What is done to it.
 

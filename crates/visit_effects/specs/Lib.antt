@@ -1,2 +1,3 @@
 pub mod ClockTimes
 pub mod Effects
+pub mod Happenings

@@ -2,7 +2,8 @@
 ghost use Rattle.std.specs.Prelude.{◌≡◌, ◌<◌, false, All, IfSome, find, option_copied};
 ghost use Rattle.std.specs.Option.{option_map_or};
 ghost use Rattle.mvt_grammar.specs.Readable.{IsReadable};
-ghost use Rattle.visit_effects.specs.Effects.{changed_at, changed_by, effect_of, is_key_of, is_meant, is_same_flight, key_of, landed, on_block_at, scheduled, told_by_arrival, told_elsewhere, told_here, told_of, visit_meant};
+ghost use Rattle.visit_effects.specs.Effects.{changed_at, changed_by, effect_of, is_meant, key_of, landed, movement_meant, movement_of, on_block_at, scheduled, told_by_arrival, told_elsewhere, told_here, told_of, visit_meant};
+ghost use Rattle.visit_book.specs.Flights.{is_key_of, is_same_flight};
 ghost use Rattle.visit_book.specs.WellFormed.{IsWellFormed, plan_end};
 ghost use Rattle.visit_book.specs.declared.visits.End.TheVariants.{Live};
 
@@ -32,6 +33,13 @@ struct Told {
     clock: Clock,
 }
 
+/// A flight that visits come by, or one that they leave by.
+#[derive(Clone, Copy, Debug)]
+pub enum Movement {
+    Arrival(Key),
+    Departure(Key),
+}
+
 /// The visit as the message changes it, or None where it changes nothing. Visits stand in order of number. A message of
 /// the airport's own station tells of the arrival, else of the departure, else of the expected departure; one of another
 /// station of the expected arrival, where that is at the airport. It is of the first live visit that comes, or leaves, by
@@ -47,6 +55,30 @@ pub fn effect_of(airport: &Airport, visits: &[Visit], message: &Mvt) -> Option<V
     let told = told_of(airport, message)?;
     let visit = visit_meant(airport, visits, told.moment, message)?;
     changed_by(airport, &told, visit)
+}
+
+/// The flight that the message is of, on the latest day with its day of the month. None where the message tells nothing
+/// at the airport, and where neither a day of the plan nor the day before has that day of the month.
+pub fn movement_meant(airport: &Airport, message: &Mvt) -> Option<Movement>
+    requires readable { IsReadable message.now }
+    ensures is { result ≡ movement_meant airport.now message.now }
+{
+    let told = told_of(airport, message)?;
+    let day = day_of_month(airport, message.day, 0, airport.parts().days + 1)?;
+    let key = Key {
+        flight: message.flight,
+        day: day as u8,
+    };
+    Some(movement_of(told.moment, key))
+}
+
+fn movement_of(moment: Moment, key: Key) -> Movement
+    ensures is { result ≡ movement_of moment key }
+{
+    match moment {
+        Moment::Touchdown | Moment::OnBlock => Movement::Arrival(key),
+        Moment::ExpectedOff | Moment::OffBlock => Movement::Departure(key),
+    }
 }
 
 fn told_of(airport: &Airport, message: &Mvt) -> Option<Told>

@@ -4,8 +4,10 @@
 
 mod clock_times;
 mod effects;
+mod laws;
 
-pub use effects::effect_of;
+pub use effects::{Movement, effect_of, movement_meant};
+pub use laws::{effects_are_of_one_visit, happenings_keep_visits};
 
 #[cfg(test)]
 mod tests;
