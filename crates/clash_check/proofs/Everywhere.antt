@@ -1,5 +1,5 @@
 -- The clashes with the hits at the neighbours are the clashes with all slots of an index.
-use Rattle.std.proofs.Common.{◌≡◌, ◌∙◌, ◌<◌, ◌≤◌, ◌+◌, ◌==◌, ◌&&◌, ◌||◌, ◌⊎◌, inl, inr, ℕ, zero, suc, Bool, true, false, cond, List, [], ◌∷◌, ◌++◌, refl, sym, ap, subst, arith, Option, None, Some, length, take, get_or, append-nil}
+use Rattle.std.proofs.Common.{◌≡◌, ◌∙◌, ◌<◌, ◌≤◌, ◌+◌, ◌==◌, ◌&&◌, ◌||◌, ◌⊎◌, inl, inr, ℕ, zero, suc, Bool, true, false, cond, List, [], ◌∷◌, ◌++◌, refl, sym, ap, subst, arith, Option, None, Some, length, take, get_or}
 use Rattle.std.specs.Prelude.{Contains, count_by, filter, filter_map, nat_lt, option_map}
 use Rattle.std.specs.List.{cons_option, flat_map}
 use Rattle.std.specs.List.Sorted.{IsPermutation, IsSortedByKey}
@@ -9,7 +9,6 @@ use Rattle.std.specs.declared.cmp.Ordering.TheVariants.{Equal, Greater, Less}
 use Rattle.std.proofs.lemmas.Bool.Decides.{nat_tests}
 use Rattle.std.proofs.lemmas.List.{flat_map_more, take_all, take_more}
 use Rattle.std.proofs.lemmas.List.Elements.{filter_map-append}
-use Rattle.std.proofs.lemmas.List.Concat.{flat_map-append}
 use Rattle.std.proofs.lemmas.List.Sorted.{Contains-permutation, IsPermutation-sym, sum_by-IsPermutation}
 use Rattle.std.proofs.lemmas.List.Sums.{sum_by-cons}
 use Rattle.apron_base.specs.declared.numbers.PartId.{PartId}
@@ -17,7 +16,6 @@ use Rattle.apron_base.specs.declared.numbers.StandNo.{StandNo}
 use Rattle.apron_base.specs.declared.slot.Slot.{Slot}
 use Rattle.apron_rules.specs.declared.parts.AirportParts.{AirportParts}
 use Rattle.apron_rules.specs.declared.rules.Clash.{Clash}
-use Rattle.apron_rules.specs.declared.rules.Rule.{Rule}
 use Rattle.apron_rules.specs.declared.rules.Rule.TheVariants.{Same}
 use Rattle.apron_rules.specs.Clash.{IsSlotOf, rule_at}
 use Rattle.apron_rules.specs.Rules.{breaks_of}

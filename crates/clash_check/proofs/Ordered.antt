@@ -1,6 +1,6 @@
 -- Lists in order of parts: where no two items are of one part, there is one such list.
-use Rattle.std.proofs.Common.{◌≡◌, ◌∙◌, ◌<◌, ◌≤◌, ◌+◌, ◌==◌, ◌&&◌, ◌||◌, ◌⊎◌, inl, inr, ℕ, zero, suc, Bool, true, false, cond, List, [], ◌∷◌, refl, sym, ap, subst, arith, length, get_or, if◌then◌else◌}
-use Rattle.std.specs.Prelude.{AllPairs, Contains, ◌↔◌, count_by, sum_by, nat_lt}
+use Rattle.std.proofs.Common.{◌≡◌, ◌∙◌, ◌<◌, ◌≤◌, ◌+◌, ◌==◌, ◌&&◌, ◌⊎◌, inl, inr, ℕ, zero, suc, Bool, true, false, cond, List, [], ◌∷◌, refl, sym, ap, subst, arith, length, get_or}
+use Rattle.std.specs.Prelude.{AllPairs, Contains, ◌↔◌, count_by, sum_by}
 use Rattle.std.proofs.lemmas.Bool.Decides.{nat_tests}
 use Rattle.std.proofs.lemmas.List.Sums.{get_or-le-sum_by, sum_by-cons}
 use Rattle.apron_base.specs.declared.numbers.PartId.{PartId}

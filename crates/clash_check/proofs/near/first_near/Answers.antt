@@ -1,4 +1,4 @@
-use Rattle.std.proofs.Common.{◌≡◌, ◌∙◌, ◌<◌, ◌++◌, refl, subst, arith, length, ap, take, take_all, List}
+use Rattle.std.proofs.Common.{◌≡◌, ◌∙◌, refl, subst, arith, length, ap, take, take_all, List}
 use Rattle.std.specs.List.{flat_map}
 use Rattle.std.proofs.lemmas.List.Sums.{sum_by_more}
 use Rattle.apron_base.specs.declared.numbers.StandNo.{StandNo}
