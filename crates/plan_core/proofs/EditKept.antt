@@ -1,10 +1,11 @@
 -- An edit changes the parts of its visit alone, and keeps it well formed.
-use Rattle.std.proofs.Common.{◌≡◌, ◌<◌, ◌≤◌, ◌+◌, ◌-◌, ◌==◌, ◌∙◌, ℕ, zero, suc, Bool, true, false, List, [], ◌∷◌, refl, ap, arith, length-set, nat_lt, subst, sym, Option, None, Some, Ok, ok_or, if◌then◌else◌}
-use Rattle.std.specs.Prelude.{slice_get, slice_index_or, slice_set, All}
+use Rattle.std.proofs.Common.{◌≡◌, ◌<◌, ◌≤◌, ◌+◌, ◌-◌, ◌==◌, ◌∙◌, ℕ, zero, suc, Bool, true, false, List, [], ◌∷◌, ◌++◌, refl, ap, arith, drop, length-set, nat_lt, not, subst, sym, take, Option, None, Some, Ok, ok_or, if◌then◌else◌}
+use Rattle.std.specs.Prelude.{slice_get, slice_set, All}
 use Rattle.std.specs.List.{AllByRecursion, position_or_len}
-use Rattle.std.specs.Option.{option_and_then, option_map, unwrap_or}
-use Rattle.std.proofs.lemmas.List.Elements.{All-map, All-set, recursion_from_All}
+use Rattle.std.specs.Option.{option_and_then, option_map}
+use Rattle.std.proofs.lemmas.List.Elements.{All-set, recursion_from_All}
 use Rattle.std.proofs.lemmas.List.Folds.{find_at}
+use Rattle.apron_base.specs.declared.numbers.StandNo.{StandNo}
 use Rattle.apron_base.specs.declared.numbers.VisitNo.{VisitNo}
 use Rattle.apron_base.specs.ResultChain.{◌>>=◌, refuse_if}
 use Rattle.apron_rules.specs.declared.parts.AirportParts.{AirportParts}
@@ -17,16 +18,18 @@ use Rattle.visit_book.specs.declared.visits.End.TheVariants.{Cancelled}
 use Rattle.visit_book.specs.declared.edits.Edit.{Edit}
 use Rattle.visit_book.specs.declared.edits.Edit.TheVariants.{Put, Lift, Cut, Join}
 use Rattle.visit_book.specs.declared.edits.EditFault.TheVariants.{BadCut, BadJoin, Gone, NoSuchPart, OnBlock, Overtaken, UnknownVisit}
-use Rattle.visit_book.specs.Changes.{cut_of, has_actual_behind, join_of, with_parts}
+use Rattle.visit_book.specs.Changes.{cut_first, cut_of, has_actual_behind, join_first, join_of, with_parts}
 use Rattle.visit_book.specs.Edits.{part_of, visit_of}
+use Rattle.visit_book.specs.Ends.{is_live, is_open}
 use Rattle.visit_book.specs.NewVisits.{new_of}
 use Rattle.visit_book.specs.Numbers.{has_number, visit_at, with_visit}
 use Rattle.visit_book.specs.PartFields.{part_at}
 use Rattle.visit_book.specs.Places.{IsPlaceOf, is_actual}
 use Rattle.visit_book.specs.WellFormed.{IsEarlyIfShort, IsSpaced, IsWellFormed, latest_end}
-use Rattle.plan_core.specs.Edits.{after_edit, edit_part, edit_visit, is_ended, is_over, placed, refuse_unfit, with_part}
+use Rattle.visit_book.proofs.Stands.{cut_places, join_places}
+use Rattle.plan_core.specs.Edits.{after_edit, edit_part, edit_visit, placed, refuse_unfit, with_part}
 use Rattle.plan_core.specs.PlanState.{IsSameVisit}
-use Rattle.plan_core.specs.Working.{newest, replaced}
+use Rattle.plan_core.proofs.Bumps.{HaveNoNewBump, no_new_bump, set_places}
 use Rattle.plan_core.proofs.Results.{found_ok, ok_is, then_ok}
 
 got_by : {X : Type 0} (P : X → Type 0) (xs : List X) (i : ℕ) (x : X) → slice_get xs i ≡ Some x → AllByRecursion P xs → P x
@@ -48,8 +51,8 @@ spaced_set tow start zero (p ∷ parts) part place g h =
     subst Here is h
 spaced_set tow start (suc j) (p ∷ parts) part place g h = (h.0, h.1, spaced_set tow (p.to + tow) j parts part place g h.2)
 
-live_not_cancelled : (visit : Visit) → is_over visit ≡ false → visit.end ≡ Cancelled → ⊥
-live_not_cancelled visit live over = let ended : is_ended visit.end ≡ true = rw over refl in absurd (cc)
+live_not_cancelled : (visit : Visit) → is_live visit ≡ true → visit.end ≡ Cancelled → ⊥
+live_not_cancelled visit live over = let closed : is_open visit.end ≡ false = rw over refl in absurd (cc)
 
 got_part : (parts : List Part) (j : ℕ) (part : Part) (zeroth : Bool) → (if zeroth then None else slice_get parts (j - 1)) ≡ Some part → slice_get parts (j - 1) ≡ Some part
 got_part parts j part true e = absurd (cc)
@@ -57,7 +60,7 @@ got_part parts j part false e = e
 
 -- a part in another place of the airport, not in fact, keeps its visit well formed
 pub placed_keeps : (a : AirportParts) (visit : Visit) (j : ℕ) (part : Part) (place : Place) → part_at visit.parts j ≡ Some part → IsPlaceOf a place
-    → is_actual place ≡ false → is_over visit ≡ false → IsWellFormed a visit → IsWellFormed a (with_part visit j (placed place part))
+    → is_actual place ≡ false → is_live visit ≡ true → IsWellFormed a visit → IsWellFormed a (with_part visit j (placed place part))
 placed_keeps a visit j part place found here planned live h =
     let g : slice_get visit.parts (j - 1) ≡ Some part = got_part visit.parts j part (j == 0) found in
     record {
@@ -77,45 +80,75 @@ placed_keeps a visit j part place found here planned live h =
 abbrev pub HasOtherParts : Visit → Visit → Type 0
 HasOtherParts visit new = (parts : List Part) × (with_parts visit parts ≡ new)
 
+-- the visit with other parts, of which none has a record that none of its parts had
+record IsRemade (visit new : Visit) : Type 0 where
+  pub parts : List Part
+  pub is : with_parts visit parts ≡ new
+  pub bumps : HaveNoNewBump parts visit.parts
+
 if_some : (b : Bool) (x y : Visit) → (if b then Some x else None) ≡ Some y → x ≡ y
 if_some true x y e = cc
 if_some false x y e = absurd (cc)
 
-cut_parts : (found : Option Part) (test : Part → Bool) (visit : Visit) (parts : List Part) (new : Visit)
-    → option_and_then (λ part. if test part then Some (with_parts visit parts) else None) found ≡ Some new → HasOtherParts visit new
-cut_parts None test visit parts new e = absurd (cc)
-cut_parts (Some part) test visit parts new e = (parts, if_some (test part) (with_parts visit parts) new e)
+cut_remade : (found : Option Part) (test : Part → Bool) (visit : Visit) (parts : List Part) (new : Visit) → HaveNoNewBump parts visit.parts
+    → option_and_then (λ part. if test part then Some (with_parts visit parts) else None) found ≡ Some new → IsRemade visit new
+cut_remade None test visit parts new bumps e = absurd (cc)
+cut_remade (Some part) test visit parts new bumps e = record { parts = parts; is = if_some (test part) (with_parts visit parts) new e; bumps = bumps }
 
-join_parts : (found : Option Part) (visit : Visit) (parts : List Part) (new : Visit)
-    → option_map (λ next. with_parts visit parts) found ≡ Some new → HasOtherParts visit new
-join_parts None visit parts new e = absurd (cc)
-join_parts (Some part) visit parts new e = let is : with_parts visit parts ≡ new = cc in (parts, is)
+join_remade : (found : Option Part) (visit : Visit) (parts : List Part) (new : Visit) → HaveNoNewBump parts visit.parts
+    → option_map (λ next. with_parts visit parts) found ≡ Some new → IsRemade visit new
+join_remade None visit parts new bumps e = absurd (cc)
+join_remade (Some part) visit parts new bumps e = let is : with_parts visit parts ≡ new = cc in record { parts = parts; is = is; bumps = bumps }
+
+-- a part in another place, planned or without a record
+set_remade : (visit : Visit) (j : ℕ) (part : Part) (place : Place) (new : Visit)
+    → ((Holds : Place → Type 0) → ((stand : StandNo) → Holds (Planned stand)) → Holds (Unplaced None) → Holds place) → with_part visit j (placed place part) ≡ new
+    → IsRemade visit new
+set_remade visit j part place new here is = record {
+  parts = slice_set visit.parts (j - 1) (placed place part);
+  is = is;
+  bumps = no_new_bump (slice_set visit.parts (j - 1) (placed place part)) visit.parts
+      (λ Holds planned none h. set_places Holds visit.parts (j - 1) (placed place part) (here Holds planned none) h);
+}
 
 -- what an edit of a part makes of its visit is the visit with other parts
-part_parts : (a : AirportParts) (k : ℕ) (edit : Edit) (v : Visit) (part : Part) (new : Visit) → edit_part a k edit v part ≡ Ok new → HasOtherParts v new
-part_parts a k (Put n j s) v part new e =
+part_remade : (a : AirportParts) (k : ℕ) (edit : Edit) (v : Visit) (part : Part) (new : Visit) → edit_part a k edit v part ≡ Ok new → IsRemade v new
+part_remade a k (Put n j s) v part new e =
     let planned = then_ok (refuse_if (is_actual part.place) (OnBlock k))
     (λ planned. refuse_unfit k (unfit_of a s v.kind) >>= λ fits. Ok (with_part v j (placed (Planned s) part))) new e in
     let fits = then_ok (refuse_unfit k (unfit_of a s v.kind)) (λ fits. Ok (with_part v j (placed (Planned s) part))) new planned.2 in
-    (slice_set v.parts (j - 1) (placed (Planned s) part), ok_is (with_part v j (placed (Planned s) part)) new fits.2)
-part_parts a k (Lift n j) v part new e =
+    set_remade v j part (Planned s) new (λ Holds planned none. planned s) (ok_is (with_part v j (placed (Planned s) part)) new fits.2)
+part_remade a k (Lift n j) v part new e =
     let planned = then_ok (refuse_if (is_actual part.place) (OnBlock k)) (λ planned. Ok (with_part v j (placed (Unplaced None) part))) new e in
-    (slice_set v.parts (j - 1) (placed (Unplaced None) part), ok_is (with_part v j (placed (Unplaced None) part)) new planned.2)
-part_parts a k (Cut n j at) v part new e =
+    set_remade v j part (Unplaced None) new (λ Holds planned none. none) (ok_is (with_part v j (placed (Unplaced None) part)) new planned.2)
+part_remade a k (Cut n j at) v part new e =
     let planned = then_ok (refuse_if (has_actual_behind j v) (OnBlock k)) (λ planned. ok_or (cut_of a j at v) (BadCut k)) new e in
-    cut_parts (part_at v.parts j) _ v _ new (found_ok (cut_of a j at v) (BadCut k) new planned.2)
-part_parts a k (Join n j) v part new e =
+    cut_remade (part_at v.parts j) _ v _ new
+    (no_new_bump (take (j - 1) v.parts ++ cut_first a.tow at (drop (j - 1) v.parts)) v.parts
+    (λ Holds planned none h. cut_places Holds a.tow at (j - 1) v.parts none h))
+    (found_ok (cut_of a j at v) (BadCut k) new planned.2)
+part_remade a k (Join n j) v part new e =
     let planned = then_ok (refuse_if (has_actual_behind j v) (OnBlock k)) (λ planned. ok_or (join_of j v) (BadJoin k)) new e in
-    join_parts (part_at v.parts (j + 1)) v _ new (found_ok (join_of j v) (BadJoin k) new planned.2)
+    join_remade (part_at v.parts (j + 1)) v _ new
+    (no_new_bump (take (j - 1) v.parts ++ join_first (drop (j - 1) v.parts)) v.parts (λ Holds planned none h. join_places Holds (j - 1) v.parts h))
+    (found_ok (join_of j v) (BadJoin k) new planned.2)
 
--- what any edit makes of its visit is the visit with other parts
-pub visit_parts : (a : AirportParts) (base k : ℕ) (edit : Edit) (v new : Visit) → edit_visit a base k edit v ≡ Ok new → HasOtherParts v new
-visit_parts a base k edit v new e =
+-- so is what any edit makes of its visit
+visit_remade : (a : AirportParts) (base k : ℕ) (edit : Edit) (v new : Visit) → edit_visit a base k edit v ≡ Ok new → IsRemade v new
+visit_remade a base k edit v new e =
     let fresh = then_ok (refuse_if (nat_lt base v.edited) (Overtaken k v.number v.edited))
-    (λ fresh. refuse_if (is_over v) (Gone k) >>= λ live. ok_or (part_at v.parts (part_of edit)) (NoSuchPart k) >>= λ part. edit_part a k edit v part) new e in
-    let live = then_ok (refuse_if (is_over v) (Gone k)) (λ live. ok_or (part_at v.parts (part_of edit)) (NoSuchPart k) >>= λ part. edit_part a k edit v part) new fresh.2 in
+    (λ fresh. refuse_if (not (is_live v)) (Gone k) >>= λ live. ok_or (part_at v.parts (part_of edit)) (NoSuchPart k) >>= λ part. edit_part a k edit v part) new e in
+    let live = then_ok (refuse_if (not (is_live v)) (Gone k)) (λ live. ok_or (part_at v.parts (part_of edit)) (NoSuchPart k) >>= λ part. edit_part a k edit v part) new fresh.2 in
     let found = then_ok (ok_or (part_at v.parts (part_of edit)) (NoSuchPart k)) (λ part. edit_part a k edit v part) new live.2 in
-    part_parts a k edit v found.0 new found.2
+    part_remade a k edit v found.0 new found.2
+
+pub visit_parts : (a : AirportParts) (base k : ℕ) (edit : Edit) (v new : Visit) → edit_visit a base k edit v ≡ Ok new → HasOtherParts v new
+visit_parts a base k edit v new e = let made : IsRemade v new = visit_remade a base k edit v new e in (made.parts, made.is)
+
+-- an edit makes no record of what took a stand
+pub visit_bumps : (a : AirportParts) (base k : ℕ) (edit : Edit) (v new : Visit) → edit_visit a base k edit v ≡ Ok new → HaveNoNewBump new.parts v.parts
+visit_bumps a base k edit v new e =
+    let made : IsRemade v new = visit_remade a base k edit v new e in subst (λ (w : Visit). HaveNoNewBump w.parts v.parts) made.is made.bumps
 
 -- so it keeps the visit's number
 pub visit_number : (a : AirportParts) (base k : ℕ) (edit : Edit) (v new : Visit) → edit_visit a base k edit v ≡ Ok new → new.number ≡ v.number
@@ -150,20 +183,3 @@ edits_visit a base k edit visits new e =
 -- what holds of all visits holds of the one that is found
 pub found_has : (P : Visit → Type 0) (visits : List Visit) (number : VisitNo) (v : Visit) → All P visits → visit_at visits number ≡ Some v → P v
 found_has P visits number v all at = got_all P visits (position_or_len (has_number number) visits) v (sym (find_at (has_number number) visits) ∙ at) all
-
-newest_is : (a : AirportParts) (visit : Visit) (found : Option Visit) → IsWellFormed a visit → ((v : Visit) → found ≡ Some v → IsWellFormed a v)
-    → IsWellFormed a (unwrap_or found visit)
-newest_is a visit None h others = h
-newest_is a visit (Some v) h others = others v refl
-
--- the visit, or one of the others, is well formed
-pub newest_keeps : (a : AirportParts) (others : List Visit) (visit : Visit) → All (IsWellFormed a) others → IsWellFormed a visit → IsWellFormed a (newest others visit)
-newest_keeps a others visit all h =
-    newest_is a visit (visit_at others visit.number) h
-    (λ v at. found_has (IsWellFormed a) others visit.number v all at)
-
--- the visits, each replaced by the one of its number among others
-pub replaced_are : (a : AirportParts) (visits others : List Visit) → All (IsWellFormed a) visits → All (IsWellFormed a) others
-    → All (IsWellFormed a) (replaced visits others)
-replaced_are a visits others each all =
-    All-map (IsWellFormed a) (newest others) visits (λ k d within. newest_keeps a others (slice_index_or visits k d) all (each k d within))

@@ -1,5 +1,5 @@
 -- Which faults edits have.
-use Rattle.std.proofs.Common.{◌≡◌, ◌≢◌, ◌+◌, ℕ, Bool, true, false, List, [], ◌∷◌, subst, Option, None, Some, Result, Ok, Err, ok_or, nat_lt}
+use Rattle.std.proofs.Common.{◌≡◌, ◌≢◌, ◌+◌, ℕ, Bool, true, false, List, [], ◌∷◌, subst, not, Option, None, Some, Result, Ok, Err, ok_or, nat_lt}
 use Rattle.apron_rules.specs.declared.parts.AirportParts.{AirportParts}
 use Rattle.apron_rules.specs.declared.rules.UnfitBy.{UnfitBy}
 use Rattle.apron_rules.specs.Rules.{unfit_of}
@@ -12,12 +12,13 @@ use Rattle.visit_book.specs.declared.edits.EditFault.TheVariants.{UnknownVisit, 
 use Rattle.visit_book.specs.declared.visits.Place.TheVariants.{Planned, Unplaced}
 use Rattle.visit_book.specs.Changes.{cut_of, has_actual_behind, join_of}
 use Rattle.visit_book.specs.Edits.{part_of, visit_of}
+use Rattle.visit_book.specs.Ends.{is_live}
 use Rattle.visit_book.specs.Numbers.{visit_at, with_visit}
 use Rattle.visit_book.specs.PartFields.{part_at}
 use Rattle.visit_book.specs.Places.{is_actual}
 use Rattle.plan_core.specs.Drafts.{Draft}
 use Rattle.apron_base.specs.ResultChain.{◌>>=◌, refuse_if}
-use Rattle.plan_core.specs.Edits.{after_all_edits, after_edit, after_edits, edit_part, edit_visit, is_over, placed, refuse_unfit, with_part}
+use Rattle.plan_core.specs.Edits.{after_all_edits, after_edit, after_edits, edit_part, edit_visit, placed, refuse_unfit, with_part}
 use Rattle.plan_core.specs.PlanState.{PlanState}
 use Rattle.plan_core.specs.Rebase.{Refuses}
 
@@ -65,10 +66,10 @@ part_by_edit a k (Join n j) v part =
 visit_by_edit : (a : AirportParts) (base k : ℕ) (edit : Edit) (v : Visit) → FailsByEdit (edit_visit a base k edit v)
 visit_by_edit a base k edit v =
     then_by_edit (refuse_if (nat_lt base v.edited) (Overtaken k v.number v.edited))
-    (λ fresh. refuse_if (is_over v) (Gone k) >>= λ live. ok_or (part_at v.parts (part_of edit)) (NoSuchPart k) >>= λ part. edit_part a k edit v part)
+    (λ fresh. refuse_if (not (is_live v)) (Gone k) >>= λ live. ok_or (part_at v.parts (part_of edit)) (NoSuchPart k) >>= λ part. edit_part a k edit v part)
     (refused_by_edit (nat_lt base v.edited) (Overtaken k v.number v.edited) tt)
-    (λ fresh. then_by_edit (refuse_if (is_over v) (Gone k)) (λ live. ok_or (part_at v.parts (part_of edit)) (NoSuchPart k) >>= λ part. edit_part a k edit v part)
-    (refused_by_edit (is_over v) (Gone k) tt)
+    (λ fresh. then_by_edit (refuse_if (not (is_live v)) (Gone k)) (λ live. ok_or (part_at v.parts (part_of edit)) (NoSuchPart k) >>= λ part. edit_part a k edit v part)
+    (refused_by_edit (not (is_live v)) (Gone k) tt)
     (λ live. then_by_edit (ok_or (part_at v.parts (part_of edit)) (NoSuchPart k)) (λ part. edit_part a k edit v part)
     (found_by_edit (part_at v.parts (part_of edit)) (NoSuchPart k) tt) (λ part. part_by_edit a k edit v part)))
 

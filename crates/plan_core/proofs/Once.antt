@@ -118,7 +118,7 @@ placed_only e m low (x ∷ visits) v h at out =
         rw (named, other) (rest left)
 
 -- one more visit of those that pass a test
-once_only : (e : ℕ → Bool) (m : VisitNo) (visits : List Visit) (v : Visit) → IsNumbered visits → visit_at visits m ≡ Some v
+pub once_only : (e : ℕ → Bool) (m : VisitNo) (visits : List Visit) (v : Visit) → IsNumbered visits → visit_at visits m ≡ Some v
     → with_visit_once (only e visits) v ≡ only (λ n. e n || (m.0 == n)) visits
 once_only e m visits v h at = step (e m.0) refl
   where
@@ -135,7 +135,7 @@ once_only e m visits v h at = step (e m.0) refl
         rw missing (placed_only e m 0 visits v h at named)
 
 -- a number that no visit has changes nothing
-only_none : (e : ℕ → Bool) (m : VisitNo) (visits : List Visit) → visit_at visits m ≡ None → only (λ n. e n || (m.0 == n)) visits ≡ only e visits
+pub only_none : (e : ℕ → Bool) (m : VisitNo) (visits : List Visit) → visit_at visits m ≡ None → only (λ n. e n || (m.0 == n)) visits ≡ only e visits
 only_none e m [] none = refl
 only_none e m (x ∷ visits) none = step (has_number m x) (e x.number.0) refl refl (λ left. only_none e m visits left)
   where
@@ -158,7 +158,7 @@ pub once_present : (visits : List Visit) (v : Visit) (found : Option ℕ) → fo
 once_present visits v None is some = absurd (cc)
 once_present visits v (Some i) is some = rw (found_at visits v.number i v (sym is)).1 refl
 
-only_alike : (e f : ℕ → Bool) (visits : List Visit) → ((n : ℕ) → e n ≡ f n) → only e visits ≡ only f visits
+pub only_alike : (e f : ℕ → Bool) (visits : List Visit) → ((n : ℕ) → e n ≡ f n) → only e visits ≡ only f visits
 only_alike e f [] same = refl
 only_alike e f (x ∷ visits) same = rw (same x.number.0) (ap (λ vs. cond (f x.number.0) (x ∷ vs) vs) (only_alike e f visits same))
 

@@ -1,5 +1,6 @@
 -- What a chain of results gives.
 use Rattle.std.proofs.Common.{◌≡◌, refl, Option, None, Some, Result, Ok, Err, ok_or}
+use Rattle.std.specs.Prelude.{OnOk}
 use Rattle.apron_base.specs.ResultChain.{◌>>=◌}
 
 -- where a chain gives a value, its first part gave one, of which the rest made that
@@ -20,3 +21,8 @@ err_is x y e = cc
 
 pub not_both : {T E : Type 0} (x : T) (y : E) → ◌≡◌ {A = Result T E} (Ok x) (Err y) → ⊥
 not_both x y e = cc
+
+-- what a clause says of a call that gives a value holds where it gave one
+pub on_ok : {T E P : Type 0} (r : Result T E) (x : T) → r ≡ Ok x → OnOk r P → P
+on_ok (Ok y) x e h = h
+on_ok (Err fault) x e h = absurd (cc)

@@ -19,9 +19,9 @@ pub record IsAddable (plan : PlanState) (visit : Visit) : Type 0 where
   pub well_formed : IsWellFormed plan.airport visit
   pub name : visit_named plan.visits visit.name ≡ None
 
--- the change that adds the visit
+-- the change that adds the visit, which stands nowhere yet
 abbrev pub adding : PlanState → Visit → ChangeState
-adding plan visit = record { visits = visit ∷ []; draft = None; version = plan.version + 1 }
+adding plan visit = record { visits = visit ∷ []; slots = []; draft = None; version = plan.version + 1 }
 
 -- the plan after the entry that adds a visit with this
 abbrev pub with_added : PlanState → NewVisit → PlanState

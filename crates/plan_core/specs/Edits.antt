@@ -1,5 +1,5 @@
 -- What edits make of visits, and why they are refused. Edits are counted from 1.
-use Rattle.std.specs.Prelude.{◌+◌, ◌-◌, ◌==◌, nat_lt, ℕ, Bool, true, false, List, [], ◌∷◌, Option, None, Some, Result, Ok, Err, ok_or, filter, slice_set}
+use Rattle.std.specs.Prelude.{◌+◌, ◌-◌, ◌==◌, nat_lt, ℕ, Bool, not, List, [], ◌∷◌, Option, None, Some, Result, Ok, Err, ok_or, filter, slice_set}
 use Rattle.std.specs.List.{list_any}
 use Rattle.apron_base.specs.ResultChain.{◌>>=◌, refuse_if}
 use Rattle.apron_rules.specs.declared.parts.AirportParts.{AirportParts}
@@ -7,8 +7,6 @@ use Rattle.apron_rules.specs.declared.rules.UnfitBy.{UnfitBy}
 use Rattle.apron_rules.specs.Rules.{unfit_of}
 use Rattle.visit_book.specs.declared.visits.Visit.{Visit}
 use Rattle.visit_book.specs.declared.visits.Part.{Part}
-use Rattle.visit_book.specs.declared.visits.End.{End}
-use Rattle.visit_book.specs.declared.visits.End.TheVariants.{Live}
 use Rattle.visit_book.specs.declared.visits.Place.{Place}
 use Rattle.visit_book.specs.declared.visits.Place.TheVariants.{Unplaced, Planned}
 use Rattle.visit_book.specs.declared.edits.Edit.{Edit}
@@ -17,14 +15,10 @@ use Rattle.visit_book.specs.declared.edits.EditFault.{EditFault}
 use Rattle.visit_book.specs.declared.edits.EditFault.TheVariants.{UnknownVisit, Overtaken, Gone, NoSuchPart, OnBlock, BadCut, BadJoin, Unfit}
 use Rattle.visit_book.specs.Changes.{cut_of, has_actual_behind, join_of, with_parts}
 use Rattle.visit_book.specs.Edits.{part_of, visit_of}
+use Rattle.visit_book.specs.Ends.{is_live}
 use Rattle.visit_book.specs.Numbers.{visit_at, with_visit}
 use Rattle.visit_book.specs.PartFields.{part_at}
 use Rattle.visit_book.specs.Places.{is_actual}
-
--- whether a visit that has come to this can be changed no more
-abbrev pub is_ended : End → Bool
-is_ended Live = false
-is_ended _ = true
 
 -- a fault where the type does not fit the stand
 abbrev pub refuse_unfit : ℕ → Option UnfitBy → Result (Unit {0}) EditFault
@@ -38,10 +32,6 @@ placed place part = record part { place = place }
 -- the visit with another part of this number
 abbrev pub with_part : Visit → ℕ → Part → Visit
 with_part visit number part = with_parts visit (slice_set visit.parts (number - 1) part)
-
--- the visit is gone or cancelled
-abbrev pub is_over : Visit → Bool
-is_over visit = is_ended visit.end
 
 -- what an edit of this number makes of the visit that has this part, or the first cause why it does not apply: each kind of edit has its lines
 abbrev pub edit_part : AirportParts → ℕ → Edit → Visit → Part → Result Visit EditFault
@@ -59,11 +49,11 @@ edit_part airport number (Join of k) visit part = do
   planned ← refuse_if (has_actual_behind k visit) (OnBlock number)
   ok_or (join_of k visit) (BadJoin number)
 
--- what an edit makes of its visit: it is refused if a commit after the draft's base edited the visit, if the visit is over, and if there is no such part
+-- what an edit makes of its visit: it is refused if a commit after the draft's base edited the visit, if the visit is not live, and if there is no such part
 abbrev pub edit_visit : AirportParts → ℕ → ℕ → Edit → Visit → Result Visit EditFault
 edit_visit airport base number edit visit = do
   fresh ← refuse_if (nat_lt base visit.edited) (Overtaken number visit.number visit.edited)
-  live ← refuse_if (is_over visit) (Gone number)
+  live ← refuse_if (not (is_live visit)) (Gone number)
   part ← ok_or (part_at visit.parts (part_of edit)) (NoSuchPart number)
   edit_part airport number edit visit part
 

@@ -1,7 +1,8 @@
--- The visits that a plan keeps, and where each name is among them.
-use Rattle.std.specs.Prelude.{◌≡◌, ◌≤◌, ◌+◌, ℕ, List, position}
+-- The visits that a plan keeps, and where each name and each flight is among them.
+use Rattle.std.specs.Prelude.{◌≡◌, ◌≤◌, ◌+◌, ℕ, List, Option, map, position}
 use Rattle.std.specs.HashMap.{HashMap, get_by}
 use Rattle.std.specs.Str.{bytes_eq}
+use Rattle.visit_book.specs.declared.visits.Key.{Key}
 use Rattle.visit_book.specs.declared.visits.Visit.{Visit}
 use Rattle.visit_book.specs.Numbers.{IsNumbered}
 use Rattle.plan_core.specs.Names.{has_name}
@@ -11,10 +12,13 @@ pub record VisitsHeld : Type 0 where
   pub kept : List Visit
   pub room : ℕ
 
--- the visits are numbered in order, and the map has the place of each name among them
-pub record AreListed {S : Type 0} (places : HashMap (List ℕ) ℕ S) (visits : List Visit) : Type 0 where
+-- the visits are numbered in order, the map has the place of each name among them, and the keys are those of the flights that they come by, and of those
+-- that they leave by
+pub record AreListed {S : Type 0} (places : HashMap (List ℕ) ℕ S) (arrivals departures : List (Option Key)) (visits : List Visit) : Type 0 where
   pub numbered : IsNumbered visits
   pub index : (name : List ℕ) → get_by (bytes_eq name) places ≡ position (has_name name) visits
+  pub arriving : map (λ visit. visit.arr) visits ≡ arrivals
+  pub departing : map (λ visit. visit.dep) visits ≡ departures
 
 -- the visit's number is one of so many first ones, or the next
 abbrev pub IsThereOrNext : ℕ → Visit → Type 0

@@ -1,11 +1,12 @@
 // Edits on a working copy of the visits that they are of. Edits are counted from 1.
-ghost use Rattle.std.specs.Prelude.{◌≡◌, ◌≤◌, ◌<◌, ◌++◌, ◌∷◌, [], All, Ok, Err, Some, IfErr, IfOk, OnOk, false, length, map, position};
+ghost use Rattle.std.specs.Prelude.{◌≡◌, ◌≤◌, ◌<◌, ◌++◌, ◌∷◌, [], All, Ok, Err, Some, IfErr, IfOk, OnOk, true, length, map, position};
 ghost use Rattle.std.specs.List.{position_or_len};
 ghost use Rattle.visit_book.specs.Edits.{IsEditOf, most_edits, part_of, visit_of};
+ghost use Rattle.visit_book.specs.Ends.{is_live};
 ghost use Rattle.visit_book.specs.Numbers.{IsNumbered, has_number};
 ghost use Rattle.visit_book.specs.PartFields.{part_at};
 ghost use Rattle.visit_book.specs.WellFormed.{IsWellFormed};
-ghost use Rattle.plan_core.specs.Edits.{after_all_edits, after_edit, edit_part, edit_visit, edited_visits, is_over, placed, with_part};
+ghost use Rattle.plan_core.specs.Edits.{after_all_edits, after_edit, edit_part, edit_visit, edited_visits, placed, with_part};
 ghost use Rattle.plan_core.specs.Working.{is_from, is_on_block, with_visit_once};
 ghost use Rattle.plan_core.specs.Rebase.{edited_last};
 
@@ -13,8 +14,8 @@ use apron_base::{Memory, VisitNo};
 use apron_rules::Airport;
 use std::alloc::Global;
 use visit_book::{
-    BadCut, BadJoin, Edit, EditFault, End, Part, Place, Visit, cut, has_actual_behind, is_actual,
-    join, part_of, visit_at, visit_of,
+    BadCut, BadJoin, Edit, EditFault, Part, Place, Visit, cut, has_actual_behind, is_actual,
+    is_live, join, part_of, visit_at, visit_of,
 };
 
 /// The visits that the edits are of, in order of number.
@@ -36,7 +37,7 @@ pub(crate) fn edited_visits(
 }
 
 /// Adds a visit before those of greater numbers, unless one of its number is there.
-pub(crate) fn add_visit_once(visits: &mut Vec<Visit>, visit: Visit) -> Result<(), Memory>
+pub fn add_visit_once(visits: &mut Vec<Visit>, visit: Visit) -> Result<(), Memory>
     ensures ok { OnOk result (visits.new.items ≡ with_visit_once visits.old.items visit) }
 {
     if place_of(visits.as_slice(), visit.number).is_none() {
@@ -129,22 +130,13 @@ fn edit_visit(
             edited: visit.edited,
         });
     }
-    if is_over(visit) {
+    if !is_live(visit) {
         return Err(EditFault::Gone { edit: number });
     }
     let Some(part) = visit.parts.get(part_of(edit)) else {
         return Err(EditFault::NoSuchPart { edit: number });
     };
     edit_part(airport, number, edit, visit, part)
-}
-
-fn is_over(visit: &Visit) -> bool
-    ensures is { result ≡ is_over visit.now }
-{
-    match visit.end {
-        End::Live => false,
-        End::Gone | End::Cancelled => true,
-    }
 }
 
 // What the edit makes of the visit that has this part.
@@ -156,7 +148,7 @@ fn edit_part(
     part: Part,
 ) -> Result<Visit, EditFault>
     requires well_formed { IsWellFormed airport.now visit.now }
-    requires live { is_over visit.now ≡ false }
+    requires live { is_live visit.now ≡ true }
     requires stand { IsEditOf airport.now edit.now }
     requires part { part_at visit.now.parts (part_of edit.now) ≡ Some part }
     ensures is { result ≡ edit_part airport.now number edit.now visit.now part }
@@ -212,8 +204,8 @@ fn with_part(visit: &Visit, number: u8, part: Part) -> Visit
     }
 }
 
-/// Where the visit of this number is among visits.
-pub(crate) fn place_of(visits: &[Visit], number: VisitNo) -> Option<usize>
+// Where the visit of this number is among visits.
+fn place_of(visits: &[Visit], number: VisitNo) -> Option<usize>
     ensures place { result ≡ position (has_number number) visits.now }
 {
     visits.iter().position(|visit| has_number(visit, number))

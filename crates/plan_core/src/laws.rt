@@ -1,5 +1,5 @@
 // Laws of plans and commits.
-ghost use Rattle.std.specs.Prelude.{◌≡◌, ◌≢◌, ◌⊎◌, ◌≤◌, ℕ, List, Some};
+ghost use Rattle.std.specs.Prelude.{◌≡◌, ◌≢◌, ◌⊎◌, ◌≤◌, ◌∷◌, [], ℕ, List, Some};
 ghost use Rattle.apron_rules.specs.declared.parts.AirportParts.{AirportParts};
 ghost use Rattle.apron_rules.specs.Clash.{HaveDifferentParts};
 ghost use Rattle.visit_book.specs.declared.edits.EditFault.{EditFault};
@@ -10,6 +10,7 @@ ghost use Rattle.visit_book.specs.Numbers.{IsNumbered};
 ghost use Rattle.visit_book.specs.Slots.{slots_of};
 ghost use Rattle.plan_core.specs.Adding.{IsAddable, adding, with_added};
 ghost use Rattle.plan_core.specs.Drafts.{Draft, draft_version};
+ghost use Rattle.plan_core.specs.Moving.{IsCancellable, cancelled, moving, with_cancelled};
 ghost use Rattle.plan_core.specs.PlanState.{ChangeState, IsInstallable, IsPlan, PlanState, installed};
 ghost use Rattle.plan_core.specs.Rebase.{IsRebased, Rebases, Refuses, committed};
 
@@ -43,6 +44,12 @@ pub fn rebased_is_committed()
 /// The change that adds a visit makes the plan that has this visit last.
 pub fn added_is_with_added()
     ensures installed { (plan : PlanState) (visit : Visit) → IsAddable plan visit → installed plan (adding plan visit) ≡ with_added plan (new_of visit) }
+{}
+
+/// The change that cancels a visit makes the plan in which it is cancelled.
+pub fn cancelling_is_with_cancelled()
+    ensures installed { (plan : PlanState) (visit : Visit)
+        → IsNumbered plan.visits → IsCancellable plan visit → installed plan (moving plan (cancelled visit ∷ [])) ≡ with_cancelled plan visit }
 {}
 
 /// A plan stays a plan, and the version that a draft made is one that the plan had.

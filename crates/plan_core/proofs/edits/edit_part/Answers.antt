@@ -1,4 +1,4 @@
-use Rattle.std.proofs.Common.{◌≡◌, ◌<◌, ◌∙◌, ℕ, false, ap, length, refl, subst, sym, None, Some}
+use Rattle.std.proofs.Common.{◌≡◌, ◌<◌, ◌∙◌, ℕ, false, true, ap, length, refl, subst, sym, None, Some}
 use Rattle.apron_base.specs.declared.numbers.StandNo.{StandNo}
 use Rattle.apron_base.specs.declared.numbers.VisitNo.{VisitNo}
 use Rattle.apron_rules.specs.declared.parts.AirportParts.{AirportParts}
@@ -9,16 +9,17 @@ use Rattle.visit_book.specs.declared.visits.Place.{Place}
 use Rattle.visit_book.specs.declared.visits.Place.TheVariants.{Planned, Unplaced}
 use Rattle.visit_book.specs.declared.visits.Visit.{Visit}
 use Rattle.visit_book.specs.Edits.{IsEditOf, part_of}
+use Rattle.visit_book.specs.Ends.{is_live}
 use Rattle.visit_book.specs.PartFields.{part_at}
 use Rattle.visit_book.specs.Places.{IsPlaceOf, is_actual}
 use Rattle.visit_book.specs.WellFormed.{IsWellFormed}
-use Rattle.plan_core.specs.Edits.{is_over, placed, with_part}
+use Rattle.plan_core.specs.Edits.{placed, with_part}
 use Rattle.plan_core.proofs.EditKept.{placed_keeps}
 use Rattle.plan_core.proofs.edits.edit_part.Goals as goal
 
 -- the visit with its part in another place
 formed_by : (a : AirportParts) (visit result : Visit) (j k : ℕ) (part put : Part) (place : Place) → result ≡ with_part visit j put → j ≡ k → put ≡ placed place part
-    → part_at visit.parts k ≡ Some part → IsPlaceOf a place → is_actual place ≡ false → is_over visit ≡ false → IsWellFormed a visit → IsWellFormed a result
+    → part_at visit.parts k ≡ Some part → IsPlaceOf a place → is_actual place ≡ false → is_live visit ≡ true → IsWellFormed a visit → IsWellFormed a result
 formed_by a visit result j k part put place made number is found here planned live h =
     subst (IsWellFormed a) (sym (made ∙ (ap (λ n. with_part visit n put) number ∙ ap (with_part visit k) is)))
     (placed_keeps a visit k part place found here planned live h)

@@ -1,12 +1,8 @@
-use Rattle.std.proofs.Common.{◌≡◌, Result, Ok, Err, ap}
-use Rattle.std.specs.Prelude.{OnOk}
+use Rattle.std.proofs.Common.{◌≡◌, ap}
 use Rattle.plan_core.specs.Drafts.{DraftsHeld}
 use Rattle.plan_core.proofs.DraftIndex.{index_pushed}
+use Rattle.plan_core.proofs.Results.{on_ok}
 use Rattle.plan_core.proofs.drafts.Drafts.push.Goals as goal
-
-on_ok : {T E P : Type 0} (r : Result T E) (x : T) → r ≡ Ok x → OnOk r P → P
-on_ok (Ok y) x e h = h
-on_ok (Err fault) x e h = absurd (cc)
 
 pub invariant_of-self : goal.invariant_of-self
 invariant_of-self c =

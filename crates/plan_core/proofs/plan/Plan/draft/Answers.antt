@@ -14,4 +14,4 @@ pub returns-clause-made : goal.returns-clause-made
 returns-clause-made c =
     let version : c.self.inside.version ≡ c.args.self.now.plan.version = ap (λ (s : PlanHeld). s.plan.version) c.self.view_is in
     subst (λ n. IfSome c.version.result (λ made. (1 ≤ made) × (made ≤ n))) version
-    (had c.self.inside.version c.self.inside.drafts.kept c.args.desk.now c.args.draft c.version.result c.self.invariant.drafts c.version.ensures.version)
+    (had c.self.inside.version c.self.inside.drafts.kept c.args.desk.now c.args.draft c.version.result c.self.invariant.plan_is.drafts c.version.ensures.version)

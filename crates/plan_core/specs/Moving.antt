@@ -1,0 +1,53 @@
+-- Changes that no draft asks for: what happened to visits, and visits that don't come.
+use Rattle.std.specs.Prelude.{◌≡◌, ◌+◌, true, false, List, [], ◌∷◌, length, map, All, None, Some}
+use Rattle.apron_base.specs.Histories.{Rises}
+use Rattle.apron_rules.specs.Clash.{IsSound}
+use Rattle.visit_book.specs.declared.visits.End.TheVariants.{Cancelled}
+use Rattle.visit_book.specs.declared.visits.Part.{Part}
+use Rattle.visit_book.specs.declared.visits.Place.TheVariants.{Unplaced}
+use Rattle.visit_book.specs.declared.visits.Visit.{Visit}
+use Rattle.visit_book.specs.Ends.{is_live}
+use Rattle.visit_book.specs.Numbers.{visit_at}
+use Rattle.visit_book.specs.Slots.{slots_of}
+use Rattle.plan_core.specs.PlanState.{ChangeState, IsSameVisit, IsVisitAt, PlanState, number_of, put_in}
+
+-- the visit is one of the plan changed: it keeps what that was added as
+pub record IsOneOf (visits : List Visit) (visit : Visit) : Type 0 where
+  pub before : Visit
+  pub at : visit_at visits visit.number ≡ Some before
+  pub same : IsSameVisit visit before
+
+-- visits that the plan's next entry may make of its own: each is one of the plan's changed, and such as a plan at the next version has, with numbers that
+-- rise, and with them put in the plan is sound
+pub record IsMovable (plan : PlanState) (visits : List Visit) : Type 0 where
+  pub each : All (IsVisitAt plan.airport (plan.version + 1)) visits
+  pub rise : Rises number_of 1 (length plan.visits + 1) visits
+  pub same : All (IsOneOf plan.visits) visits
+  pub sound : IsSound plan.airport (slots_of plan.airport (put_in plan.visits visits))
+
+-- the change that makes these visits of the plan's: it has their slots, and makes the next version
+abbrev pub moving : PlanState → List Visit → ChangeState
+moving plan visits = record { visits = visits; slots = slots_of plan.airport visits; draft = None; version = plan.version + 1 }
+
+-- the part, on no stand and without a record
+abbrev pub lifted : Part → Part
+lifted part = record part { place = Unplaced None }
+
+-- the visit, which does not come
+abbrev pub cancelled : Visit → Visit
+cancelled visit = record visit { parts = map lifted visit.parts; end = Cancelled }
+
+-- the visit is one of the plan, live and not on block
+pub record IsCancellable (plan : PlanState) (visit : Visit) : Type 0 where
+  pub at : visit_at plan.visits visit.number ≡ Some visit
+  pub live : is_live visit ≡ true
+  pub expected : visit.on_block ≡ false
+
+-- the plan after the entry that cancels the visit
+abbrev pub with_cancelled : PlanState → Visit → PlanState
+with_cancelled plan visit = record {
+  airport = plan.airport;
+  visits = put_in plan.visits (cancelled visit ∷ []);
+  drafts = plan.drafts;
+  version = plan.version + 1;
+}

@@ -1,0 +1,36 @@
+// A visit that does not come.
+ghost use Rattle.std.specs.Prelude.{◌≡◌, map};
+ghost use Rattle.plan_core.specs.Moving.{cancelled, lifted};
+
+use visit_book::{End, Part, Parts, Place, Visit};
+
+/// The visit cancelled: none of its parts is on a stand, or has a record of what took it.
+pub(crate) fn cancelled(visit: &Visit) -> Visit
+    ensures is { result ≡ cancelled visit.now }
+{
+    Visit {
+        parts: all_lifted(visit.parts),
+        end: End::Cancelled,
+        ..*visit
+    }
+}
+
+fn all_lifted(parts: Parts) -> Parts
+    ensures is { result ≡ map lifted parts }
+{
+    let mut made = parts;
+    for index in 0..parts.len() {
+        let part = parts.as_slice()[index];
+        made = made.with(index as u8 + 1, lifted(part));
+    }
+    made
+}
+
+fn lifted(part: Part) -> Part
+    ensures is { result ≡ lifted part }
+{
+    Part {
+        place: Place::Unplaced(None),
+        ..part
+    }
+}
