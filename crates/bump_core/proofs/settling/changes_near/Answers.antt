@@ -1,0 +1,25 @@
+use Rattle.std.proofs.Common.{◌≡◌, ◌∙◌, List, ap}
+use Rattle.std.proofs.lemmas.Result.{IfOk-weaker}
+use Rattle.visit_book.specs.declared.visits.Visit.{Visit}
+use Rattle.bump_core.specs.declared.ranks.Blocking.{Blocking}
+use Rattle.bump_core.specs.declared.ranks.Met.{Met}
+use Rattle.bump_core.specs.Lists.{against_others, against_own, changes_by, mets_of, other_blockings, own_blockings, visit_by}
+use Rattle.bump_core.proofs.settling.changes_near.Goals as goal
+
+pub returns-clause-ok : goal.returns-clause-ok
+returns-clause-ok g c =
+    let mets : List Met = mets_of c.args.airport.now c.args.visits.now c.args.changed.now in
+    let own : List Blocking = own_blockings c.args.airport.now c.args.visits.now c.args.changed.now in
+    let found : List Blocking = other_blockings c.args.airport.now c.args.visits.now c.args.changed.now in
+    let new : Visit = visit_by c.args.entry own c.args.changed.now in
+    let own_is : c.in_ok-own.own ≡ own = c.in_ok-own.ensures.ok ∙ ap against_own (c.as_slice.ensures.items ∙ c.in_ok-mets.ensures.ok) in
+    let found_is : c.in_ok-others.others ≡ found =
+    c.in_ok-others.ensures.ok
+    ∙ (ap (λ ms. against_others ms c.as_slice-3.result.now) (c.as_slice-2.ensures.items ∙ c.in_ok-mets.ensures.ok)
+    ∙ ap (against_others mets) (c.as_slice-3.ensures.items ∙ own_is)) in
+    let new_is : c.visit_by-new.result ≡ new =
+    c.visit_by-new.ensures.is ∙ ap (λ bs. visit_by c.args.entry bs c.args.changed.now) (c.as_slice-4.ensures.items ∙ own_is) in
+    IfOk-weaker c.changes_by.result _ _
+    (λ changes is. is ∙ (ap (λ visit. changes_by c.args.entry visit c.as_slice-5.result.now c.args.visits.now) new_is
+    ∙ ap (λ bs. changes_by c.args.entry new bs c.args.visits.now) (c.as_slice-5.ensures.items ∙ found_is)))
+    c.changes_by.ensures.ok

@@ -1,0 +1,7 @@
+pub mod Ranks
+pub mod Settle
+pub mod Bumped
+pub mod Near
+pub mod Lists
+pub mod Settled
+pub mod Kept

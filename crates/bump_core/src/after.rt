@@ -1,0 +1,150 @@
+// The visits as they will be, by what blocks their parts.
+ghost use Rattle.std.specs.Prelude.{◌≡◌, ◌≤◌, ◌∷◌, ◌||◌, ◌==◌, [], ℕ, Bool, IfOk, OnOk, filter, fold, length, map};
+ghost use Rattle.visit_book.specs.Numbers.{IsNumbered};
+ghost use Rattle.bump_core.specs.Lists.{after_by, changes_by, is_of, part_by, touched, visit_by};
+ghost use Rattle.bump_core.specs.Settle.{best, place_after, with_better};
+
+use crate::lists::{is_better, is_of};
+use crate::ranks::Blocking;
+use apron_base::{Memory, PartId, StandNo, VisitNo};
+use plan_core::add_visit_once;
+use std::alloc::Global;
+use visit_book::{Bump, Part, Place, Visit, visit_at};
+
+/// The visit by what blocks its parts.
+pub(crate) fn visit_by(entry: u32, blockings: &[Blocking], visit: &Visit) -> Visit
+    ensures is { result ≡ visit_by entry blockings.now visit.now }
+{
+    let own = visit.parts.as_slice();
+    let mut parts = visit.parts;
+    for index in 0..own.len() {
+        let number = index as u8 + 1;
+        let id = PartId {
+            visit: visit.number,
+            part: number,
+        };
+        parts = parts.with(number, part_by(entry, blockings, id, &own[index]));
+    }
+    Visit { parts, ..*visit }
+}
+
+fn part_by(entry: u32, blockings: &[Blocking], id: PartId, part: &Part) -> Part
+    ensures is { result ≡ part_by entry blockings.now id part.now }
+{
+    match part.place {
+        Place::Planned(stand) => Part {
+            place: place_after(entry, stand, best_of(blockings, id)),
+            ..*part
+        },
+        _ => *part,
+    }
+}
+
+fn place_after(entry: u32, stand: StandNo, blocking: Option<Blocking>) -> Place
+    ensures is { result ≡ place_after entry stand blocking }
+{
+    match blocking {
+        Some(blocking) => Place::Unplaced(Some(Bump {
+            stand,
+            entry,
+            blocker: blocking.blocker.slot.part,
+            minute: blocking.minute,
+            rule: blocking.rule,
+        })),
+        None => Place::Planned(stand),
+    }
+}
+
+// What blocks the part with the best blocker.
+fn best_of(blockings: &[Blocking], id: PartId) -> Option<Blocking>
+    ensures is { result ≡ best (filter (is_of id) blockings.now) }
+{
+    let mut best = None;
+    for blocking in blockings {
+        best = better_of(best, blocking, id);
+    }
+    best
+}
+
+fn better_of(best: Option<Blocking>, blocking: &Blocking, id: PartId) -> Option<Blocking>
+    ensures is { result ≡ fold with_better best (filter (is_of id) (blocking.now ∷ [])) }
+{
+    if !is_of(id, blocking) {
+        return best;
+    }
+    match best {
+        Some(best) => {
+            if is_better(&blocking.blocker, &best.blocker) {
+                Some(*blocking)
+            } else {
+                Some(best)
+            }
+        }
+        None => Some(*blocking),
+    }
+}
+
+/// The visits that change, as they will be, in order of number. It looks at no others.
+pub(crate) fn changes_by(
+    alloc: Global,
+    entry: u32,
+    new: &Visit,
+    blockings: &[Blocking],
+    visits: &[Visit],
+) -> Result<Vec<Visit>, Memory>
+    requires numbered { IsNumbered visits.now }
+    ensures ok { IfOk result (λ changes. changes.items ≡ changes_by entry new.now blockings.now visits.now) }
+{
+    let mut changes = touched(alloc, blockings, new.number, visits)?;
+    put_after(entry, new, blockings, changes.as_mut_slice());
+    Ok(changes)
+}
+
+// The visits that change, as they are, in order of number.
+fn touched(
+    alloc: Global,
+    blockings: &[Blocking],
+    changed: VisitNo,
+    visits: &[Visit],
+) -> Result<Vec<Visit>, Memory>
+    requires numbered { IsNumbered visits.now }
+    ensures ok { IfOk result (λ some. some.items ≡ touched blockings.now changed visits.now) }
+{
+    let mut some = Vec::new(alloc);
+    add_numbered(&mut some, visits, changed)?;
+    for blocking in blockings {
+        add_numbered(&mut some, visits, blocking.blocked.slot.part.visit)?;
+    }
+    Ok(some)
+}
+
+// Adds the visit of this number in its place, if there is one, unless it is there.
+fn add_numbered(some: &mut Vec<Visit>, visits: &[Visit], number: VisitNo) -> Result<(), Memory>
+    requires numbered { IsNumbered visits.now }
+    ensures ok { OnOk result ((test : ℕ → Bool) → some.old.items ≡ filter (λ visit. test visit.number.0) visits.now
+        → some.new.items ≡ filter (λ visit. test visit.number.0 || number.0 == visit.number.0) visits.now) }
+{
+    if let Some(visit) = visit_at(visits, number) {
+        add_visit_once(some, *visit)?;
+    }
+    Ok(())
+}
+
+// Makes each of the visits what it will be.
+fn put_after(entry: u32, new: &Visit, blockings: &[Blocking], visits: &mut [Visit])
+    ensures is { visits.new ≡ map (after_by entry new.now blockings.now) visits.old }
+{
+    for visit in visits {
+        *visit = after_by(entry, new, blockings, visit);
+    }
+}
+
+fn after_by(entry: u32, new: &Visit, blockings: &[Blocking], visit: &Visit) -> Visit
+    ensures is { result ≡ after_by entry new.now blockings.now visit.now }
+{
+    if visit.number.0 == new.number.0 {
+        *new
+    } else {
+        visit_by(entry, blockings, visit)
+    }
+}

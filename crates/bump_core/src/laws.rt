@@ -1,0 +1,71 @@
+// Laws of settling.
+ghost use Rattle.std.specs.Prelude.{◌≡◌, ◌≤◌, ◌<◌, ◌+◌, ◌↔◌, ℕ, true, false, All, Contains, IfSome, List, Option, length, map};
+ghost use Rattle.apron_rules.specs.declared.parts.AirportParts.{AirportParts};
+ghost use Rattle.apron_rules.specs.Clash.{IsSound};
+ghost use Rattle.visit_book.specs.declared.visits.Visit.{Visit};
+ghost use Rattle.visit_book.specs.Numbers.{IsNumbered, with_visit};
+ghost use Rattle.visit_book.specs.Slots.{slots_of};
+ghost use Rattle.visit_book.specs.WellFormed.{IsWellFormed};
+ghost use Rattle.plan_core.specs.PlanState.{IsPlan, PlanState, version_limit};
+ghost use Rattle.bump_core.specs.declared.ranks.Ranked.{Ranked};
+ghost use Rattle.bump_core.specs.Kept.{StaysBut};
+ghost use Rattle.bump_core.specs.Near.{meets, others, settled_near};
+ghost use Rattle.bump_core.specs.Ranks.{Stay, all_parts_on, blocks, is_better, kept_of, parts_on};
+ghost use Rattle.bump_core.specs.Settle.{settle, settled_visit};
+ghost use Rattle.bump_core.specs.Settled.{IsChanged, with_changed, with_settled};
+
+/// There is just one way for parts to stay: each stays, unless a better one that stays clashes with it.
+pub fn parts_stay_in_one_way()
+    ensures kept { (airport : AirportParts) (parts kept : List Ranked) → Stay airport parts kept ↔ (kept ≡ kept_of airport parts) }
+    ensures settled { (airport : AirportParts) (entry : ℕ) (visits : List Visit)
+        → Stay airport (all_parts_on airport visits) (all_parts_on airport (settle airport entry visits)) }
+{}
+
+/// Visits are the settling of others just where they are these, settled against what they themselves have
+/// on stands.
+pub fn settling_is_one()
+    ensures one { (airport : AirportParts) (entry : ℕ) (visits new : List Visit)
+        → (new ≡ map (settled_visit airport entry (all_parts_on airport new)) visits) ↔ (new ≡ settle airport entry visits) }
+{}
+
+/// Settled visits are sound, and sound visits are their own settling.
+pub fn settled_is_sound()
+    ensures sound { (airport : AirportParts) (entry : ℕ) (visits : List Visit) → IsSound airport (slots_of airport (settle airport entry visits)) }
+    ensures own { (airport : AirportParts) (entry : ℕ) (visits : List Visit) → IsSound airport (slots_of airport visits) → settle airport entry visits ≡ visits }
+{}
+
+/// Where visits were sound, and one of them is put in changed, settling near it is settling.
+pub fn near_is_settled()
+    ensures near { (airport : AirportParts) (entry : ℕ) (visits : List Visit) (changed : Visit) → IsNumbered visits → 1 ≤ changed.number.0
+        → changed.number.0 ≤ length visits → IsSound airport (slots_of airport visits)
+        → settled_near airport entry visits changed ≡ settle airport entry (with_visit visits changed) }
+{}
+
+/// Settling takes stands from planned parts and changes nothing else, so visits stay well formed and
+/// numbered. With a changed one put in they stay numbered too.
+pub fn settling_takes_stands_alone()
+    ensures stays { (airport : AirportParts) (entry : ℕ) (kept : List Ranked) (visit : Visit) → StaysBut entry visit (settled_visit airport entry kept visit) }
+    ensures well_formed { (airport : AirportParts) (entry : ℕ) (visits : List Visit)
+        → All (IsWellFormed airport) visits → All (IsWellFormed airport) (settle airport entry visits) }
+    ensures numbered { (airport : AirportParts) (entry : ℕ) (visits : List Visit) → IsNumbered visits → IsNumbered (settle airport entry visits) }
+    ensures changed { (visits : List Visit) (changed : Option Visit) → IsNumbered visits → IsNumbered (with_changed visits changed) }
+{}
+
+/// A plan is a plan after an entry that changes one of its visits, or none.
+pub fn settled_plan_is_plan()
+    ensures plan { (plan : PlanState) (changed : Option Visit) → IsPlan plan → IfSome changed (IsChanged plan) → plan.version + 1 < version_limit
+        → IsPlan (with_settled plan changed) }
+{}
+
+/// Where visits were sound, and one of them is put in changed, a part of another visit that clashes with no
+/// part of the changed one stays; and one that is better than a planned part of the changed visit loses its
+/// stand to none but its actual parts.
+pub fn changed_visit_decides()
+    ensures untouched { (airport : AirportParts) (entry : ℕ) (visits : List Visit) (changed : Visit) (part : Ranked) → IsNumbered visits → 1 ≤ changed.number.0
+        → changed.number.0 ≤ length visits → IsSound airport (slots_of airport visits)
+        → Contains (all_parts_on airport (others visits changed)) part → All (λ own. meets airport own.slot part.slot ≡ false) (parts_on airport changed)
+        → Contains (all_parts_on airport (settle airport entry (with_visit visits changed))) part }
+    ensures better { (airport : AirportParts) (visit : Visit) (own part other : Ranked) → Contains (parts_on airport visit) own → Contains (parts_on airport visit) other
+        → (part.slot.part.visit.0 ≡ visit.number.0 → ⊥) → other.slot.actual ≡ false → is_better part other ≡ true → blocks airport own part ≡ true
+        → own.slot.actual ≡ true }
+{}

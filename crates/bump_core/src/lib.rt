@@ -1,0 +1,17 @@
+//! Settling: which planned parts lose their stands by an entry that says what happened. It knows neither
+//! messages nor histories.
+#![tactic(auto)]
+
+mod after;
+mod bumped;
+mod laws;
+mod lists;
+pub mod ranks;
+mod settling;
+
+pub use bumped::bumped_by;
+pub use laws::{
+    changed_visit_decides, near_is_settled, parts_stay_in_one_way, settled_is_sound,
+    settled_plan_is_plan, settling_is_one, settling_takes_stands_alone,
+};
+pub use settling::settle;

@@ -1,0 +1,175 @@
+// Settling near the changed visit.
+ghost use Rattle.std.specs.Prelude.{◌≡◌, ◌≤◌, ◌<◌, ◌+◌, ◌++◌, [], All, IfOk, IfSome, OnOk, Some, filter_map, option_map, option_to_list, sum_by};
+ghost use Rattle.apron_rules.specs.Clash.{IsSlotOf};
+ghost use Rattle.clash_check.specs.Clear.{IsClear};
+ghost use Rattle.clash_check.specs.Indexed.{all_slots};
+ghost use Rattle.clash_check.specs.Meetings.{by_part};
+ghost use Rattle.clash_check.specs.Steps.{steps_near};
+ghost use Rattle.plan_core.specs.PlanState.{IsInstallable, installed, version_limit};
+ghost use Rattle.visit_book.specs.Numbers.{IsNumbered};
+ghost use Rattle.visit_book.specs.Slots.{slots_of, slots_of_visit};
+ghost use Rattle.visit_book.specs.WellFormed.{IsWellFormed};
+ghost use Rattle.bump_core.specs.Bumped.{bumped_by};
+ghost use Rattle.bump_core.specs.Kept.{AreChanges};
+ghost use Rattle.bump_core.specs.Lists.{changes_near, met_at, met_by, mets_of};
+ghost use Rattle.bump_core.specs.Ranks.{all_parts_on};
+ghost use Rattle.bump_core.specs.Settled.{IsChanged, IsChangedBy, settle_steps, with_settled};
+
+use crate::after::{changes_by, visit_by};
+use crate::lists::{against_others, against_own, met_at, parts_on};
+use crate::ranks::{Met, Ranked};
+use apron_base::{Listed, Memory, Steps};
+use apron_rules::{Airport, Clash};
+use clash_check::clashes_of;
+use plan_core::{Change, Plan};
+use stand_index::StandIndex;
+use std::alloc::Global;
+use std::sync::ledger::Ledger;
+use visit_book::Visit;
+
+/// The change of the plan's next entry, which puts in this visit changed, if one is changed: that one and
+/// those that lose stands by it, in order of number. At `Err` memory is wanting. The plan stays as it is.
+pub fn settle<L: Ledger>(
+    alloc: Global,
+    airport: &Airport,
+    plan: &Plan,
+    changed: Option<&Visit>,
+    steps: &mut Steps<L>,
+) -> Result<Change, Memory>
+    requires airport { airport.now ≡ plan.now.plan.airport }
+    requires changed { IfSome changed (λ visit. IsChanged plan.now.plan visit.now) }
+    ensures settled { IfOk result (λ change. installed plan.now.plan change ≡ with_settled plan.now.plan (option_map (λ visit. visit.now) changed.entry)) }
+    ensures fits { IfOk result (λ change. plan.now.plan.version + 1 < version_limit → IsInstallable plan.now.plan change) }
+    ensures changes { IfOk result (λ change. All (IsChangedBy (plan.now.plan.version + 1) (option_map (λ visit. visit.now) changed.entry)) change.visits) }
+    ensures steps { steps.new ≤ steps.old + settle_steps plan.now.plan.airport plan.now.index (option_map (λ visit. visit.now) changed.entry) }
+    ensures bumped { IfOk result (λ change. bumped_by (plan.now.plan.version + 1) change.visits
+        ≡ bumped_by (plan.now.plan.version + 1) (with_settled plan.now.plan (option_map (λ visit. visit.now) changed.entry)).visits) }
+{
+    let changes = changes_of(alloc, airport, plan, changed, steps)?;
+    plan.moved(alloc, airport, changes)
+}
+
+// The visits that the plan's next entry changes, as they will be, in order of number.
+fn changes_of<L: Ledger>(
+    alloc: Global,
+    airport: &Airport,
+    plan: &Plan,
+    changed: Option<&Visit>,
+    steps: &mut Steps<L>,
+) -> Result<Vec<Visit>, Memory>
+    requires airport { airport.now ≡ plan.now.plan.airport }
+    requires changed { IfSome changed (λ visit. IsChanged plan.now.plan visit.now) }
+    ensures changes { IfOk result (λ changes. AreChanges plan.now.plan (option_map (λ visit. visit.now) changed.entry) changes.items) }
+    ensures steps { steps.new ≤ steps.old + settle_steps plan.now.plan.airport plan.now.index (option_map (λ visit. visit.now) changed.entry) }
+{
+    let visits = plan.visits();
+    match changed {
+        Some(visit) => changes_near(
+            alloc,
+            airport,
+            visits,
+            plan.index(),
+            visit,
+            plan.version() + 1,
+            steps,
+        ),
+        None => Ok(Vec::new(alloc)),
+    }
+}
+
+// The same where this visit is changed, by the index of the slots of the visits.
+fn changes_near<L: Ledger>(
+    alloc: Global,
+    airport: &Airport,
+    visits: &[Visit],
+    index: &StandIndex,
+    changed: &Visit,
+    entry: u32,
+    steps: &mut Steps<L>,
+) -> Result<Vec<Visit>, Memory>
+    requires each { All (IsWellFormed airport.now) visits.now }
+    requires numbered { IsNumbered visits.now }
+    requires clear { IsClear airport.now index.now [] }
+    requires ordered { by_part (all_slots index.now) ≡ slots_of airport.now visits.now }
+    requires valid { IsWellFormed airport.now changed.now }
+    ensures ok { IfOk result (λ changes. changes.items ≡ changes_near airport.now entry visits.now changed.now) }
+    ensures steps { steps.new ≤ steps.old + sum_by (steps_near airport.now index.now) (slots_of_visit airport.now changed.now) }
+{
+    let mets = mets_of(alloc, airport, visits, index, changed, steps)?;
+    let own = against_own(alloc, mets.as_slice())?;
+    let others = against_others(alloc, mets.as_slice(), own.as_slice())?;
+    let new = visit_by(entry, own.as_slice(), changed);
+    changes_by(alloc, entry, &new, others.as_slice(), visits)
+}
+
+// The clashes of the parts of the changed visit: `clashes_of` is asked once for each that is on a stand.
+fn mets_of<L: Ledger>(
+    alloc: Global,
+    airport: &Airport,
+    visits: &[Visit],
+    index: &StandIndex,
+    changed: &Visit,
+    steps: &mut Steps<L>,
+) -> Result<Listed<Met>, Memory>
+    requires each { All (IsWellFormed airport.now) visits.now }
+    requires numbered { IsNumbered visits.now }
+    requires clear { IsClear airport.now index.now [] }
+    requires ordered { by_part (all_slots index.now) ≡ slots_of airport.now visits.now }
+    requires valid { IsWellFormed airport.now changed.now }
+    ensures ok { IfOk result (λ mets. mets ≡ mets_of airport.now visits.now changed.now) }
+    ensures steps { steps.new ≤ steps.old + sum_by (steps_near airport.now index.now) (slots_of_visit airport.now changed.now) }
+{
+    let owns = parts_on(alloc, airport, changed)?;
+    let mut mets = Listed::new(alloc);
+    for own in owns.as_slice() {
+        push_met_by(alloc, airport, visits, index, &mut mets, own, steps)?;
+    }
+    Ok(mets)
+}
+
+fn push_met_by<L: Ledger>(
+    alloc: Global,
+    airport: &Airport,
+    visits: &[Visit],
+    index: &StandIndex,
+    mets: &mut Listed<Met>,
+    own: &Ranked,
+    steps: &mut Steps<L>,
+) -> Result<(), Memory>
+    requires each { All (IsWellFormed airport.now) visits.now }
+    requires numbered { IsNumbered visits.now }
+    requires clear { IsClear airport.now index.now [] }
+    requires ordered { by_part (all_slots index.now) ≡ slots_of airport.now visits.now }
+    requires own { IsSlotOf airport.now own.now.slot }
+    ensures ok { OnOk result (mets.new ≡ mets.old ++ met_by airport.now (all_parts_on airport.now visits.now) own.now) }
+    ensures steps { steps.new ≤ steps.old + steps_near airport.now index.now own.now.slot }
+{
+    let clashes = clashes_of(alloc, airport, index, &own.slot, steps)?;
+    push_all_met(airport, visits, mets, own, clashes.as_slice())
+}
+
+fn push_all_met(
+    airport: &Airport,
+    visits: &[Visit],
+    mets: &mut Listed<Met>,
+    own: &Ranked,
+    clashes: &[Clash],
+) -> Result<(), Memory>
+    requires each { All (IsWellFormed airport.now) visits.now }
+    requires numbered { IsNumbered visits.now }
+    ensures ok { OnOk result (mets.new ≡ mets.old ++ filter_map (met_at airport.now visits.now own.now) clashes.now) }
+{
+    for clash in clashes {
+        push_met(mets, met_at(airport, visits, own, clash))?;
+    }
+    Ok(())
+}
+
+fn push_met(mets: &mut Listed<Met>, met: Option<Met>) -> Result<(), Memory>
+    ensures ok { OnOk result (mets.new ≡ mets.old ++ option_to_list met) }
+{
+    match met {
+        Some(met) => mets.push(met),
+        None => Ok(()),
+    }
+}
