@@ -48,7 +48,7 @@ pub record StopsInside (bytes left : List ℕ) : Type 0 where
   pub are : bytes ≡ part ++ left
   pub cut_off : IsPartial part
 
--- a request stands whole at the front of the bytes whose body is to be read: only that takes memory before it is asked
+-- a request stands whole at the front of the bytes whose body is to be read as JSON: only that takes memory before it is asked
 pub record IsUnread (bytes : List ℕ) : Type 0 where
   pub request : Request
   pub behind : List ℕ
@@ -86,8 +86,8 @@ module _ (airport : AirportParts) where
 
   -- Where in its input a session stopped that ended with this status, and what it wrote. With Done, Cut and Malformed it came to the end of the
   -- input's requests, and with Limit it answered as many as it may. With ReadFault it stopped inside a request, with WriteFault at a reply, and with
-  -- Memory before it took anything or at a request whose body is to be read; then the line that tells it was written behind the replies, or a front of
-  -- it.
+  -- Memory before it took anything or at a request whose body is to be read as JSON; then the line that tells it was written behind the replies, or a
+  -- front of it.
   abbrev pub StopsWith : Status → Carried → Exchange → Type 0
   StopsWith Done carried exchange =
       (GoesOn exchange × Requests carried.input exchange.requests ended ⊎ Requests carried.input exchange.requests closed)
@@ -126,9 +126,12 @@ module _ (airport : AirportParts) where
   -- where no visit has its name, and there is a place for one more visit and one more entry; the same visit again is told the version of its entry, and
   -- other data under its name is refused. Any other commit is accepted exactly where it was not made over a later version, its draft is new, its edits
   -- (which put, lift, cut and join parts) apply to the plan as it then is and leave no clash, and the history takes one more entry; a draft that came
-  -- before is told the version that its entry made, and any other is refused for the first cause against it. A question is told what the plan then is.
-  -- In the place of each of these replies there may be the one that memory is wanting, and then nothing has changed. No reply says that an append
-  -- failed. After each entry the plan is sound.
+  -- before is told the version that its entry made, and any other is refused for the first cause against it. Any other message, report or cancel is an
+  -- entry exactly where nothing refuses it and the history takes one more entry: nothing refuses a message; a report is refused for the first cause
+  -- against its visit, its part and its minute, and never for a clash; a cancel is, where its visit is not there, has left or is on block. A message and
+  -- a report change the one visit that they are of, and then settle the plan: planned parts that can't stay lose their stands, and the reply names them.
+  -- A cancelled visit stands nowhere. A question is told what the plan then is. In the place of each of these replies there may be the one that memory is
+  -- wanting, and then nothing has changed. No reply says that an append failed. After each entry the plan is sound.
   pub record Headline (carried : Carried) (code : ℕ) : Type 0 where
     pub status : Status
     pub code_is : code ≡ code_of status

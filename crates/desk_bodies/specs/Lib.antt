@@ -3,3 +3,5 @@ pub mod Commits
 pub mod CommitsShown
 pub mod Visits
 pub mod VisitsShown
+pub mod Reports
+pub mod ReportsShown

@@ -159,13 +159,13 @@ fn join(object: &Value) -> Option<EditText>
     Some(EditText::Join { visit, part })
 }
 
-fn visit(object: &Value) -> Option<u32>
+pub(crate) fn visit(object: &Value) -> Option<u32>
     ensures value { result ≡ visit_at (view object.now) }
 {
     number(object, "visit")
 }
 
-fn part(object: &Value) -> Option<u8>
+pub(crate) fn part(object: &Value) -> Option<u8>
     ensures value { result ≡ part_at (view object.now) }
 {
     small_number(object, "part")

@@ -3,10 +3,12 @@
 
 mod commits;
 mod fields;
+mod reports;
 mod visits;
 
 pub use commits::{CommitText, EditText, MAX_EDITS, read_commit};
 pub use fields::BodyFault;
+pub use reports::{EventText, ReportText, read_cancel, read_report};
 pub use visits::{VisitText, read_visit};
 
 #[cfg(test)]

@@ -2,6 +2,7 @@
 use super::*;
 use std::alloc::{AllocError, Global};
 
+mod reports;
 mod visits;
 
 const FORM: Option<BodyFault> = Some(BodyFault::Form);

@@ -25,7 +25,7 @@ pub data Answered : Type 0 where
   exhausted : Answered
   unread : Answered
 
--- the body of the request is read, which takes memory
+-- the body of the request is read as JSON, which takes memory
 abbrev pub TakesMemory : Request → Type 0
 TakesMemory request = ReadsBody (said_in request)
 

@@ -8,6 +8,8 @@ pub mod Table
 pub mod Finding
 pub mod CommitsRoute
 pub mod VisitsRoute
+pub mod MessagesRoute
+pub mod ReportsRoute
 pub mod Routes
 pub mod Answers
 pub mod Session

@@ -14,6 +14,8 @@ use Rattle.desk_words.specs.declared.early.Early.{Early}
 use Rattle.desk_words.specs.declared.early.Early.TheVariants.{NoRoute, OnlyGet, OnlyPost, BadSeen, Unbuilt}
 use Rattle.desk_http.specs.Numbers.{within}
 use Rattle.desk_http.specs.CommitsRoute.{commit_asked}
+use Rattle.desk_http.specs.MessagesRoute.{message_asked}
+use Rattle.desk_http.specs.ReportsRoute.{cancel_asked, report_asked}
 use Rattle.desk_http.specs.VisitsRoute.{visit_added}
 use Rattle.desk_http.specs.Targets.{route_of}
 use Rattle.desk_http.specs.declared.routes.Route.{Route}
@@ -23,11 +25,11 @@ use Rattle.desk_http.specs.declared.routes.Route.TheVariants.{Visits, Commits, M
 abbrev pub is_built : Route → Bool
 is_built Visits = true
 is_built Commits = true
+is_built Mvt = true
+is_built Reports = true
+is_built Cancels = true
 is_built Version = true
 is_built (Visit number) = true
-is_built Mvt = false
-is_built Reports = false
-is_built Cancels = false
 is_built Unplaced = false
 is_built (Plan day) = false
 is_built (Chart day) = false
@@ -44,6 +46,19 @@ takes_body Unplaced = false
 takes_body (Visit number) = false
 takes_body (Plan day) = false
 takes_body (Chart day) = false
+
+-- whether the body of the requests of a route is read as JSON
+abbrev pub reads_json : Route → Bool
+reads_json Visits = true
+reads_json Commits = true
+reads_json Mvt = false
+reads_json Reports = true
+reads_json Cancels = true
+reads_json Version = false
+reads_json Unplaced = false
+reads_json (Visit number) = false
+reads_json (Plan day) = false
+reads_json (Chart day) = false
 
 -- the method of a route: POST where a body comes with its requests, and else GET
 abbrev pub method_of : Route → List ℕ
@@ -83,22 +98,22 @@ route_taken method target = do
   taken ← refuse_if (not (bytes_eq method (method_of route))) (only route)
   Ok route
 
--- the body is read: the route takes one, and the version that was seen is told as it has to be
+-- the body is read as JSON: that of the route is, and the version that was seen is told as it has to be
 pub record ReadsBody (said : Said) : Type 0 where
   pub route : Route
   pub taken : route_taken said.method said.target ≡ Ok route
-  pub body : takes_body route ≡ true
+  pub body : reads_json route ≡ true
   pub seen : IsSome said.seen
 
 -- what is asked of a route with this body
 abbrev pub what_asked : AirportParts → Route → List ℕ → Result What Early
 what_asked airport Visits body = visit_added airport body
 what_asked airport Commits body = commit_asked airport body
+what_asked airport Mvt body = message_asked body
+what_asked airport Reports body = report_asked airport body
+what_asked airport Cancels body = cancel_asked body
 what_asked airport Version body = Ok what.Version
 what_asked airport (Visit number) body = Ok (what.Visit number)
-what_asked airport Mvt body = Err Unbuilt
-what_asked airport Reports body = Err Unbuilt
-what_asked airport Cancels body = Err Unbuilt
 what_asked airport Unplaced body = Err Unbuilt
 what_asked airport (Plan day) body = Err Unbuilt
 what_asked airport (Chart day) body = Err Unbuilt

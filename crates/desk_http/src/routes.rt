@@ -2,7 +2,7 @@
 ghost use Rattle.std.specs.Prelude.{◌≡◌, true, Err, IfOk};
 ghost use Rattle.history_core.specs.History.{IsAskOf, IsWhatOf};
 ghost use Rattle.desk_http.specs.Finding.{Finds, said_by};
-ghost use Rattle.desk_http.specs.Routes.{ReadsBody, asked_by as asked_by_lem, is_built as is_built_lem, method_of as method_of_lem, only as only_lem, route_taken as route_taken_lem, seen_of as seen_of_lem, takes_body as takes_body_lem, what_asked as what_asked_lem};
+ghost use Rattle.desk_http.specs.Routes.{ReadsBody, asked_by as asked_by_lem, is_built as is_built_lem, method_of as method_of_lem, only as only_lem, reads_json, route_taken as route_taken_lem, seen_of as seen_of_lem, takes_body as takes_body_lem, what_asked as what_asked_lem};
 
 use crate::numbers::within;
 use crate::targets::DeskRoutes;
@@ -15,9 +15,13 @@ use http_framing::{FieldNumber, RequestParts};
 use std::alloc::Global;
 
 mod commits;
+mod messages;
+mod reports;
 mod visits;
 
 use commits::commit_asked;
+use messages::message_asked;
+use reports::{cancel_asked, report_asked};
 use visits::visit_added;
 
 /// What a target names.
@@ -118,13 +122,14 @@ fn is_built(route: Route) -> bool
     ensures is { result ≡ is_built_lem route }
 {
     match route {
-        Route::Visits | Route::Commits | Route::Version | Route::Visit(_) => true,
-        Route::Mvt
+        Route::Visits
+        | Route::Commits
+        | Route::Mvt
         | Route::Reports
         | Route::Cancels
-        | Route::Unplaced
-        | Route::Plan(_)
-        | Route::Chart(_) => false,
+        | Route::Version
+        | Route::Visit(_) => true,
+        Route::Unplaced | Route::Plan(_) | Route::Chart(_) => false,
     }
 }
 
@@ -169,19 +174,17 @@ fn seen_of(seen: FieldNumber) -> Option<u32>
 // What is asked of a route with this body.
 fn what_asked(alloc: Global, airport: &Airport, route: Route, body: &[u8]) -> Result<What, Unasked>
     ensures asked { Finds (what_asked_lem airport.now route body.now) result }
-    ensures memory { result ≡ Err Unasked.Memory → takes_body_lem route ≡ true }
+    ensures memory { result ≡ Err Unasked.Memory → reads_json route ≡ true }
     ensures valid { IfOk result (IsWhatOf airport.now) }
 {
     match route {
         Route::Visits => visit_added(alloc, airport, body),
         Route::Commits => commit_asked(alloc, airport, body),
+        Route::Mvt => Ok(message_asked(body)?),
+        Route::Reports => report_asked(alloc, airport, body),
+        Route::Cancels => cancel_asked(alloc, body),
         Route::Version => Ok(What::Version),
         Route::Visit(number) => Ok(What::Visit(number)),
-        Route::Mvt
-        | Route::Reports
-        | Route::Cancels
-        | Route::Unplaced
-        | Route::Plan(_)
-        | Route::Chart(_) => Err(Unasked::AtOnce(Early::Unbuilt)),
+        Route::Unplaced | Route::Plan(_) | Route::Chart(_) => Err(Unasked::AtOnce(Early::Unbuilt)),
     }
 }

@@ -3,8 +3,10 @@ use Rattle.std.proofs.Common.{◌≡◌, ℕ, Bool, true, false, ◌||◌, List,
 use Rattle.std.specs.Prelude.{Option, None, Some, option_map}
 use Rattle.serde_json.specs.Written.{has_float, items_have_float}
 use Rattle.serde_json.specs.View.{items_of}
+use Rattle.apron_base.specs.declared.numbers.PartId.{PartId}
 use Rattle.apron_base.specs.declared.numbers.StandNo.{StandNo}
 use Rattle.apron_base.specs.declared.numbers.TypeNo.{TypeNo}
+use Rattle.apron_base.specs.declared.numbers.VisitNo.{VisitNo}
 use Rattle.apron_rules.specs.declared.parts.AirportParts.{AirportParts}
 use Rattle.apron_rules.specs.declared.parts.StandRow.{StandRow}
 use Rattle.apron_rules.specs.declared.parts.TypeRow.{TypeRow}
@@ -19,11 +21,11 @@ use Rattle.visit_book.specs.declared.visits.Visit.{Visit}
 use Rattle.visit_book.specs.declared.edits.EditFault.{EditFault}
 use Rattle.visit_book.specs.declared.edits.EditFault.TheVariants.{UnknownVisit, Overtaken, Gone, NoSuchPart, OnBlock, BadCut, BadJoin, Unfit, Clash, Memory}
 use Rattle.desk_words.specs.declared.replies.Told.{Told}
-use Rattle.desk_words.specs.declared.replies.Told.TheVariants.{Added, Committed, Version, Visit as AVisit, NoVisit, Ahead, Full, OtherName, Edit}
+use Rattle.desk_words.specs.declared.replies.Told.TheVariants.{Added, Committed, Message, Reported, Cancelled, Version, Visit as AVisit, NoVisit, Ahead, Full, OtherName, Edit, Denied}
 use Rattle.desk_words.specs.PartObjects.{name_data, stand_data, type_data}
 use Rattle.desk_words.specs.VisitObjects.{bump_data, key_data, place_bump_data, place_stand_data, stay_data, visit_data}
 use Rattle.desk_words.specs.FaultObjects.{fault_data}
-use Rattle.desk_words.specs.Replies.{told_data}
+use Rattle.desk_words.specs.Replies.{message_data, parts_data, reported_data, told_data, visit_if}
 
 neither : (a b : Bool) → a ≡ false → b ≡ false → (a || b) ≡ false
 neither true b e h = e
@@ -92,9 +94,28 @@ fault_has_none (Unfit edit (Object place)) version = refl
 fault_has_none (Clash clash) version = refl
 fault_has_none Memory version = refl
 
+parts_have_none : (parts : List PartId) → has_float (parts_data parts) ≡ false
+parts_have_none [] = refl
+parts_have_none (part ∷ parts) = parts_have_none parts
+
+visit_if_has_none : (visit : Option VisitNo) → has_float (visit_if visit) ≡ false
+visit_if_has_none None = refl
+visit_if_has_none (Some visit) = refl
+
+message_has_none : (bumped : List PartId) (visit : Option VisitNo) (version : ℕ) → has_float (message_data bumped visit version) ≡ false
+message_has_none bumped visit version =
+    neither (has_float (parts_data bumped)) (has_float (visit_if visit) || false) (parts_have_none bumped)
+    (neither (has_float (visit_if visit)) false (visit_if_has_none visit) refl)
+
+reported_has_none : (bumped : List PartId) (version : ℕ) → has_float (reported_data bumped version) ≡ false
+reported_has_none bumped version = neither (has_float (parts_data bumped)) false (parts_have_none bumped) refl
+
 pub told_has_none : (airport : AirportParts) (version : ℕ) (told : Told) → has_float (told_data airport version told) ≡ false
 told_has_none airport version (Added entry visit) = refl
 told_has_none airport version (Committed entry) = refl
+told_has_none airport version (Message bumped visit) = message_has_none bumped visit version
+told_has_none airport version (Reported bumped) = reported_has_none bumped version
+told_has_none airport version Cancelled = refl
 told_has_none airport version Version = refl
 told_has_none airport version (AVisit visit) = visit_has_none airport visit version
 told_has_none airport version NoVisit = refl
@@ -102,3 +123,4 @@ told_has_none airport version Ahead = refl
 told_has_none airport version Full = refl
 told_has_none airport version (OtherName visit) = refl
 told_has_none airport version (Edit fault) = fault_has_none fault version
+told_has_none airport version (Denied why) = refl

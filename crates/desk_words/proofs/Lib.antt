@@ -3,6 +3,7 @@ pub mod Floats
 pub mod Flights
 pub mod Heads
 pub mod Lines
+pub mod Mapped
 pub mod Names
-pub mod Stands
+pub mod Numbered
 pub mod Versions

@@ -7,19 +7,21 @@ use Rattle.std.proofs.lemmas.List.Elements.{All-cons, All-nil}
 use Rattle.http.specs.StatusCode.{status_text}
 use Rattle.serde_json.proofs.OnLiterals.{serde_json_on_literals}
 use Rattle.apron_rules.specs.declared.parts.AirportParts.{AirportParts}
+use Rattle.mvt_grammar.specs.declared.message.MvtFault.{MvtFault}
+use Rattle.mvt_grammar.specs.declared.message.MvtFault.TheVariants.{TooLong, NoIdentifier, BadFlightLine, BadElement, Twice}
 use Rattle.visit_book.specs.declared.edits.EditFault.{EditFault}
 use Rattle.visit_book.specs.declared.edits.EditFault.TheVariants.{UnknownVisit, Overtaken, Gone, NoSuchPart, OnBlock, BadCut, BadJoin, Unfit, Clash, Memory}
 use Rattle.desk_words.specs.declared.early.Early.{Early}
-use Rattle.desk_words.specs.declared.early.Early.TheVariants.{NoRoute, OnlyGet, OnlyPost, BadSeen, NotJson, BadType, BadStand, BadTimes, Unbuilt}
+use Rattle.desk_words.specs.declared.early.Early.TheVariants.{NoRoute, OnlyGet, OnlyPost, BadSeen, NotJson, NotMvt, BadType, BadStand, NoStand, BadTimes, Unbuilt}
 use Rattle.desk_words.specs.declared.replies.Reply.{Reply}
 use Rattle.desk_words.specs.declared.replies.Told.{Told}
-use Rattle.desk_words.specs.declared.replies.Told.TheVariants.{Added, Committed, Version, Visit as AVisit, NoVisit, Ahead, Full, OtherName, Edit}
+use Rattle.desk_words.specs.declared.replies.Told.TheVariants.{Added, Committed, Message, Reported, Cancelled, Version, Visit as AVisit, NoVisit, Ahead, Full, OtherName, Edit, Denied}
 use Rattle.desk_words.specs.Early.{early_text}
 use Rattle.desk_words.specs.Fixed.{fixed_texts, no_memory_text, keeper_fault_text, bad_head_text}
 use Rattle.desk_words.specs.Replies.{body_text, code_of, fault_code, reply_text}
 use Rattle.desk_words.specs.Texts.{json_media, shows_version, text_of, version_line}
 use Rattle.desk_words.proofs.Lines.{behind_lines, is_one_line}
-use Rattle.desk_words.proofs.Stands.{stand_behind}
+use Rattle.desk_words.proofs.Numbered.{element_behind, stand_behind, twice_behind}
 
 fault_one_line : (fault : EditFault) → is_one_line (codes "HTTP/1.1 " ++ status_text (fault_code fault)) ≡ true
 unfolding digits
@@ -38,6 +40,9 @@ code_one_line : (told : Told) → is_one_line (codes "HTTP/1.1 " ++ status_text 
 unfolding digits
 code_one_line (Added entry visit) = refl
 code_one_line (Committed entry) = refl
+code_one_line (Message bumped visit) = refl
+code_one_line (Reported bumped) = refl
+code_one_line Cancelled = refl
 code_one_line Version = refl
 code_one_line (AVisit visit) = refl
 code_one_line NoVisit = refl
@@ -45,6 +50,7 @@ code_one_line Ahead = refl
 code_one_line Full = refl
 code_one_line (OtherName visit) = refl
 code_one_line (Edit fault) = fault_one_line fault
+code_one_line (Denied why) = refl
 
 -- a text of one extra line, with a version, shows one
 version_shows : (code version : ℕ) (body : List ℕ) → is_one_line (codes "HTTP/1.1 " ++ status_text code) ≡ true
@@ -55,6 +61,14 @@ pub reply_shows : (airport : AirportParts) (reply : Reply) → shows_version (re
 unfolding reply_text
 reply_shows airport reply = version_shows (code_of reply.told) reply.version (body_text airport reply.version reply.told) (code_one_line reply.told)
 
+mvt_fault_shows_none : (fault : MvtFault) → shows_version (early_text (NotMvt fault)) ≡ false
+unfolding digits serde_json_on_literals early_text
+mvt_fault_shows_none TooLong = refl
+mvt_fault_shows_none NoIdentifier = refl
+mvt_fault_shows_none BadFlightLine = refl
+mvt_fault_shows_none (BadElement place) = ap (λ (text : List ℕ). starts_with nat_eq text (codes "X-Version: ")) (element_behind place)
+mvt_fault_shows_none (Twice place) = ap (λ (text : List ℕ). starts_with nat_eq text (codes "X-Version: ")) (twice_behind place)
+
 pub early_shows_none : (early : Early) → shows_version (early_text early) ≡ false
 unfolding digits serde_json_on_literals early_text
 early_shows_none NoRoute = refl
@@ -62,8 +76,10 @@ early_shows_none OnlyGet = refl
 early_shows_none OnlyPost = refl
 early_shows_none BadSeen = refl
 early_shows_none NotJson = refl
+early_shows_none (NotMvt fault) = mvt_fault_shows_none fault
 early_shows_none BadType = refl
 early_shows_none (BadStand edit) = ap (λ (text : List ℕ). starts_with nat_eq text (codes "X-Version: ")) (stand_behind edit)
+early_shows_none NoStand = refl
 early_shows_none BadTimes = refl
 early_shows_none Unbuilt = refl
 

@@ -7,6 +7,8 @@ use Rattle.apron_rules.specs.declared.rules.UnfitBy.TheVariants.{Letter, Object}
 use Rattle.apron_rules.specs.declared.rules.Clash.{Clash as TheClash}
 use Rattle.visit_book.specs.declared.edits.EditFault.{EditFault}
 use Rattle.visit_book.specs.declared.edits.EditFault.TheVariants.{UnknownVisit, Overtaken, Gone, NoSuchPart, OnBlock, BadCut, BadJoin, Unfit, Clash, Memory}
+use Rattle.desk_words.specs.declared.replies.Denial.{Denial}
+use Rattle.desk_words.specs.declared.replies.Denial.TheVariants as denial
 use Rattle.desk_words.specs.PartObjects.{part_data, rule_word, whole}
 
 -- {"error":WORD,"version":N}
@@ -71,3 +73,11 @@ fault_data (BadJoin edit) version = edit_data edit (codes "join") version
 fault_data (Unfit edit by) version = unfit_data by edit version
 fault_data (Clash clash) version = clash_data clash version
 fault_data Memory version = null
+
+-- the word for why a report or a cancel was denied
+abbrev pub denial_word : Denial → List ℕ
+denial_word denial.Unknown = codes "unknown"
+denial_word denial.Gone = codes "gone"
+denial_word denial.NoSuchPart = codes "part"
+denial_word denial.Time = codes "time"
+denial_word denial.OnBlock = codes "onblock"

@@ -1,7 +1,9 @@
 -- The replies that the plan gave the cause of.
-use Rattle.std.specs.Prelude.{◌≢◌, ℕ, List, [], ◌∷◌, codes, ⊤}
-use Rattle.serde_json.specs.Data.{Data, object, member, no_members}
+use Rattle.std.specs.Prelude.{◌≢◌, ℕ, List, [], ◌∷◌, Option, None, Some, codes, map, ⊤}
+use Rattle.serde_json.specs.Data.{Data, array, null, object, member, no_members}
+use Rattle.serde_json.specs.View.{items_of}
 use Rattle.serde_json.specs.Written.{compact_text}
+use Rattle.apron_base.specs.declared.numbers.PartId.{PartId}
 use Rattle.apron_base.specs.declared.numbers.VisitNo.{VisitNo}
 use Rattle.apron_rules.specs.declared.parts.AirportParts.{AirportParts}
 use Rattle.visit_book.specs.NewVisits.{IsNewVisit, new_of}
@@ -9,10 +11,10 @@ use Rattle.visit_book.specs.declared.edits.EditFault.{EditFault}
 use Rattle.visit_book.specs.declared.edits.EditFault.TheVariants.{Overtaken, Memory}
 use Rattle.desk_words.specs.declared.replies.Reply.{Reply}
 use Rattle.desk_words.specs.declared.replies.Told.{Told}
-use Rattle.desk_words.specs.declared.replies.Told.TheVariants.{Added, Committed, Version, Visit, NoVisit, Ahead, Full, OtherName, Edit}
-use Rattle.desk_words.specs.PartObjects.{whole}
+use Rattle.desk_words.specs.declared.replies.Told.TheVariants.{Added, Committed, Message, Reported, Cancelled, Version, Visit, NoVisit, Ahead, Full, OtherName, Edit, Denied}
+use Rattle.desk_words.specs.PartObjects.{part_data, whole}
 use Rattle.desk_words.specs.VisitObjects.{visit_data}
-use Rattle.desk_words.specs.FaultObjects.{fault_data, other_name_data, refused_data}
+use Rattle.desk_words.specs.FaultObjects.{denial_word, fault_data, other_name_data, refused_data}
 use Rattle.desk_words.specs.Texts.{json_media, text_of, version_line}
 
 -- {"version":N}
@@ -23,10 +25,35 @@ version_data version = object (member (codes "version") (whole version) no_membe
 abbrev pub added_data : ℕ → VisitNo → Data
 added_data entry visit = object (member (codes "version") (whole entry) (member (codes "visit") (whole visit.0) no_members))
 
+-- a visit's number, or null
+abbrev pub visit_if : Option VisitNo → Data
+visit_if None = null
+visit_if (Some visit) = whole visit.0
+
+-- [PART, ..]
+abbrev pub parts_data : List PartId → Data
+parts_data parts = array (items_of (map part_data parts))
+
+-- {"bumped":[PART, ..],"version":N,"visit":VISIT}
+abbrev pub message_data : List PartId → Option VisitNo → ℕ → Data
+message_data bumped visit version =
+    object (member (codes "bumped") (parts_data bumped)
+    (member (codes "version") (whole version)
+    (member (codes "visit") (visit_if visit) no_members)))
+
+-- {"bumped":[PART, ..],"version":N}
+abbrev pub reported_data : List PartId → ℕ → Data
+reported_data bumped version =
+    object (member (codes "bumped") (parts_data bumped)
+    (member (codes "version") (whole version) no_members))
+
 -- the JSON of what is told, in a reply that shows this version
 abbrev pub told_data : AirportParts → ℕ → Told → Data
 told_data airport version (Added entry visit) = added_data entry visit
 told_data airport version (Committed entry) = version_data entry
+told_data airport version (Message bumped visit) = message_data bumped visit version
+told_data airport version (Reported bumped) = reported_data bumped version
+told_data airport version Cancelled = version_data version
 told_data airport version Version = version_data version
 told_data airport version (Visit visit) = visit_data airport visit version
 told_data airport version NoVisit = refused_data (codes "visit") version
@@ -34,6 +61,7 @@ told_data airport version Ahead = refused_data (codes "ahead") version
 told_data airport version Full = refused_data (codes "full") version
 told_data airport version (OtherName visit) = other_name_data visit version
 told_data airport version (Edit fault) = fault_data fault version
+told_data airport version (Denied why) = refused_data (denial_word why) version
 
 -- the code for why a commit was refused: a conflict where another commit came first
 abbrev pub fault_code : EditFault → ℕ
@@ -44,6 +72,9 @@ fault_code _ = 422
 abbrev pub code_of : Told → ℕ
 code_of (Added entry visit) = 200
 code_of (Committed entry) = 200
+code_of (Message bumped visit) = 200
+code_of (Reported bumped) = 200
+code_of Cancelled = 200
 code_of Version = 200
 code_of (Visit visit) = 200
 code_of NoVisit = 404
@@ -51,6 +82,7 @@ code_of Ahead = 409
 code_of Full = 409
 code_of (OtherName visit) = 409
 code_of (Edit fault) = fault_code fault
+code_of (Denied why) = 422
 
 -- what is told has a text: it is not want of memory, and of a visit it is what can be said at any airport
 abbrev pub IsTellable : Told → Type 0

@@ -1,6 +1,7 @@
 // What may be asked of the keeper of the plan.
-use apron_base::{Listed, Name};
-use visit_book::{Edit, NewVisit};
+use apron_base::{Listed, Name, VisitNo};
+use mvt_grammar::Mvt;
+use visit_book::{Edit, Event, NewVisit};
 
 /// What may change the plan.
 #[derive(Debug, Drop)]
@@ -13,6 +14,19 @@ pub enum Command {
         draft: u32,
         base: u32,
         edits: Listed<Edit>,
+    },
+    /// A movement message came. It says what happened, and is never refused for a conflict.
+    Message {
+        message: Mvt,
+    },
+    /// A visit came on block or went off block in fact.
+    Report {
+        visit: VisitNo,
+        event: Event,
+    },
+    /// A visit that is not on block does not come.
+    Cancel {
+        visit: VisitNo,
     },
 }
 

@@ -1,12 +1,12 @@
 // The replies that are fixed before the plan is consulted. They take no memory.
-ghost use Rattle.std.specs.Prelude.{◌≡◌};
+ghost use Rattle.std.specs.Prelude.{◌≡◌, ◌≤◌, ◌+◌, ◌++◌, ℕ, [], decimal, length};
+ghost use Rattle.http.specs.StatusCode.{status_text};
 ghost use Rattle.desk_words.specs.Early.{early_text};
+ghost use Rattle.desk_words.specs.Texts.{json_media, text_of};
 
 use crate::short::ShortText;
 use itoa::Buffer;
-
-// The bytes of the body that names an edit, without the digits of its number.
-const BARE_STAND_BYTES: usize = 25;
+use mvt_grammar::MvtFault;
 
 /// A reply that is fixed before the plan is consulted.
 #[derive(Clone, Copy, Debug, PartialEq, Eq)]
@@ -21,10 +21,14 @@ pub enum Early {
     BadSeen,
     /// The body is not of the form of its route.
     NotJson,
+    /// The text is no movement message, for this fault.
+    NotMvt(MvtFault),
     /// The airport has no type of this name.
     BadType,
     /// The airport has no stand of the name in this edit, counted from 1 to 64.
     BadStand { edit: u8 },
+    /// The airport has no stand of the name in a report.
+    NoStand,
     /// The visit is not on block before the plan ends, off block later than then, or less than the least minutes of its
     /// type on block; or a flight is of a day that is none of the plan and not the one before it.
     BadTimes,
@@ -52,10 +56,14 @@ pub fn early_bytes(early: Early) -> ShortText
         Early::NotJson => ShortText::of(
             b"HTTP/1.1 400 Bad Request\r\nContent-Type: application/json\r\nContent-Length: 16\r\n\r\n{\"error\":\"json\"}",
         ),
+        Early::NotMvt(fault) => not_mvt(fault),
         Early::BadType => ShortText::of(
             b"HTTP/1.1 422 Unprocessable Entity\r\nContent-Type: application/json\r\nContent-Length: 16\r\n\r\n{\"error\":\"type\"}",
         ),
         Early::BadStand { edit } => bad_stand(edit),
+        Early::NoStand => ShortText::of(
+            b"HTTP/1.1 422 Unprocessable Entity\r\nContent-Type: application/json\r\nContent-Length: 17\r\n\r\n{\"error\":\"stand\"}",
+        ),
         Early::BadTimes => ShortText::of(
             b"HTTP/1.1 422 Unprocessable Entity\r\nContent-Type: application/json\r\nContent-Length: 17\r\n\r\n{\"error\":\"times\"}",
         ),
@@ -65,20 +73,63 @@ pub fn early_bytes(early: Early) -> ShortText
     }
 }
 
-// The reply that names an edit, whose number may have one to three digits.
+// The reply to a text that is no movement message.
+fn not_mvt(fault: MvtFault) -> ShortText
+    ensures text { result ≡ early_text (Early.NotMvt fault) }
+{
+    match fault {
+        MvtFault::TooLong => ShortText::of(
+            b"HTTP/1.1 400 Bad Request\r\nContent-Type: application/json\r\nContent-Length: 30\r\n\r\n{\"error\":\"mvt\",\"fault\":\"long\"}",
+        ),
+        MvtFault::NoIdentifier => ShortText::of(
+            b"HTTP/1.1 400 Bad Request\r\nContent-Type: application/json\r\nContent-Length: 36\r\n\r\n{\"error\":\"mvt\",\"fault\":\"identifier\"}",
+        ),
+        MvtFault::BadFlightLine => ShortText::of(
+            b"HTTP/1.1 400 Bad Request\r\nContent-Type: application/json\r\nContent-Length: 32\r\n\r\n{\"error\":\"mvt\",\"fault\":\"flight\"}",
+        ),
+        MvtFault::BadElement(place) => numbered(
+            b"400 Bad Request",
+            b"{\"at\":",
+            place,
+            b",\"error\":\"mvt\",\"fault\":\"element\"}",
+        ),
+        MvtFault::Twice(place) => numbered(
+            b"400 Bad Request",
+            b"{\"at\":",
+            place,
+            b",\"error\":\"mvt\",\"fault\":\"twice\"}",
+        ),
+    }
+}
+
+// The reply that names an edit.
 fn bad_stand(edit: u8) -> ShortText
     ensures text { result ≡ early_text (Early.BadStand edit) }
 {
-    let mut edit_digits = Buffer::new();
-    let edit = edit_digits.format(edit).as_bytes();
+    numbered(
+        b"422 Unprocessable Entity",
+        b"{\"edit\":",
+        u32::from(edit),
+        b",\"error\":\"stand\"}",
+    )
+}
+
+// The reply of this status whose body has a number between its start and its end.
+fn numbered(status: &[u8], start: &[u8], number: u32, end: &[u8]) -> ShortText
+    requires short { length status.now + length start.now + length end.now ≤ 100 }
+    ensures text { (code : ℕ) → status_text code ≡ status.now → result ≡ text_of code json_media [] (start.now ++ (decimal number ++ end.now)) }
+{
+    let mut number_digits = Buffer::new();
+    let number = number_digits.format(number).as_bytes();
     let mut length_digits = Buffer::new();
-    let length = length_digits.format(BARE_STAND_BYTES + edit.len());
-    let mut text = ShortText::of(
-        b"HTTP/1.1 422 Unprocessable Entity\r\nContent-Type: application/json\r\nContent-Length: ",
-    );
+    let length = length_digits.format(start.len() + number.len() + end.len());
+    let mut text = ShortText::of(b"HTTP/1.1 ");
+    text.push(status);
+    text.push(b"\r\nContent-Type: application/json\r\nContent-Length: ");
     text.push(length.as_bytes());
-    text.push(b"\r\n\r\n{\"edit\":");
-    text.push(edit);
-    text.push(b",\"error\":\"stand\"}");
+    text.push(b"\r\n\r\n");
+    text.push(start);
+    text.push(number);
+    text.push(end);
     text
 }

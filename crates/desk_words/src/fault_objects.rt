@@ -1,9 +1,10 @@
 // Why a command is refused, as replies tell it.
 ghost use Rattle.std.specs.Prelude.{◌≡◌, ◌≢◌, IfOk};
 ghost use Rattle.serde_json.specs.View.{view};
-ghost use Rattle.desk_words.specs.FaultObjects.{by_data, clash_data, edit_data, fault_data, other_name_data, refused_data};
+ghost use Rattle.desk_words.specs.FaultObjects.{by_data, clash_data, denial_word, edit_data, fault_data, other_name_data, refused_data};
 
 use crate::part_objects::{part_value, rule_word};
+use crate::replies::Denial;
 use apron_base::VisitNo;
 use apron_rules::{Clash, UnfitBy};
 use serde_json::{Value, json};
@@ -92,4 +93,17 @@ fn clash_value(alloc: Global, clash: Clash, version: u32) -> Result<Value, Alloc
         "rule": rule_word(clash.rule),
         "version": version
     })
+}
+
+// The word for why a report or a cancel is refused.
+pub(crate) fn denial_word(why: Denial) -> &'static str
+    ensures text { result.now ≡ denial_word why }
+{
+    match why {
+        Denial::Unknown => "unknown",
+        Denial::Gone => "gone",
+        Denial::NoSuchPart => "part",
+        Denial::Time => "time",
+        Denial::OnBlock => "onblock",
+    }
 }

@@ -2,6 +2,7 @@
 #![tactic(auto)]
 
 pub mod asks;
+mod bumped_objects;
 pub mod early;
 mod fault_objects;
 pub mod fixed;

@@ -4,9 +4,10 @@ ghost use Rattle.serde_json.specs.View.{view};
 ghost use Rattle.desk_words.specs.Texts.{head_of, text_of, version_line};
 ghost use Rattle.desk_words.specs.Replies.{IsTellable, body_text, code_of, fault_code, reply_text, told_data};
 
-use crate::fault_objects::{fault_value, other_name_value, refused_value};
+use crate::bumped_objects::{message_value, reported_value};
+use crate::fault_objects::{denial_word, fault_value, other_name_value, refused_value};
 use crate::visit_objects::visit_value;
-use apron_base::{Listed, Memory, VisitNo};
+use apron_base::{Listed, Memory, PartId, VisitNo};
 use apron_rules::{Airport, AirportParts};
 use http::StatusCode;
 use serde_json::{Value, json};
@@ -20,9 +21,26 @@ const JSON: &str = "application/json";
 #[derive(Debug, Drop)]
 pub enum Told {
     /// The visit's entry made version `entry`: now, or when the same visit came before.
-    Added { entry: u32, visit: VisitNo },
+    Added {
+        entry: u32,
+        visit: VisitNo,
+    },
     /// The commit's entry made version `entry`: now, or when the same draft came before.
-    Committed { entry: u32 },
+    Committed {
+        entry: u32,
+    },
+    /// The message is an entry. These parts lost their stands by it, in order of visit and part, and this is the visit that it
+    /// changed: none where it has no effect.
+    Message {
+        bumped: Listed<PartId>,
+        visit: Option<VisitNo>,
+    },
+    /// The report is an entry, and these parts lost their stands by it, in order of visit and part.
+    Reported {
+        bumped: Listed<PartId>,
+    },
+    /// The visit is cancelled.
+    Cancelled,
     /// The plan's version.
     Version,
     /// The visit as it is.
@@ -34,9 +52,28 @@ pub enum Told {
     /// The history takes no more entries.
     Full,
     /// The visit of this number has the name, and other data.
-    OtherName { visit: VisitNo },
+    OtherName {
+        visit: VisitNo,
+    },
     /// The commit was refused, and the plan stays as it is.
     Edit(EditFault),
+    /// The report or the cancel was refused, and the plan stays as it is.
+    Denied(Denial),
+}
+
+/// Why a report or a cancel is refused: the first that holds, in this order.
+#[derive(Clone, Copy, Debug, PartialEq, Eq)]
+pub enum Denial {
+    /// There is no visit of this number.
+    Unknown,
+    /// The visit is gone or cancelled.
+    Gone,
+    /// A report: the visit has no part of this number.
+    NoSuchPart,
+    /// A report: the minute is behind the plan, or too early for the visit.
+    Time,
+    /// A cancel: the visit is on block.
+    OnBlock,
 }
 
 /// What came of what was asked, with the plan's version after it.
@@ -66,11 +103,17 @@ fn code(told: &Told) -> StatusCode
     ensures is { result ≡ code_of told.now }
 {
     match told {
-        Told::Added { .. } | Told::Committed { .. } | Told::Version | Told::Visit(_) =>
-            StatusCode::OK,
+        Told::Added { .. }
+        | Told::Committed { .. }
+        | Told::Message { .. }
+        | Told::Reported { .. }
+        | Told::Cancelled
+        | Told::Version
+        | Told::Visit(_) => StatusCode::OK,
         Told::NoVisit => StatusCode::NOT_FOUND,
         Told::Ahead | Told::Full | Told::OtherName { .. } => StatusCode::CONFLICT,
         Told::Edit(fault) => fault_code(*fault),
+        Told::Denied(_) => StatusCode::UNPROCESSABLE_ENTITY,
     }
 }
 
@@ -138,12 +181,17 @@ fn told_value(
     match told {
         Told::Added { entry, visit } => { json!(in alloc; {"version": *entry, "visit": visit.0}) }
         Told::Committed { entry } => json!(in alloc; {"version": *entry}),
-        Told::Version => json!(in alloc; {"version": version}),
+        Told::Message { bumped, visit } => {
+            message_value(alloc, bumped.as_slice(), *visit, version)
+        }
+        Told::Reported { bumped } => reported_value(alloc, bumped.as_slice(), version),
+        Told::Cancelled | Told::Version => json!(in alloc; {"version": version}),
         Told::Visit(visit) => visit_value(alloc, airport, visit, version),
         Told::NoVisit => refused_value(alloc, "visit", version),
         Told::Ahead => refused_value(alloc, "ahead", version),
         Told::Full => refused_value(alloc, "full", version),
         Told::OtherName { visit } => other_name_value(alloc, *visit, version),
         Told::Edit(fault) => fault_value(alloc, *fault, version),
+        Told::Denied(why) => refused_value(alloc, denial_word(*why), version),
     }
 }

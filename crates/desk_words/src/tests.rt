@@ -11,26 +11,46 @@ use std::test::Fail;
 use visit_book::{EditFault, Key, Visit};
 
 mod fixed;
+mod movements;
 mod refusals;
 mod versions;
 mod visits;
 
-// The reply's text, in two pieces that the rows write beside each other.
-fn has_text(alloc: Global, airport: &Airport, reply: &Reply, head: &str, body: &str) -> bool {
+const OK: &str = "200 OK";
+
+const CONFLICT: &str = "409 Conflict";
+
+const UNPROCESSABLE: &str = "422 Unprocessable Entity";
+
+fn reply(version: u32, told: Told) -> Reply {
+    Reply { version, told }
+}
+
+// Whether the reply's text has this status, the lines that each reply has, and this body.
+fn has_text(alloc: Global, airport: &Airport, reply: &Reply, status: &str, body: &str) -> bool {
     let bytes = match &reply.told {
         Told::Edit(EditFault::Memory) => return false,
         Told::Visit(visit) if !is_new_visit(visit) => return false,
         Told::Added { .. }
         | Told::Committed { .. }
+        | Told::Message { .. }
+        | Told::Reported { .. }
+        | Told::Cancelled
         | Told::Version
         | Told::Visit(_)
         | Told::NoVisit
         | Told::Ahead
         | Told::Full
         | Told::OtherName { .. }
-        | Told::Edit(_) => reply_bytes(alloc, airport, reply),
+        | Told::Edit(_)
+        | Told::Denied(_) => reply_bytes(alloc, airport, reply),
     };
-    match (bytes, format!(in alloc; "{head}\r\n\r\n{body}")) {
+    let want = format!(in alloc;
+        "HTTP/1.1 {status}\r\nContent-Type: application/json\r\nContent-Length: {}\r\nX-Version: {}\r\n\r\n{body}",
+        body.len(),
+        reply.version
+    );
+    match (bytes, want) {
         (Ok(bytes), Ok(want)) => bytes.as_slice() == want.as_bytes(),
         _ => false,
     }

@@ -1,11 +1,11 @@
 -- Commits are read just as they are spelt.
-use Rattle.std.proofs.Common.{◌≡◌, ℕ, zero, suc, cond, subst, ◌+◌, ◌*◌, ◌^◌, ◌<◌, ◌≤◌, Bool, true, List, [], ◌∷◌, ◌++◌, length, Option, Some, None, refl, sym, ap, ◌∙◌, append_assoc, arith}
+use Rattle.std.proofs.Common.{◌≡◌, ℕ, zero, suc, cond, subst, ◌*◌, ◌^◌, ◌<◌, ◌≤◌, true, List, [], ◌∷◌, ◌++◌, length, Option, Some, None, refl, sym, ap, ◌∙◌, append_assoc, arith}
 use Rattle.std.specs.List.{flat_map, AllByRecursion}
-use Rattle.std.specs.Prelude.{◌&&◌, ◌==◌, All, IsSome, nat_lt, nat_le}
+use Rattle.std.specs.Prelude.{◌&&◌, ◌==◌, All, IsSome, nat_le}
 use Rattle.std.specs.Int.{w16, w32, to_le_bytes}
 use Rattle.std.proofs.lemmas.Bool.{eqb-true, and_parts, and_from, leb-true, le-leb}
 use Rattle.std.proofs.lemmas.List.{append-nil}
-use Rattle.std.proofs.lemmas.List.Elements.{All-from_recursion, All-head, All-tail}
+use Rattle.std.proofs.lemmas.List.Elements.{All-head, All-tail}
 use Rattle.apron_base.specs.Name.{IsName}
 use Rattle.apron_base.specs.declared.numbers.VisitNo.{VisitNo}
 use Rattle.apron_rules.specs.declared.parts.AirportParts.{AirportParts}
@@ -13,16 +13,16 @@ use Rattle.visit_book.specs.Edits.{most_edits, part_of, visit_of}
 use Rattle.visit_book.specs.declared.edits.Edit.{Edit}
 use Rattle.visit_book.specs.declared.edits.Edit.TheVariants.{Put, Lift, Cut, Join}
 use Rattle.desk_words.specs.declared.asks.Command.{Command}
-use Rattle.desk_words.specs.declared.asks.Command.TheVariants.{AddVisit, Commit}
+use Rattle.desk_words.specs.declared.asks.Command.TheVariants.{AddVisit, Commit, Message, Report, Cancel}
 use Rattle.entry_bytes.specs.declared.faults.EntryFault.TheVariants.{BadField}
 use Rattle.visit_book.specs.Edits.{IsEditOf}
-use Rattle.entry_bytes.specs.Widths.{CommitFits, EditFits}
+use Rattle.entry_bytes.specs.Widths.{EditFits}
 use Rattle.entry_bytes.specs.Commits.{commit_at, commit_text, cut_at, edit_at, edit_text, edit_of, edits_at, join_at, lift_at, part_text, put_at}
 use Rattle.entry_bytes.specs.Keys.{sized_text}
-use Rattle.entry_bytes.specs.Readings.{Reading, byte, number, repeated, such_that}
+use Rattle.entry_bytes.specs.Readings.{Reading, byte, number, such_that}
 use Rattle.entry_bytes.proofs.Fields.{byte-spells, byte-front, name-spells, number-spells, wide32}
 use Rattle.entry_bytes.proofs.VisitsSpelt.{IsBelow, place-spells}
-use Rattle.entry_bytes.proofs.Spells.{Announces, Announces-or, AreSpelt, Spells, Spells-as, Spells-give, Spells-repeated, Spells-such, Spells-tagged, Spells-then, summed}
+use Rattle.entry_bytes.proofs.Spells.{Announces, Announces-or, Spells, Spells-as, Spells-give, Spells-repeated, Spells-such, Spells-tagged, Spells-then, summed}
 
 -- an edit at an airport, whose numbers are of their types
 abbrev pub IsEditSpelt : AirportParts → Edit → Type 0
@@ -258,20 +258,20 @@ edits-spells airport = Spells-as (λ edits. length edits ∷ flat_map edit_text 
 -- ---- the whole
 
 abbrev desk_in : Command → List ℕ
-desk_in (AddVisit new) = []
 desk_in (Commit desk draft base edits) = desk
+desk_in command = []
 
 abbrev draft_in : Command → ℕ
-draft_in (AddVisit new) = 0
 draft_in (Commit desk draft base edits) = draft
+draft_in command = 0
 
 abbrev base_in : Command → ℕ
-base_in (AddVisit new) = 0
 base_in (Commit desk draft base edits) = base
+base_in command = 0
 
 abbrev edits_in : Command → List Edit
-edits_in (AddVisit new) = []
 edits_in (Commit desk draft base edits) = edits
+edits_in command = []
 
 -- a commit at an airport, whose numbers and name are of their types
 pub record IsCommitSpelt (airport : AirportParts) (name : List ℕ) (number made_over : ℕ) (changes : List Edit) : Type 0 where
@@ -281,12 +281,28 @@ pub record IsCommitSpelt (airport : AirportParts) (name : List ℕ) (number made
   pub edits : AreEditsSpelt airport changes
 
 abbrev pub IsCommitOf : AirportParts → Command → Type 0
-IsCommitOf airport (AddVisit new) = ⊥
 IsCommitOf airport (Commit desk draft base edits) = IsCommitSpelt airport desk draft base edits
+IsCommitOf airport command = ⊥
 
 abbrev pub commit_back : Command → List ℕ
-commit_back (AddVisit new) = []
 commit_back (Commit desk draft base edits) = commit_text desk draft base edits
+commit_back command = []
+
+-- what a command is made of that is a commit
+pub record Committed (airport : AirportParts) (command : Command) : Type 0 where
+  pub desk : List ℕ
+  pub draft : ℕ
+  pub base : ℕ
+  pub edits : List Edit
+  pub spelt : IsCommitSpelt airport desk draft base edits
+  pub made : command ≡ Commit desk draft base edits
+
+pub is_commit : (airport : AirportParts) (command : Command) → IsCommitOf airport command → Committed airport command
+is_commit airport (AddVisit new) h = absurd h
+is_commit airport (Commit d n b e) h = record { desk = d; draft = n; base = b; edits = e; spelt = h; made = refl }
+is_commit airport (Message message) h = absurd h
+is_commit airport (Report visit event) h = absurd h
+is_commit airport (Cancel visit) h = absurd h
 
 abbrev OfDesk : AirportParts → List ℕ → Command → Type 0
 OfDesk airport desk command = (desk_in command ≡ desk) × IsCommitOf airport command
@@ -297,35 +313,39 @@ OfDraft airport desk draft command = (draft_in command ≡ draft) × OfDesk airp
 abbrev OfBase : AirportParts → List ℕ → ℕ → ℕ → Command → Type 0
 OfBase airport desk draft base command = (base_in command ≡ base) × OfDraft airport desk draft command
 
+same_commit : (d desk : List ℕ) (n draft b base : ℕ) (e edits : List Edit) → d ≡ desk → n ≡ draft → b ≡ base → e ≡ edits → Commit d n b e ≡ Commit desk draft base edits
+same_commit d desk n draft b base e edits one two three four = cc
+
 only_commit : (airport : AirportParts) (desk : List ℕ) (draft base : ℕ) (edits : List Edit) (command : Command) → (edits_in command ≡ edits) × OfBase airport desk draft base command → command ≡ Commit desk draft base edits
-only_commit airport desk draft base edits (AddVisit new) h = absurd h.1.1.1.1
-only_commit airport desk draft base edits (Commit d n b e) h =
-    let one : d ≡ desk = h.1.1.1.0 in
-    let two : n ≡ draft = h.1.1.0 in
-    let three : b ≡ base = h.1.0 in
-    let four : e ≡ edits = h.0 in
-    cc
+only_commit airport desk draft base edits command h =
+    let c = is_commit airport command h.1.1.1.1 in
+    c.made
+    ∙ same_commit c.desk desk c.draft draft c.base base c.edits edits (sym (ap desk_in c.made) ∙ h.1.1.1.0) (sym (ap draft_in c.made) ∙ h.1.1.0)
+    (sym (ap base_in c.made) ∙ h.1.0) (sym (ap edits_in c.made) ∙ h.0)
 
 desk_name : (airport : AirportParts) (command : Command) → IsCommitOf airport command → IsName (desk_in command)
-desk_name airport (AddVisit new) h = absurd h
-desk_name airport (Commit d n b e) h = h.desk
+desk_name airport command h = let c = is_commit airport command h in subst (λ x. IsName (desk_in x)) (sym c.made) c.spelt.desk
 
 draft_below : (airport : AirportParts) (command : Command) → IsCommitOf airport command → draft_in command < 2 ^ 32
-draft_below airport (AddVisit new) h = absurd h
-draft_below airport (Commit d n b e) h = h.draft
+draft_below airport command h = let c = is_commit airport command h in subst (λ x. draft_in x < 2 ^ 32) (sym c.made) c.spelt.draft
 
 base_below : (airport : AirportParts) (command : Command) → IsCommitOf airport command → base_in command < 2 ^ 32
-base_below airport (AddVisit new) h = absurd h
-base_below airport (Commit d n b e) h = h.base
+base_below airport command h = let c = is_commit airport command h in subst (λ x. base_in x < 2 ^ 32) (sym c.made) c.spelt.base
 
 edits_spelt : (airport : AirportParts) (command : Command) → IsCommitOf airport command → AreEditsSpelt airport (edits_in command)
-edits_spelt airport (AddVisit new) h = absurd h
-edits_spelt airport (Commit d n b e) h = h.edits
+edits_spelt airport command h = let c = is_commit airport command h in subst (λ x. AreEditsSpelt airport (edits_in x)) (sym c.made) c.spelt.edits
 
-commit_same : (airport : AirportParts) (command : Command) → IsCommitOf airport command → commit_back command
-    ≡ sized_text (desk_in command) ++ (to_le_bytes w32 (draft_in command) ++ (to_le_bytes w32 (base_in command) ++ (length (edits_in command) ∷ flat_map edit_text (edits_in command) ++ [])))
-commit_same airport (AddVisit new) h = absurd h
-commit_same airport (Commit d n b e) h = simp (append_assoc, append-nil) refl
+abbrev back_in : Command → List ℕ
+back_in command =
+    sized_text (desk_in command) ++ (to_le_bytes w32 (draft_in command) ++ (to_le_bytes w32 (base_in command) ++ (length (edits_in command) ∷ flat_map edit_text (edits_in command) ++ [])))
+
+regrouped : (desk : List ℕ) (draft base : ℕ) (edits : List Edit) → commit_back (Commit desk draft base edits) ≡ back_in (Commit desk draft base edits)
+regrouped desk draft base edits = simp (append_assoc, append-nil) refl
+
+commit_same : (airport : AirportParts) (command : Command) → IsCommitOf airport command → commit_back command ≡ back_in command
+commit_same airport command h =
+    let c = is_commit airport command h in
+    subst (λ x. commit_back x ≡ back_in x) (sym c.made) (regrouped c.desk c.draft c.base c.edits)
 
 pub commit-spells : (airport : AirportParts) → Spells (commit_at airport) commit_back (IsCommitOf airport) 662
 unfolding commit_at

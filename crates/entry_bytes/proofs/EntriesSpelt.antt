@@ -1,17 +1,21 @@
 -- Entries are read just as they are spelt.
-use Rattle.std.proofs.Common.{◌≡◌, ℕ, zero, suc, ◌+◌, ◌^◌, ◌<◌, ◌≤◌, Bool, true, false, cond, eqb, List, [], ◌∷◌, ◌++◌, length, Option, Some, None, Result, Ok, Err, refl, sym, ap, subst, ◌∙◌, append_assoc, inl, inr, arith}
+use Rattle.std.proofs.Common.{◌≡◌, ℕ, ◌+◌, ◌^◌, ◌<◌, ◌≤◌, Bool, true, false, cond, eqb, List, [], ◌∷◌, ◌++◌, length, Option, Some, None, Result, Ok, Err, refl, sym, ap, subst, ◌∙◌, inl, inr, arith}
 use Rattle.std.specs.List.{AllByRecursion}
 use Rattle.std.specs.Prelude.{◌⊎◌, ◌==◌, All, IsSome, nat_lt}
-use Rattle.std.specs.Int.{w64, to_le_bytes}
+use Rattle.std.specs.Int.{w32, w64, to_le_bytes}
 use Rattle.std.proofs.lemmas.Bool.{eqb-true, ltb-true, lt-ltb}
 use Rattle.std.proofs.lemmas.List.{append-nil, nil_from_length}
 use Rattle.std.proofs.lemmas.List.Elements.{All-from_recursion, All-head, All-tail}
 use Rattle.apron_base.specs.declared.machine.TheConstants.{CALL_END}
+use Rattle.apron_base.specs.declared.numbers.VisitNo.{VisitNo}
 use Rattle.apron_rules.specs.declared.parts.AirportParts.{AirportParts}
+use Rattle.mvt_grammar.specs.Readable.{IsReadable}
+use Rattle.mvt_grammar.specs.declared.message.Mvt.{Mvt}
 use Rattle.visit_book.specs.declared.edits.Edit.{Edit}
+use Rattle.visit_book.specs.declared.reports.Event.{Event}
 use Rattle.visit_book.specs.declared.visits.NewVisit.{NewVisit}
 use Rattle.desk_words.specs.declared.asks.Command.{Command}
-use Rattle.desk_words.specs.declared.asks.Command.TheVariants.{AddVisit, Commit}
+use Rattle.desk_words.specs.declared.asks.Command.TheVariants.{AddVisit, Commit, Message, Report, Cancel}
 use Rattle.desk_words.specs.declared.asks.Entry.{Entry}
 use Rattle.entry_bytes.specs.declared.faults.EntryFault.{EntryFault}
 use Rattle.entry_bytes.specs.declared.faults.EntryFault.TheVariants.{BadField, BadKind, TrailingBytes}
@@ -25,70 +29,155 @@ use Rattle.entry_bytes.specs.Commits.{commit_at, commit_text}
 use Rattle.entry_bytes.specs.Entries.{command_at, command_text, decoded, entry_at, entry_text, fields_of, with_none_left}
 use Rattle.entry_bytes.specs.Faults.{IsWithin, fault_of}
 use Rattle.entry_bytes.specs.Laws.{AreBytes}
+use Rattle.entry_bytes.specs.Messages.{message_at, message_text}
 use Rattle.entry_bytes.specs.NewVisits.{new_visit_at, new_visit_text}
 use Rattle.entry_bytes.specs.Readings.{Left, Reading, ◌>>=◌, give, number, such_that}
-use Rattle.entry_bytes.proofs.Fields.{byte-spells, byte-front, number-spells, number-front, wide64}
-use Rattle.entry_bytes.proofs.VisitsSpelt.{IsVisitOf, new_visit-spells, visit_of}
-use Rattle.entry_bytes.proofs.CommitsSpelt.{AreEditsSpelt, IsCommitOf, IsCommitSpelt, IsEditSpelt, commit-spells, commit_back}
-use Rattle.entry_bytes.proofs.Spells.{Announces, Announces-or, IsWithin-wider, Spells, Spells-as, Spells-give, Spells-such, Spells-tagged, Spells-then, err_is, left_at, ok_is}
+use Rattle.entry_bytes.specs.Reports.{cancel_at, event_text, report_at, report_text}
+use Rattle.entry_bytes.proofs.Fields.{byte-spells, byte-front, number-spells, number-front, wide32, wide64}
+use Rattle.entry_bytes.proofs.VisitsSpelt.{IsVisitOf, new_visit-spells}
+use Rattle.entry_bytes.proofs.CommitsSpelt.{IsCommitOf, IsCommitSpelt, IsEditSpelt, commit-spells, commit_back, is_commit}
+use Rattle.entry_bytes.proofs.EventsSpelt.{IsEventSpelt, event-spells}
+use Rattle.entry_bytes.proofs.MessagesSpelt.{message-spells}
+use Rattle.entry_bytes.proofs.Spells.{Announces, Announces-or, IsWithin-wider, Spells, Spells-as, Spells-give, Spells-made, Spells-such, Spells-tagged, Spells-then, err_is, left_at, ok_is}
 
 abbrev kind_of : Command → ℕ
 kind_of (AddVisit new) = 1
 kind_of (Commit desk draft base edits) = 2
+kind_of (Message message) = 3
+kind_of (Report visit event) = 4
+kind_of (Cancel visit) = 5
 
 abbrev back_of : Command → List ℕ
 back_of (AddVisit new) = new_visit_text new
 back_of (Commit desk draft base edits) = commit_text desk draft base edits
-
-abbrev new_in : Command → NewVisit
-new_in (AddVisit new) = new
-new_in (Commit desk draft base edits) = visit_of [] 0 0 0 0 None None
+back_of (Message message) = message_text message
+back_of (Report visit event) = report_text visit event
+back_of (Cancel visit) = to_le_bytes w32 visit.0
 
 -- a command at an airport, whose numbers and names are of their types
 abbrev IsSpelt : AirportParts → Command → Type 0
 IsSpelt airport (AddVisit new) = IsVisitOf airport new
 IsSpelt airport (Commit desk draft base edits) = IsCommitSpelt airport desk draft base edits
+IsSpelt airport (Message message) = IsReadable message
+IsSpelt airport (Report visit event) = (visit.0 < 2 ^ 32) × IsEventSpelt airport event
+IsSpelt airport (Cancel visit) = visit.0 < 2 ^ 32
 
 abbrev HasKind : AirportParts → ℕ → Command → Type 0
 HasKind airport kind command = (kind_of command ≡ kind) × IsSpelt airport command
 
+abbrev visit_no : ℕ → VisitNo
+visit_no number = record { 0 = number }
+
+-- the fields of a kind, which no command has more of than a commit
+among : (airport : AirportParts) (kind few : ℕ) (fields : Reading Command) → few ≤ 662 → Spells fields back_of (HasKind airport kind) few
+    → Spells fields back_of (HasKind airport kind) 662
+among airport kind few fields le s = Spells-as back_of (HasKind airport kind) 662 s (λ command h. h) (λ command h. h) (λ command h. refl) le
+
 -- ---- kind 1
 
-only_visit : (airport : AirportParts) (new : NewVisit) (command : Command) → (new_in command ≡ new) × HasKind airport 1 command → command ≡ AddVisit new
-only_visit airport new (AddVisit other) h = ap AddVisit h.0
-only_visit airport new (Commit desk draft base edits) h = absurd (omega (arith, h.1.0))
+is_visit : (airport : AirportParts) (command : Command) → HasKind airport 1 command → (new : NewVisit) × IsVisitOf airport new × (command ≡ AddVisit new)
+is_visit airport (AddVisit new) h = (new, h.1, refl)
+is_visit airport (Commit desk draft base edits) h = absurd (omega (arith, h.0))
+is_visit airport (Message message) h = absurd (omega (arith, h.0))
+is_visit airport (Report visit event) h = absurd (omega (arith, h.0))
+is_visit airport (Cancel visit) h = absurd (omega (arith, h.0))
 
-visit_there : (airport : AirportParts) (command : Command) → HasKind airport 1 command → IsVisitOf airport (new_in command)
-visit_there airport (AddVisit new) h = h.1
-visit_there airport (Commit desk draft base edits) h = absurd (omega (arith, h.0))
-
-visit_same : (airport : AirportParts) (command : Command) → HasKind airport 1 command → back_of command ≡ new_visit_text (new_in command) ++ []
-visit_same airport (AddVisit new) h = sym (append-nil (new_visit_text new))
-visit_same airport (Commit desk draft base edits) h = absurd (omega (arith, h.0))
-
-visit-spells : (airport : AirportParts) → Spells (new_visit_at airport >>= λ new. give (AddVisit new)) back_of (HasKind airport 1) 662
-visit-spells airport = Spells-as back_of (HasKind airport 1) 662
-    (Spells-then new_in (HasKind airport 1) (new_visit-spells airport)
-    (λ new h. Spells-give (AddVisit new) (λ command. (new_in command ≡ new) × HasKind airport 1 command) (refl, (refl, h)) (λ command e. only_visit airport new command e))
-    (visit_there airport))
-    (λ command h. h) (λ command h. h) (visit_same airport) (omega arith)
+visit-spells : (airport : AirportParts) → Spells (new_visit_at airport >>= λ new. give (AddVisit new)) back_of (HasKind airport 1) 42
+visit-spells airport = Spells-made AddVisit back_of (HasKind airport 1) (new_visit-spells airport) (λ new h. (refl, h)) (is_visit airport) (λ new. refl)
 
 -- ---- kind 2
 
 commit_there : (airport : AirportParts) (command : Command) → IsCommitOf airport command → HasKind airport 2 command
-commit_there airport (AddVisit new) h = absurd h
-commit_there airport (Commit desk draft base edits) h = (refl, h)
+commit_there airport command h = let c = is_commit airport command h in subst (HasKind airport 2) (sym c.made) (refl, c.spelt)
 
 commit_here : (airport : AirportParts) (command : Command) → HasKind airport 2 command → IsCommitOf airport command
 commit_here airport (AddVisit new) h = absurd (omega (arith, h.0))
 commit_here airport (Commit desk draft base edits) h = h.1
+commit_here airport (Message message) h = absurd (omega (arith, h.0))
+commit_here airport (Report visit event) h = absurd (omega (arith, h.0))
+commit_here airport (Cancel visit) h = absurd (omega (arith, h.0))
 
 commit_same : (airport : AirportParts) (command : Command) → HasKind airport 2 command → back_of command ≡ commit_back command
-commit_same airport (AddVisit new) h = absurd (omega (arith, h.0))
-commit_same airport (Commit desk draft base edits) h = refl
+commit_same airport command h =
+    let c = is_commit airport command (commit_here airport command h) in
+    subst (λ x. back_of x ≡ commit_back x) (sym c.made) refl
 
 second-spells : (airport : AirportParts) → Spells (commit_at airport) back_of (HasKind airport 2) 662
 second-spells airport = Spells-as back_of (HasKind airport 2) 662 (commit-spells airport) (commit_there airport) (commit_here airport) (commit_same airport) (omega arith)
+
+-- ---- kind 3
+
+is_message : (airport : AirportParts) (command : Command) → HasKind airport 3 command → (message : Mvt) × IsReadable message × (command ≡ Message message)
+is_message airport (AddVisit new) h = absurd (omega (arith, h.0))
+is_message airport (Commit desk draft base edits) h = absurd (omega (arith, h.0))
+is_message airport (Message message) h = (message, h.1, refl)
+is_message airport (Report visit event) h = absurd (omega (arith, h.0))
+is_message airport (Cancel visit) h = absurd (omega (arith, h.0))
+
+third-spells : (airport : AirportParts) → Spells (message_at >>= λ message. give (Message message)) back_of (HasKind airport 3) 86
+third-spells airport = Spells-made Message back_of (HasKind airport 3) message-spells (λ message h. (refl, h)) (is_message airport) (λ message. refl)
+
+-- ---- kind 4
+
+abbrev number_in : Command → ℕ
+number_in (Report visit event) = visit.0
+number_in command = 0
+
+abbrev event_back : Command → List ℕ
+event_back (Report visit event) = event_text event
+event_back command = []
+
+-- what a command is made of that is a report
+record Reported (airport : AirportParts) (command : Command) : Type 0 where
+  number : ℕ
+  event : Event
+  below : number < 2 ^ 32
+  spelt : IsEventSpelt airport event
+  made : command ≡ Report (visit_no number) event
+
+is_report : (airport : AirportParts) (command : Command) → HasKind airport 4 command → Reported airport command
+is_report airport (AddVisit new) h = absurd (omega (arith, h.0))
+is_report airport (Commit desk draft base edits) h = absurd (omega (arith, h.0))
+is_report airport (Message message) h = absurd (omega (arith, h.0))
+is_report airport (Report visit event) h = record { number = visit.0; event = event; below = h.1.0; spelt = h.1.1; made = refl }
+is_report airport (Cancel visit) h = absurd (omega (arith, h.0))
+
+number_below : (airport : AirportParts) (command : Command) → HasKind airport 4 command → number_in command < 2 ^ 32
+number_below airport command h = let r = is_report airport command h in subst (λ x. number_in x < 2 ^ 32) (sym r.made) r.below
+
+of_visit : (airport : AirportParts) (number : ℕ) (command : Command) → (number_in command ≡ number) × HasKind airport 4 command
+    → (event : Event) × IsEventSpelt airport event × (command ≡ Report (visit_no number) event)
+of_visit airport number command h =
+    let r = is_report airport command h.1 in
+    (r.event, r.spelt, r.made ∙ ap (λ n. Report (visit_no n) r.event) (sym (ap number_in r.made) ∙ h.0))
+
+report_same : (airport : AirportParts) (command : Command) → HasKind airport 4 command → back_of command ≡ to_le_bytes w32 (number_in command) ++ event_back command
+report_same airport command h =
+    let r = is_report airport command h in
+    subst (λ x. back_of x ≡ to_le_bytes w32 (number_in x) ++ event_back x) (sym r.made) refl
+
+fourth-spells : (airport : AirportParts) → Spells (report_at airport) back_of (HasKind airport 4) 12
+unfolding report_at
+fourth-spells airport = Spells-as back_of (HasKind airport 4) 12
+    (Spells-then number_in (HasKind airport 4) (number-spells w32 (2 ^ 32) wide32)
+    (λ n b. Spells-made (Report (visit_no n)) event_back (λ command. (number_in command ≡ n) × HasKind airport 4 command) (event-spells airport)
+    (λ event e. (refl, (refl, (b, e)))) (of_visit airport n) (λ event. refl))
+    (number_below airport))
+    (λ command h. h) (λ command h. h) (report_same airport) (omega arith)
+
+-- ---- kind 5
+
+is_cancel : (airport : AirportParts) (command : Command) → HasKind airport 5 command → (number : ℕ) × (number < 2 ^ 32) × (command ≡ Cancel (visit_no number))
+is_cancel airport (AddVisit new) h = absurd (omega (arith, h.0))
+is_cancel airport (Commit desk draft base edits) h = absurd (omega (arith, h.0))
+is_cancel airport (Message message) h = absurd (omega (arith, h.0))
+is_cancel airport (Report visit event) h = absurd (omega (arith, h.0))
+is_cancel airport (Cancel visit) h = (visit.0, h.1, refl)
+
+fifth-spells : (airport : AirportParts) → Spells cancel_at back_of (HasKind airport 5) 4
+unfolding cancel_at
+fifth-spells airport =
+    Spells-made (λ n. Cancel (visit_no n)) back_of (HasKind airport 5) (number-spells w32 (2 ^ 32) wide32) (λ n h. (refl, h)) (is_cancel airport) (λ n. refl)
 
 -- ---- any command
 
@@ -99,16 +188,32 @@ at_kind : (airport : AirportParts) (kind : ℕ) → Announces (fields_of airport
 at_kind airport kind =
     let P = HasKind airport kind in
     let first : Reading Command = new_visit_at airport >>= λ new. give (AddVisit new) in
-    Announces-or (kind == 1) first (cond (kind == 2) (Some (commit_at airport)) None) back_of P 662 (kind_is airport kind 1 first (visit-spells airport))
-    (Announces-or (kind == 2) (commit_at airport) None back_of P 662 (kind_is airport kind 2 (commit_at airport) (second-spells airport)) tt)
+    let third : Reading Command = message_at >>= λ message. give (Message message) in
+    let from_5 : Option (Reading Command) = cond (kind == 5) (Some cancel_at) None in
+    let from_4 : Option (Reading Command) = cond (kind == 4) (Some (report_at airport)) from_5 in
+    let from_3 : Option (Reading Command) = cond (kind == 3) (Some third) from_4 in
+    let from_2 : Option (Reading Command) = cond (kind == 2) (Some (commit_at airport)) from_3 in
+    Announces-or (kind == 1) first from_2 back_of P 662 (kind_is airport kind 1 first (among airport 1 42 first (omega arith) (visit-spells airport)))
+    (Announces-or (kind == 2) (commit_at airport) from_3 back_of P 662 (kind_is airport kind 2 (commit_at airport) (second-spells airport))
+    (Announces-or (kind == 3) third from_4 back_of P 662 (kind_is airport kind 3 third (among airport 3 86 third (omega arith) (third-spells airport)))
+    (Announces-or (kind == 4) (report_at airport) from_5 back_of P 662
+    (kind_is airport kind 4 (report_at airport) (among airport 4 12 (report_at airport) (omega arith) (fourth-spells airport)))
+    (Announces-or (kind == 5) cancel_at None back_of P 662 (kind_is airport kind 5 cancel_at (among airport 5 4 cancel_at (omega arith) (fifth-spells airport)))
+    tt))))
 
 has_fields : (airport : AirportParts) (command : Command) → IsSpelt airport command → IsSome (fields_of airport (kind_of command))
 has_fields airport (AddVisit new) h = refl
 has_fields airport (Commit desk draft base edits) h = refl
+has_fields airport (Message message) h = refl
+has_fields airport (Report visit event) h = refl
+has_fields airport (Cancel visit) h = refl
 
 same_bytes : (command : Command) → command_text command ≡ kind_of command ∷ back_of command
 same_bytes (AddVisit new) = refl
 same_bytes (Commit desk draft base edits) = refl
+same_bytes (Message message) = refl
+same_bytes (Report visit event) = refl
+same_bytes (Cancel visit) = refl
 
 command-spells : (airport : AirportParts) → Spells (command_at airport) command_text (IsSpelt airport) 663
 unfolding command_at
@@ -134,6 +239,9 @@ said airport (Commit desk draft base edits) h =
       record { desk = h.desk; draft = h.draft; base = h.base; edits = All-from_recursion EditFits edits each.0 },
       (h.edits.count.0, h.edits.count.1, All-from_recursion (IsEditOf airport) edits each.1),
     )
+said airport (Message message) h = (tt, h)
+said airport (Report visit event) h = ((h.0, h.1.0), h.1.1)
+said airport (Cancel visit) h = (h, tt)
 
 spelt : (airport : AirportParts) (command : Command) → Fits command → IsCommandOf airport command → IsSpelt airport command
 spelt airport (AddVisit new) f h = record { fits = f; at_airport = h }
@@ -143,6 +251,9 @@ spelt airport (Commit desk draft base edits) f h = record {
   base = f.base;
   edits = record { count = (h.0, h.1); each = spelt_of airport edits f.edits h.2 };
 }
+spelt airport (Message message) f h = h
+spelt airport (Report visit event) f h = (f.0, (f.1, h))
+spelt airport (Cancel visit) f h = f
 
 -- ---- the whole
 

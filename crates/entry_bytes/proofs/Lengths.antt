@@ -1,15 +1,17 @@
 -- How long entries are.
-use Rattle.std.proofs.Common.{◌≡◌, ℕ, ◌+◌, ◌*◌, ◌≤◌, List, [], ◌∷◌, ◌++◌, length, Option, Some, None, All, length-append, arith}
+use Rattle.std.proofs.Common.{ℕ, ◌*◌, ◌≤◌, List, [], ◌∷◌, ◌++◌, length, Option, Some, None, length-append, arith}
 use Rattle.std.specs.List.{flat_map}
 use Rattle.std.specs.Prelude.{IfSome}
 use Rattle.std.specs.Int.{w16, w32, w64, to_le_bytes}
 use Rattle.visit_book.specs.NewVisits.{HasFlight, IsNewVisit}
 use Rattle.visit_book.specs.declared.edits.Edit.{Edit}
 use Rattle.visit_book.specs.declared.edits.Edit.TheVariants.{Put, Lift, Cut, Join}
+use Rattle.visit_book.specs.declared.reports.Event.{Event}
+use Rattle.visit_book.specs.declared.reports.Event.TheVariants.{On, Off}
 use Rattle.visit_book.specs.declared.visits.Key.{Key}
 use Rattle.visit_book.specs.declared.visits.NewVisit.{NewVisit}
 use Rattle.desk_words.specs.declared.asks.Command.{Command}
-use Rattle.desk_words.specs.declared.asks.Command.TheVariants.{AddVisit, Commit}
+use Rattle.desk_words.specs.declared.asks.Command.TheVariants.{AddVisit, Commit, Message, Report, Cancel}
 use Rattle.desk_words.specs.declared.asks.Entry.{Entry}
 use Rattle.desk_words.specs.Commands.{IsCommand}
 use Rattle.entry_bytes.specs.Widths.{Fits, VisitFits}
@@ -17,7 +19,9 @@ use Rattle.entry_bytes.specs.Commits.{commit_text, edit_text}
 use Rattle.entry_bytes.specs.Entries.{command_text, entry_text}
 use Rattle.entry_bytes.specs.Keys.{key_text, optional_key_text, suffix_byte, sized_text}
 use Rattle.entry_bytes.specs.NewVisits.{new_visit_text}
+use Rattle.entry_bytes.specs.Reports.{event_text}
 use Rattle.entry_bytes.proofs.KeysSpelt.{length-airline}
+use Rattle.entry_bytes.proofs.MessagesSpelt.{length-message}
 
 length-key : (key : Key) → HasFlight key → length (key_text key) ≤ 8
 length-key key h =
@@ -53,9 +57,16 @@ length-commit desk draft base edits few some =
     let begun : length fixed ≤ 22 = omega (arith, length-append desk (to_le_bytes w32 draft), length-append (desk ++ to_le_bytes w32 draft) (to_le_bytes w32 base), length-append (desk ++ to_le_bytes w32 draft ++ to_le_bytes w32 base) (length edits ∷ [])) in
     omega (arith, begun, length-append fixed (flat_map edit_text edits), length-edits edits)
 
+length-event : (event : Event) → length (event_text event) ≤ 8
+length-event (On part stand minute) = omega arith
+length-event (Off minute) = omega arith
+
 length-command : (command : Command) → Fits command → IsCommand command → length (command_text command) ≤ 663
 length-command (AddVisit new) f h = let one = length-new_visit new f h in omega arith
 length-command (Commit desk draft base edits) f h = let one = length-commit desk draft base edits f.desk.few h.1 in omega arith
+length-command (Message message) f h = let one = length-message message h in omega arith
+length-command (Report visit event) f h = let one = length-event event in omega arith
+length-command (Cancel visit) f h = omega arith
 
 -- an entry has at most 671 bytes
 pub length-entry : (entry : Entry) → Fits entry.command → IsCommand entry.command → length (entry_text entry) ≤ 671

@@ -3,6 +3,8 @@ pub mod Fields
 pub mod KeysSpelt
 pub mod VisitsSpelt
 pub mod CommitsSpelt
+pub mod MessagesSpelt
+pub mod EventsSpelt
 pub mod EntriesSpelt
 pub mod Loops
 pub mod Lengths

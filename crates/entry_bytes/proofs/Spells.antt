@@ -1,12 +1,12 @@
 -- Readings that read just what is spelt, made of one another.
-use Rattle.std.proofs.Common.{◌≡◌, ℕ, zero, suc, ◌+◌, ◌*◌, ◌≤◌, ◌<◌, Bool, true, false, cond, List, [], ◌∷◌, ◌++◌, length, Option, Some, None, Result, Ok, Err, refl, sym, ap, subst, ◌∙◌, append_assoc, length-append, inl, inr, arith}
+use Rattle.std.proofs.Common.{◌≡◌, ℕ, zero, suc, ◌+◌, ◌≤◌, Bool, true, false, cond, List, [], ◌∷◌, ◌++◌, length, Option, Some, None, Result, Ok, Err, refl, sym, ap, subst, ◌∙◌, append_assoc, length-append, inl, inr, arith}
 use Rattle.std.specs.Prelude.{◌⊎◌, MatchOption, IsSome}
 use Rattle.std.specs.List.{flat_map, AllByRecursion}
 use Rattle.entry_bytes.specs.declared.faults.EntryFault.{EntryFault}
 use Rattle.entry_bytes.specs.declared.faults.EntryFault.TheVariants.{BadKind, BadField, TrailingBytes, Memory}
 use Rattle.entry_bytes.specs.Faults.{IsWithin}
 use Rattle.entry_bytes.specs.Laws.{AreBytes}
-use Rattle.entry_bytes.specs.Readings.{Left, Reading, going_on, ◌>>=◌, give, bad_at, such_that, byte, announced, tagged, repeated}
+use Rattle.entry_bytes.specs.Readings.{Left, Reading, going_on, ◌>>=◌, give, given, bad_at, such_that, telling, byte, announced, tagged, repeated}
 
 abbrev pub left_at : ℕ → List ℕ → Left
 left_at at bytes = record { at = at; bytes = bytes }
@@ -101,6 +101,34 @@ Spells-then {A} {B} {field} {next} {front} {back} {P} {first} {second} get Q s t
   ];
 }
 
+made_again : {A B : Type 0} (field : Reading A) (spelt : A → List ℕ) (P : A → Type 0) (most : ℕ) (made : A → B) (back : B → List ℕ) → Spells field spelt P most
+    → ((x : A) → back (made x) ≡ spelt x) → (x : A) (at : ℕ) (more : List ℕ) → P x
+    → going_on (field (left_at at (back (made x) ++ more))) (λ value. give (made value)) ≡ Ok (made x, left_at (at + length (back (made x))) more)
+made_again field spelt P most made back s same x at more p =
+    subst (λ t. going_on (field (left_at at (t ++ more))) (λ value. give (made value)) ≡ Ok (made x, left_at (at + length t) more)) (sym (same x))
+    (ap (λ r. going_on r (λ value. give (made value))) (s.again x at more p))
+
+-- what is made of the values of a reading
+pub Spells-made : {A B : Type 0} {field : Reading A} {spelt : A → List ℕ} {P : A → Type 0} {most : ℕ} (made : A → B) (back : B → List ℕ) (Q : B → Type 0)
+    → Spells field spelt P most → ((x : A) → P x → Q (made x)) → ((y : B) → Q y → (x : A) × P x × (y ≡ made x)) → ((x : A) → back (made x) ≡ spelt x)
+    → Spells (field >>= λ value. give (made value)) back Q most
+Spells-made {A} {B} {field} {spelt} {P} {most} made back Q s there from same = record {
+  takes = λ left read fits e.
+      let b = going_on-ok (field left) (λ value. give (made value)) read e in
+      let one = s.takes left b.0 fits b.1 in
+      let taken : Takes left (back (made b.0.0)) b.0.1 = subst (λ t. Takes left t b.0.1) (sym (same b.0.0)) one.0 in
+      subst (λ r. Takes left (back r.0) r.1 × Q r.0) (ok_is (made b.0.0, b.0.1) read b.2) (taken, there b.0.0 one.1);
+  again = λ y at more q.
+      let m = from y q in
+      subst (λ z. going_on (field (left_at at (back z ++ more))) (λ value. give (made value)) ≡ Ok (z, left_at (at + length (back z)) more)) (sym m.2)
+      (made_again field spelt P most made back s same m.0 at more m.1);
+  short = λ y q. let m = from y q in subst (λ t. length t ≤ most) (sym (ap back m.2 ∙ same m.0)) (s.short m.0 m.1);
+  near = λ left fault fits e. elim (going_on-err (field left) (λ value. give (made value)) fault e) [
+    | inl bad ↦ s.near left fault fits bad
+    | inr (x, good, bad) ↦ absurd cc
+  ];
+}
+
 -- the same reading of values of the same kind, said otherwise
 pub Spells-as : {A : Type 0} {field : Reading A} {spelt : A → List ℕ} {P : A → Type 0} {most : ℕ} (told : A → List ℕ) (Q : A → Type 0) (more : ℕ)
     → Spells field spelt P most → ((x : A) → P x → Q x) → ((x : A) → Q x → P x) → ((x : A) → Q x → told x ≡ spelt x) → most ≤ more → Spells field told Q more
@@ -145,6 +173,39 @@ Spells-such test field spelt P Q most few s front there back tested shorter = re
   near = λ left fault fits e. elim (going_on-err (field left) (λ value. cond (test value) (give value) (bad_at left.at)) fault e) [
     | inl bad ↦ IsWithin-wider left.at (left.at + few) fault (omega arith) (front left fault bad)
     | inr (x, good, bad) ↦ IsWithin-wider left.at (left.at + few) fault (omega arith) (such_err (test x.0) x.0 left.at x.1 fault bad)
+  ];
+}
+
+-- ---- fields that tell something
+
+given_ok : {A : Type 0} (value : Option A) (at : ℕ) (left : Left) (read : A × Left) → given at value left ≡ Ok read → (value ≡ Some read.0) × (left ≡ read.1)
+given_ok None at left read e = absurd cc
+given_ok (Some x) at left read e = let same = ok_is (x, left) read e in (ap (λ r. Some r.0) same, ap (λ r. r.1) same)
+
+given_err : {A : Type 0} (value : Option A) (at : ℕ) (left : Left) (fault : EntryFault) → given at value left ≡ Err fault → IsWithin at fault
+given_err {A} None at left fault e = let le : at ≤ at = omega arith in subst (IsWithin at) (err_is {A = A × Left} (BadField at) fault e) le
+given_err (Some x) at left fault e = absurd cc
+
+pub Spells-told : {A B : Type 0} (told : A → Option B) (field : Reading A) (spelt : A → List ℕ) (P : A → Type 0) (text_of : B → A) (Q : B → Type 0) (most few : ℕ)
+    → Spells field spelt P most → IsAtFront field
+    → ((x : A) (y : B) → P x → told x ≡ Some y → (x ≡ text_of y) × Q y) → ((y : B) → Q y → P (text_of y)) → ((y : B) → Q y → told (text_of y) ≡ Some y)
+    → ((y : B) → Q y → length (spelt (text_of y)) ≤ few)
+    → Spells (telling told field) (λ y. spelt (text_of y)) Q few
+Spells-told told field spelt P text_of Q most few s front there back tells shorter = record {
+  takes = λ left read fits e.
+      let b = going_on-ok (field left) (λ value. given left.at (told value)) read e in
+      let one = s.takes left b.0 fits b.1 in
+      let c = given_ok (told b.0.0) left.at b.0.1 read b.2 in
+      let d = there b.0.0 read.0 one.1 c.0 in
+      let taken : Takes left (spelt (text_of read.0)) b.0.1 = subst (λ x. Takes left (spelt x) b.0.1) d.0 one.0 in
+      (subst (λ rest. Takes left (spelt (text_of read.0)) rest) c.1 taken, d.1);
+  again = λ y at more q.
+      ap (λ r. going_on r (λ value. given at (told value))) (s.again (text_of y) at more (back y q))
+      ∙ ap (λ o. given at o (left_at (at + length (spelt (text_of y))) more)) (tells y q);
+  short = shorter;
+  near = λ left fault fits e. elim (going_on-err (field left) (λ value. given left.at (told value)) fault e) [
+    | inl bad ↦ IsWithin-wider left.at (left.at + few) fault (omega arith) (front left fault bad)
+    | inr (x, good, bad) ↦ IsWithin-wider left.at (left.at + few) fault (omega arith) (given_err (told x.0) left.at x.1 fault bad)
   ];
 }
 

@@ -1,5 +1,5 @@
 -- What a visit is added with is read just as it is spelt.
-use Rattle.std.proofs.Common.{◌≡◌, ℕ, ◌+◌, ◌*◌, ◌^◌, ◌<◌, ◌≤◌, Bool, true, false, List, [], ◌∷◌, ◌++◌, length, Option, Some, None, refl, sym, ap, ◌∙◌, append_assoc, arith}
+use Rattle.std.proofs.Common.{◌≡◌, ℕ, ◌+◌, ◌^◌, ◌<◌, ◌≤◌, Bool, true, List, [], ◌∷◌, ◌++◌, length, Option, Some, None, refl, sym, ap, ◌∙◌, append_assoc, arith}
 use Rattle.std.specs.List.{list_all}
 use Rattle.std.specs.Prelude.{◌&&◌, IfSome, nat_lt, nat_le, option_to_list}
 use Rattle.std.specs.Int.{w16, w32, to_le_bytes}
@@ -17,7 +17,7 @@ use Rattle.entry_bytes.specs.Keys.{optional_key_text, sized_text}
 use Rattle.entry_bytes.specs.NewVisits.{is_off_of, new_visit_at, new_visit_text}
 use Rattle.entry_bytes.specs.Readings.{byte, number, such_that}
 use Rattle.entry_bytes.proofs.Fields.{byte-spells, byte-front, name-spells, number-spells, number-front, wide16, wide32}
-use Rattle.entry_bytes.proofs.KeysSpelt.{AreKeysOf, IsKeyOf, optional_key-spells}
+use Rattle.entry_bytes.proofs.KeysSpelt.{AreKeysOf, optional_key-spells}
 use Rattle.entry_bytes.proofs.Spells.{Spells, Spells-as, Spells-give, Spells-such, Spells-then}
 
 -- what a visit is added with at an airport, and that its numbers and its name are of their types
@@ -112,7 +112,7 @@ minute-spells test = Spells-such test (number w32) (to_le_bytes w32) (λ n. n < 
 
 -- ---- the whole
 
-abbrev pub visit_of : List ℕ → ℕ → ℕ → ℕ → ℕ → Option Key → Option Key → NewVisit
+abbrev visit_of : List ℕ → ℕ → ℕ → ℕ → ℕ → Option Key → Option Key → NewVisit
 visit_of name kind class on off arr dep = record { name = name; kind = record { 0 = kind }; class = class; on = on; off = off; arr = arr; dep = dep }
 
 same_visit : (a a' : List ℕ) (k k' c c' n n' f f' : ℕ) (r r' d d' : Option Key) → a ≡ a' → k ≡ k' → c ≡ c' → n ≡ n' → f ≡ f' → r ≡ r' → d ≡ d'

@@ -2,6 +2,8 @@ pub mod Readings
 pub mod Keys
 pub mod NewVisits
 pub mod Commits
+pub mod Messages
+pub mod Reports
 pub mod Entries
 pub mod Widths
 pub mod Faults

@@ -1,5 +1,5 @@
 -- Bytes that are read from left to right, a field at a time, up to the first fault.
-use Rattle.std.specs.Prelude.{ℕ, zero, suc, ◌+◌, nat_lt, Bool, List, [], ◌∷◌, ◌++◌, length, take, drop, Option, Some, None, Result, Ok, Err, if◌then◌else◌}
+use Rattle.std.specs.Prelude.{ℕ, zero, suc, ◌+◌, nat_lt, Bool, List, [], ◌∷◌, length, take, drop, Option, Some, None, Result, Ok, Err, if◌then◌else◌}
 use Rattle.std.specs.Int.{Width, byte_len, from_le_bytes}
 use Rattle.apron_base.specs.Name.{is_name}
 use Rattle.entry_bytes.specs.declared.faults.EntryFault.{EntryFault}
@@ -35,6 +35,15 @@ bad_at at = λ left. Err (BadField at)
 -- a field in its form
 abbrev pub such_that : {A : Type 0} → (A → Bool) → Reading A → Reading A
 such_that test field = λ left. going_on (field left) (λ value. if test value then give value else bad_at left.at)
+
+-- what there is, or the field that begins at this place is bad
+abbrev pub given : {A : Type 0} → ℕ → Option A → Reading A
+given at None = bad_at at
+given at (Some value) = give value
+
+-- what a field tells, where it tells something
+abbrev pub telling : {A B : Type 0} → (A → Option B) → Reading A → Reading B
+telling told field = λ left. going_on (field left) (λ value. given left.at (told value))
 
 -- so many bytes of the field that begins at this place
 unfoldable pub bytes_of : ℕ → ℕ → Reading (List ℕ)

@@ -5,10 +5,12 @@ use Rattle.apron_base.specs.declared.machine.TheConstants.{CALL_END}
 use Rattle.apron_rules.specs.declared.parts.AirportParts.{AirportParts}
 use Rattle.visit_book.specs.declared.edits.Edit.{Edit}
 use Rattle.visit_book.specs.declared.edits.Edit.TheVariants.{Put, Lift, Cut, Join}
+use Rattle.visit_book.specs.declared.reports.Event.{Event}
+use Rattle.visit_book.specs.declared.reports.Event.TheVariants.{On, Off}
 use Rattle.visit_book.specs.declared.visits.NewVisit.{NewVisit}
 use Rattle.desk_words.specs.Commands.{IsCommandOf}
 use Rattle.desk_words.specs.declared.asks.Command.{Command}
-use Rattle.desk_words.specs.declared.asks.Command.TheVariants.{AddVisit, Commit}
+use Rattle.desk_words.specs.declared.asks.Command.TheVariants.{AddVisit, Commit, Message, Report, Cancel}
 use Rattle.desk_words.specs.declared.asks.Entry.{Entry}
 
 -- the name is one, and each number fits the bytes that it is written in
@@ -32,10 +34,18 @@ pub record CommitFits (name : List ℕ) (number made_over : ℕ) (changes : List
   pub base : made_over < 2 ^ 32
   pub edits : All EditFits changes
 
+-- each number of the event fits the bytes that it is written in
+abbrev pub EventFits : Event → Type 0
+EventFits (On part stand minute) = (stand.0 < 2 ^ 16) × (minute < 2 ^ 32)
+EventFits (Off minute) = minute < 2 ^ 32
+
 -- the numbers and names of a command are of their types: what a definition has to name, since numbers and texts range over all of them there
 abbrev pub Fits : Command → Type 0
 Fits (AddVisit new) = VisitFits new
 Fits (Commit desk draft base edits) = CommitFits desk draft base edits
+Fits (Message message) = Unit {0}
+Fits (Report visit event) = (visit.0 < 2 ^ 32) × EventFits event
+Fits (Cancel visit) = visit.0 < 2 ^ 32
 
 -- an entry that has bytes, and can be read at the airport
 pub record IsEntryOf (airport : AirportParts) (entry : Entry) : Type 0 where

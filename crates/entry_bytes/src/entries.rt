@@ -11,14 +11,16 @@ ghost use Rattle.entry_bytes.specs.Laws.{most_bytes};
 
 use crate::commits::{commit_at, push_commit};
 use crate::faults::{EntryFault, ReadFault};
+use crate::messages::{message_at, push_message};
 use crate::new_visits::{new_visit_at, push_new_visit};
 use crate::reader::{Reader, in_form};
+use crate::reports::{cancel_at, push_cancel, push_report, report_at};
 use apron_base::{CALL_END, Listed, Memory};
 use apron_rules::Airport;
 use desk_words::asks::{Command, Entry};
 use std::alloc::Global;
 
-fn push_command(out: &mut Vec<u8>, command: &Command) -> Result<(), Memory>
+fn push_command(alloc: Global, out: &mut Vec<u8>, command: &Command) -> Result<(), Memory>
     requires command { IsCommand command.now }
     ensures text { OnOk result (out.new.items ≡ out.old.items ++ command_text command.now) }
     ensures fits { OnOk result (Fits command.now) }
@@ -37,6 +39,18 @@ fn push_command(out: &mut Vec<u8>, command: &Command) -> Result<(), Memory>
             out.push(2)?;
             push_commit(out, desk, *draft, *base, edits.as_slice())
         }
+        Command::Message { message } => {
+            out.push(3)?;
+            push_message(alloc, out, message)
+        }
+        Command::Report { visit, event } => {
+            out.push(4)?;
+            push_report(out, *visit, event)
+        }
+        Command::Cancel { visit } => {
+            out.push(5)?;
+            push_cancel(out, *visit)
+        }
     }
 }
 
@@ -52,7 +66,7 @@ pub fn encode_entry(alloc: Global, entry: &Entry) -> Result<Listed<u8>, Memory>
 {
     let mut out = Vec::new(alloc);
     out.extend_from_slice(&entry.call.to_le_bytes())?;
-    push_command(&mut out, &entry.command)?;
+    push_command(alloc, &mut out, &entry.command)?;
     Ok(Listed::from_vec(out))
 }
 
@@ -67,6 +81,12 @@ fn command_at(
     match reader.byte()? {
         1 => Ok(Command::AddVisit(new_visit_at(reader, airport)?)),
         2 => commit_at(alloc, reader, airport),
+        3 => {
+            let message = message_at(alloc, reader)?;
+            Ok(Command::Message { message })
+        }
+        4 => report_at(reader, airport),
+        5 => cancel_at(reader),
         _ => Err(ReadFault::BadKind),
     }
 }

@@ -7,8 +7,10 @@ mod entries;
 mod faults;
 mod keys;
 mod laws;
+mod messages;
 mod new_visits;
 mod reader;
+mod reports;
 #[cfg(test)]
 mod tests;
 mod writing;

@@ -82,11 +82,23 @@ const KEYED: &[u8] =
 const EDITED: &[u8] =
     b"\xFF\xFF\xFF\xFF\xFF\xFF\xFF\x3F\x02\x01D\x02\0\0\0\x09\0\0\0\x04\x01\x01\0\0\0\x02\x05\0\x02\x02\x01\0\0\x01\x03\x01\0\0\0\x01\x76\x02\0\0\x04\x01\0\0\0\x01";
 
+// An estimate for LH123 of the 27th, of 34 bytes.
+const MESSAGE: &[u8] = b"\x04\0\0\0\0\0\0\0\x03\x22MVT\nLH123/27.DABCD.MUC\nEA0620 APR\n";
+
+// Part 1 of visit 2 came on block on the last stand at 610.
+const CAME: &[u8] = b"\x05\0\0\0\0\0\0\0\x04\x02\0\0\0\x01\x01\x05\0\x62\x02\0\0";
+
+// Visit 2 went off block at 660.
+const WENT: &[u8] = b"\x06\0\0\0\0\0\0\0\x04\x02\0\0\0\x02\x94\x02\0\0";
+
+// Visit 258 is cancelled.
+const CANCELLED: &[u8] = b"\x07\0\0\0\0\0\0\0\x05\x02\x01\0\0";
+
 #[test]
 #[tactic(auto, using(crate::proofs::CommandsOf::command_of))]
 fn entries_are_read_and_written_again(rt: HostRuntime) -> Result<(), Fail> {
     let airport = airport(rt.alloc())?;
-    for bytes in [ADDED, PUT, KEYED, EDITED] {
+    for bytes in [ADDED, PUT, KEYED, EDITED, MESSAGE, CAME, WENT, CANCELLED] {
         let entry = decode_entry(rt.alloc(), &airport, bytes)
             .ok()
             .ok_or("an entry")?;
@@ -99,7 +111,7 @@ fn entries_are_read_and_written_again(rt: HostRuntime) -> Result<(), Fail> {
 #[test]
 fn the_first_fault_is_found_at_its_place(rt: HostRuntime) -> Result<(), Fail> {
     let airport = airport(rt.alloc())?;
-    let rows: [(&[u8], EntryFault); 42] = [
+    let rows: [(&[u8], EntryFault); 60] = [
         (b"", EntryFault::BadField(0)),
         (b"\x01\0\0\0\0\0\0", EntryFault::BadField(0)),
         (b"\0\0\0\0\0\0\0\x40\x09", EntryFault::BadField(0)),
@@ -231,6 +243,66 @@ fn the_first_fault_is_found_at_its_place(rt: HostRuntime) -> Result<(), Fail> {
         (
             b"\x02\0\0\0\0\0\0\0\x02\x01D\x01\0\0\0\x01\0\0\0\x01\x02\x01\0\0\0\x01\0",
             EntryFault::TrailingBytes(26),
+        ),
+        (b"\x04\0\0\0\0\0\0\0\x03", EntryFault::BadField(9)),
+        (
+            b"\x04\0\0\0\0\0\0\0\x03\x11MVT\nLH0/01.A.APR",
+            EntryFault::BadField(9),
+        ),
+        (b"\x04\0\0\0\0\0\0\0\x03\x04MVT\n", EntryFault::BadField(9)),
+        (
+            b"\x04\0\0\0\0\0\0\0\x03\x12MVT\nLH00/01.A.APR\n",
+            EntryFault::BadField(9),
+        ),
+        (
+            b"\x04\0\0\0\0\0\0\0\x03\x10MVT\nLH0/01.A.APR",
+            EntryFault::BadField(9),
+        ),
+        (
+            b"\x04\0\0\0\0\0\0\0\x03\x11MVT\nLH0/01.A.APR\n\0",
+            EntryFault::TrailingBytes(27),
+        ),
+        (b"\x04\0\0\0\0\0\0\0\x04\x02\0\0", EntryFault::BadField(9)),
+        (
+            b"\x04\0\0\0\0\0\0\0\x04\x02\0\0\0",
+            EntryFault::BadField(13),
+        ),
+        (
+            b"\x04\0\0\0\0\0\0\0\x04\x02\0\0\0\0",
+            EntryFault::BadField(13),
+        ),
+        (
+            b"\x04\0\0\0\0\0\0\0\x04\x02\0\0\0\x03",
+            EntryFault::BadField(13),
+        ),
+        (
+            b"\x04\0\0\0\0\0\0\0\x04\x02\0\0\0\x01",
+            EntryFault::BadField(14),
+        ),
+        (
+            b"\x04\0\0\0\0\0\0\0\x04\x02\0\0\0\x01\x01\x05",
+            EntryFault::BadField(15),
+        ),
+        (
+            b"\x04\0\0\0\0\0\0\0\x04\x02\0\0\0\x01\x01\x06\0",
+            EntryFault::BadField(15),
+        ),
+        (
+            b"\x04\0\0\0\0\0\0\0\x04\x02\0\0\0\x01\x01\x05\0\x62\x02\0",
+            EntryFault::BadField(17),
+        ),
+        (
+            b"\x04\0\0\0\0\0\0\0\x04\x02\0\0\0\x02\x94\x02\0",
+            EntryFault::BadField(14),
+        ),
+        (
+            b"\x04\0\0\0\0\0\0\0\x04\x02\0\0\0\x02\x94\x02\0\0\0",
+            EntryFault::TrailingBytes(18),
+        ),
+        (b"\x04\0\0\0\0\0\0\0\x05\x02\x01\0", EntryFault::BadField(9)),
+        (
+            b"\x04\0\0\0\0\0\0\0\x05\x02\x01\0\0\0",
+            EntryFault::TrailingBytes(13),
         ),
     ];
     for (bytes, fault) in rows {

@@ -18,12 +18,14 @@ use Rattle.plan_core.specs.Rebase.{edited_last, stamp, stamped}
 use Rattle.plan_core.proofs.Changed.{Follows, edits_follow}
 use Rattle.desk_words.specs.Commands.{IsCommandOf}
 use Rattle.desk_words.specs.declared.asks.Command.{Command}
-use Rattle.desk_words.specs.declared.asks.Command.TheVariants.{AddVisit, Commit}
+use Rattle.desk_words.specs.declared.asks.Command.TheVariants.{AddVisit, Commit, Message, Report, Cancel}
 use Rattle.desk_words.specs.declared.asks.Entry.{Entry}
 use Rattle.history_core.specs.History.{AreTakenFrom, IsLegal, after_entries, replay}
 use Rattle.history_core.specs.Laws.{HasAdded, HasEntry, HasVisit, IsAddedBy}
 use Rattle.history_core.specs.Steps.{IsTaken, after_command}
+use Rattle.history_core.proofs.Happenings.{cancel_keeps, message_keeps, report_keeps}
 use Rattle.history_core.proofs.Kept.{all_last, edits_leave, found_has}
+use Rattle.history_core.proofs.KeptVisits.{AreKept, IsKept, all_kept}
 use Rattle.history_core.proofs.Replay.{command_numbered, command_version, commits, taken_of}
 
 -- each visit was added by an entry of this history
@@ -40,30 +42,40 @@ module _ (whole : List Entry) where
   stamped_added version edits (visit ∷ visits) all =
       (stamped_one version visit (is_edited edits visit.number.0) all.0, stamped_added version edits visits all.1)
 
+  kept_one : (old new : Visit) → IsKept old new → IsAdded old → IsAdded new
+  kept_one old new kept is =
+      subst (λ (n : ℕ). HasAdded whole n (new_of new)) (sym kept.same.added) (subst (HasAdded whole old.added) (sym kept.same.new) is)
+
   -- the entries so far, and one more
   command_added : (plan : PlanState) (before : List Entry) (entry : Entry) (after : List Entry) (command : Command) → entry.command ≡ command
-      → whole ≡ before ++ entry ∷ after → plan.version ≡ length before → IsTaken plan command → Every IsAdded plan.visits
+      → whole ≡ before ++ entry ∷ after → plan.version ≡ length before → IsTaken plan command → IsNumbered plan.visits → Every IsAdded plan.visits
       → Every IsAdded (after_command plan command).visits
-  command_added plan before entry after (AddVisit new) is here counted taken all =
+  command_added plan before entry after (AddVisit new) is here counted taken numbered all =
       let has : HasEntry whole (plan.version + 1) entry = record { before = before; after = after; is = here; counted = omega arith } in
       all_last IsAdded plan.visits (next_visit plan new) all (entry, has, is)
-  command_added plan before entry after (Commit desk draft base edits) is here counted taken all =
+  command_added plan before entry after (Commit desk draft base edits) is here counted taken numbered all =
       let made = commits plan desk draft base edits taken in
       let left = edits_leave IsAdded (λ visit parts added. added) plan.airport base 1 edits plan.visits made.new made.apply all in
       subst (λ (p : PlanState). Every IsAdded p.visits) (sym made.makes) (stamped_added (plan.version + 1) edits made.new left)
+  command_added plan before entry after (Message message) is here counted taken numbered all =
+      all_kept IsAdded kept_one plan.visits (after_command plan (Message message)).visits (message_keeps plan message numbered) all
+  command_added plan before entry after (Report number event) is here counted taken numbered all =
+      all_kept IsAdded kept_one plan.visits (after_command plan (Report number event)).visits (report_keeps plan number event) all
+  command_added plan before entry after (Cancel number) is here counted taken numbered all =
+      all_kept IsAdded kept_one plan.visits (after_command plan (Cancel number)).visits (cancel_keeps plan number numbered) all
 
   all_added : (plan : PlanState) (count : ℕ) (before rest : List Entry) → whole ≡ before ++ rest → plan.version ≡ length before → AreTakenFrom plan count rest
-      → Every IsAdded plan.visits → Every IsAdded (after_entries plan rest).visits
-  all_added plan count before [] here counted taken all = all
-  all_added plan count before (entry ∷ rest) here counted taken all =
+      → IsNumbered plan.visits → Every IsAdded plan.visits → Every IsAdded (after_entries plan rest).visits
+  all_added plan count before [] here counted taken numbered all = all
+  all_added plan count before (entry ∷ rest) here counted taken numbered all =
       let next : (after_command plan entry.command).version ≡ plan.version + 1 = command_version plan entry.command taken.1.0 in
       let more : length (before ++ entry ∷ []) ≡ length before + 1 = length-append before (entry ∷ []) in
       let there : whole ≡ (before ++ entry ∷ []) ++ rest = rw append_assoc here in
       all_added (after_command plan entry.command) (count + 1) (before ++ entry ∷ []) rest there (omega arith) taken.2
-      (command_added plan before entry rest entry.command refl here counted taken.1.0 all)
+      (command_numbered plan entry.command taken.1.0 numbered) (command_added plan before entry rest entry.command refl here counted taken.1.0 numbered all)
 
 history_added : (airport : AirportParts) (history : List Entry) → IsLegal airport history → Every (IsAdded history) (replay airport history).visits
-history_added airport history legal = all_added history (empty_plan airport) 0 [] history refl refl legal.taken tt
+history_added airport history legal = all_added history (empty_plan airport) 0 [] history refl refl legal.taken tt tt
 
 -- a visit was added with what can be said at the airport
 pub added_new : (airport : AirportParts) (history : List Entry) (number : VisitNo) (visit : Visit) → IsLegal airport history
@@ -135,6 +147,12 @@ module _ (version : ℕ) (added : NewVisit) where
   follows_finds e number [] (new ∷ news) follows finds = absurd follows
   follows_finds e number (old ∷ olds) [] follows finds = absurd follows
 
+  kept_finds : (olds news : List Visit) → AreKept olds news → Finds olds → Finds news
+  kept_finds [] [] kept finds = finds
+  kept_finds (old ∷ olds) (new ∷ news) kept finds = same_finds old new olds news kept.0.same (kept_finds olds news kept.1) finds
+  kept_finds [] (new ∷ news) kept finds = absurd kept
+  kept_finds (old ∷ olds) [] kept finds = absurd kept
+
   stamped_same : (made : ℕ) (visit : Visit) (here : Bool) → IsSameVisit (if here then edited_last made visit else visit) visit
   stamped_same made visit true = record { new = refl; added = refl }
   stamped_same made visit false = record { new = refl; added = refl }
@@ -152,6 +170,12 @@ module _ (version : ℕ) (added : NewVisit) where
       let follows = edits_follow plan.airport base 1 edits plan.visits made.new numbered made.apply in
       subst (λ (p : PlanState). Finds p.visits) (sym made.makes)
       (stamped_finds (plan.version + 1) edits made.new (follows_finds (is_edited edits) 0 plan.visits made.new follows finds))
+  command_finds plan (Message message) taken numbered finds =
+      kept_finds plan.visits (after_command plan (Message message)).visits (message_keeps plan message numbered) finds
+  command_finds plan (Report number event) taken numbered finds =
+      kept_finds plan.visits (after_command plan (Report number event)).visits (report_keeps plan number event) finds
+  command_finds plan (Cancel number) taken numbered finds =
+      kept_finds plan.visits (after_command plan (Cancel number)).visits (cancel_keeps plan number numbered) finds
 
   all_finds : (plan : PlanState) (count : ℕ) (history : List Entry) → AreTakenFrom plan count history → IsNumbered plan.visits → Finds plan.visits
       → Finds (after_entries plan history).visits

@@ -1,19 +1,21 @@
 -- Which entries made the drafts of a plan.
-use Rattle.std.proofs.Common.{◌≡◌, ◌∙◌, ◌⊎◌, ◌+◌, ◌++◌, ◌∷◌, ◌&&◌, ◌==◌, [], ℕ, Bool, true, false, List, length, Option, None, Some, cond, refl, sym, ap, subst, arith, inl, inr}
+use Rattle.std.proofs.Common.{◌≡◌, ◌∙◌, ◌⊎◌, ◌+◌, ◌++◌, ◌∷◌, ◌&&◌, ◌==◌, [], ℕ, Bool, true, false, List, length, Option, None, Some, Result, Ok, Err, cond, refl, sym, ap, subst, arith, inl, inr}
 use Rattle.std.specs.Cmp.Lexicographic.{bytes_decides}
 use Rattle.std.specs.Str.{bytes_eq}
 use Rattle.std.proofs.lemmas.Bool.Decides.{nat_tests}
 use Rattle.apron_rules.specs.declared.parts.AirportParts.{AirportParts}
 use Rattle.visit_book.specs.declared.edits.Edit.{Edit}
+use Rattle.visit_book.specs.declared.visits.Visit.{Visit}
 use Rattle.plan_core.specs.Drafts.{Draft, draft_of, draft_version, id_of, is_draft}
 use Rattle.plan_core.specs.PlanState.{PlanState, empty_plan}
 use Rattle.plan_core.proofs.DraftIndex.{version_pushed}
 use Rattle.desk_words.specs.declared.asks.Command.{Command}
-use Rattle.desk_words.specs.declared.asks.Command.TheVariants.{AddVisit, Commit}
+use Rattle.desk_words.specs.declared.asks.Command.TheVariants.{AddVisit, Commit, Message, Report, Cancel}
 use Rattle.desk_words.specs.declared.asks.Entry.{Entry}
 use Rattle.history_core.specs.History.{AreTakenFrom, IsLegal, after_entries, replay}
 use Rattle.history_core.specs.Laws.{HasCommit, HasEntry, IsCommitOf}
-use Rattle.history_core.specs.Steps.{IsTaken, after_command}
+use Rattle.desk_words.specs.declared.replies.Denial.{Denial}
+use Rattle.history_core.specs.Steps.{IsTaken, after_command, cancellable, cancelled_if}
 use Rattle.history_core.proofs.Replay.{Commits, command_version, commits}
 
 module _ (desk : List ℕ) (number : ℕ) where
@@ -72,12 +74,19 @@ module _ (desk : List ℕ) (number : ℕ) where
       let sent = draft_of of_desk draft base edits in
       inr (record { other = λ same. absurd (let this_one = this_is sent same.0 same.1 in cc); same = pushed plan sent made false is })
 
+  cancelled_leaves : (plan : PlanState) (found : Result Visit Denial) → version_in (cancelled_if plan found) ≡ version_in plan
+  cancelled_leaves plan (Ok visit) = refl
+  cancelled_leaves plan (Err why) = refl
+
   -- a taken command makes the version of this draft, or leaves it
   does_to_this : (plan : PlanState) (command : Command) → IsTaken plan command → DoesToThis plan command
   does_to_this plan (AddVisit new) taken = inr (record { other = λ same. same; same = refl })
   does_to_this plan (Commit of_desk draft base edits) taken =
       commit_does plan of_desk draft base edits (commits plan of_desk draft base edits taken)
       (is_draft desk number (id_of (draft_of of_desk draft base edits))) refl
+  does_to_this plan (Message message) taken = inr (record { other = λ same. same; same = refl })
+  does_to_this plan (Report visit event) taken = inr (record { other = λ same. same; same = refl })
+  does_to_this plan (Cancel visit) taken = inr (record { other = λ same. same; same = cancelled_leaves plan (cancellable plan visit) })
 
   -- this draft made the version, by the entry of this number among these, before which there were so many
   record Made (count : ℕ) (history : List Entry) (version : ℕ) : Type 0 where

@@ -4,6 +4,7 @@ use Rattle.std.proofs.lemmas.Bool.{or_cases}
 use Rattle.std.proofs.lemmas.List.{length-map}
 use Rattle.std.proofs.lemmas.Bool.Decides.{nat_tests}
 use Rattle.apron_base.specs.Histories.{Every}
+use Rattle.apron_base.specs.declared.numbers.VisitNo.{VisitNo}
 use Rattle.apron_rules.specs.declared.parts.AirportParts.{AirportParts}
 use Rattle.visit_book.specs.declared.edits.Edit.{Edit}
 use Rattle.visit_book.specs.declared.visits.Visit.{Visit}
@@ -16,14 +17,16 @@ use Rattle.plan_core.specs.Rebase.{edited_last, stamped}
 use Rattle.plan_core.proofs.EditKept.{EditsVisit, edits_visit}
 use Rattle.plan_core.proofs.Results.{then_ok}
 use Rattle.desk_words.specs.declared.asks.Command.{Command}
-use Rattle.desk_words.specs.declared.asks.Command.TheVariants.{AddVisit, Commit}
+use Rattle.desk_words.specs.declared.asks.Command.TheVariants.{AddVisit, Commit, Message, Report, Cancel}
 use Rattle.desk_words.specs.declared.asks.Entry.{Entry}
 use Rattle.history_core.specs.History.{AreTakenFrom, IsLegal, after_entries, replay}
 use Rattle.history_core.specs.Laws.{edits_visit as edits_this, last_edit}
 use Rattle.history_core.specs.Steps.{IsTaken, after_command}
 use Rattle.plan_core.proofs.ByNumber.{found_number}
 use Rattle.plan_core.proofs.Changed.{Follows, edits_follow}
+use Rattle.history_core.proofs.Happenings.{cancel_keeps, message_keeps, report_keeps}
 use Rattle.history_core.proofs.Kept.{all_last, edit_leaves, edits_leave, found_has}
+use Rattle.history_core.proofs.KeptVisits.{AreKept, all_kept, kept_length}
 use Rattle.history_core.proofs.Replay.{command_numbered, command_version, commits}
 
 -- each visit has at most this number
@@ -99,6 +102,13 @@ follows_length e number (old ∷ olds) (new ∷ news) follows =
 follows_length e number [] (new ∷ news) follows = absurd follows
 follows_length e number (old ∷ olds) [] follows = absurd follows
 
+-- what happens to visits is no edit
+kept_edited : (last : ℕ → ℕ) (olds news : List Visit) → AreKept olds news → AreEditedBy last olds → AreEditedBy last news
+kept_edited last olds news kept all = record {
+  edited = all_kept (IsEditedBy last) (λ old new keeps is. keeps.edited ∙ (is ∙ ap (λ (n : VisitNo). last n.0) (sym keeps.number))) olds news kept all.edited;
+  none = λ number above. all.none number (let size = kept_length olds news kept in omega (arith, above, size));
+}
+
 -- the last edits after a command that is taken
 command_edited : (last : ℕ → ℕ) (plan : PlanState) (command : Command) → IsTaken plan command → IsNumbered plan.visits → AreEditedBy last plan.visits
     → AreEditedBy (last_after last (plan.version + 1) command) (after_command plan command).visits
@@ -120,6 +130,12 @@ command_edited last plan (Commit desk draft base edits) taken numbered all =
           (within number made.apply (numbered_up_to 0 (length plan.visits) plan.visits numbered (omega arith)))
           (omega (arith, above, size)) (all.none number (omega (arith, above, size)));
     })
+command_edited last plan (Message message) taken numbered all =
+    kept_edited last plan.visits (after_command plan (Message message)).visits (message_keeps plan message numbered) all
+command_edited last plan (Report number event) taken numbered all =
+    kept_edited last plan.visits (after_command plan (Report number event)).visits (report_keeps plan number event) all
+command_edited last plan (Cancel number) taken numbered all =
+    kept_edited last plan.visits (after_command plan (Cancel number)).visits (cancel_keeps plan number numbered) all
 
 all_edited : (last : ℕ → ℕ) (plan : PlanState) (count : ℕ) (history : List Entry) → AreTakenFrom plan count history → IsNumbered plan.visits
     → AreEditedBy last plan.visits → Every (IsEditedBy (λ n. last_edit n plan.version (last n) history)) (after_entries plan history).visits

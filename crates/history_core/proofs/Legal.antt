@@ -1,5 +1,6 @@
 -- What a legal history has: a sound plan, legal fronts, and an entry for each version.
-use Rattle.std.proofs.Common.{◌≡◌, ◌∙◌, ◌≤◌, ◌<◌, ◌+◌, ◌-◌, ℕ, zero, suc, List, [], ◌∷◌, ◌++◌, append-nil, length, refl, sym, ap, subst, arith, Result}
+use Rattle.std.proofs.Common.{◌≡◌, ◌∙◌, ◌≤◌, ◌<◌, ◌+◌, ◌-◌, ℕ, zero, suc, List, [], ◌∷◌, ◌++◌, append-nil, length, refl, sym, ap, subst, arith, Result, Ok, Err}
+use Rattle.std.specs.Result.{result_ok}
 use Rattle.apron_base.specs.Histories.{Rises}
 use Rattle.apron_rules.specs.declared.parts.AirportParts.{AirportParts}
 use Rattle.apron_rules.specs.Clash.{IsSound}
@@ -9,15 +10,23 @@ use Rattle.visit_book.specs.Slots.{slots_of}
 use Rattle.plan_core.specs.Adding.{next_visit}
 use Rattle.plan_core.specs.Drafts.{draft_of}
 use Rattle.plan_core.specs.PlanState.{PlanState, empty_plan}
+use Rattle.bump_core.specs.Settled.{with_changed}
+use Rattle.bump_core.proofs.Settled.{settled_sound}
 use Rattle.plan_core.proofs.Changed.{stamped_slots}
 use Rattle.plan_core.proofs.SlotLists.{slots_of-push}
 use Rattle.desk_words.specs.declared.asks.Command.{Command}
-use Rattle.desk_words.specs.declared.asks.Command.TheVariants.{AddVisit, Commit}
+use Rattle.desk_words.specs.declared.asks.Command.TheVariants.{AddVisit, Commit, Message, Report, Cancel}
 use Rattle.desk_words.specs.declared.asks.Entry.{Entry}
-use Rattle.history_core.specs.Steps.{IsTaken, after_command, committed_if}
+use Rattle.desk_words.specs.declared.replies.Denial.{Denial}
+use Rattle.history_core.specs.Steps.{IsTaken, after_command, cancellable, cancelled_if, changed_by, committed_if, reported}
 use Rattle.history_core.specs.History.{AreTakenFrom, IsLegal, IsSoundPlan, after_entries, call_limit, call_of, replay}
 use Rattle.history_core.specs.Laws.{HasEntry}
+use Rattle.history_core.proofs.Cancels.{cancelled_sound}
 use Rattle.history_core.proofs.Replay.{versions_count}
+
+cancelled_if_sound : (plan : PlanState) (found : Result Visit Denial) → IsSoundPlan plan → IsSoundPlan (cancelled_if plan found)
+cancelled_if_sound plan (Ok visit) sound = cancelled_sound plan visit sound
+cancelled_if_sound plan (Err why) sound = sound
 
 -- the plan after a taken command is sound
 command_sound : (plan : PlanState) (command : Command) → IsTaken plan command → IsSoundPlan plan → IsSoundPlan (after_command plan command)
@@ -27,6 +36,10 @@ command_sound plan (AddVisit new) taken sound =
 command_sound plan (Commit desk draft base edits) (new, (visits, rebases)) sound =
     subst (λ (r : Result (List Visit) EditFault). IsSoundPlan (committed_if plan (draft_of desk draft base edits) r)) (sym rebases.apply)
     (subst (λ slots. IsSound plan.airport slots) (sym (stamped_slots plan.airport (plan.version + 1) edits visits)) rebases.sound)
+command_sound plan (Message message) taken sound = settled_sound plan.airport (plan.version + 1) (with_changed plan.visits (changed_by plan message))
+command_sound plan (Report number event) taken sound =
+    settled_sound plan.airport (plan.version + 1) (with_changed plan.visits (result_ok (reported plan number event)))
+command_sound plan (Cancel number) taken sound = cancelled_if_sound plan (cancellable plan number) sound
 
 taken_sound : (plan : PlanState) (count : ℕ) (history : List Entry) → IsSoundPlan plan → AreTakenFrom plan count history → IsSoundPlan (after_entries plan history)
 taken_sound plan count [] sound h = sound

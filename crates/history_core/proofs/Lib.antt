@@ -1,10 +1,14 @@
+pub mod KeptVisits
+pub mod Happenings
 pub mod Replay
 pub mod Kept
+pub mod Cancels
 pub mod Legal
 pub mod Drafts
 pub mod Edited
 pub mod Added
 pub mod NewVisits
+pub mod Bumps
 pub mod Takings
 pub mod Boards
 pub mod Texts

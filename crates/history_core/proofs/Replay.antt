@@ -1,5 +1,6 @@
 -- A history that grows by an accepted command.
 use Rattle.std.proofs.Common.{◌≡◌, ◌∙◌, ◌+◌, ℕ, Bool, true, false, List, [], ◌∷◌, ◌++◌, length, refl, sym, ap, subst, arith, None, Result, Ok, Err, if◌then◌else◌}
+use Rattle.std.specs.Result.{IsOk}
 use Rattle.apron_base.specs.declared.numbers.VisitNo.{VisitNo}
 use Rattle.apron_rules.specs.declared.parts.AirportParts.{AirportParts}
 use Rattle.visit_book.specs.declared.visits.Visit.{Visit}
@@ -15,10 +16,13 @@ use Rattle.plan_core.proofs.Changed.{edits_follow, follows_numbered}
 use Rattle.plan_core.proofs.Puts.{last_numbered}
 use Rattle.desk_words.specs.Commands.{IsCommandOf}
 use Rattle.desk_words.specs.declared.asks.Command.{Command}
-use Rattle.desk_words.specs.declared.asks.Command.TheVariants.{AddVisit, Commit}
+use Rattle.desk_words.specs.declared.asks.Command.TheVariants.{AddVisit, Commit, Message, Report, Cancel}
 use Rattle.desk_words.specs.declared.asks.Entry.{Entry}
-use Rattle.history_core.specs.Steps.{IsTaken, Steps, accepted, after_command, committed_if}
+use Rattle.desk_words.specs.declared.replies.Denial.{Denial}
+use Rattle.history_core.specs.Steps.{IsTaken, Steps, accepted, after_command, cancellable, cancelled_if, committed_if}
 use Rattle.history_core.specs.History.{AreTakenFrom, after_entries, replay}
+use Rattle.history_core.proofs.Happenings.{cancel_keeps, message_keeps, report_keeps}
+use Rattle.history_core.proofs.KeptVisits.{kept_numbered}
 
 -- the plan after one more command
 pub after-push : (plan : PlanState) (history : List Entry) (entry : Entry) → after_entries plan (history ++ entry ∷ []) ≡ after_command (after_entries plan history) entry.command
@@ -29,10 +33,17 @@ committed_airport : (plan : PlanState) (draft : Draft) (visits : Result (List Vi
 committed_airport plan draft (Ok visits) = refl
 committed_airport plan draft (Err fault) = refl
 
+cancelled_airport : (plan : PlanState) (found : Result Visit Denial) → (cancelled_if plan found).airport ≡ plan.airport
+cancelled_airport plan (Ok visit) = refl
+cancelled_airport plan (Err why) = refl
+
 command_airport : (plan : PlanState) (command : Command) → (after_command plan command).airport ≡ plan.airport
 command_airport plan (AddVisit new) = refl
 command_airport plan (Commit desk draft base edits) =
     committed_airport plan (draft_of desk draft base edits) (after_all_edits plan.airport base edits plan.visits)
+command_airport plan (Message message) = refl
+command_airport plan (Report number event) = refl
+command_airport plan (Cancel number) = cancelled_airport plan (cancellable plan number)
 
 after-airport : (plan : PlanState) (history : List Entry) → (after_entries plan history).airport ≡ plan.airport
 after-airport plan [] = refl
@@ -77,10 +88,17 @@ commits plan desk draft base edits (new, (visits, rebases)) = record {
   makes = rw rebases.apply refl;
 }
 
+cancelled_version : (plan : PlanState) (found : Result Visit Denial) → IsOk found → (cancelled_if plan found).version ≡ plan.version + 1
+cancelled_version plan (Ok visit) some = refl
+cancelled_version plan (Err why) some = absurd (cc)
+
 pub command_version : (plan : PlanState) (command : Command) → IsTaken plan command → (after_command plan command).version ≡ plan.version + 1
 command_version plan (AddVisit new) taken = refl
 command_version plan (Commit desk draft base edits) taken =
     let made = commits plan desk draft base edits taken in ap (λ (p : PlanState). p.version) made.makes
+command_version plan (Message message) taken = refl
+command_version plan (Report number event) taken = refl
+command_version plan (Cancel number) taken = cancelled_version plan (cancellable plan number) taken
 
 -- each entry makes the next version
 pub versions_count : (plan : PlanState) (count : ℕ) (history : List Entry) → AreTakenFrom plan count history → (after_entries plan history).version ≡ plan.version + length history
@@ -108,6 +126,12 @@ command_numbered plan (Commit desk draft base edits) taken h =
     let follows = edits_follow plan.airport base 1 edits plan.visits made.new h made.apply in
     subst (λ (p : PlanState). IsNumbered p.visits) (sym made.makes)
     (stamped_numbered 0 (plan.version + 1) edits made.new (follows_numbered (is_edited edits) 0 plan.visits made.new follows))
+command_numbered plan (Message message) taken h =
+    kept_numbered 0 plan.visits (after_command plan (Message message)).visits (message_keeps plan message h) h
+command_numbered plan (Report number event) taken h =
+    kept_numbered 0 plan.visits (after_command plan (Report number event)).visits (report_keeps plan number event) h
+command_numbered plan (Cancel number) taken h =
+    kept_numbered 0 plan.visits (after_command plan (Cancel number)).visits (cancel_keeps plan number h) h
 
 pub taken_numbered : (plan : PlanState) (count : ℕ) (history : List Entry) → AreTakenFrom plan count history → IsNumbered plan.visits
     → IsNumbered (after_entries plan history).visits

@@ -1,10 +1,13 @@
 -- What comes of a command.
-use Rattle.std.proofs.Common.{◌≡◌, ◌≢◌, ◌∙◌, ◌⊎◌, ◌<◌, ◌≤◌, ◌+◌, ℕ, List, length, Option, None, Some, refl, sym, ap, subst, arith, inl, inr}
+use Rattle.std.proofs.Common.{◌≡◌, ◌≢◌, ◌∙◌, ◌⊎◌, ◌<◌, ◌≤◌, ◌+◌, ℕ, List, length, Option, None, Some, Result, Ok, Err, refl, sym, ap, subst, arith, inl, inr}
 use Rattle.std.proofs.lemmas.Bool.{cases_lt}
+use Rattle.std.specs.Result.{IsOk, is_ok}
 use Rattle.apron_base.specs.declared.numbers.VisitNo.{VisitNo}
+use Rattle.mvt_grammar.specs.declared.message.Mvt.{Mvt}
 use Rattle.visit_book.specs.declared.edits.Edit.{Edit}
 use Rattle.visit_book.specs.declared.edits.EditFault.{EditFault}
 use Rattle.visit_book.specs.declared.edits.EditFault.TheVariants.{Memory}
+use Rattle.visit_book.specs.declared.reports.Event.{Event}
 use Rattle.visit_book.specs.declared.visits.NewVisit.{NewVisit}
 use Rattle.visit_book.specs.declared.visits.Visit.{Visit}
 use Rattle.visit_book.specs.NewVisits.{new_of}
@@ -17,10 +20,11 @@ use Rattle.plan_core.proofs.AnswerExists.{answer}
 use Rattle.plan_core.proofs.Kept.{rebase_commits}
 use Rattle.plan_core.proofs.OneRefusal.{rebased_or_refused, refusals_are_one}
 use Rattle.desk_words.specs.declared.asks.Command.{Command}
-use Rattle.desk_words.specs.declared.asks.Command.TheVariants.{AddVisit, Commit}
+use Rattle.desk_words.specs.declared.asks.Command.TheVariants.{AddVisit, Commit, Message, Report, Cancel}
+use Rattle.desk_words.specs.declared.replies.Denial.{Denial}
 use Rattle.desk_words.specs.declared.replies.Told.{Told}
-use Rattle.desk_words.specs.declared.replies.Told.TheVariants.{Added, Committed, OtherName, Edit as Refused}
-use Rattle.history_core.specs.Steps.{HasPlace, IsNew, IsTaken, Stepped, Steps, TakesEntry, accepted, ahead, committed_if, edit, full, most_entries, name, refused, repeated}
+use Rattle.desk_words.specs.declared.replies.Told.TheVariants.{Added, Committed, Denied, Full, OtherName, Edit as Refused}
+use Rattle.history_core.specs.Steps.{HasPlace, IsNew, IsTaken, Stepped, Steps, TakesEntry, accepted, ahead, committed_if, cancellable, denied, edit, full, most_entries, name, refused, repeated, reply_at, reported}
 use Rattle.history_core.specs.declared.taking.Taken.TheVariants.{Accepted}
 use Rattle.history_core.specs.Taking.{Finds, IsAnswered, IsChangeOf}
 use Rattle.history_core.proofs.NewVisits.{AreDecided, new_decided}
@@ -54,6 +58,9 @@ visit_placed entries count (inl entry) (inr many) = inr (λ has. absurd (let few
 abbrev placed : (plan : PlanState) (entries : ℕ) (command : Command) → IsPlaced plan entries command
 placed plan entries (AddVisit new) = visit_placed entries (length plan.visits) (entry_placed entries) (cases_lt (length plan.visits) most_visits)
 placed plan entries (Commit desk draft base edits) = entry_placed entries
+placed plan entries (Message message) = entry_placed entries
+placed plan entries (Report number event) = entry_placed entries
+placed plan entries (Cancel number) = entry_placed entries
 
 -- a taken command is accepted where there is place, and full where there is none
 abbrev placed_step : (plan : PlanState) (entries : ℕ) (command : Command) → IsTaken plan command → IsPlaced plan entries command
@@ -94,10 +101,26 @@ based_step plan entries desk draft base edits (inl later) = (ahead, later)
 based_step plan entries desk draft base edits (inr over) =
     drafted_step plan entries desk draft base edits (draft_version plan.drafts desk draft) refl over
 
+-- a report can have happened, or it is refused
+abbrev report_step : (plan : PlanState) (entries : ℕ) (number : VisitNo) (event : Event) (found : Result Visit Denial) → reported plan number event ≡ found
+    → (stepped : Stepped) × Steps plan entries (Report number event) stepped
+report_step plan entries number event (Ok visit) is =
+    placed_step plan entries (Report number event) (ap is_ok is) (placed plan entries (Report number event))
+report_step plan entries number event (Err why) is = (refused (denied why), is)
+
+-- a visit can be cancelled, or that is refused
+abbrev cancel_step : (plan : PlanState) (entries : ℕ) (number : VisitNo) (found : Result Visit Denial) → cancellable plan number ≡ found
+    → (stepped : Stepped) × Steps plan entries (Cancel number) stepped
+cancel_step plan entries number (Ok visit) is = placed_step plan entries (Cancel number) (ap is_ok is) (placed plan entries (Cancel number))
+cancel_step plan entries number (Err why) is = (refused (denied why), is)
+
 -- each command has a step
 abbrev pub some_step : (plan : PlanState) (entries : ℕ) (command : Command) → (stepped : Stepped) × Steps plan entries command stepped
 some_step plan entries (AddVisit new) = visit_step plan entries new (visit_named plan.visits new.name) refl
 some_step plan entries (Commit desk draft base edits) = based_step plan entries desk draft base edits (cases_lt plan.version base)
+some_step plan entries (Message message) = placed_step plan entries (Message message) tt (placed plan entries (Message message))
+some_step plan entries (Report number event) = report_step plan entries number event (reported plan number event) refl
+some_step plan entries (Cancel number) = cancel_step plan entries number (cancellable plan number) refl
 
 -- which is the only one
 only_full : (plan : PlanState) (entries : ℕ) (command : Command) (taken : IsTaken plan command) (place : IsPlaced plan entries command)
@@ -123,6 +146,7 @@ module _ (plan : PlanState) (entries : ℕ) (new : NewVisit) where
   only_unnamed (repeated entry) is steps = one_name steps.0 steps.1.0 is
   only_unnamed (refused (name number)) is steps = one_name steps.0 steps.1.0 is
   only_unnamed (refused (edit fault)) is steps = absurd steps
+  only_unnamed (refused (denied why)) is steps = absurd steps
   only_unnamed full is steps = only_full plan entries (AddVisit new) is (placed plan entries (AddVisit new)) steps.1
   only_unnamed accepted is steps = only_accepted plan entries (AddVisit new) is (placed plan entries (AddVisit new)) steps.1
 
@@ -138,6 +162,7 @@ module _ (plan : PlanState) (entries : ℕ) (new : NewVisit) where
   only_named (refused (name number)) visit is (inr other) steps =
       let one = one_visit visit steps.0 is steps.1.0 in ap (λ (n : VisitNo). refused (name n)) (steps.2 ∙ ap (λ (v : Visit). v.number) one)
   only_named (refused (edit fault)) visit is same steps = absurd steps
+  only_named (refused (denied why)) visit is same steps = absurd steps
   only_named full visit is same steps = one_name visit is steps.0
   only_named accepted visit is same steps = one_name visit is steps.0
 
@@ -155,6 +180,7 @@ module _ (plan : PlanState) (entries : ℕ) (desk : List ℕ) (draft base : ℕ)
   only_ahead (repeated entry) steps later = not_over steps.0 later
   only_ahead (refused (name number)) steps later = absurd steps
   only_ahead (refused (edit fault)) steps later = let new = steps.0 in not_over new.made_over later
+  only_ahead (refused (denied why)) steps later = absurd steps
   only_ahead full steps later = let new = steps.0.0 in not_over new.made_over later
   only_ahead accepted steps later = let new = steps.0.0 in not_over new.made_over later
 
@@ -170,6 +196,7 @@ module _ (plan : PlanState) (entries : ℕ) (desk : List ℕ) (draft base : ℕ)
   only_repeated (repeated other) entry steps over is = ap repeated (same_entry entry other is steps.1)
   only_repeated (refused (name number)) entry steps over is = absurd steps
   only_repeated (refused (edit fault)) entry steps over is = not_new entry is steps.0
+  only_repeated (refused (denied why)) entry steps over is = absurd steps
   only_repeated full entry steps over is = not_new entry is steps.0.0
   only_repeated accepted entry steps over is = not_new entry is steps.0.0
 
@@ -182,6 +209,7 @@ module _ (plan : PlanState) (entries : ℕ) (desk : List ℕ) (draft base : ℕ)
       absurd (rebased_or_refused plan (draft_of desk draft base edits) rebases.0 fault steps.2 rebases.1 steps.1)
   only_new (refused (edit fault)) new (inr (other, some, refuses)) numbered steps =
       ap (λ (f : EditFault). refused (edit f)) (refusals_are_one plan (draft_of desk draft base edits) fault other numbered steps.2 some steps.1 refuses)
+  only_new (refused (denied why)) new answered numbered steps = absurd steps
   only_new full new (inl rebases) numbered steps = only_full plan entries (Commit desk draft base edits) (new, rebases) (placed plan entries (Commit desk draft base edits)) steps.1
   only_new full new (inr (fault, some, refuses)) numbered steps =
       let rebases = steps.0.1 in absurd (rebased_or_refused plan (draft_of desk draft base edits) rebases.0 fault some rebases.1 refuses)
@@ -200,11 +228,71 @@ module _ (plan : PlanState) (entries : ℕ) (desk : List ℕ) (draft base : ℕ)
   only_based stepped (inl later) numbered steps = only_ahead stepped steps later
   only_based stepped (inr over) numbered steps = only_drafted stepped (draft_version plan.drafts desk draft) refl over numbered steps
 
+-- a message is accepted, or there is no place for it
+only_message : (plan : PlanState) (entries : ℕ) (message : Mvt) (stepped : Stepped) → Steps plan entries (Message message) stepped
+    → stepped ≡ (some_step plan entries (Message message)).0
+only_message plan entries message ahead steps = absurd steps
+only_message plan entries message (repeated entry) steps = absurd steps
+only_message plan entries message (refused (name number)) steps = absurd steps
+only_message plan entries message (refused (edit fault)) steps = absurd steps
+only_message plan entries message (refused (denied why)) steps = absurd steps
+only_message plan entries message full steps = only_full plan entries (Message message) tt (placed plan entries (Message message)) steps.1
+only_message plan entries message accepted steps = only_accepted plan entries (Message message) tt (placed plan entries (Message message)) steps.1
+
+-- what a report or a cancel finds tells its step
+module _ (found : Result Visit Denial) where
+  same_denial : (why other : Denial) → found ≡ Err other → found ≡ Err why → why ≡ other
+  same_denial why other is also = cc
+
+  not_denied : {A : Type 0} (why : Denial) (visit : Visit) → found ≡ Ok visit → found ≡ Err why → A
+  not_denied why visit is also = absurd (cc)
+
+  not_taken : {A : Type 0} (why : Denial) → found ≡ Err why → IsOk found → A
+  not_taken why is some = absurd (let none = ap is_ok is in cc)
+
+module _ (plan : PlanState) (entries : ℕ) (number : VisitNo) (event : Event) where
+  abbrev at_number : Result Visit Denial
+  at_number = reported plan number event
+
+  only_report : (stepped : Stepped) (found : Result Visit Denial) (is : at_number ≡ found) → Steps plan entries (Report number event) stepped
+      → stepped ≡ (report_step plan entries number event found is).0
+  only_report ahead found is steps = absurd steps
+  only_report (repeated entry) found is steps = absurd steps
+  only_report (refused (name other)) found is steps = absurd steps
+  only_report (refused (edit fault)) found is steps = absurd steps
+  only_report (refused (denied why)) (Ok visit) is steps = not_denied at_number why visit is steps
+  only_report (refused (denied why)) (Err other) is steps = ap (λ (d : Denial). refused (denied d)) (same_denial at_number why other is steps)
+  only_report full (Ok visit) is steps =
+      only_full plan entries (Report number event) (ap is_ok is) (placed plan entries (Report number event)) steps.1
+  only_report full (Err why) is steps = not_taken at_number why is steps.0
+  only_report accepted (Ok visit) is steps =
+      only_accepted plan entries (Report number event) (ap is_ok is) (placed plan entries (Report number event)) steps.1
+  only_report accepted (Err why) is steps = not_taken at_number why is steps.0
+
+module _ (plan : PlanState) (entries : ℕ) (number : VisitNo) where
+  only_cancel : (stepped : Stepped) (found : Result Visit Denial) (is : cancellable plan number ≡ found) → Steps plan entries (Cancel number) stepped
+      → stepped ≡ (cancel_step plan entries number found is).0
+  only_cancel ahead found is steps = absurd steps
+  only_cancel (repeated entry) found is steps = absurd steps
+  only_cancel (refused (name other)) found is steps = absurd steps
+  only_cancel (refused (edit fault)) found is steps = absurd steps
+  only_cancel (refused (denied why)) (Ok visit) is steps = not_denied (cancellable plan number) why visit is steps
+  only_cancel (refused (denied why)) (Err other) is steps =
+      ap (λ (d : Denial). refused (denied d)) (same_denial (cancellable plan number) why other is steps)
+  only_cancel full (Ok visit) is steps = only_full plan entries (Cancel number) (ap is_ok is) (placed plan entries (Cancel number)) steps.1
+  only_cancel full (Err why) is steps = not_taken (cancellable plan number) why is steps.0
+  only_cancel accepted (Ok visit) is steps = only_accepted plan entries (Cancel number) (ap is_ok is) (placed plan entries (Cancel number)) steps.1
+  only_cancel accepted (Err why) is steps = not_taken (cancellable plan number) why is steps.0
+
 the_step : (plan : PlanState) (entries : ℕ) (command : Command) (stepped : Stepped) → IsNumbered plan.visits → Steps plan entries command stepped
     → stepped ≡ (some_step plan entries command).0
 the_step plan entries (AddVisit new) stepped numbered steps = only_visit plan entries new stepped (visit_named plan.visits new.name) refl steps
 the_step plan entries (Commit desk draft base edits) stepped numbered steps =
     only_based plan entries desk draft base edits stepped (cases_lt plan.version base) numbered steps
+the_step plan entries (Message message) stepped numbered steps = only_message plan entries message stepped steps
+the_step plan entries (Report number event) stepped numbered steps =
+    only_report plan entries number event stepped (reported plan number event) refl steps
+the_step plan entries (Cancel number) stepped numbered steps = only_cancel plan entries number stepped (cancellable plan number) refl steps
 
 -- each command has one step at most
 pub one_step : (plan : PlanState) (entries : ℕ) (command : Command) (stepped other : Stepped) → IsNumbered plan.visits
@@ -232,6 +320,19 @@ refused_answered plan entries desk draft base edits fault version over unused re
   other = λ same. absurd (cc);
   is = ap (λ (v : ℕ). record { version = v; told = Refused fault }) is;
 }
+
+-- a report and a cancel that are refused, and a report for which there is no place
+pub report_denied : (plan : PlanState) (entries : ℕ) (number : VisitNo) (event : Event) (why : Denial) → reported plan number event ≡ Err why
+    → IsAnswered plan entries (Report number event) (reply_at plan.version (Denied why))
+report_denied plan entries number event why is = record { stepped = refused (denied why); steps = is; other = λ same. absurd (cc); is = refl }
+
+pub cancel_denied : (plan : PlanState) (entries : ℕ) (number : VisitNo) (why : Denial) → cancellable plan number ≡ Err why
+    → IsAnswered plan entries (Cancel number) (reply_at plan.version (Denied why))
+cancel_denied plan entries number why is = record { stepped = refused (denied why); steps = is; other = λ same. absurd (cc); is = refl }
+
+pub report_full : (plan : PlanState) (entries : ℕ) (number : VisitNo) (event : Event) (visit : Visit) → reported plan number event ≡ Ok visit
+    → ¬ (TakesEntry entries) → IsAnswered plan entries (Report number event) (reply_at plan.version Full)
+report_full plan entries number event visit is none = record { stepped = full; steps = (ap is_ok is, none); other = λ same. absurd (cc); is = refl }
 
 -- the answer where a visit has the name of one to be added
 same_answered : (plan : PlanState) (entries : ℕ) (new : NewVisit) (visit : Visit) (version : ℕ) → visit_named plan.visits new.name ≡ Some visit → new_of visit ≡ new

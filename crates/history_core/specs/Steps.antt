@@ -1,23 +1,38 @@
 -- How a plan takes a command.
-use Rattle.std.specs.Prelude.{◌≡◌, ◌≢◌, ◌≤◌, ◌<◌, ◌+◌, ℕ, List, length, None, Some, option_map, unwrap_or, Result, Ok, Err}
+use Rattle.std.specs.Prelude.{◌≡◌, ◌≢◌, ◌≤◌, ◌<◌, ◌+◌, ℕ, not, List, length, Option, None, Some, option_map, unwrap_or, Result, Ok, Err, IsOk, ok_or}
+use Rattle.std.specs.Result.{result_map_both, result_ok}
+use Rattle.apron_base.specs.ResultChain.{◌>>=◌, refuse_if}
 use Rattle.apron_base.specs.declared.keeper.TheConstants.{MAX_ENTRIES}
 use Rattle.apron_base.specs.declared.numbers.VisitNo.{VisitNo}
+use Rattle.mvt_grammar.specs.declared.message.Mvt.{Mvt}
 use Rattle.visit_book.specs.declared.edits.EditFault.{EditFault}
 use Rattle.visit_book.specs.declared.edits.EditFault.TheVariants.{Memory}
+use Rattle.visit_book.specs.declared.reports.Event.{Event}
+use Rattle.visit_book.specs.declared.reports.ReportFault.{ReportFault}
+use Rattle.visit_book.specs.declared.reports.ReportFault.TheVariants as report
 use Rattle.visit_book.specs.declared.visits.NewVisit.{NewVisit}
 use Rattle.visit_book.specs.declared.visits.Visit.{Visit}
+use Rattle.visit_book.specs.Ends.{is_live}
 use Rattle.visit_book.specs.NewVisits.{new_of}
+use Rattle.visit_book.specs.Numbers.{visit_at}
+use Rattle.visit_book.specs.Reports.{report_of}
+use Rattle.visit_effects.specs.Effects.{effect_of}
 use Rattle.plan_core.specs.Adding.{with_added}
 use Rattle.plan_core.specs.Drafts.{Draft, draft_of, draft_version}
 use Rattle.plan_core.specs.Edits.{after_all_edits}
+use Rattle.plan_core.specs.Moving.{with_cancelled}
 use Rattle.plan_core.specs.Names.{visit_named}
 use Rattle.plan_core.specs.PlanState.{PlanState, most_visits}
 use Rattle.plan_core.specs.Rebase.{Rebases, Refuses, committed}
+use Rattle.bump_core.specs.Bumped.{bumped_by}
+use Rattle.bump_core.specs.Settled.{with_settled}
 use Rattle.desk_words.specs.declared.asks.Command.{Command}
-use Rattle.desk_words.specs.declared.asks.Command.TheVariants.{AddVisit, Commit}
+use Rattle.desk_words.specs.declared.asks.Command.TheVariants.{AddVisit, Commit, Message, Report, Cancel}
+use Rattle.desk_words.specs.declared.replies.Denial.{Denial}
+use Rattle.desk_words.specs.declared.replies.Denial.TheVariants as denial
 use Rattle.desk_words.specs.declared.replies.Reply.{Reply}
 use Rattle.desk_words.specs.declared.replies.Told.{Told}
-use Rattle.desk_words.specs.declared.replies.Told.TheVariants.{Added, Committed, Ahead, Full, OtherName, Edit as Refused}
+use Rattle.desk_words.specs.declared.replies.Told.TheVariants.{Added, Committed, Message as MessageTaken, Reported, Cancelled, Ahead, Full, OtherName, Edit as Refused, Denied}
 
 -- the most entries of a history
 abbrev pub most_entries : ℕ
@@ -36,6 +51,31 @@ HasPlace plan entries command = TakesEntry entries
 pub data Refusal : Type 0 where
   name : VisitNo → Refusal
   edit : EditFault → Refusal
+  denied : Denial → Refusal
+
+-- why a report is refused, as a reply tells it
+abbrev pub denial_of : ReportFault → Denial
+denial_of report.Gone = denial.Gone
+denial_of report.NoSuchPart = denial.NoSuchPart
+denial_of report.Time = denial.Time
+
+-- the plan's visit as the message changes it, or none where it does nothing
+abbrev pub changed_by : PlanState → Mvt → Option Visit
+changed_by plan message = effect_of plan.airport plan.visits message
+
+-- what an event makes of the plan's visit of this number, or why the report of it is refused
+abbrev pub reported : PlanState → VisitNo → Event → Result Visit Denial
+reported plan number event = do
+  visit ← ok_or (visit_at plan.visits number) denial.Unknown
+  result_map_both (λ visit. visit) denial_of (report_of plan.airport event visit)
+
+-- the plan's visit of this number, which can be cancelled, or why not
+abbrev pub cancellable : PlanState → VisitNo → Result Visit Denial
+cancellable plan number = do
+  visit ← ok_or (visit_at plan.visits number) denial.Unknown
+  live ← refuse_if (not (is_live visit)) denial.Gone
+  expected ← refuse_if visit.on_block denial.OnBlock
+  Ok visit
 
 -- how a command is taken
 pub data Stepped : Type 0 where
@@ -52,8 +92,8 @@ pub record IsNew (plan : PlanState) (draft : Draft) : Type 0 where
 
 -- the command was made over a later version than the plan's
 abbrev pub IsAhead : PlanState → Command → Type 0
-IsAhead plan (AddVisit new) = ⊥
 IsAhead plan (Commit desk draft base edits) = plan.version < base
+IsAhead plan command = ⊥
 
 -- a visit of the plan has the name, and was added with the same
 abbrev pub IsSameName : PlanState → NewVisit → Visit → Type 0
@@ -67,19 +107,26 @@ IsOtherName plan new visit = (visit_named plan.visits new.name ≡ Some visit) �
 abbrev pub IsRepeated : PlanState → Command → ℕ → Type 0
 IsRepeated plan (AddVisit new) entry = (visit : Visit) × IsSameName plan new visit × (entry ≡ visit.added)
 IsRepeated plan (Commit desk draft base edits) entry = (base ≤ plan.version) × (draft_version plan.drafts desk draft ≡ Some entry)
+IsRepeated plan command entry = ⊥
 
 -- the command is refused so; want of memory is no cause
 abbrev pub IsRefused : PlanState → Command → Refusal → Type 0
 IsRefused plan (AddVisit new) (name number) = (visit : Visit) × IsOtherName plan new visit × (number ≡ visit.number)
 IsRefused plan (Commit desk draft base edits) (edit fault) =
     IsNew plan (draft_of desk draft base edits) × Refuses plan (draft_of desk draft base edits) fault × (fault ≢ Memory)
+IsRefused plan (Report visit event) (denied why) = reported plan visit event ≡ Err why
+IsRefused plan (Cancel visit) (denied why) = cancellable plan visit ≡ Err why
 IsRefused plan command why = ⊥
 
--- the command is neither ahead nor repeated, and it applies: a visit has a new name; the edits of a commit leave some visits, which are sound
+-- the command is neither ahead nor repeated, and it applies: a visit has a new name; the edits of a commit leave some visits, which are sound; a message
+-- always does; a report can have happened to its visit; and a visit that is cancelled can be
 abbrev pub IsTaken : PlanState → Command → Type 0
 IsTaken plan (AddVisit new) = visit_named plan.visits new.name ≡ None
 IsTaken plan (Commit desk draft base edits) =
     IsNew plan (draft_of desk draft base edits) × ((new : List Visit) × Rebases plan (draft_of desk draft base edits) new)
+IsTaken plan (Message message) = Unit {0}
+IsTaken plan (Report visit event) = IsOk (reported plan visit event)
+IsTaken plan (Cancel visit) = IsOk (cancellable plan visit)
 
 -- how a plan, whose history has so many entries, takes a command: a line for each cause, in order
 abbrev pub Steps : PlanState → ℕ → Command → Stepped → Type 0
@@ -101,11 +148,16 @@ number_for visits text = unwrap_or (option_map (λ visit. visit.number) (visit_n
 abbrev pub made_told : PlanState → ℕ → Command → Told
 made_told plan entry (AddVisit new) = Added entry (number_for plan.visits new.name)
 made_told plan entry (Commit desk draft base edits) = Committed entry
+made_told plan entry (Message message) =
+    MessageTaken (bumped_by entry (with_settled plan (changed_by plan message)).visits) (option_map (λ visit. visit.number) (changed_by plan message))
+made_told plan entry (Report visit event) = Reported (bumped_by entry (with_settled plan (result_ok (reported plan visit event))).visits)
+made_told plan entry (Cancel visit) = Cancelled
 
 -- what is told of a refusal
 abbrev pub refusal_told : Refusal → Told
 refusal_told (name number) = OtherName number
 refusal_told (edit fault) = Refused fault
+refusal_told (denied why) = Denied why
 
 -- the reply to a command: an accepted one makes the next version, and after any other the plan is as it was
 abbrev pub stepped_reply : PlanState → Command → Stepped → Reply
@@ -120,7 +172,15 @@ abbrev pub committed_if : PlanState → Draft → Result (List Visit) EditFault 
 committed_if plan draft (Ok new) = committed plan draft new
 committed_if plan draft (Err fault) = plan
 
+-- the plan after an entry that cancels the visit, if it can be cancelled
+abbrev pub cancelled_if : PlanState → Result Visit Denial → PlanState
+cancelled_if plan (Ok visit) = with_cancelled plan visit
+cancelled_if plan (Err why) = plan
+
 -- the plan after a command that is taken
 abbrev pub after_command : PlanState → Command → PlanState
 after_command plan (AddVisit new) = with_added plan new
 after_command plan (Commit desk draft base edits) = committed_if plan (draft_of desk draft base edits) (after_all_edits plan.airport base edits plan.visits)
+after_command plan (Message message) = with_settled plan (changed_by plan message)
+after_command plan (Report visit event) = with_settled plan (result_ok (reported plan visit event))
+after_command plan (Cancel visit) = cancelled_if plan (cancellable plan visit)

@@ -222,5 +222,11 @@ fn copy(alloc: Global, command: &Command) -> Result<Command, Memory>
                 edits: Listed::from_vec(edits),
             })
         }
+        Command::Message { message } => Ok(Command::Message { message: *message }),
+        Command::Report { visit, event } => Ok(Command::Report {
+            visit: *visit,
+            event: *event,
+        }),
+        Command::Cancel { visit } => Ok(Command::Cancel { visit: *visit }),
     }
 }

@@ -2,10 +2,11 @@
 ghost use Rattle.std.specs.Prelude.{◌≡◌, ◌≤◌, ◌++◌, ◌↔◌, List, ℕ, Some, length};
 ghost use Rattle.apron_rules.specs.declared.parts.AirportParts.{AirportParts};
 ghost use Rattle.visit_book.specs.Numbers.{IsNumbered, visit_at};
+ghost use Rattle.visit_book.specs.declared.visits.Bump.{Bump};
 ghost use Rattle.visit_book.specs.declared.visits.NewVisit.{NewVisit};
 ghost use Rattle.visit_book.specs.declared.visits.Visit.{Visit};
 ghost use Rattle.plan_core.specs.Drafts.{draft_version};
-ghost use Rattle.plan_core.specs.PlanState.{PlanState};
+ghost use Rattle.plan_core.specs.PlanState.{HasBump, PlanState};
 ghost use Rattle.desk_words.specs.declared.asks.Command.{Command};
 ghost use Rattle.desk_words.specs.declared.asks.Entry.{Entry};
 ghost use Rattle.history_core.specs.Steps.{Stepped, Steps};
@@ -53,4 +54,14 @@ pub fn edits_are_of_the_last_entry()
 pub fn visits_are_of_entries()
     ensures added { (airport : AirportParts) (history : List Entry) (version : ℕ) (new : NewVisit) → IsLegal airport history
         → HasVisit (replay airport history).visits version new ↔ HasAdded history version new }
+{}
+
+/// Each record of what took a stand from a part, in the plan of a legal history, names an entry of it.
+pub fn bumps_are_of_entries()
+    ensures numbered { (airport : AirportParts) (history : List Entry) (visit : Visit) (bump : Bump) → IsLegal airport history
+        → visit_at (replay airport history).visits visit.number ≡ Some visit → HasBump visit.parts bump
+        → (1 ≤ bump.entry) × (bump.entry ≤ (replay airport history).version) }
+    ensures made { (airport : AirportParts) (history : List Entry) (visit : Visit) (bump : Bump) → IsLegal airport history
+        → visit_at (replay airport history).visits visit.number ≡ Some visit → HasBump visit.parts bump
+        → (entry : Entry) × HasEntry history bump.entry entry }
 {}

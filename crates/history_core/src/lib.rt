@@ -8,7 +8,7 @@ mod taking;
 
 pub use board::Board;
 pub use laws::{
-    commands_have_one_step, drafts_are_of_entries, edits_are_of_the_last_entry,
-    entries_of_legal_histories_make_versions, fronts_of_legal_histories_are_legal,
-    legal_histories_make_sound_plans, visits_are_of_entries,
+    bumps_are_of_entries, commands_have_one_step, drafts_are_of_entries,
+    edits_are_of_the_last_entry, entries_of_legal_histories_make_versions,
+    fronts_of_legal_histories_are_legal, legal_histories_make_sound_plans, visits_are_of_entries,
 };

@@ -5,15 +5,22 @@ ghost use Rattle.desk_words.specs.Commands.{IsCommandOf};
 ghost use Rattle.history_core.specs.Steps.{TakesEntry};
 ghost use Rattle.history_core.specs.Taking.{Finds};
 
+mod cancel;
 mod commit;
+mod message;
+mod report;
+mod settling;
 mod visit;
 
 use apron_base::{MAX_ENTRIES, Memory};
 use apron_rules::Airport;
+use cancel::take_cancel;
 use commit::{Draft, take_commit};
 use desk_words::asks::Command;
-use desk_words::replies::Reply;
+use desk_words::replies::{Reply, Told};
+use message::take_message;
 use plan_core::{Change, Plan};
+use report::take_report;
 use std::alloc::Global;
 use visit::take_visit;
 
@@ -56,7 +63,28 @@ pub(crate) fn take(
             };
             take_commit(alloc, airport, plan, entries, &draft)
         }
+        Command::Message { message } => take_message(alloc, airport, plan, entries, message),
+        Command::Report { visit, event } => {
+            take_report(alloc, airport, plan, entries, *visit, event)
+        }
+        Command::Cancel { visit } => take_cancel(alloc, plan, entries, *visit),
     }
+}
+
+// An accepted command's change, with what is told of it once that is done.
+fn told_of(change: Change, told: Told) -> Taken
+    ensures is { result ≡ Taken.Accepted change (record { version = change.version; told = told }) }
+{
+    let version = change.version();
+    Taken::Accepted(change, Reply { version, told })
+}
+
+// What is told of a command that changes nothing.
+fn answered(plan: &Plan, told: Told) -> Taken
+    ensures is { result ≡ Taken.Answered (record { version = plan.now.plan.version; told = told }) }
+{
+    let version = plan.version();
+    Taken::Answered(Reply { version, told })
 }
 
 // Whether a history of so many entries takes one more.

@@ -1,10 +1,11 @@
 // Replies that need no plan.
 use crate::early::{Early, early_bytes};
 use crate::fixed::{bad_head, keeper_fault, no_memory};
+use mvt_grammar::MvtFault;
 
 #[test]
 fn early_replies_are_these_bytes(rt: HostRuntime) {
-    let rows: [(Early, &[u8]); 10] = [
+    let rows: [(Early, &[u8]); 16] = [
         (
             Early::NoRoute,
             b"HTTP/1.1 404 Not Found\r\nContent-Type: application/json\r\nContent-Length: 17\r\n\r\n{\"error\":\"route\"}",
@@ -26,6 +27,26 @@ fn early_replies_are_these_bytes(rt: HostRuntime) {
             b"HTTP/1.1 400 Bad Request\r\nContent-Type: application/json\r\nContent-Length: 16\r\n\r\n{\"error\":\"json\"}",
         ),
         (
+            Early::NotMvt(MvtFault::TooLong),
+            b"HTTP/1.1 400 Bad Request\r\nContent-Type: application/json\r\nContent-Length: 30\r\n\r\n{\"error\":\"mvt\",\"fault\":\"long\"}",
+        ),
+        (
+            Early::NotMvt(MvtFault::NoIdentifier),
+            b"HTTP/1.1 400 Bad Request\r\nContent-Type: application/json\r\nContent-Length: 36\r\n\r\n{\"error\":\"mvt\",\"fault\":\"identifier\"}",
+        ),
+        (
+            Early::NotMvt(MvtFault::BadFlightLine),
+            b"HTTP/1.1 400 Bad Request\r\nContent-Type: application/json\r\nContent-Length: 32\r\n\r\n{\"error\":\"mvt\",\"fault\":\"flight\"}",
+        ),
+        (
+            Early::NotMvt(MvtFault::BadElement(27)),
+            b"HTTP/1.1 400 Bad Request\r\nContent-Type: application/json\r\nContent-Length: 41\r\n\r\n{\"at\":27,\"error\":\"mvt\",\"fault\":\"element\"}",
+        ),
+        (
+            Early::NotMvt(MvtFault::Twice(4294967295)),
+            b"HTTP/1.1 400 Bad Request\r\nContent-Type: application/json\r\nContent-Length: 47\r\n\r\n{\"at\":4294967295,\"error\":\"mvt\",\"fault\":\"twice\"}",
+        ),
+        (
             Early::BadType,
             b"HTTP/1.1 422 Unprocessable Entity\r\nContent-Type: application/json\r\nContent-Length: 16\r\n\r\n{\"error\":\"type\"}",
         ),
@@ -36,6 +57,10 @@ fn early_replies_are_these_bytes(rt: HostRuntime) {
         (
             Early::BadStand { edit: 64 },
             b"HTTP/1.1 422 Unprocessable Entity\r\nContent-Type: application/json\r\nContent-Length: 27\r\n\r\n{\"edit\":64,\"error\":\"stand\"}",
+        ),
+        (
+            Early::NoStand,
+            b"HTTP/1.1 422 Unprocessable Entity\r\nContent-Type: application/json\r\nContent-Length: 17\r\n\r\n{\"error\":\"stand\"}",
         ),
         (
             Early::BadTimes,

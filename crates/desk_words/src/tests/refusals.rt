@@ -1,6 +1,6 @@
 // Refused edits.
-use super::{airport, has_text, part};
-use crate::replies::{Reply, Told};
+use super::{CONFLICT, UNPROCESSABLE, airport, has_text, part, reply};
+use crate::replies::Told;
 use apron_base::VisitNo;
 use apron_rules::{Clash, Rule, UnfitBy};
 use std::test::Fail;
@@ -21,122 +21,92 @@ fn refused_edits_are_these_bytes(rt: HostRuntime) -> Result<(), Fail> {
     let airport = airport(alloc)?;
     let rows = [
         (
-            Reply {
-                version: 0,
-                told: Told::Edit(EditFault::UnknownVisit { edit: 1 }),
-            },
-            "HTTP/1.1 422 Unprocessable Entity\r\nContent-Type: application/json\r\nContent-Length: 40\r\nX-Version: 0",
+            reply(0, Told::Edit(EditFault::UnknownVisit { edit: 1 })),
+            UNPROCESSABLE,
             r#"{"edit":1,"error":"unknown","version":0}"#,
         ),
         (
-            Reply {
-                version: 10,
-                told: Told::Edit(EditFault::Overtaken {
+            reply(
+                10,
+                Told::Edit(EditFault::Overtaken {
                     edit: 3,
                     visit: VisitNo(12),
                     edited: 8,
                 }),
-            },
-            "HTTP/1.1 409 Conflict\r\nContent-Type: application/json\r\nContent-Length: 65\r\nX-Version: 10",
+            ),
+            CONFLICT,
             r#"{"edit":3,"edited":8,"error":"overtaken","version":10,"visit":12}"#,
         ),
         (
-            Reply {
-                version: 11,
-                told: Told::Edit(EditFault::Gone { edit: 4 }),
-            },
-            "HTTP/1.1 422 Unprocessable Entity\r\nContent-Type: application/json\r\nContent-Length: 38\r\nX-Version: 11",
+            reply(11, Told::Edit(EditFault::Gone { edit: 4 })),
+            UNPROCESSABLE,
             r#"{"edit":4,"error":"gone","version":11}"#,
         ),
         (
-            Reply {
-                version: 9,
-                told: Told::Edit(EditFault::NoSuchPart { edit: 64 }),
-            },
-            "HTTP/1.1 422 Unprocessable Entity\r\nContent-Type: application/json\r\nContent-Length: 38\r\nX-Version: 9",
+            reply(9, Told::Edit(EditFault::NoSuchPart { edit: 64 })),
+            UNPROCESSABLE,
             r#"{"edit":64,"error":"part","version":9}"#,
         ),
         (
-            Reply {
-                version: 5,
-                told: Told::Edit(EditFault::OnBlock { edit: 1 }),
-            },
-            "HTTP/1.1 422 Unprocessable Entity\r\nContent-Type: application/json\r\nContent-Length: 40\r\nX-Version: 5",
+            reply(5, Told::Edit(EditFault::OnBlock { edit: 1 })),
+            UNPROCESSABLE,
             r#"{"edit":1,"error":"onblock","version":5}"#,
         ),
         (
-            Reply {
-                version: 4294967294,
-                told: Told::Edit(EditFault::BadCut { edit: 17 }),
-            },
-            "HTTP/1.1 422 Unprocessable Entity\r\nContent-Type: application/json\r\nContent-Length: 46\r\nX-Version: 4294967294",
+            reply(4294967294, Told::Edit(EditFault::BadCut { edit: 17 })),
+            UNPROCESSABLE,
             r#"{"edit":17,"error":"cut","version":4294967294}"#,
         ),
         (
-            Reply {
-                version: 6,
-                told: Told::Edit(EditFault::BadJoin { edit: 64 }),
-            },
-            "HTTP/1.1 422 Unprocessable Entity\r\nContent-Type: application/json\r\nContent-Length: 38\r\nX-Version: 6",
+            reply(6, Told::Edit(EditFault::BadJoin { edit: 64 })),
+            UNPROCESSABLE,
             r#"{"edit":64,"error":"join","version":6}"#,
         ),
         (
-            Reply {
-                version: 10,
-                told: Told::Edit(EditFault::Unfit {
+            reply(
+                10,
+                Told::Edit(EditFault::Unfit {
                     edit: 2,
                     by: UnfitBy::Letter,
                 }),
-            },
-            "HTTP/1.1 422 Unprocessable Entity\r\nContent-Type: application/json\r\nContent-Length: 53\r\nX-Version: 10",
+            ),
+            UNPROCESSABLE,
             r#"{"by":"letter","edit":2,"error":"unfit","version":10}"#,
         ),
         (
-            Reply {
-                version: 10,
-                told: Told::Edit(EditFault::Unfit {
+            reply(
+                10,
+                Told::Edit(EditFault::Unfit {
                     edit: 2,
                     by: UnfitBy::Object(3),
                 }),
-            },
-            "HTTP/1.1 422 Unprocessable Entity\r\nContent-Type: application/json\r\nContent-Length: 57\r\nX-Version: 10",
+            ),
+            UNPROCESSABLE,
             r#"{"by":{"object":3},"edit":2,"error":"unfit","version":10}"#,
         ),
         (
-            Reply {
-                version: 12,
-                told: Told::Edit(clash(Rule::Same)),
-            },
-            "HTTP/1.1 422 Unprocessable Entity\r\nContent-Type: application/json\r\nContent-Length: 108\r\nX-Version: 12",
+            reply(12, Told::Edit(clash(Rule::Same))),
+            UNPROCESSABLE,
             r#"{"a":{"part":1,"visit":3},"b":{"part":2,"visit":40},"error":"clash","minute":480,"rule":"same","version":12}"#,
         ),
         (
-            Reply {
-                version: 12,
-                told: Told::Edit(clash(Rule::Split)),
-            },
-            "HTTP/1.1 422 Unprocessable Entity\r\nContent-Type: application/json\r\nContent-Length: 109\r\nX-Version: 12",
+            reply(12, Told::Edit(clash(Rule::Split))),
+            UNPROCESSABLE,
             r#"{"a":{"part":1,"visit":3},"b":{"part":2,"visit":40},"error":"clash","minute":480,"rule":"split","version":12}"#,
         ),
         (
-            Reply {
-                version: 12,
-                told: Told::Edit(clash(Rule::Clearance)),
-            },
-            "HTTP/1.1 422 Unprocessable Entity\r\nContent-Type: application/json\r\nContent-Length: 113\r\nX-Version: 12",
+            reply(12, Told::Edit(clash(Rule::Clearance))),
+            UNPROCESSABLE,
             r#"{"a":{"part":1,"visit":3},"b":{"part":2,"visit":40},"error":"clash","minute":480,"rule":"clearance","version":12}"#,
         ),
         (
-            Reply {
-                version: 12,
-                told: Told::Edit(clash(Rule::Pair)),
-            },
-            "HTTP/1.1 422 Unprocessable Entity\r\nContent-Type: application/json\r\nContent-Length: 108\r\nX-Version: 12",
+            reply(12, Told::Edit(clash(Rule::Pair))),
+            UNPROCESSABLE,
             r#"{"a":{"part":1,"visit":3},"b":{"part":2,"visit":40},"error":"clash","minute":480,"rule":"pair","version":12}"#,
         ),
     ];
-    for (reply, head, body) in &rows {
-        assert!(rt; has_text(alloc, &airport, reply, head, body), "at {body}");
+    for (reply, status, body) in &rows {
+        assert!(rt; has_text(alloc, &airport, reply, status, body), "at {body}");
     }
     Ok(())
 }

@@ -1,6 +1,6 @@
 // Visits.
-use super::{airport, has_text, part};
-use crate::replies::{Reply, Told};
+use super::{OK, airport, has_text, part, reply};
+use crate::replies::Told;
 use apron_base::{Name, StandNo, TypeNo, VisitNo};
 use apron_rules::Rule;
 use mvt_grammar::Flight;
@@ -104,80 +104,71 @@ fn visits_are_these_bytes(rt: HostRuntime) -> Result<(), Fail> {
     let airport = airport(alloc)?;
     let rows = [
         (
-            Reply {
-                version: 1,
-                told: Told::Visit(first_visit(Place::Planned(StandNo(0)), false, End::Live)),
-            },
-            "HTTP/1.1 200 OK\r\nContent-Type: application/json\r\nContent-Length: 202\r\nX-Version: 1",
+            reply(
+                1,
+                Told::Visit(first_visit(Place::Planned(StandNo(0)), false, End::Live)),
+            ),
+            OK,
             r#"{"arr":null,"class":3,"dep":null,"edited":1,"name":"V1","off":660,"on":600,"parts":[{"actual":false,"bump":null,"from":600,"stand":"N1","to":660}],"state":"expected","type":"A320","version":1,"visit":1}"#,
         ),
         (
-            Reply {
-                version: 4294967294,
-                told: Told::Visit(first_visit(Place::Actual(StandNo(1)), true, End::Live)),
-            },
-            "HTTP/1.1 200 OK\r\nContent-Type: application/json\r\nContent-Length: 209\r\nX-Version: 4294967294",
+            reply(
+                4294967294,
+                Told::Visit(first_visit(Place::Actual(StandNo(1)), true, End::Live)),
+            ),
+            OK,
             r#"{"arr":null,"class":3,"dep":null,"edited":1,"name":"V1","off":660,"on":600,"parts":[{"actual":true,"bump":null,"from":600,"stand":"N2","to":660}],"state":"onblock","type":"A320","version":4294967294,"visit":1}"#,
         ),
         (
-            Reply {
-                version: 12,
-                told: Told::Visit(first_visit(Place::Actual(StandNo(1)), true, End::Gone)),
-            },
-            "HTTP/1.1 200 OK\r\nContent-Type: application/json\r\nContent-Length: 198\r\nX-Version: 12",
+            reply(
+                12,
+                Told::Visit(first_visit(Place::Actual(StandNo(1)), true, End::Gone)),
+            ),
+            OK,
             r#"{"arr":null,"class":3,"dep":null,"edited":1,"name":"V1","off":660,"on":600,"parts":[{"actual":true,"bump":null,"from":600,"stand":"N2","to":660}],"state":"gone","type":"A320","version":12,"visit":1}"#,
         ),
         (
-            Reply {
-                version: 0,
-                told: Told::Visit(first_visit(Place::Unplaced(None), true, End::Cancelled)),
-            },
-            "HTTP/1.1 200 OK\r\nContent-Type: application/json\r\nContent-Length: 203\r\nX-Version: 0",
+            reply(
+                0,
+                Told::Visit(first_visit(Place::Unplaced(None), true, End::Cancelled)),
+            ),
+            OK,
             r#"{"arr":null,"class":3,"dep":null,"edited":1,"name":"V1","off":660,"on":600,"parts":[{"actual":false,"bump":null,"from":600,"stand":null,"to":660}],"state":"cancelled","type":"A320","version":0,"visit":1}"#,
         ),
         (
-            Reply {
-                version: 2,
-                told: Told::Visit(first_visit(Place::Unplaced(None), false, End::Gone)),
-            },
-            "HTTP/1.1 200 OK\r\nContent-Type: application/json\r\nContent-Length: 198\r\nX-Version: 2",
+            reply(
+                2,
+                Told::Visit(first_visit(Place::Unplaced(None), false, End::Gone)),
+            ),
+            OK,
             r#"{"arr":null,"class":3,"dep":null,"edited":1,"name":"V1","off":660,"on":600,"parts":[{"actual":false,"bump":null,"from":600,"stand":null,"to":660}],"state":"gone","type":"A320","version":2,"visit":1}"#,
         ),
         (
-            Reply {
-                version: 9,
-                told: Told::Visit(first_visit(Place::Unplaced(Some(bump())), false, End::Live)),
-            },
-            "HTTP/1.1 200 OK\r\nContent-Type: application/json\r\nContent-Length: 281\r\nX-Version: 9",
+            reply(
+                9,
+                Told::Visit(first_visit(Place::Unplaced(Some(bump())), false, End::Live)),
+            ),
+            OK,
             r#"{"arr":null,"class":3,"dep":null,"edited":1,"name":"V1","off":660,"on":600,"parts":[{"actual":false,"bump":{"blocker":{"part":2,"visit":40},"entry":8,"minute":615,"rule":"pair","stand":"N2"},"from":600,"stand":null,"to":660}],"state":"expected","type":"A320","version":9,"visit":1}"#,
         ),
         (
-            Reply {
-                version: 4294967294,
-                told: Told::Visit(last_visit()),
-            },
-            "HTTP/1.1 200 OK\r\nContent-Type: application/json\r\nContent-Length: 261\r\nX-Version: 4294967294",
+            reply(4294967294, Told::Visit(last_visit())),
+            OK,
             r#"{"arr":null,"class":0,"dep":{"day":255,"flight":"AAL0Z"},"edited":4294967294,"name":"KL-0641-27-A","off":4319,"on":0,"parts":[{"actual":false,"bump":null,"from":1,"stand":"N2","to":4320}],"state":"expected","type":"A320","version":4294967294,"visit":4294967295}"#,
         ),
         (
-            Reply {
-                version: 3,
-                told: Told::Visit(connecting_visit()),
-            },
-            "HTTP/1.1 200 OK\r\nContent-Type: application/json\r\nContent-Length: 247\r\nX-Version: 3",
+            reply(3, Told::Visit(connecting_visit())),
+            OK,
             r#"{"arr":{"day":0,"flight":"LH27"},"class":3,"dep":{"day":1,"flight":"LH1400A"},"edited":1,"name":"V1","off":660,"on":600,"parts":[{"actual":false,"bump":null,"from":600,"stand":"N1","to":660}],"state":"expected","type":"A320","version":3,"visit":1}"#,
         ),
         (
-            Reply {
-                version: 1,
-                told: Told::Visit(nameless_visit()),
-            },
-            "HTTP/1.1 200 OK\r\nContent-Type: application/json\r\nContent-Length: 200\r\nX-Version: 1",
+            reply(1, Told::Visit(nameless_visit())),
+            OK,
             r#"{"arr":null,"class":3,"dep":null,"edited":1,"name":"V1","off":660,"on":600,"parts":[{"actual":false,"bump":null,"from":600,"stand":null,"to":660}],"state":"expected","type":null,"version":1,"visit":1}"#,
         ),
     ];
-    for (reply, head, body) in &rows {
-        assert!(rt; has_text(alloc, &airport, reply, head, body), "at {body}");
+    for (reply, status, body) in &rows {
+        assert!(rt; has_text(alloc, &airport, reply, status, body), "at {body}");
     }
     Ok(())
 }

@@ -28,6 +28,10 @@ pub returns-in-BadType : goal.returns-in-BadType
 unfolding digits serde_json_on_literals early_text
 returns-in-BadType c = record { text = c.of-in-BadType.ensures.bytes ∙ ap early_text (sym c.in-BadType.is) }
 
+pub returns-in-NoStand : goal.returns-in-NoStand
+unfolding digits serde_json_on_literals early_text
+returns-in-NoStand c = record { text = c.of-in-NoStand.ensures.bytes ∙ ap early_text (sym c.in-NoStand.is) }
+
 pub returns-in-BadTimes : goal.returns-in-BadTimes
 unfolding digits serde_json_on_literals early_text
 returns-in-BadTimes c = record { text = c.of-in-BadTimes.ensures.bytes ∙ ap early_text (sym c.in-BadTimes.is) }

@@ -1,4 +1,3 @@
-use Rattle.std.proofs.Common.{◌≡◌}
 use Rattle.std.proofs.lemmas.Result.{err_from_is_err_and}
 use Rattle.entry_bytes.specs.Commits.{edit_at}
 use Rattle.entry_bytes.specs.Readings.{repeated}

@@ -1,4 +1,4 @@
-use Rattle.std.proofs.Common.{◌<◌, ℕ, arith}
+use Rattle.std.proofs.Common.{arith}
 use Rattle.entry_bytes.proofs.EntriesSpelt.{entry_is_spelt, near_of}
 use Rattle.entry_bytes.proofs.entries.decode_entry.Goals as goal
 

@@ -1,4 +1,4 @@
-use Rattle.std.proofs.Common.{◌≡◌, Some, None, Err, ap, sym, ◌∙◌}
+use Rattle.std.proofs.Common.{Some, None, Err, ap, sym, ◌∙◌}
 use Rattle.entry_bytes.specs.declared.faults.EntryFault.TheVariants.{BadField}
 use Rattle.entry_bytes.specs.Readings.{Left}
 use Rattle.entry_bytes.proofs.Fields.{named}

@@ -1,0 +1,138 @@
+// What the program does with whole inputs. The expected texts are written by hand from the format of requests and replies.
+mod commits;
+mod limits;
+mod lines;
+mod movements;
+mod routes;
+mod seen;
+mod sessions;
+mod visits;
+mod words_and_files;
+
+use apron_base::{Kept, ListSink, ListSource, Listed, MapShelf, Memory, Word};
+use apron_run::run;
+use std::alloc::Global;
+use std::fmt::Debug;
+use std::process::Abort;
+
+// The airport file and the type file of the examples: thirteen stands on four frontages, and seven types.
+const AIRPORT: &str =
+    r#"# The demo airport: thirteen stands on four frontages. N and S show clearances along a pier, 12 is a stand
+# with two halves, and 14 and 15 exclude each other by a restriction.
+frontage = [
+  { name = "N", objects = [0] },
+  { name = "S", objects = [0] },
+  { name = "R", objects = [] },
+  { name = "T", objects = [27500] },
+]
+stand = [
+  { name = "N1", frontage = "N", centre = 4000, letter = "C", buffer = 10 },
+  { name = "N2", frontage = "N", centre = 8030, letter = "C", buffer = 10 },
+  { name = "N3", frontage = "N", centre = 12059, letter = "E", buffer = 10 },
+  { name = "S1", frontage = "S", centre = 6000, letter = "C", buffer = 10 },
+  { name = "S2", frontage = "S", centre = 8890, letter = "C", buffer = 10 },
+  { name = "S3", frontage = "S", centre = 11779, letter = "E", buffer = 10 },
+  { name = "S4", frontage = "S", centre = 14670, letter = "C", buffer = 10 },
+  { name = "S5", frontage = "S", centre = 17559, letter = "C", buffer = 10 },
+  { name = "12", frontage = "R", centre = 10000, letter = "E", buffer = 10 },
+  { name = "12L", frontage = "R", centre = 8400, letter = "C", buffer = 10, half_of = "12" },
+  { name = "12R", frontage = "R", centre = 11600, letter = "C", buffer = 10, half_of = "12" },
+  { name = "14", frontage = "T", centre = 10000, letter = "F", buffer = 10 },
+  { name = "15", frontage = "T", centre = 25000, letter = "E", buffer = 10 },
+]
+pair = [ { a = "14", la = "E", b = "15", lb = "C" } ]
+
+[airport]
+station = "APR"
+first_day = "2026-03-27"
+days = 3
+taxi_in = 5
+tow = 20
+"#;
+
+const TYPES: &str = "type,span,least
+A320,3580,40
+B738,3579,40
+B77W,6480,60
+AT76,2705,25
+B190,1767,20
+A388,7975,90
+X360,3600,40
+";
+
+// A visit is added, and stands: requests of 123 and 129 bytes.
+const FIRST: &[u8] =
+    b"POST /visits HTTP/1.1\r\nContent-Length: 78\r\n\r\n{\"name\":\"V1\",\"type\":\"A320\",\"class\":3,\"on\":600,\"off\":660,\"arr\":null,\"dep\":null}POST /commits HTTP/1.1\r\nContent-Length: 83\r\n\r\n{\"desk\":\"D\",\"draft\":1,\"base\":1,\"edits\":[{\"put\":{\"visit\":1,\"part\":1,\"stand\":\"N1\"}}]}";
+
+// What the program is run on: its words, the texts of the files `A` and `T`, its input, how many bytes of it the source gives
+// at a time, and which calls fail.
+#[derive(Clone, Copy)]
+struct Run<'a> {
+    words: &'a str,
+    airport: &'a str,
+    types: &'a str,
+    input: &'a [u8],
+    pieces: &'a [usize],
+    failing_files: &'a [u64],
+    failing_reads: &'a [u64],
+    failing_puts: &'a [u64],
+}
+
+// A session at the example airport, whose input is empty.
+const DEMO: Run = Run {
+    words: "desk A T",
+    airport: AIRPORT,
+    types: TYPES,
+    input: &[],
+    pieces: &[],
+    failing_files: &[],
+    failing_reads: &[],
+    failing_puts: &[],
+};
+
+impl Run<'_> {
+    // The program writes this output, and ends with this status.
+    fn gives(
+        &self,
+        rt: &impl Abort,
+        alloc: Global,
+        shows: &impl Debug,
+        output: &[u8],
+        status: u8,
+    ) -> Result<(), Memory> {
+        let files = Vec::from_array(
+            alloc,
+            [
+                kept(alloc, "A", self.airport)?,
+                kept(alloc, "T", self.types)?,
+            ],
+        )?;
+        let mut shelf = MapShelf::new(files, self.failing_files.to_vec(alloc)?);
+        let mut source = ListSource::new(
+            self.input.to_vec(alloc)?,
+            self.pieces.to_vec(alloc)?,
+            self.failing_reads.to_vec(alloc)?,
+        );
+        let mut sink = ListSink::new(alloc, 200_000, self.failing_puts.to_vec(alloc)?)?;
+        let words = words(alloc, self.words)?;
+        let ended = run(alloc, words.as_slice(), &mut shelf, &mut source, &mut sink);
+        assert_eq!(rt; sink.bytes(), output, "{shows:?}");
+        assert_eq!(rt; ended, status, "{shows:?}");
+        Ok(())
+    }
+}
+
+fn words(alloc: Global, texts: &str) -> Result<Vec<Word>, Memory> {
+    let mut words = Vec::new(alloc);
+    for text in texts.split_ascii_whitespace() {
+        words.push(Word::new(alloc, text)?)?;
+    }
+    Ok(words)
+}
+
+fn kept(alloc: Global, name: &str, text: &str) -> Result<Kept, Memory> {
+    Ok(Kept {
+        name: Word::new(alloc, name)?,
+        bytes: Listed::from_vec(text.as_bytes().to_vec(alloc)?),
+    })
+}

@@ -1,0 +1,112 @@
+// Sessions in words: requests and replies, a line each.
+use super::{DEMO, Run};
+use apron_base::Memory;
+use std::alloc::Global;
+use std::process::Abort;
+use std::test::Fail;
+
+/// The input of a session, and what is to be written for it.
+#[derive(Drop)]
+pub(super) struct Session {
+    pub(super) input: Vec<u8>,
+    pub(super) output: Vec<u8>,
+}
+
+impl Session {
+    /// A line `> METHOD TARGET BODY` is a request, with the fields of the lines `+ FIELD` before it in its head, and a line
+    /// `< CODE FIELD BODY` is a reply.
+    pub(super) fn of(alloc: Global, lines: &str) -> Result<Session, Fail> {
+        let mut session = Session {
+            input: Vec::new(alloc),
+            output: Vec::new(alloc),
+        };
+        let mut fields = String::new(alloc);
+        for line in lines.split('\n') {
+            if let Some(field) = line.strip_prefix("+ ") {
+                fields.push_str(field)?;
+                fields.push_str("\r\n")?;
+            } else if let Some(words) = line.strip_prefix("> ") {
+                session.ask(alloc, words, fields.as_str())?;
+                fields.clear();
+            } else if let Some(words) = line.strip_prefix("< ") {
+                session.tell(alloc, words)?;
+            }
+        }
+        Ok(session)
+    }
+
+    /// Puts a request `METHOD TARGET BODY` behind the input, with these lines in its head. A bar in the body is the end of a line.
+    pub(super) fn ask(&mut self, alloc: Global, words: &str, fields: &str) -> Result<(), Fail> {
+        let (method, rest) = words.split_once(' ').ok_or("a request has a target")?;
+        let (target, body) = rest.split_once(' ').unwrap_or((rest, ""));
+        let length = body.len();
+        let head = format!(in alloc;
+            "{method} {target} HTTP/1.1\r\nContent-Length: {length}\r\n{fields}\r\n"
+        )?;
+        self.input.extend_from_slice(head.as_bytes())?;
+        for byte in body.as_bytes() {
+            self.input.push(if *byte == b'|' { b'\n' } else { *byte })?;
+        }
+        Ok(())
+    }
+
+    /// Puts a reply `CODE FIELD BODY` behind the output: FIELD is the version that its head tells, or the one method that is
+    /// allowed, or `close`, or `-`.
+    pub(super) fn tell(&mut self, alloc: Global, words: &str) -> Result<(), Fail> {
+        let (code, rest) = words.split_once(' ').ok_or("a reply has a field")?;
+        let (field, body) = rest.split_once(' ').ok_or("a reply has a body")?;
+        let phrase = phrase_of(code);
+        let (name, value, end) = field_of(field);
+        let length = body.len();
+        let reply = format!(in alloc;
+            "HTTP/1.1 {code} {phrase}\r\nContent-Type: application/json\r\nContent-Length: {length}\r\n{name}{value}{end}\r\n{body}"
+        )?;
+        self.output.extend_from_slice(reply.as_bytes())?;
+        Ok(())
+    }
+
+    /// The input is answered with the output, and the session ends with this status.
+    pub(super) fn holds(
+        &self,
+        rt: &impl Abort,
+        alloc: Global,
+        shows: &str,
+        status: u8,
+    ) -> Result<(), Memory> {
+        let run = Run {
+            input: self.input.as_slice(),
+            ..DEMO
+        };
+        run.gives(rt, alloc, &shows, self.output.as_slice(), status)
+    }
+}
+
+// The name of a field, its value and its end.
+fn field_of(field: &str) -> (&'static str, &str, &'static str) {
+    match field {
+        "-" => ("", "", ""),
+        "close" => ("Connection: ", field, "\r\n"),
+        "GET" | "POST" => ("Allow: ", field, "\r\n"),
+        _ => ("X-Version: ", field, "\r\n"),
+    }
+}
+
+fn phrase_of(code: &str) -> &'static str {
+    match code {
+        "200" => "OK",
+        "400" => "Bad Request",
+        "404" => "Not Found",
+        "405" => "Method Not Allowed",
+        "409" => "Conflict",
+        _ => "Unprocessable Entity",
+    }
+}
+
+/// Each session is answered as its lines say. One begins with a line `# WHAT IT SHOWS`.
+pub(super) fn all_hold(rt: &impl Abort, alloc: Global, sessions: &str) -> Result<(), Fail> {
+    for session in sessions.split('#') {
+        let (shows, lines) = session.split_once('\n').unwrap_or((session, ""));
+        Session::of(alloc, lines)?.holds(rt, alloc, shows, 0)?;
+    }
+    Ok(())
+}

@@ -1,0 +1,93 @@
+// The words, and the files that they name.
+use super::{AIRPORT, DEMO, FIRST, Run, TYPES};
+use std::test::Fail;
+
+const HELP: &[u8] =
+    b"apron: airport stand allocation\n\napron desk AIRPORT TYPES     answers HTTP requests from standard input on standard output, at the\n                             airport of an airport file and a type file\napron check AIRPORT TYPES    reads an airport file and a type file, and prints how much they\n                             hold, or the first fault in them\napron --help                 prints this text\napron --version              prints the version\n";
+
+// An airport whose one stand is on a frontage that there isn't.
+const UNKNOWN_FRONTAGE: &str = r#"frontage = [{ name = "N", objects = [] }]
+stand = [{ name = "S1", frontage = "S", centre = 4000, letter = "C", buffer = 10 }]
+pair = []
+
+[airport]
+station = "APR"
+first_day = "2026-03-27"
+days = 3
+taxi_in = 5
+tow = 20
+"#;
+
+// The words, what they print, and the status; and with a sink that fails at once.
+#[test]
+fn words_that_print(rt: HostRuntime) -> Result<(), Fail> {
+    let usage = b"usage\n".as_slice();
+    let rows: [(&str, &[u8], u8, u8); 20] = [
+        ("", usage, 2, 2),
+        ("desk", usage, 2, 2),
+        ("desk demo", usage, 2, 2),
+        ("desk A", usage, 2, 2),
+        ("desk A T T", usage, 2, 2),
+        ("Desk A T", usage, 2, 2),
+        ("A T desk", usage, 2, 2),
+        ("demo", usage, 2, 2),
+        ("--version --help", usage, 2, 2),
+        ("--version A T", usage, 2, 2),
+        ("check", usage, 2, 2),
+        ("check A", usage, 2, 2),
+        ("checks A T", usage, 2, 2),
+        ("check A T T", usage, 2, 2),
+        ("--versio", usage, 2, 2),
+        ("--version", b"apron 0.1.0\n", 0, 6),
+        ("--help", HELP, 0, 6),
+        ("check A T", b"ok: 13 stands, 7 types, 3 days\n", 0, 6),
+        ("check T A", b"airport file: not toml\n", 3, 3),
+        ("check A missing", b"shelf fault\n", 4, 4),
+    ];
+    for (words, output, status, unwritten) in rows {
+        let run = Run {
+            words,
+            input: FIRST,
+            ..DEMO
+        };
+        run.gives(&rt, rt.alloc(), &words, output, status)?;
+        let run = Run {
+            failing_puts: &[0],
+            ..run
+        };
+        run.gives(&rt, rt.alloc(), &words, b"", unwritten)?;
+    }
+    Ok(())
+}
+
+// The two files, the failing calls of the shelf, the line and the status, of a desk as of a check.
+#[test]
+fn faulty_files_are_told(rt: HostRuntime) -> Result<(), Fail> {
+    let rows: [(&str, &str, &[u64], &[u8], u8); 6] = [
+        (UNKNOWN_FRONTAGE, TYPES, &[], b"airport: unknown S\n", 3),
+        (TYPES, AIRPORT, &[], b"airport file: not toml\n", 3),
+        (AIRPORT, AIRPORT, &[], b"type file: record 1\n", 3),
+        (UNKNOWN_FRONTAGE, "", &[], b"type file: record 1\n", 3),
+        (AIRPORT, TYPES, &[0], b"shelf fault\n", 4),
+        (AIRPORT, TYPES, &[1], b"shelf fault\n", 4),
+    ];
+    for (airport, types, failing_files, line, status) in rows {
+        for words in ["desk A T", "check A T"] {
+            let run = Run {
+                words,
+                airport,
+                types,
+                input: FIRST,
+                failing_files,
+                ..DEMO
+            };
+            run.gives(&rt, rt.alloc(), &(words, line), line, status)?;
+            let run = Run {
+                failing_puts: &[0],
+                ..run
+            };
+            run.gives(&rt, rt.alloc(), &(words, line), b"", status)?;
+        }
+    }
+    Ok(())
+}

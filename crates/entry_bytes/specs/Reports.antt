@@ -1,0 +1,58 @@
+-- A report and a cancel as bytes: the visit, and what happened to it.
+use Rattle.std.specs.Prelude.{ℕ, ◌==◌, nat_lt, List, ◌∷◌, ◌++◌, length, Option, Some, None, if◌then◌else◌}
+use Rattle.std.specs.Int.{w16, w32, to_le_bytes}
+use Rattle.apron_base.specs.declared.numbers.VisitNo.{VisitNo}
+use Rattle.apron_rules.specs.declared.parts.AirportParts.{AirportParts}
+use Rattle.visit_book.specs.declared.reports.Event.{Event}
+use Rattle.visit_book.specs.declared.reports.Event.TheVariants.{On, Off}
+use Rattle.desk_words.specs.declared.asks.Command.{Command}
+use Rattle.desk_words.specs.declared.asks.Command.TheVariants.{Report, Cancel}
+use Rattle.entry_bytes.specs.declared.faults.EntryFault.TheVariants.{BadField}
+use Rattle.entry_bytes.specs.Readings.{Reading, ◌>>=◌, byte, give, number, such_that, tagged}
+
+-- a tag; then the part, the stand and the minute on block, or the minute off block
+abbrev pub event_text : Event → List ℕ
+event_text (On part stand minute) = 1 ∷ part ∷ (to_le_bytes w16 stand.0 ++ to_le_bytes w32 minute)
+event_text (Off minute) = 2 ∷ to_le_bytes w32 minute
+
+-- the visit, and what happened to it
+abbrev pub report_text : VisitNo → Event → List ℕ
+report_text visit event = to_le_bytes w32 visit.0 ++ event_text event
+
+-- what stands behind the tag of a part that came on block, on a stand of the airport
+unfoldable pub on_at : AirportParts → Reading Event
+on_at airport = do
+  part ← byte
+  stand ← such_that (λ stand. nat_lt stand (length airport.stands)) (number w16)
+  minute ← number w32
+  give (On part (record { 0 = stand }) minute)
+
+-- what stands behind the tag of a visit that went off block
+unfoldable pub off_at : Reading Event
+off_at = do
+  minute ← number w32
+  give (Off minute)
+
+-- the event of a tag
+abbrev pub event_of : AirportParts → ℕ → Option (Reading Event)
+event_of airport tag =
+    if tag == 1 then Some (on_at airport)
+    else (if tag == 2 then Some off_at
+    else None)
+
+-- an event at the airport
+unfoldable pub event_at : AirportParts → Reading Event
+event_at airport = tagged BadField (event_of airport)
+
+-- a report at the airport
+unfoldable pub report_at : AirportParts → Reading Command
+report_at airport = do
+  visit ← number w32
+  event ← event_at airport
+  give (Report (record { 0 = visit }) event)
+
+-- a cancel, which is of any visit
+unfoldable pub cancel_at : Reading Command
+cancel_at = do
+  visit ← number w32
+  give (Cancel (record { 0 = visit }))

@@ -1,0 +1,50 @@
+// Messages as bytes: their canonical texts.
+ghost use Rattle.std.specs.Prelude.{◌≡◌, ◌++◌, IfOk, OnOk};
+ghost use Rattle.mvt_grammar.specs.Readable.{IsReadable};
+ghost use Rattle.entry_bytes.specs.Gives.{Gives};
+ghost use Rattle.entry_bytes.specs.Messages.{message_at, message_of, message_text};
+
+use crate::faults::ReadFault;
+use crate::reader::Reader;
+use apron_base::Memory;
+use mvt_grammar::{Mvt, read_mvt, write_mvt};
+use std::alloc::Global;
+
+pub(crate) fn push_message(alloc: Global, out: &mut Vec<u8>, message: &Mvt) -> Result<(), Memory>
+    requires readable { IsReadable message.now }
+    ensures text { OnOk result (out.new.items ≡ out.old.items ++ message_text message.now) }
+{
+    let text = write_mvt(alloc, message)?;
+    out.push(text.len() as u8)?;
+    out.extend_from_slice(text.as_slice())?;
+    Ok(())
+}
+
+#[tactic(auto, unfolding(crate::specs::Messages::message_at))]
+pub(crate) fn message_at(alloc: Global, reader: &mut Reader<'_>) -> Result<Mvt, ReadFault>
+    ensures is { Gives result reader.new (message_at reader.old) }
+{
+    let at = reader.at();
+    let text = reader.text()?;
+    match message_of(alloc, text)? {
+        Some(message) => Ok(message),
+        None => Err(ReadFault::BadField(at)),
+    }
+}
+
+// The message that the text is read as, where the text is the canonical one of it.
+fn message_of(alloc: Global, text: &[u8]) -> Result<Option<Mvt>, Memory>
+    ensures is { IfOk result (λ message. message ≡ message_of text.now) }
+{
+    match read_mvt(text) {
+        Ok(message) => {
+            let canonical = write_mvt(alloc, &message)?;
+            if text == canonical.as_slice() {
+                Ok(Some(message))
+            } else {
+                Ok(None)
+            }
+        }
+        Err(_) => Ok(None),
+    }
+}

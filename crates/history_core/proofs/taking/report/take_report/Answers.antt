@@ -1,0 +1,23 @@
+use Rattle.std.proofs.Common.{◌∙◌, sym, subst}
+use Rattle.desk_words.specs.declared.asks.Command.TheVariants.{Report}
+use Rattle.history_core.specs.Taking.{Finds}
+use Rattle.history_core.proofs.Takings.{report_denied, report_full}
+use Rattle.history_core.proofs.taking.report.take_report.Goals as goal
+
+pub returns-in-Err : goal.returns-in-Err
+returns-in-Err c =
+    let plan = c.args.plan.now.plan in
+    record {
+      finds = subst (Finds plan c.args.entries (Report c.args.number c.args.event.now)) (sym c.answered.ensures.is)
+          (report_denied plan c.args.entries c.args.number c.args.event.now c.in-Err.why (sym c.reported.ensures.is ∙ c.in-Err.is));
+    }
+
+pub returns-then-not-takes_entry : goal.returns-then-not-takes_entry
+returns-then-not-takes_entry c =
+    let plan = c.args.plan.now.plan in
+    let none = c.if-not-takes_entry.true in
+    record {
+      finds = subst (Finds plan c.args.entries (Report c.args.number c.args.event.now)) (sym c.answered-then-not-takes_entry.ensures.is)
+          (report_full plan c.args.entries c.args.number c.args.event.now c.in-Ok.visit (sym c.reported.ensures.is ∙ c.in-Ok.is)
+          (λ has. let takes = c.takes_entry.ensures.is.1 has in absurd (cc)));
+    }

@@ -1,0 +1,78 @@
+// A movement message comes.
+ghost use Rattle.std.specs.Prelude.{◌≡◌, IfOk, IfSome, option_map};
+ghost use Rattle.std.specs.Option.{option_copied};
+ghost use Rattle.visit_book.specs.Numbers.{IsNumbered};
+ghost use Rattle.visit_effects.specs.Effects.{live_of};
+ghost use Rattle.desk_words.specs.Commands.{IsCommandOf};
+ghost use Rattle.desk_words.specs.declared.asks.Command.TheVariants.{Message};
+ghost use Rattle.bump_core.specs.Settled.{IsChanged};
+ghost use Rattle.history_core.specs.Steps.{changed_by};
+ghost use Rattle.history_core.specs.Taking.{Finds};
+
+use super::settling::settled;
+use super::{Taken, answered, takes_entry, told_of};
+use apron_base::{Memory, VisitNo};
+use apron_rules::Airport;
+use desk_words::replies::Told;
+use mvt_grammar::Mvt;
+use plan_core::Plan;
+use std::alloc::Global;
+use visit_book::Visit;
+use visit_effects::{Movement, effect_of, movement_meant};
+
+/// What comes of a message at a plan whose history has so many entries.
+pub(super) fn take_message(
+    alloc: Global,
+    airport: &Airport,
+    plan: &Plan,
+    entries: usize,
+    message: &Mvt,
+) -> Result<Taken, Memory>
+    requires airport { airport.now ≡ plan.now.plan.airport }
+    requires valid { IsCommandOf airport.now (Message message.now) }
+    requires numbered { IsNumbered plan.now.plan.visits }
+    requires entries { plan.now.plan.version ≡ entries }
+    ensures finds { IfOk result (Finds plan.now.plan entries (Message message.now)) }
+{
+    let changed = changed_by(airport, plan, message);
+    if !takes_entry(entries) {
+        return Ok(answered(plan, Told::Full));
+    }
+    let (change, bumped) = settled(alloc, airport, plan, changed.as_ref())?;
+    let visit = number_of(changed.as_ref());
+    Ok(told_of(change, Told::Message { bumped, visit }))
+}
+
+// The visit that is meant, as the message changes it: None where it does nothing.
+fn changed_by(airport: &Airport, plan: &Plan, message: &Mvt) -> Option<Visit>
+    requires airport { airport.now ≡ plan.now.plan.airport }
+    requires valid { IsCommandOf airport.now (Message message.now) }
+    requires numbered { IsNumbered plan.now.plan.visits }
+    ensures is { result ≡ changed_by plan.now.plan message.now }
+    ensures changed { IfSome result (IsChanged plan.now.plan) }
+{
+    // What is true of every plan makes its visits well formed.
+    let _known = plan.visits();
+    let movement = movement_meant(airport, message)?;
+    let visit = live_of(plan, &movement)?;
+    effect_of(airport, &[*visit], message)
+}
+
+// The first live visit of a flight.
+fn live_of<'p>(plan: &'p Plan, movement: &Movement) -> Option<&'p Visit>
+    ensures is { option_copied result ≡ live_of plan.now.plan.visits movement.now }
+{
+    match movement {
+        Movement::Arrival(key) => plan.live_arriving(key),
+        Movement::Departure(key) => plan.live_departing(key),
+    }
+}
+
+fn number_of(visit: Option<&Visit>) -> Option<VisitNo>
+    ensures is { result ≡ option_map (λ visit. visit.number) (option_copied visit.entry) }
+{
+    match visit {
+        Some(visit) => Some(visit.number),
+        None => None,
+    }
+}

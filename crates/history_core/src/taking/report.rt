@@ -1,0 +1,70 @@
+// A visit came on block or went off block.
+ghost use Rattle.std.specs.Prelude.{◌≡◌, IfOk};
+ghost use Rattle.visit_book.specs.Reports.{IsEventOf};
+ghost use Rattle.desk_words.specs.Commands.{IsCommandOf};
+ghost use Rattle.desk_words.specs.declared.asks.Command.TheVariants.{Report};
+ghost use Rattle.bump_core.specs.Settled.{IsChanged};
+ghost use Rattle.history_core.specs.Steps.{denial_of, reported};
+ghost use Rattle.history_core.specs.Taking.{Finds};
+
+use super::settling::settled;
+use super::{Taken, answered, takes_entry, told_of};
+use apron_base::{Memory, VisitNo};
+use apron_rules::Airport;
+use desk_words::replies::{Denial, Told};
+use plan_core::Plan;
+use std::alloc::Global;
+use visit_book::{Event, ReportFault, Visit, report};
+
+/// What comes of the report of an event of the visit of this number at a plan whose history has so many entries.
+pub(super) fn take_report(
+    alloc: Global,
+    airport: &Airport,
+    plan: &Plan,
+    entries: usize,
+    number: VisitNo,
+    event: &Event,
+) -> Result<Taken, Memory>
+    requires airport { airport.now ≡ plan.now.plan.airport }
+    requires valid { IsCommandOf airport.now (Report number event.now) }
+    requires entries { plan.now.plan.version ≡ entries }
+    ensures finds { IfOk result (Finds plan.now.plan entries (Report number event.now)) }
+{
+    let visit = match reported(airport, plan, number, event) {
+        Ok(visit) => visit,
+        Err(why) => return Ok(answered(plan, Told::Denied(why))),
+    };
+    if !takes_entry(entries) {
+        return Ok(answered(plan, Told::Full));
+    }
+    let (change, bumped) = settled(alloc, airport, plan, Some(&visit))?;
+    Ok(told_of(change, Told::Reported { bumped }))
+}
+
+// What the event makes of the plan's visit of this number, or why the report of it is refused.
+fn reported(airport: &Airport, plan: &Plan, number: VisitNo, event: &Event) -> Result<Visit, Denial>
+    requires airport { airport.now ≡ plan.now.plan.airport }
+    requires event { IsEventOf airport.now event.now }
+    ensures is { result ≡ reported plan.now.plan number event.now }
+    ensures changed { IfOk result (IsChanged plan.now.plan) }
+{
+    // What is true of every plan makes its visits well formed.
+    let _known = plan.visits();
+    let Some(visit) = plan.visit(number) else {
+        return Err(Denial::Unknown);
+    };
+    match report(visit, airport, event) {
+        Ok(new) => Ok(new),
+        Err(fault) => Err(denial_of(fault)),
+    }
+}
+
+fn denial_of(fault: ReportFault) -> Denial
+    ensures is { result ≡ denial_of fault }
+{
+    match fault {
+        ReportFault::Gone => Denial::Gone,
+        ReportFault::NoSuchPart => Denial::NoSuchPart,
+        ReportFault::Time => Denial::Time,
+    }
+}
