@@ -1,0 +1,5 @@
+//! Tests of boards at which several desks take turns.
+#![tactic(auto)]
+
+#[cfg(test)]
+mod tests;
