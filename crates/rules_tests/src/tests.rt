@@ -1,9 +1,16 @@
 // The rules of stands on one frontage, at their bounds.
-use super::*;
-use crate::PairRow;
-use apron_base::Letter;
-use apron_dates::Date;
+ghost use Rattle.std.specs.Prelude.{◌≡◌, ◌<◌, IfSome, length, nat_lt};
+
+use apron_base::{Letter, Listed, Name, StandNo, TypeNo};
+use apron_rules::{
+    Airport, AirportParts, Date, Frontage, PairRow, Rule, StandRow, TypeRow, UnfitBy,
+};
+use std::alloc::Global;
 use std::test::Fail;
+
+const NARROW: u16 = 0;
+
+const WIDE: u16 = 1;
 
 fn stand(name: &[u8], centre: u32, letter: Letter, half_of: Option<Name>) -> Option<StandRow> {
     Some(StandRow {
@@ -13,14 +20,6 @@ fn stand(name: &[u8], centre: u32, letter: Letter, half_of: Option<Name>) -> Opt
         letter,
         buffer: 10,
         half_of,
-    })
-}
-
-fn kind(name: &[u8], span: u32) -> Option<TypeRow> {
-    Some(TypeRow {
-        name: Name::new(name)?,
-        span,
-        least: 40,
     })
 }
 
@@ -42,29 +41,29 @@ fn stands() -> Option<[StandRow; 10]> {
     ])
 }
 
-fn pair() -> Option<PairRow> {
-    Some(PairRow {
-        a: Name::new(b"P")?,
-        la: Letter::E,
-        b: Name::new(b"Q")?,
-        lb: Letter::C,
-    })
-}
-
 fn airport(alloc: Global) -> Result<Airport, Fail> {
     let Some(stands) = stands() else {
         return Err(Fail::new("stands"));
     };
-    let (Some(narrow), Some(wide), Some(pair)) = (
-        kind(b"A320", 3_580),
-        kind(b"B77W", 6_480),
-        pair(),
-    ) else {
-        return Err(Fail::new("types and a restriction"));
-    };
     let frontage = Frontage {
         name: Name::literal(b"F"),
         objects: Listed::from_vec(Vec::from_array(alloc, [72_240, 82_239])?),
+    };
+    let pair = PairRow {
+        a: Name::literal(b"P"),
+        la: Letter::E,
+        b: Name::literal(b"Q"),
+        lb: Letter::C,
+    };
+    let narrow = TypeRow {
+        name: Name::literal(b"A320"),
+        span: 3_580,
+        least: 40,
+    };
+    let wide = TypeRow {
+        name: Name::literal(b"B77W"),
+        span: 6_480,
+        least: 40,
     };
     let parts = AirportParts {
         station: Name::literal(b"APR"),
@@ -87,35 +86,60 @@ fn airport(alloc: Global) -> Result<Airport, Fail> {
     }
 }
 
-const NARROW: u16 = 0;
+fn number(airport: &Airport, name: &str) -> Option<StandNo>
+    ensures there { IfSome result (λ s. s.0 < length airport.now.stands) }
+{
+    let s = airport.stand_of(&Name::new(name.as_bytes())?)?;
+    if s.0 as usize >= airport.parts().stands.len() {
+        return None;
+    }
+    Some(s)
+}
 
-const WIDE: u16 = 1;
+fn has_type(airport: &Airport, kind: u16) -> bool
+    ensures there { result ≡ nat_lt kind (length airport.now.types) }
+{
+    (kind as usize) < airport.parts().types.len()
+}
+
+// By which rule a type on one stand and a type on another exclude each other, where there are such.
+fn rule_on(airport: &Airport, one: (&str, u16), other: (&str, u16)) -> Option<Option<Rule>> {
+    let s = number(airport, one.0)?;
+    let s2 = number(airport, other.0)?;
+    if !has_type(airport, one.1) || !has_type(airport, other.1) {
+        return None;
+    }
+    Some(airport.breaks(s, TypeNo(one.1), s2, TypeNo(other.1)))
+}
 
 #[test]
 fn two_aircraft_exclude_each_other_by_the_first_rule(rt: HostRuntime) -> Result<(), Fail> {
     let airport = airport(rt.alloc())?;
-    for (one, kind, other, other_kind, want) in [
-        ("A", NARROW, "B", NARROW, Some(Rule::Clearance)),
-        ("B", NARROW, "C", NARROW, None),
-        ("WL", NARROW, "WR", NARROW, None),
-        ("WL", NARROW, "W", NARROW, Some(Rule::Split)),
-        ("W", WIDE, "WR", NARROW, Some(Rule::Split)),
-        ("W", NARROW, "W", WIDE, Some(Rule::Same)),
-        ("P", WIDE, "Q", NARROW, Some(Rule::Pair)),
-        ("Q", NARROW, "P", WIDE, Some(Rule::Pair)),
-        ("P", NARROW, "Q", WIDE, None),
-        ("Q", WIDE, "P", NARROW, None),
+    for (one, other, want) in [
+        (("A", NARROW), ("B", NARROW), Some(Rule::Clearance)),
+        (("B", NARROW), ("C", NARROW), None),
+        (("WL", NARROW), ("WR", NARROW), None),
+        (("WL", NARROW), ("W", NARROW), Some(Rule::Split)),
+        (("W", WIDE), ("WR", NARROW), Some(Rule::Split)),
+        (("W", NARROW), ("W", WIDE), Some(Rule::Same)),
+        (("P", WIDE), ("Q", NARROW), Some(Rule::Pair)),
+        (("Q", NARROW), ("P", WIDE), Some(Rule::Pair)),
+        (("P", NARROW), ("Q", WIDE), None),
+        (("Q", WIDE), ("P", NARROW), None),
     ] {
-        let stands = airport.parts().stands.len();
-        let (Some(s), Some(s2)) = (number(&airport, one), number(&airport, other)) else {
-            return Err(Fail::new("stands of these names"));
-        };
-        assert!(rt; (s.0 as usize) < stands && (s2.0 as usize) < stands);
-        assert!(rt; (kind.max(other_kind) as usize) < airport.parts().types.len());
-        let rule = airport.breaks(s, TypeNo(kind), s2, TypeNo(other_kind));
-        assert_eq!(rt; rule, want, "on {one} and {other}");
+        let rule = rule_on(&airport, one, other);
+        assert_eq!(rt; rule, Some(want), "on {} and {}", one.0, other.0);
     }
     Ok(())
+}
+
+// Whether a type fits a stand, where there are such.
+fn fits_on(airport: &Airport, name: &str, kind: u16) -> Option<Result<(), UnfitBy>> {
+    let s = number(airport, name)?;
+    if !has_type(airport, kind) {
+        return None;
+    }
+    Some(airport.fits(s, TypeNo(kind)))
 }
 
 #[test]
@@ -127,12 +151,7 @@ fn an_aircraft_fits_up_to_its_clearance(rt: HostRuntime) -> Result<(), Fail> {
         ("X", WIDE, Err(UnfitBy::Letter)),
         ("P", WIDE, Ok(())),
     ] {
-        let Some(s) = number(&airport, name) else {
-            return Err(Fail::new("a stand of this name"));
-        };
-        assert!(rt; (s.0 as usize) < airport.parts().stands.len());
-        assert!(rt; (kind as usize) < airport.parts().types.len());
-        assert_eq!(rt; airport.fits(s, TypeNo(kind)), want, "on {name}");
+        assert_eq!(rt; fits_on(&airport, name, kind), Some(want), "on {name}");
     }
     Ok(())
 }
@@ -154,12 +173,7 @@ fn neighbours_are_the_stands_that_some_two_types_exclude(rt: HostRuntime) -> Res
         let Some(s) = number(&airport, name) else {
             return Err(Fail::new("a stand of this name"));
         };
-        assert!(rt; (s.0 as usize) < airport.parts().stands.len());
         assert_eq!(rt; airport.neighbours(s), *want, "of {name}");
     }
     Ok(())
-}
-
-fn number(airport: &Airport, name: &str) -> Option<StandNo> {
-    airport.stand_of(&Name::new(name.as_bytes())?)
 }

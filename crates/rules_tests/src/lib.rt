@@ -1,0 +1,5 @@
+//! Tests of `apron_rules`: which stands exclude each other, which stands are neighbours, and what fits, at the bounds of the rules.
+#![tactic(auto)]
+
+#[cfg(test)]
+mod tests;
