@@ -1,6 +1,7 @@
 -- Which part on a stand ranks before another, and which of them stay.
 use Rattle.std.specs.Prelude.{◌≡◌, ◌∷◌, [], ◌==◌, ℕ, zero, suc, Bool, false, not, ◌&&◌, ◌||◌, nat_lt, List, length, filter, map, Option, None, is_some, option_map, if◌then◌else◌}
 use Rattle.std.specs.List.{flat_map, list_any}
+use Rattle.apron_base.specs.declared.numbers.PartId.{PartId}
 use Rattle.apron_base.specs.declared.slot.Slot.{Slot}
 use Rattle.apron_rules.specs.declared.parts.AirportParts.{AirportParts}
 use Rattle.clash_check.specs.Meetings.{meeting}
@@ -27,9 +28,13 @@ is_lower [] others = false
 is_lower (number ∷ numbers) [] = false
 is_lower (number ∷ numbers) (other ∷ others) = nat_lt number other || (number == other && is_lower numbers others)
 
--- actual parts come before planned ones; then the class, the scheduled minute on block, the visit and the part decide
+-- the class, the scheduled minute on block, the visit and the part decide
+abbrev pub part_rank : ℕ → ℕ → PartId → List ℕ
+part_rank class on part = class ∷ on ∷ part.visit.0 ∷ part.part ∷ []
+
+-- actual parts come before planned ones; then these decide
 abbrev pub rank : Ranked → List ℕ
-rank part = (if part.slot.actual then 0 else 1) ∷ part.class ∷ part.on ∷ part.slot.part.visit.0 ∷ part.slot.part.part ∷ []
+rank part = (if part.slot.actual then 0 else 1) ∷ part_rank part.class part.on part.slot.part
 
 -- a part of a lower rank is better
 unfoldable pub is_better : Ranked → Ranked → Bool

@@ -9,9 +9,9 @@ use Rattle.serde_json.proofs.OnLiterals.{serde_json_on_literals}
 use Rattle.mvt_grammar.specs.declared.message.MvtFault.{MvtFault}
 use Rattle.mvt_grammar.specs.declared.message.MvtFault.TheVariants.{TooLong, NoIdentifier, BadFlightLine, BadElement, Twice}
 use Rattle.desk_words.specs.declared.early.Early.{Early}
-use Rattle.desk_words.specs.declared.early.Early.TheVariants.{NoRoute, OnlyGet, OnlyPost, BadSeen, NotJson, NotMvt, BadType, BadStand, NoStand, BadTimes, Unbuilt}
+use Rattle.desk_words.specs.declared.early.Early.TheVariants.{NoRoute, OnlyGet, OnlyPost, BadSeen, NoDay, NotJson, NotMvt, BadType, BadStand, NoStand, BadTimes}
 use Rattle.desk_words.specs.Early.{IsEarly, IsMvtFault, early_text}
-use Rattle.desk_words.specs.Fixed.{fixed_texts, no_memory_text, keeper_fault_text, bad_head_text}
+use Rattle.desk_words.specs.Fixed.{fixed_texts, no_memory_text, keeper_fault_text, bad_encoding_text, bad_head_text, large_body_text, no_length_text}
 use Rattle.desk_words.proofs.Lines.{behind_three}
 use Rattle.desk_words.proofs.Numbered.{byte_of_end, element_behind, element_end, number_in, number_in-text, place_body, stand_behind, stand_end, twice_behind, twice_end}
 
@@ -28,7 +28,7 @@ abbrev all_differ : List (List ℕ) → Bool
 all_differ [] = true
 all_differ (a ∷ as_) = differs a as_ && all_differ as_
 
-both : (x y : Bool) → (not x && y) ≡ true → (x ≡ false) × (y ≡ true)
+pub both : (x y : Bool) → (not x && y) ≡ true → (x ≡ false) × (y ≡ true)
 both true y e = absurd (true≢false (sym e))
 both false y e = (refl, e)
 
@@ -46,7 +46,7 @@ all_apart (a ∷ as_) e =
     let here = two (differs a as_) (all_differ as_) e in AllPairs-cons (λ x y. x ≢ y) a as_ (differs_apart a as_ here.0) (all_apart as_ here.1)
 
 pub fixed_apart : AllPairs (λ a b. a ≢ b) fixed_texts
-unfolding digits serde_json_on_literals no_memory_text keeper_fault_text bad_head_text
+unfolding digits serde_json_on_literals no_memory_text keeper_fault_text bad_head_text bad_encoding_text large_body_text no_length_text
 fixed_apart = all_apart fixed_texts refl
 
 -- texts that differ behind their three lines
@@ -59,7 +59,7 @@ behind_apart text behind (other ∷ others) is e =
     (behind_apart text behind others is here.1)
 
 mvt_fault_apart : (fault : MvtFault) → All (λ text. early_text (NotMvt fault) ≢ text) fixed_texts
-unfolding digits serde_json_on_literals early_text no_memory_text keeper_fault_text bad_head_text
+unfolding digits serde_json_on_literals early_text no_memory_text keeper_fault_text bad_head_text bad_encoding_text large_body_text no_length_text
 mvt_fault_apart TooLong = differs_apart (early_text (NotMvt TooLong)) fixed_texts refl
 mvt_fault_apart NoIdentifier = differs_apart (early_text (NotMvt NoIdentifier)) fixed_texts refl
 mvt_fault_apart BadFlightLine = differs_apart (early_text (NotMvt BadFlightLine)) fixed_texts refl
@@ -69,28 +69,28 @@ mvt_fault_apart (Twice place) =
     behind_apart (early_text (NotMvt (Twice place))) (codes "\r\n" ++ place_body place twice_end) fixed_texts (twice_behind place) refl
 
 pub early_apart : (early : Early) → All (λ text. early_text early ≢ text) fixed_texts
-unfolding digits serde_json_on_literals early_text no_memory_text keeper_fault_text bad_head_text
+unfolding digits serde_json_on_literals early_text no_memory_text keeper_fault_text bad_head_text bad_encoding_text large_body_text no_length_text
 early_apart NoRoute = differs_apart (early_text NoRoute) fixed_texts refl
 early_apart OnlyGet = differs_apart (early_text OnlyGet) fixed_texts refl
 early_apart OnlyPost = differs_apart (early_text OnlyPost) fixed_texts refl
 early_apart BadSeen = differs_apart (early_text BadSeen) fixed_texts refl
+early_apart NoDay = differs_apart (early_text NoDay) fixed_texts refl
 early_apart NotJson = differs_apart (early_text NotJson) fixed_texts refl
 early_apart (NotMvt fault) = mvt_fault_apart fault
 early_apart BadType = differs_apart (early_text BadType) fixed_texts refl
 early_apart (BadStand edit) = differs_apart (early_text (BadStand edit)) fixed_texts refl
 early_apart NoStand = differs_apart (early_text NoStand) fixed_texts refl
 early_apart BadTimes = differs_apart (early_text BadTimes) fixed_texts refl
-early_apart Unbuilt = differs_apart (early_text Unbuilt) fixed_texts refl
 
 -- those that are constants
 abbrev constants : List Early
 constants =
-    NoRoute ∷ OnlyGet ∷ OnlyPost ∷ BadSeen ∷ NotJson ∷ NotMvt TooLong ∷ NotMvt NoIdentifier ∷ NotMvt BadFlightLine ∷ BadType ∷ NoStand ∷ BadTimes ∷ Unbuilt
+    NoRoute ∷ OnlyGet ∷ OnlyPost ∷ BadSeen ∷ NoDay ∷ NotJson ∷ NotMvt TooLong ∷ NotMvt NoIdentifier ∷ NotMvt BadFlightLine ∷ BadType ∷ NoStand ∷ BadTimes
     ∷ []
 
 -- the one of this text that is a constant
 abbrev constant_of : List ℕ → Early
-constant_of text = unwrap_or (find (λ early. bytes_eq text (early_text early)) constants) Unbuilt
+constant_of text = unwrap_or (find (λ early. bytes_eq text (early_text early)) constants) NoRoute
 
 -- the fault of a body with a place, behind its first bytes, as its third last byte tells: that of `element"}` is a t
 abbrev fault_by : ℕ → List ℕ → MvtFault
@@ -134,13 +134,13 @@ early_read NoRoute small = refl
 early_read OnlyGet small = refl
 early_read OnlyPost small = refl
 early_read BadSeen small = refl
+early_read NoDay small = refl
 early_read NotJson small = refl
 early_read (NotMvt fault) small = mvt_fault_read fault small
 early_read BadType small = refl
 early_read (BadStand edit) small = stand_read edit small
 early_read NoStand small = refl
 early_read BadTimes small = refl
-early_read Unbuilt small = refl
 
 -- early replies of one text are one
 pub early_one : (early other : Early) → IsEarly early → IsEarly other → early_text early ≡ early_text other → early ≡ other

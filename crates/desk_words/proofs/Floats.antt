@@ -20,11 +20,13 @@ use Rattle.visit_book.specs.declared.visits.Place.TheVariants.{Unplaced, Planned
 use Rattle.visit_book.specs.declared.visits.Visit.{Visit}
 use Rattle.visit_book.specs.declared.edits.EditFault.{EditFault}
 use Rattle.visit_book.specs.declared.edits.EditFault.TheVariants.{UnknownVisit, Overtaken, Gone, NoSuchPart, OnBlock, BadCut, BadJoin, Unfit, Clash, Memory}
+use Rattle.desk_words.specs.declared.replies.PartRow.{PartRow}
 use Rattle.desk_words.specs.declared.replies.Told.{Told}
-use Rattle.desk_words.specs.declared.replies.Told.TheVariants.{Added, Committed, Message, Reported, Cancelled, Version, Visit as AVisit, NoVisit, Ahead, Full, OtherName, Edit, Denied}
+use Rattle.desk_words.specs.declared.replies.Told.TheVariants.{Added, Committed, Message, Reported, Cancelled, Version, Visit as AVisit, Plan, Unplaced as Waiting, Chart, NoVisit, Ahead, Full, OtherName, Edit, Denied}
 use Rattle.desk_words.specs.PartObjects.{name_data, stand_data, type_data}
 use Rattle.desk_words.specs.VisitObjects.{bump_data, key_data, place_bump_data, place_stand_data, stay_data, visit_data}
 use Rattle.desk_words.specs.FaultObjects.{fault_data}
+use Rattle.desk_words.specs.RowObjects.{placed_data, waiting_data}
 use Rattle.desk_words.specs.Replies.{message_data, parts_data, reported_data, told_data, visit_if}
 
 neither : (a b : Bool) → a ≡ false → b ≡ false → (a || b) ≡ false
@@ -110,6 +112,24 @@ message_has_none bumped visit version =
 reported_has_none : (bumped : List PartId) (version : ℕ) → has_float (reported_data bumped version) ≡ false
 reported_has_none bumped version = neither (has_float (parts_data bumped)) false (parts_have_none bumped) refl
 
+placed_has_none : (airport : AirportParts) (row : PartRow) → has_float (placed_data airport row) ≡ false
+placed_has_none airport row = neither (has_float (place_stand_data airport row.part.place)) false (place_stand_has_none airport row.part.place) refl
+
+placed_have_none : (airport : AirportParts) (parts : List PartRow) → items_have_float (items_of (map (placed_data airport) parts)) ≡ false
+placed_have_none airport [] = refl
+placed_have_none airport (row ∷ parts) =
+    neither (has_float (placed_data airport row)) (items_have_float (items_of (map (placed_data airport) parts)))
+    (placed_has_none airport row) (placed_have_none airport parts)
+
+waiting_has_none : (airport : AirportParts) (row : PartRow) → has_float (waiting_data airport row) ≡ false
+waiting_has_none airport row = neither (has_float (place_bump_data airport row.part.place)) false (place_bump_has_none airport row.part.place) refl
+
+waiting_have_none : (airport : AirportParts) (parts : List PartRow) → items_have_float (items_of (map (waiting_data airport) parts)) ≡ false
+waiting_have_none airport [] = refl
+waiting_have_none airport (row ∷ parts) =
+    neither (has_float (waiting_data airport row)) (items_have_float (items_of (map (waiting_data airport) parts)))
+    (waiting_has_none airport row) (waiting_have_none airport parts)
+
 pub told_has_none : (airport : AirportParts) (version : ℕ) (told : Told) → has_float (told_data airport version told) ≡ false
 told_has_none airport version (Added entry visit) = refl
 told_has_none airport version (Committed entry) = refl
@@ -118,6 +138,9 @@ told_has_none airport version (Reported bumped) = reported_has_none bumped versi
 told_has_none airport version Cancelled = refl
 told_has_none airport version Version = refl
 told_has_none airport version (AVisit visit) = visit_has_none airport visit version
+told_has_none airport version (Plan parts) = neither (items_have_float (items_of (map (placed_data airport) parts))) false (placed_have_none airport parts) refl
+told_has_none airport version (Waiting parts) = neither (items_have_float (items_of (map (waiting_data airport) parts))) false (waiting_have_none airport parts) refl
+told_has_none airport version (Chart text) = refl
 told_has_none airport version NoVisit = refl
 told_has_none airport version Ahead = refl
 told_has_none airport version Full = refl

@@ -60,11 +60,17 @@ grouped : (a b c d e f : List ℕ) → ((a ++ (b ++ (c ++ d))) ++ e) ++ f ≡ a 
 grouped a b c d e f = simp append_assoc
 
 -- behind the three lines of each reply stand the extra ones, the empty one and the body
-pub behind_lines : (code : ℕ) (extra : List (List ℕ)) (body : List ℕ) → is_one_line (codes "HTTP/1.1 " ++ status_text code) ≡ true
-    → behind_three (text_of code json_media extra body) ≡ flat_map ended extra ++ (codes "\r\n" ++ body)
-behind_lines code extra body one =
+pub behind_lines_of : (code : ℕ) (media : List ℕ) (extra : List (List ℕ)) (body : List ℕ) → is_one_line (codes "HTTP/1.1 " ++ status_text code) ≡ true
+    → is_one_line (codes "Content-Type: " ++ media) ≡ true
+    → behind_three (text_of code media extra body) ≡ flat_map ended extra ++ (codes "\r\n" ++ body)
+behind_lines_of code media extra body one two =
     let first = codes "HTTP/1.1 " ++ status_text code in
-    let second = codes "Content-Type: " ++ json_media in
+    let second = codes "Content-Type: " ++ media in
     let third = codes "Content-Length: " ++ decimal (length body) in
     ap behind_three (grouped (ended first) (ended second) (ended third) (flat_map ended extra) (codes "\r\n") body)
-    ∙ after_three first second third (flat_map ended extra ++ (codes "\r\n" ++ body)) one refl (decimal_one_line (length body))
+    ∙ after_three first second third (flat_map ended extra ++ (codes "\r\n" ++ body)) one two (decimal_one_line (length body))
+
+-- the same where the body is JSON
+pub behind_lines : (code : ℕ) (extra : List (List ℕ)) (body : List ℕ) → is_one_line (codes "HTTP/1.1 " ++ status_text code) ≡ true
+    → behind_three (text_of code json_media extra body) ≡ flat_map ended extra ++ (codes "\r\n" ++ body)
+behind_lines code extra body one = behind_lines_of code json_media extra body one refl

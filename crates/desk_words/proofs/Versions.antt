@@ -1,5 +1,5 @@
 -- The line that shows a version.
-use Rattle.std.proofs.Common.{◌≡◌, ◌≢◌, ◌∙◌, ℕ, true, false, slice_index_or, List, [], ◌∷◌, ◌++◌, All, codes, refl, ap, sym, true≢false}
+use Rattle.std.proofs.Common.{◌≡◌, ◌≢◌, ◌∙◌, ◌&&◌, not, ℕ, Bool, true, false, slice_index_or, List, [], ◌∷◌, ◌++◌, All, codes, refl, ap, sym, true≢false}
 use Rattle.std.specs.Prelude.{nat_eq}
 use Rattle.std.specs.List.{starts_with}
 use Rattle.std.specs.Fmt.{digits}
@@ -12,15 +12,16 @@ use Rattle.mvt_grammar.specs.declared.message.MvtFault.TheVariants.{TooLong, NoI
 use Rattle.visit_book.specs.declared.edits.EditFault.{EditFault}
 use Rattle.visit_book.specs.declared.edits.EditFault.TheVariants.{UnknownVisit, Overtaken, Gone, NoSuchPart, OnBlock, BadCut, BadJoin, Unfit, Clash, Memory}
 use Rattle.desk_words.specs.declared.early.Early.{Early}
-use Rattle.desk_words.specs.declared.early.Early.TheVariants.{NoRoute, OnlyGet, OnlyPost, BadSeen, NotJson, NotMvt, BadType, BadStand, NoStand, BadTimes, Unbuilt}
+use Rattle.desk_words.specs.declared.early.Early.TheVariants.{NoRoute, OnlyGet, OnlyPost, BadSeen, NoDay, NotJson, NotMvt, BadType, BadStand, NoStand, BadTimes}
 use Rattle.desk_words.specs.declared.replies.Reply.{Reply}
 use Rattle.desk_words.specs.declared.replies.Told.{Told}
-use Rattle.desk_words.specs.declared.replies.Told.TheVariants.{Added, Committed, Message, Reported, Cancelled, Version, Visit as AVisit, NoVisit, Ahead, Full, OtherName, Edit, Denied}
+use Rattle.desk_words.specs.declared.replies.Told.TheVariants.{Added, Committed, Message, Reported, Cancelled, Version, Visit as AVisit, Plan, Unplaced, Chart, NoVisit, Ahead, Full, OtherName, Edit, Denied}
 use Rattle.desk_words.specs.Early.{early_text}
-use Rattle.desk_words.specs.Fixed.{fixed_texts, no_memory_text, keeper_fault_text, bad_head_text}
-use Rattle.desk_words.specs.Replies.{body_text, code_of, fault_code, reply_text}
-use Rattle.desk_words.specs.Texts.{json_media, shows_version, text_of, version_line}
-use Rattle.desk_words.proofs.Lines.{behind_lines, is_one_line}
+use Rattle.desk_words.specs.Fixed.{fixed_texts, no_memory_text, keeper_fault_text, bad_encoding_text, bad_head_text, large_body_text, no_length_text}
+use Rattle.desk_words.specs.Replies.{body_text, code_of, fault_code, media_of, reply_text}
+use Rattle.desk_words.specs.Texts.{shows_version, text_of, version_line}
+use Rattle.desk_words.proofs.Apart.{both}
+use Rattle.desk_words.proofs.Lines.{behind_lines_of, is_one_line}
 use Rattle.desk_words.proofs.Numbered.{element_behind, stand_behind, twice_behind}
 
 fault_one_line : (fault : EditFault) → is_one_line (codes "HTTP/1.1 " ++ status_text (fault_code fault)) ≡ true
@@ -45,6 +46,9 @@ code_one_line (Reported bumped) = refl
 code_one_line Cancelled = refl
 code_one_line Version = refl
 code_one_line (AVisit visit) = refl
+code_one_line (Plan parts) = refl
+code_one_line (Unplaced parts) = refl
+code_one_line (Chart text) = refl
 code_one_line NoVisit = refl
 code_one_line Ahead = refl
 code_one_line Full = refl
@@ -53,13 +57,32 @@ code_one_line (Edit fault) = fault_one_line fault
 code_one_line (Denied why) = refl
 
 -- a text of one extra line, with a version, shows one
-version_shows : (code version : ℕ) (body : List ℕ) → is_one_line (codes "HTTP/1.1 " ++ status_text code) ≡ true
-    → shows_version (text_of code json_media (version_line version ∷ []) body) ≡ true
-version_shows code version body one = ap (λ (text : List ℕ). starts_with nat_eq text (codes "X-Version: ")) (behind_lines code (version_line version ∷ []) body one)
+version_shows : (code version : ℕ) (media body : List ℕ) → is_one_line (codes "HTTP/1.1 " ++ status_text code) ≡ true
+    → is_one_line (codes "Content-Type: " ++ media) ≡ true → shows_version (text_of code media (version_line version ∷ []) body) ≡ true
+version_shows code version media body one two =
+    ap (λ (text : List ℕ). starts_with nat_eq text (codes "X-Version: ")) (behind_lines_of code media (version_line version ∷ []) body one two)
+
+media_one_line : (told : Told) → is_one_line (codes "Content-Type: " ++ media_of told) ≡ true
+media_one_line (Added entry visit) = refl
+media_one_line (Committed entry) = refl
+media_one_line (Message bumped visit) = refl
+media_one_line (Reported bumped) = refl
+media_one_line Cancelled = refl
+media_one_line Version = refl
+media_one_line (AVisit visit) = refl
+media_one_line (Plan parts) = refl
+media_one_line (Unplaced parts) = refl
+media_one_line (Chart text) = refl
+media_one_line NoVisit = refl
+media_one_line Ahead = refl
+media_one_line Full = refl
+media_one_line (OtherName visit) = refl
+media_one_line (Edit fault) = refl
+media_one_line (Denied why) = refl
 
 pub reply_shows : (airport : AirportParts) (reply : Reply) → shows_version (reply_text airport reply) ≡ true
 unfolding reply_text
-reply_shows airport reply = version_shows (code_of reply.told) reply.version (body_text airport reply.version reply.told) (code_one_line reply.told)
+reply_shows airport reply = version_shows (code_of reply.told) reply.version (media_of reply.told) (body_text airport reply.version reply.told) (code_one_line reply.told) (media_one_line reply.told)
 
 mvt_fault_shows_none : (fault : MvtFault) → shows_version (early_text (NotMvt fault)) ≡ false
 unfolding digits serde_json_on_literals early_text
@@ -75,20 +98,28 @@ early_shows_none NoRoute = refl
 early_shows_none OnlyGet = refl
 early_shows_none OnlyPost = refl
 early_shows_none BadSeen = refl
+early_shows_none NoDay = refl
 early_shows_none NotJson = refl
 early_shows_none (NotMvt fault) = mvt_fault_shows_none fault
 early_shows_none BadType = refl
 early_shows_none (BadStand edit) = ap (λ (text : List ℕ). starts_with nat_eq text (codes "X-Version: ")) (stand_behind edit)
 early_shows_none NoStand = refl
 early_shows_none BadTimes = refl
-early_shows_none Unbuilt = refl
+
+-- none of these texts shows a version
+abbrev none_shows : List (List ℕ) → Bool
+none_shows [] = true
+none_shows (text ∷ texts) = not (shows_version text) && none_shows texts
+
+each_shows_none : (texts : List (List ℕ)) → none_shows texts ≡ true → All (λ text. shows_version text ≡ false) texts
+each_shows_none [] e = All-nil (λ text. shows_version text ≡ false)
+each_shows_none (text ∷ texts) e =
+    let here = both (shows_version text) (none_shows texts) e in
+    All-cons (λ other. shows_version other ≡ false) text texts here.0 (each_shows_none texts here.1)
 
 pub fixed_show_none : All (λ text. shows_version text ≡ false) fixed_texts
-unfolding digits serde_json_on_literals no_memory_text keeper_fault_text bad_head_text
-fixed_show_none =
-    let P : List ℕ → Type 0 = λ text. shows_version text ≡ false in
-    All-cons P no_memory_text (keeper_fault_text ∷ bad_head_text ∷ []) refl
-    (All-cons P keeper_fault_text (bad_head_text ∷ []) refl (All-cons P bad_head_text [] refl (All-nil P)))
+unfolding digits serde_json_on_literals no_memory_text keeper_fault_text bad_head_text bad_encoding_text large_body_text no_length_text
+fixed_show_none = each_shows_none fixed_texts refl
 
 -- a text that shows a version is none that shows none
 told_apart : (text other : List ℕ) → shows_version text ≡ true → shows_version other ≡ false → text ≢ other

@@ -5,7 +5,7 @@ use Rattle.serde_json.specs.Written.{compact_text}
 use Rattle.mvt_grammar.specs.declared.message.MvtFault.{MvtFault}
 use Rattle.mvt_grammar.specs.declared.message.MvtFault.TheVariants.{TooLong, NoIdentifier, BadFlightLine, BadElement, Twice}
 use Rattle.desk_words.specs.declared.early.Early.{Early}
-use Rattle.desk_words.specs.declared.early.Early.TheVariants.{NoRoute, OnlyGet, OnlyPost, BadSeen, NotJson, NotMvt, BadType, BadStand, NoStand, BadTimes, Unbuilt}
+use Rattle.desk_words.specs.declared.early.Early.TheVariants.{NoRoute, OnlyGet, OnlyPost, BadSeen, NoDay, NotJson, NotMvt, BadType, BadStand, NoStand, BadTimes}
 use Rattle.desk_words.specs.Fixed.{error_data, plain_text}
 use Rattle.desk_words.specs.PartObjects.{whole}
 use Rattle.desk_words.specs.Texts.{json_media, text_of}
@@ -55,10 +55,10 @@ early_text NoRoute = plain_text 404 (error_data (codes "route"))
 early_text OnlyGet = method_text (codes "Allow: GET")
 early_text OnlyPost = method_text (codes "Allow: POST")
 early_text BadSeen = plain_text 400 (error_data (codes "seen"))
+early_text NoDay = plain_text 404 (error_data (codes "day"))
 early_text NotJson = plain_text 400 (error_data (codes "json"))
 early_text (NotMvt fault) = plain_text 400 (mvt_fault_data fault)
 early_text BadType = plain_text 422 (error_data (codes "type"))
 early_text (BadStand edit) = plain_text 422 (stand_error_data edit)
 early_text NoStand = plain_text 422 (error_data (codes "stand"))
 early_text BadTimes = plain_text 422 (error_data (codes "times"))
-early_text Unbuilt = plain_text 400 (error_data (codes "unbuilt"))

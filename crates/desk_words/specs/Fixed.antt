@@ -20,10 +20,26 @@ no_memory_text = plain_text 507 (error_data (codes "memory"))
 unfoldable pub keeper_fault_text : List ℕ
 keeper_fault_text = plain_text 503 (error_data (codes "keeper"))
 
--- the head is malformed, and the connection ends
+-- a code with this error, after which the connection ends
+abbrev pub closing_text : ℕ → List ℕ → List ℕ
+closing_text code error = text_of code json_media (codes "Connection: close" ∷ []) (compact_text (error_data error))
+
+-- the head is malformed, beyond its limits, or tells no length as it has to
 unfoldable pub bad_head_text : List ℕ
-bad_head_text = text_of 400 json_media (codes "Connection: close" ∷ []) (compact_text (error_data (codes "head")))
+bad_head_text = closing_text 400 (codes "head")
+
+-- the body would come in another way than as bytes of a told length
+unfoldable pub bad_encoding_text : List ℕ
+bad_encoding_text = closing_text 501 (codes "encoding")
+
+-- the body would be longer than one may be
+unfoldable pub large_body_text : List ℕ
+large_body_text = closing_text 413 (codes "large")
+
+-- the length of the body isn't told
+unfoldable pub no_length_text : List ℕ
+no_length_text = closing_text 411 (codes "length")
 
 -- all of them
 abbrev pub fixed_texts : List (List ℕ)
-fixed_texts = no_memory_text ∷ keeper_fault_text ∷ bad_head_text ∷ []
+fixed_texts = no_memory_text ∷ keeper_fault_text ∷ bad_head_text ∷ bad_encoding_text ∷ large_body_text ∷ no_length_text ∷ []

@@ -5,5 +5,6 @@ pub mod Early
 pub mod PartObjects
 pub mod VisitObjects
 pub mod FaultObjects
+pub mod RowObjects
 pub mod Replies
 pub mod Spelt

@@ -1,5 +1,5 @@
 -- The replies that the plan gave the cause of.
-use Rattle.std.specs.Prelude.{◌≢◌, ℕ, List, [], ◌∷◌, Option, None, Some, codes, map, ⊤}
+use Rattle.std.specs.Prelude.{◌≡◌, ◌≢◌, All, IsSome, ℕ, List, [], ◌∷◌, Option, None, Some, codes, map, ⊤}
 use Rattle.serde_json.specs.Data.{Data, array, null, object, member, no_members}
 use Rattle.serde_json.specs.View.{items_of}
 use Rattle.serde_json.specs.Written.{compact_text}
@@ -7,15 +7,17 @@ use Rattle.apron_base.specs.declared.numbers.PartId.{PartId}
 use Rattle.apron_base.specs.declared.numbers.VisitNo.{VisitNo}
 use Rattle.apron_rules.specs.declared.parts.AirportParts.{AirportParts}
 use Rattle.visit_book.specs.NewVisits.{IsNewVisit, new_of}
+use Rattle.visit_book.specs.Places.{stand_of}
 use Rattle.visit_book.specs.declared.edits.EditFault.{EditFault}
 use Rattle.visit_book.specs.declared.edits.EditFault.TheVariants.{Overtaken, Memory}
 use Rattle.desk_words.specs.declared.replies.Reply.{Reply}
 use Rattle.desk_words.specs.declared.replies.Told.{Told}
-use Rattle.desk_words.specs.declared.replies.Told.TheVariants.{Added, Committed, Message, Reported, Cancelled, Version, Visit, NoVisit, Ahead, Full, OtherName, Edit, Denied}
+use Rattle.desk_words.specs.declared.replies.Told.TheVariants.{Added, Committed, Message, Reported, Cancelled, Version, Visit, Plan, Unplaced, Chart, NoVisit, Ahead, Full, OtherName, Edit, Denied}
 use Rattle.desk_words.specs.PartObjects.{part_data, whole}
 use Rattle.desk_words.specs.VisitObjects.{visit_data}
 use Rattle.desk_words.specs.FaultObjects.{denial_word, fault_data, other_name_data, refused_data}
-use Rattle.desk_words.specs.Texts.{json_media, text_of, version_line}
+use Rattle.desk_words.specs.RowObjects.{plan_data, unplaced_data}
+use Rattle.desk_words.specs.Texts.{json_media, plain_media, text_of, version_line}
 
 -- {"version":N}
 abbrev pub version_data : ℕ → Data
@@ -47,7 +49,7 @@ reported_data bumped version =
     object (member (codes "bumped") (parts_data bumped)
     (member (codes "version") (whole version) no_members))
 
--- the JSON of what is told, in a reply that shows this version
+-- the JSON of what is told, in a reply that shows this version; a chart is a text of its own
 abbrev pub told_data : AirportParts → ℕ → Told → Data
 told_data airport version (Added entry visit) = added_data entry visit
 told_data airport version (Committed entry) = version_data entry
@@ -56,6 +58,9 @@ told_data airport version (Reported bumped) = reported_data bumped version
 told_data airport version Cancelled = version_data version
 told_data airport version Version = version_data version
 told_data airport version (Visit visit) = visit_data airport visit version
+told_data airport version (Plan parts) = plan_data airport parts version
+told_data airport version (Unplaced parts) = unplaced_data airport parts version
+told_data airport version (Chart text) = null
 told_data airport version NoVisit = refused_data (codes "visit") version
 told_data airport version Ahead = refused_data (codes "ahead") version
 told_data airport version Full = refused_data (codes "full") version
@@ -77,6 +82,9 @@ code_of (Reported bumped) = 200
 code_of Cancelled = 200
 code_of Version = 200
 code_of (Visit visit) = 200
+code_of (Plan parts) = 200
+code_of (Unplaced parts) = 200
+code_of (Chart text) = 200
 code_of NoVisit = 404
 code_of Ahead = 409
 code_of Full = 409
@@ -84,18 +92,23 @@ code_of (OtherName visit) = 409
 code_of (Edit fault) = fault_code fault
 code_of (Denied why) = 422
 
--- what is told has a text: it is not want of memory, and of a visit it is what can be said at any airport
+-- what is told has a text: it is not want of memory, of a visit it is what can be said at any airport, and the parts of a plan are on stands, as those
+-- that wait are not
 abbrev pub IsTellable : Told → Type 0
 IsTellable (Visit visit) = IsNewVisit (new_of visit)
 IsTellable (Edit fault) = fault ≢ Memory
+IsTellable (Plan parts) = All (λ row. IsSome (stand_of row.part.place)) parts
+IsTellable (Unplaced parts) = All (λ row. stand_of row.part.place ≡ None) parts
 IsTellable _ = ⊤
 
 -- the media type of what is told
 abbrev pub media_of : Told → List ℕ
-media_of told = json_media
+media_of (Chart text) = plain_media
+media_of _ = json_media
 
 -- the body of a reply that shows this version
 abbrev pub body_text : AirportParts → ℕ → Told → List ℕ
+body_text airport version (Chart text) = text
 body_text airport version told = compact_text (told_data airport version told)
 
 -- a reply's whole text

@@ -4,16 +4,18 @@ use Rattle.apron_base.specs.declared.letter.Letter.TheVariants.{C}
 use Rattle.apron_rules.specs.declared.parts.AirportParts.{AirportParts}
 use Rattle.apron_rules.specs.declared.parts.StandRow.{StandRow}
 use Rattle.apron_rules.specs.declared.parts.TypeRow.{TypeRow}
-use Rattle.apron_rules.specs.declared.rules.Rule.TheVariants.{Clearance}
+use Rattle.apron_rules.specs.declared.rules.Rule.TheVariants.{Clearance, Same}
 use Rattle.apron_rules.specs.declared.rules.UnfitBy.TheVariants.{Object}
 use Rattle.apron_rules.specs.declared.rules.Clash.{Clash as TheClash}
 use Rattle.mvt_grammar.specs.declared.message.Flight.{Flight}
 use Rattle.visit_book.specs.declared.visits.End.TheVariants.{Live}
 use Rattle.visit_book.specs.declared.visits.Part.{Part}
-use Rattle.visit_book.specs.declared.visits.Place.TheVariants.{Planned}
+use Rattle.visit_book.specs.declared.visits.Bump.{Bump}
+use Rattle.visit_book.specs.declared.visits.Place.TheVariants.{Planned, Actual, Unplaced as Nowhere}
 use Rattle.visit_book.specs.declared.visits.Visit.{Visit}
 use Rattle.visit_book.specs.declared.edits.EditFault.TheVariants.{Unfit, Clash}
-use Rattle.desk_words.specs.declared.replies.Told.TheVariants.{Committed, Visit as AVisit, Edit}
+use Rattle.desk_words.specs.declared.replies.PartRow.{PartRow}
+use Rattle.desk_words.specs.declared.replies.Told.TheVariants.{Committed, Visit as AVisit, Plan, Unplaced, Chart, Edit}
 use Rattle.desk_words.specs.Replies.{reply_text}
 
 -- a commit made version 7, and the plan is at version 9
@@ -79,6 +81,49 @@ abbrev pub VisitIsSpelt : Type 0
 VisitIsSpelt =
     reply_text example_airport (record { version = 3; told = AVisit example_visit })
     ≡ codes "HTTP/1.1 200 OK\r\nContent-Type: application/json\r\nContent-Length: 247\r\nX-Version: 3\r\n\r\n{\"arr\":{\"day\":0,\"flight\":\"LH27\"},\"class\":3,\"dep\":{\"day\":1,\"flight\":\"LH1400A\"},\"edited\":2,\"name\":\"V1\",\"off\":660,\"on\":600,\"parts\":[{\"actual\":false,\"bump\":null,\"from\":600,\"stand\":\"N1\",\"to\":660}],\"state\":\"expected\",\"type\":\"A320\",\"version\":3,\"visit\":1}"
+
+-- part 1 of visit 2 from 600 to 660 on the stand in fact
+abbrev pub example_placed : PartRow
+example_placed = record {
+  id = record { visit = record { 0 = 2 }; part = 1 };
+  part = record { from = 600; to = 660; place = Actual (record { 0 = 0 }) };
+}
+
+-- that part alone holds a stand of that airport on a day, at version 4
+abbrev pub PlanIsSpelt : Type 0
+PlanIsSpelt =
+    reply_text example_airport (record { version = 4; told = Plan (example_placed ∷ []) })
+    ≡ codes "HTTP/1.1 200 OK\r\nContent-Type: application/json\r\nContent-Length: 91\r\nX-Version: 4\r\n\r\n{\"parts\":[{\"actual\":true,\"from\":600,\"part\":1,\"stand\":\"N1\",\"to\":660,\"visit\":2}],\"version\":4}"
+
+-- what took the stand of a part: by entry 5 it clashed with part 1 of visit 1 from minute 680 on
+abbrev pub example_bump : Bump
+example_bump = record { stand = record { 0 = 0 }; entry = 5; blocker = record { visit = record { 0 = 1 }; part = 1 }; minute = 680; rule = Same }
+
+-- part 1 of visit 2, which lost its stand so
+abbrev pub example_bumped : PartRow
+example_bumped = record {
+  id = record { visit = record { 0 = 2 }; part = 1 };
+  part = record { from = 680; to = 740; place = Nowhere (Some example_bump) };
+}
+
+-- part 3 of visit 1, which was on no stand yet
+abbrev pub example_waiting : PartRow
+example_waiting = record {
+  id = record { visit = record { 0 = 1 }; part = 3 };
+  part = record { from = 10; to = 20; place = Nowhere None };
+}
+
+-- those two parts wait for a stand of that airport, at version 5
+abbrev pub UnplacedIsSpelt : Type 0
+UnplacedIsSpelt =
+    reply_text example_airport (record { version = 5; told = Unplaced (example_bumped ∷ example_waiting ∷ []) })
+    ≡ codes "HTTP/1.1 200 OK\r\nContent-Type: application/json\r\nContent-Length: 205\r\nX-Version: 5\r\n\r\n{\"parts\":[{\"bump\":{\"blocker\":{\"part\":1,\"visit\":1},\"entry\":5,\"minute\":680,\"rule\":\"same\",\"stand\":\"N1\"},\"from\":680,\"part\":1,\"to\":740,\"visit\":2},{\"bump\":null,\"from\":10,\"part\":3,\"to\":20,\"visit\":1}],\"version\":5}"
+
+-- a chart is told as its text
+abbrev pub ChartIsSpelt : Type 0
+ChartIsSpelt =
+    (airport : AirportParts) → reply_text airport (record { version = 7; told = Chart (codes "END\n") })
+    ≡ codes "HTTP/1.1 200 OK\r\nContent-Type: text/plain\r\nContent-Length: 4\r\nX-Version: 7\r\n\r\nEND\n"
 
 -- edit 2 is refused at version 10, as its type would come too near to object 3 of the stand's frontage
 abbrev pub UnfitIsSpelt : Type 0

@@ -7,6 +7,10 @@ use Rattle.http.specs.StatusCode.{status_text}
 abbrev pub json_media : List ℕ
 json_media = codes "application/json"
 
+-- the media type of a wall chart
+abbrev pub plain_media : List ℕ
+plain_media = codes "text/plain"
+
 -- a line and its end
 abbrev pub ended : List ℕ → List ℕ
 ended line = line ++ codes "\r\n"

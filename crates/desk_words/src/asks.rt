@@ -45,6 +45,12 @@ pub enum What {
     Version,
     /// The visit of this number.
     Visit(u32),
+    /// The parts that hold a stand at a minute of this day, counted from 1.
+    Plan(u32),
+    /// The parts that wait for a stand.
+    Unplaced,
+    /// The wall chart of this day, counted from 1.
+    Chart(u32),
 }
 
 /// What a desk asks with one request.

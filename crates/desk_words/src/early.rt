@@ -19,6 +19,8 @@ pub enum Early {
     OnlyPost,
     /// The version that the desk has seen is told twice, or by no number of 1 to 10 digits and 32 bits.
     BadSeen,
+    /// The plan has no such day.
+    NoDay,
     /// The body is not of the form of its route.
     NotJson,
     /// The text is no movement message, for this fault.
@@ -32,8 +34,6 @@ pub enum Early {
     /// The visit is not on block before the plan ends, off block later than then, or less than the least minutes of its
     /// type on block; or a flight is of a day that is none of the plan and not the one before it.
     BadTimes,
-    /// The route is not there yet.
-    Unbuilt,
 }
 
 /// The reply's whole text, head and body.
@@ -53,6 +53,9 @@ pub fn early_bytes(early: Early) -> ShortText
         Early::BadSeen => ShortText::of(
             b"HTTP/1.1 400 Bad Request\r\nContent-Type: application/json\r\nContent-Length: 16\r\n\r\n{\"error\":\"seen\"}",
         ),
+        Early::NoDay => ShortText::of(
+            b"HTTP/1.1 404 Not Found\r\nContent-Type: application/json\r\nContent-Length: 15\r\n\r\n{\"error\":\"day\"}",
+        ),
         Early::NotJson => ShortText::of(
             b"HTTP/1.1 400 Bad Request\r\nContent-Type: application/json\r\nContent-Length: 16\r\n\r\n{\"error\":\"json\"}",
         ),
@@ -66,9 +69,6 @@ pub fn early_bytes(early: Early) -> ShortText
         ),
         Early::BadTimes => ShortText::of(
             b"HTTP/1.1 422 Unprocessable Entity\r\nContent-Type: application/json\r\nContent-Length: 17\r\n\r\n{\"error\":\"times\"}",
-        ),
-        Early::Unbuilt => ShortText::of(
-            b"HTTP/1.1 400 Bad Request\r\nContent-Type: application/json\r\nContent-Length: 19\r\n\r\n{\"error\":\"unbuilt\"}",
         ),
     }
 }

@@ -6,7 +6,7 @@ ghost use Rattle.desk_words.specs.declared.replies.Reply.{Reply};
 ghost use Rattle.desk_words.specs.Early.{IsEarly, early_text};
 ghost use Rattle.desk_words.specs.Fixed.{fixed_texts};
 ghost use Rattle.desk_words.specs.Replies.{reply_text};
-ghost use Rattle.desk_words.specs.Spelt.{CommittedIsSpelt, VisitIsSpelt, UnfitIsSpelt, ClashIsSpelt};
+ghost use Rattle.desk_words.specs.Spelt.{CommittedIsSpelt, VisitIsSpelt, PlanIsSpelt, UnplacedIsSpelt, ChartIsSpelt, UnfitIsSpelt, ClashIsSpelt};
 ghost use Rattle.desk_words.specs.Texts.{shows_version};
 
 /// Each reply that the plan gave the cause of shows a version, and no other one does.
@@ -33,6 +33,9 @@ pub fn fixed_texts_differ()
 pub fn replies_are_spelt()
     ensures committed { CommittedIsSpelt }
     ensures visit { VisitIsSpelt }
+    ensures plan { PlanIsSpelt }
+    ensures unplaced { UnplacedIsSpelt }
+    ensures chart { ChartIsSpelt }
     ensures unfit { UnfitIsSpelt }
     ensures clash { ClashIsSpelt }
 {}

@@ -9,6 +9,7 @@ pub mod fixed;
 pub mod laws;
 mod part_objects;
 pub mod replies;
+mod row_objects;
 pub mod short;
 #[cfg(test)]
 mod tests;

@@ -2,20 +2,31 @@
 ghost use Rattle.std.specs.Prelude.{◌≡◌, ◌∷◌, [], length, string_bytes, IfOk};
 ghost use Rattle.serde_json.specs.View.{view};
 ghost use Rattle.desk_words.specs.Texts.{head_of, text_of, version_line};
-ghost use Rattle.desk_words.specs.Replies.{IsTellable, body_text, code_of, fault_code, reply_text, told_data};
+ghost use Rattle.desk_words.specs.Replies.{IsTellable, body_text, code_of, fault_code, media_of, reply_text, told_data};
 
 use crate::bumped_objects::{message_value, reported_value};
 use crate::fault_objects::{denial_word, fault_value, other_name_value, refused_value};
+use crate::row_objects::{plan_value, unplaced_value};
 use crate::visit_objects::visit_value;
 use apron_base::{Listed, Memory, PartId, VisitNo};
 use apron_rules::{Airport, AirportParts};
 use http::StatusCode;
 use serde_json::{Value, json};
 use std::alloc::{AllocError, Global};
-use visit_book::{EditFault, Visit};
+use visit_book::{EditFault, Part, Visit};
 
 // The media type of a body that is JSON.
 const JSON: &str = "application/json";
+
+// The media type of a wall chart.
+const PLAIN: &str = "text/plain";
+
+/// A part with its numbers.
+#[derive(Clone, Copy, Debug, PartialEq, Eq)]
+pub struct PartRow {
+    pub id: PartId,
+    pub part: Part,
+}
 
 /// What came of what was asked.
 #[derive(Debug, Drop)]
@@ -45,6 +56,18 @@ pub enum Told {
     Version,
     /// The visit as it is.
     Visit(Visit),
+    /// The parts on stands that hold them on a day, in order of visit and part.
+    Plan {
+        parts: Listed<PartRow>,
+    },
+    /// The parts of live visits that stand nowhere, by rank.
+    Unplaced {
+        parts: Listed<PartRow>,
+    },
+    /// The wall chart of a day.
+    Chart {
+        text: Listed<u8>,
+    },
     /// There is no visit of this number.
     NoVisit,
     /// The ask is of a greater version than the plan's.
@@ -93,7 +116,7 @@ pub fn reply_bytes(alloc: Global, airport: &Airport, reply: &Reply) -> Result<Li
     text(
         alloc,
         code(&reply.told),
-        JSON,
+        media(&reply.told),
         reply.version,
         body.as_slice(),
     )
@@ -109,7 +132,10 @@ fn code(told: &Told) -> StatusCode
         | Told::Reported { .. }
         | Told::Cancelled
         | Told::Version
-        | Told::Visit(_) => StatusCode::OK,
+        | Told::Visit(_)
+        | Told::Plan { .. }
+        | Told::Unplaced { .. }
+        | Told::Chart { .. } => StatusCode::OK,
         Told::NoVisit => StatusCode::NOT_FOUND,
         Told::Ahead | Told::Full | Told::OtherName { .. } => StatusCode::CONFLICT,
         Told::Edit(fault) => fault_code(*fault),
@@ -123,6 +149,15 @@ fn fault_code(fault: EditFault) -> StatusCode
     match fault {
         EditFault::Overtaken { .. } => StatusCode::CONFLICT,
         _ => StatusCode::UNPROCESSABLE_ENTITY,
+    }
+}
+
+fn media(told: &Told) -> &'static str
+    ensures is { result.now ≡ media_of told.now }
+{
+    match told {
+        Told::Chart { .. } => PLAIN,
+        _ => JSON,
     }
 }
 
@@ -165,8 +200,10 @@ fn told_body(
     requires tellable { IsTellable told.now }
     ensures text { IfOk result (λ v. v.items ≡ body_text airport.now version told.now) }
 {
-    let value = told_value(alloc, airport, version, told)?;
-    value.to_vec(alloc)
+    match told {
+        Told::Chart { text } => Vec::from_slice(alloc, text.as_slice()),
+        _ => told_value(alloc, airport, version, told)?.to_vec(alloc),
+    }
 }
 
 fn told_value(
@@ -187,6 +224,9 @@ fn told_value(
         Told::Reported { bumped } => reported_value(alloc, bumped.as_slice(), version),
         Told::Cancelled | Told::Version => json!(in alloc; {"version": version}),
         Told::Visit(visit) => visit_value(alloc, airport, visit, version),
+        Told::Plan { parts } => plan_value(alloc, airport, parts.as_slice(), version),
+        Told::Unplaced { parts } => unplaced_value(alloc, airport, parts.as_slice(), version),
+        Told::Chart { .. } => Ok(Value::Null),
         Told::NoVisit => refused_value(alloc, "visit", version),
         Told::Ahead => refused_value(alloc, "ahead", version),
         Told::Full => refused_value(alloc, "full", version),

@@ -31,6 +31,7 @@ fn has_text(alloc: Global, airport: &Airport, reply: &Reply, status: &str, body:
     let bytes = match &reply.told {
         Told::Edit(EditFault::Memory) => return false,
         Told::Visit(visit) if !is_new_visit(visit) => return false,
+        Told::Plan { .. } | Told::Unplaced { .. } | Told::Chart { .. } => return false,
         Told::Added { .. }
         | Told::Committed { .. }
         | Told::Message { .. }

@@ -118,7 +118,7 @@ fn stay_value(alloc: Global, airport: &AirportParts, part: &Part) -> Result<Valu
     })
 }
 
-fn place_bump_value(
+pub(crate) fn place_bump_value(
     alloc: Global,
     airport: &AirportParts,
     place: Place,
@@ -131,7 +131,7 @@ fn place_bump_value(
     }
 }
 
-fn place_stand_value(
+pub(crate) fn place_stand_value(
     alloc: Global,
     airport: &AirportParts,
     place: Place,

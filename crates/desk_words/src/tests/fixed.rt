@@ -1,6 +1,6 @@
 // Replies that need no plan.
 use crate::early::{Early, early_bytes};
-use crate::fixed::{bad_head, keeper_fault, no_memory};
+use crate::fixed::{bad_encoding, bad_head, keeper_fault, large_body, no_length, no_memory};
 use mvt_grammar::MvtFault;
 
 #[test]
@@ -21,6 +21,10 @@ fn early_replies_are_these_bytes(rt: HostRuntime) {
         (
             Early::BadSeen,
             b"HTTP/1.1 400 Bad Request\r\nContent-Type: application/json\r\nContent-Length: 16\r\n\r\n{\"error\":\"seen\"}",
+        ),
+        (
+            Early::NoDay,
+            b"HTTP/1.1 404 Not Found\r\nContent-Type: application/json\r\nContent-Length: 15\r\n\r\n{\"error\":\"day\"}",
         ),
         (
             Early::NotJson,
@@ -66,10 +70,6 @@ fn early_replies_are_these_bytes(rt: HostRuntime) {
             Early::BadTimes,
             b"HTTP/1.1 422 Unprocessable Entity\r\nContent-Type: application/json\r\nContent-Length: 17\r\n\r\n{\"error\":\"times\"}",
         ),
-        (
-            Early::Unbuilt,
-            b"HTTP/1.1 400 Bad Request\r\nContent-Type: application/json\r\nContent-Length: 19\r\n\r\n{\"error\":\"unbuilt\"}",
-        ),
     ];
     for (early, want) in rows {
         assert!(rt; early_bytes(early).as_slice() == want, "at {early:?}");
@@ -78,7 +78,7 @@ fn early_replies_are_these_bytes(rt: HostRuntime) {
 
 #[test]
 fn fixed_replies_are_these_bytes(rt: HostRuntime) {
-    let rows: [(&[u8], &[u8]); 3] = [
+    let rows: [(&[u8], &[u8]); 6] = [
         (
             no_memory(),
             b"HTTP/1.1 507 Insufficient Storage\r\nContent-Type: application/json\r\nContent-Length: 18\r\n\r\n{\"error\":\"memory\"}",
@@ -90,6 +90,18 @@ fn fixed_replies_are_these_bytes(rt: HostRuntime) {
         (
             bad_head(),
             b"HTTP/1.1 400 Bad Request\r\nContent-Type: application/json\r\nContent-Length: 16\r\nConnection: close\r\n\r\n{\"error\":\"head\"}",
+        ),
+        (
+            bad_encoding(),
+            b"HTTP/1.1 501 Not Implemented\r\nContent-Type: application/json\r\nContent-Length: 20\r\nConnection: close\r\n\r\n{\"error\":\"encoding\"}",
+        ),
+        (
+            large_body(),
+            b"HTTP/1.1 413 Payload Too Large\r\nContent-Type: application/json\r\nContent-Length: 17\r\nConnection: close\r\n\r\n{\"error\":\"large\"}",
+        ),
+        (
+            no_length(),
+            b"HTTP/1.1 411 Length Required\r\nContent-Type: application/json\r\nContent-Length: 18\r\nConnection: close\r\n\r\n{\"error\":\"length\"}",
         ),
     ];
     for (bytes, want) in rows {

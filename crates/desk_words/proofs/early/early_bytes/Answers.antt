@@ -20,6 +20,10 @@ pub returns-in-BadSeen : goal.returns-in-BadSeen
 unfolding digits serde_json_on_literals early_text
 returns-in-BadSeen c = record { text = c.of-in-BadSeen.ensures.bytes ∙ ap early_text (sym c.in-BadSeen.is) }
 
+pub returns-in-NoDay : goal.returns-in-NoDay
+unfolding digits serde_json_on_literals early_text
+returns-in-NoDay c = record { text = c.of-in-NoDay.ensures.bytes ∙ ap early_text (sym c.in-NoDay.is) }
+
 pub returns-in-NotJson : goal.returns-in-NotJson
 unfolding digits serde_json_on_literals early_text
 returns-in-NotJson c = record { text = c.of-in-NotJson.ensures.bytes ∙ ap early_text (sym c.in-NotJson.is) }
@@ -35,7 +39,3 @@ returns-in-NoStand c = record { text = c.of-in-NoStand.ensures.bytes ∙ ap earl
 pub returns-in-BadTimes : goal.returns-in-BadTimes
 unfolding digits serde_json_on_literals early_text
 returns-in-BadTimes c = record { text = c.of-in-BadTimes.ensures.bytes ∙ ap early_text (sym c.in-BadTimes.is) }
-
-pub returns-in-Unbuilt : goal.returns-in-Unbuilt
-unfolding digits serde_json_on_literals early_text
-returns-in-Unbuilt c = record { text = c.of-in-Unbuilt.ensures.bytes ∙ ap early_text (sym c.in-Unbuilt.is) }

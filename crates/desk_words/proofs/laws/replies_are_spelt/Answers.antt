@@ -12,6 +12,18 @@ pub returns-clause-visit : goal.returns-clause-visit
 unfolding digits serde_json_on_literals reply_text
 returns-clause-visit c = refl
 
+pub returns-clause-plan : goal.returns-clause-plan
+unfolding digits serde_json_on_literals reply_text
+returns-clause-plan c = refl
+
+pub returns-clause-unplaced : goal.returns-clause-unplaced
+unfolding digits serde_json_on_literals reply_text
+returns-clause-unplaced c = refl
+
+pub returns-clause-chart : goal.returns-clause-chart
+unfolding digits serde_json_on_literals reply_text
+returns-clause-chart c = λ airport. refl
+
 pub returns-clause-unfit : goal.returns-clause-unfit
 unfolding digits serde_json_on_literals reply_text
 returns-clause-unfit c = λ airport. refl

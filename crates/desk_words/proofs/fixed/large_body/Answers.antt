@@ -1,0 +1,9 @@
+use Rattle.std.proofs.Common.{refl}
+use Rattle.std.specs.Fmt.{digits}
+use Rattle.serde_json.proofs.OnLiterals.{serde_json_on_literals}
+use Rattle.desk_words.specs.Fixed.{large_body_text}
+use Rattle.desk_words.proofs.fixed.large_body.Goals as goal
+
+pub returns : goal.returns
+unfolding digits serde_json_on_literals large_body_text
+returns c = record { text = refl }

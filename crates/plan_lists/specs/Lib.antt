@@ -1,0 +1,4 @@
+pub mod Days
+pub mod Rows
+pub mod Held
+pub mod Unplaced

@@ -1,0 +1,42 @@
+-- The parts that wait for a stand.
+use Rattle.std.specs.Prelude.{◌∷◌, [], ℕ, Bool, List, filter, is_none, map, if◌then◌else◌}
+use Rattle.std.specs.List.{flat_map}
+use Rattle.visit_book.specs.declared.visits.Visit.{Visit}
+use Rattle.visit_book.specs.Ends.{is_live}
+use Rattle.visit_book.specs.Places.{stand_of}
+use Rattle.plan_core.specs.PlanState.{PlanState}
+use Rattle.bump_core.specs.Ranks.{is_lower, part_rank}
+use Rattle.desk_words.specs.declared.replies.PartRow.{PartRow}
+use Rattle.plan_lists.specs.Rows.{rows_of}
+use Rattle.plan_lists.specs.declared.waiting.Waiting.{Waiting}
+
+-- the part stands nowhere
+abbrev pub is_unplaced : PartRow → Bool
+is_unplaced row = is_none (stand_of row.part.place)
+
+-- a part of the visit, with what ranks it
+abbrev pub with_rank : Visit → PartRow → Waiting
+with_rank visit row = record { class = visit.class; on = visit.on; row = row }
+
+-- the parts of the visit that wait for a stand: none of one that is gone or cancelled
+abbrev pub waiting_of : Visit → List Waiting
+waiting_of visit = if is_live visit then map (with_rank visit) (filter is_unplaced (rows_of visit)) else []
+
+-- its rank: the class, the scheduled minute on block, the visit and the part
+abbrev pub rank_of : Waiting → List ℕ
+rank_of part = part_rank part.class part.on part.row.id
+
+-- the parts with one more, behind those of a lower rank
+abbrev pub insert_by_rank : Waiting → List Waiting → List Waiting
+insert_by_rank part [] = part ∷ []
+insert_by_rank part (first ∷ others) =
+    if is_lower (rank_of first) (rank_of part) then first ∷ insert_by_rank part others else part ∷ first ∷ others
+
+-- the parts by rank
+abbrev pub by_rank : List Waiting → List Waiting
+by_rank [] = []
+by_rank (part ∷ parts) = insert_by_rank part (by_rank parts)
+
+-- the parts of live visits that wait for a stand, by rank
+abbrev pub unplaced : PlanState → List PartRow
+unplaced plan = map (λ part. part.row) (by_rank (flat_map waiting_of plan.visits))

@@ -1,0 +1,94 @@
+// The parts that wait for a stand.
+ghost use Rattle.std.specs.Prelude.{◌≡◌, ◌++◌, ◌∷◌, [], All, IfOk, None, OnOk, map, if◌then◌else◌};
+ghost use Rattle.std.specs.List.{flat_map};
+ghost use Rattle.visit_book.specs.Places.{stand_of};
+ghost use Rattle.plan_lists.specs.Unplaced.{is_unplaced, unplaced, waiting_of, with_rank};
+
+use crate::rows::row;
+use apron_base::{Listed, Memory, Minute};
+use desk_words::replies::PartRow;
+use plan_core::Plan;
+use std::alloc::Global;
+use visit_book::{Place, Visit, is_live};
+
+/// A part that stands nowhere, with the class and the scheduled minute on block of its visit.
+#[derive(Clone, Copy, Debug)]
+pub struct Waiting {
+    pub class: u8,
+    pub on: Minute,
+    pub row: PartRow,
+}
+
+/// The parts of live visits that stand nowhere, by rank: the class of the visit, its scheduled minute on block, its
+/// number and the part decide, lower ones first. The only error is want of memory.
+pub fn unplaced(alloc: Global, plan: &Plan) -> Result<Listed<PartRow>, Memory>
+    ensures unplaced { IfOk result (λ rows. rows ≡ unplaced plan.now.plan) }
+    ensures nowhere { IfOk result (λ rows. All (λ row. stand_of row.part.place ≡ None) rows) }
+{
+    let mut parts = all_waiting(alloc, plan.visits())?;
+    parts.sort_unstable_by_key(|part| (part.class, part.on, part.row.id));
+    rows_of(alloc, parts.as_slice())
+}
+
+// The parts of these visits that wait for a stand, in order of visit and part.
+fn all_waiting(alloc: Global, visits: &[Visit]) -> Result<Vec<Waiting>, Memory>
+    ensures are { IfOk result (λ parts. parts.items ≡ flat_map waiting_of visits.now) }
+{
+    let mut parts = Vec::new(alloc);
+    for visit in visits {
+        push_waiting(&mut parts, visit)?;
+    }
+    Ok(parts)
+}
+
+// Puts the parts of the visit that wait for a stand last.
+fn push_waiting(parts: &mut Vec<Waiting>, visit: &Visit) -> Result<(), Memory>
+    ensures ok { OnOk result (parts.new.items ≡ parts.old.items ++ waiting_of visit.now) }
+{
+    if !is_live(visit) {
+        return Ok(());
+    }
+    let own = visit.parts.as_slice();
+    for index in 0..own.len() {
+        push_if(
+            parts,
+            with_rank(visit, row(visit, index as u8 + 1, &own[index])),
+        )?;
+    }
+    Ok(())
+}
+
+fn push_if(parts: &mut Vec<Waiting>, part: Waiting) -> Result<(), Memory>
+    ensures ok { OnOk result (parts.new.items ≡ parts.old.items ++ (if is_unplaced part.row then part ∷ [] else [])) }
+{
+    if is_unplaced(&part.row) {
+        parts.push(part)?;
+    }
+    Ok(())
+}
+
+fn is_unplaced(row: &PartRow) -> bool
+    ensures is { result ≡ is_unplaced row.now }
+{
+    matches!(row.part.place, Place::Unplaced(_))
+}
+
+fn with_rank(visit: &Visit, row: PartRow) -> Waiting
+    ensures is { result ≡ with_rank visit.now row }
+{
+    Waiting {
+        class: visit.class,
+        on: visit.on,
+        row,
+    }
+}
+
+fn rows_of(alloc: Global, parts: &[Waiting]) -> Result<Listed<PartRow>, Memory>
+    ensures are { IfOk result (λ rows. rows ≡ map (λ part. part.row) parts.now) }
+{
+    let mut rows = Listed::new(alloc);
+    for part in parts {
+        rows.push(part.row)?;
+    }
+    Ok(rows)
+}
