@@ -1,0 +1,134 @@
+-- Lists in order of numbers, as sorts by keys leave them.
+use Rattle.std.proofs.Common.{◌≡◌, ◌∙◌, ℕ, Bool, true, false, cond, ◌&&◌, ◌||◌, ◌==◌, nat_lt, List, [], ◌∷◌, refl, sym, ap, length}
+use Rattle.std.specs.Cmp.{IsStrictWeakOrder}
+use Rattle.std.specs.List.Sorted.{IsSortedBy, IsSortedByKey, IsStableBy, IsStableByKey}
+use Rattle.std.specs.Ordering.{nat_cmp, is_lt, ordering_then}
+use Rattle.std.specs.declared.cmp.Ordering.{Ordering}
+use Rattle.std.specs.declared.cmp.Ordering.TheVariants.{Less, Equal, Greater}
+use Rattle.apron_base.specs.declared.numbers.PartId.{PartId}
+use Rattle.apron_rules.specs.declared.rules.Clash.{Clash}
+use Rattle.visit_book.specs.Places.{stand_of}
+use Rattle.bump_core.specs.Ranks.{is_lower}
+use Rattle.bump_core.proofs.Order.{lower_apart, lower_trans}
+use Rattle.bump_core.proofs.Settled.{lower_total}
+use Rattle.desk_words.specs.declared.replies.PartRow.{PartRow}
+use Rattle.wall_chart.specs.Alarms.{alarm_order}
+use Rattle.wall_chart.specs.Order.{in_order, insert_in_order}
+use Rattle.wall_chart.specs.Parts.{part_order, stand_number}
+use Rattle.wall_chart.proofs.Sorted.{insert_by, sorted_by, sorted_is}
+
+insert_alike : {X : Type 0} (numbers : X → List ℕ) (lt : X → X → Bool) → ((x y : X) → lt x y ≡ is_lower (numbers x) (numbers y))
+    → (item : X) (xs : List X) → insert_by lt item xs ≡ insert_in_order numbers item xs
+insert_alike numbers lt same item [] = refl
+insert_alike {X} numbers lt same item (x ∷ xs) =
+    ap (λ (b : Bool). cond b (x ∷ insert_by lt item xs) (item ∷ x ∷ xs)) (same x item)
+    ∙ ap (λ (ys : List X). cond (is_lower (numbers x) (numbers item)) (x ∷ ys) (item ∷ x ∷ xs)) (insert_alike numbers lt same item xs)
+
+sorted_alike : {X : Type 0} (numbers : X → List ℕ) (lt : X → X → Bool) → ((x y : X) → lt x y ≡ is_lower (numbers x) (numbers y))
+    → (xs : List X) → sorted_by lt xs ≡ in_order numbers xs
+unfolding in_order
+sorted_alike numbers lt same [] = refl
+sorted_alike numbers lt same (x ∷ xs) = insert_alike numbers lt same x (sorted_by lt xs) ∙ ap (insert_in_order numbers x) (sorted_alike numbers lt same xs)
+
+lower_one_way : (xs ys : List ℕ) (b : Bool) → is_lower ys xs ≡ b → is_lower xs ys ≡ true → is_lower ys xs ≡ false
+lower_one_way xs ys false e h = e
+lower_one_way xs ys true e h =
+    let yes : is_lower xs xs ≡ true = lower_trans xs ys xs h e in
+    let no : is_lower xs xs ≡ false = lower_apart xs in
+    absurd (cc)
+
+lower_chain : (xs ys zs : List ℕ) (b c : Bool) → length ys ≡ length zs → is_lower xs zs ≡ b → is_lower zs ys ≡ c → is_lower xs ys ≡ false → is_lower ys zs ≡ false → is_lower xs zs ≡ false
+lower_chain xs ys zs false c long e f h k = e
+lower_chain xs ys zs true true long e f h k = let yes : is_lower xs ys ≡ true = lower_trans xs zs ys e f in absurd (cc)
+lower_chain xs ys zs true false long e f h k = let same : ys ≡ zs = lower_total ys zs long k f in absurd (cc)
+
+-- as many numbers of each item make an order
+order_by : {X : Type 0} (numbers : X → List ℕ) (n : ℕ) → ((x : X) → length (numbers x) ≡ n) → (lt : X → X → Bool) → ((x y : X) → lt x y ≡ is_lower (numbers x) (numbers y)) → IsStrictWeakOrder lt
+order_by numbers n long lt same = record {
+  one_way = λ x y h. same y x ∙ lower_one_way (numbers x) (numbers y) (is_lower (numbers y) (numbers x)) refl (sym (same x y) ∙ h);
+  chain = λ x y z h k. same x z
+      ∙ lower_chain (numbers x) (numbers y) (numbers z) (is_lower (numbers x) (numbers z)) (is_lower (numbers z) (numbers y)) (long y ∙ sym (long z)) refl refl
+      (sym (same x y) ∙ h) (sym (same y z) ∙ k);
+}
+
+-- a stable sort by an order that compares these numbers, as many of each item, leaves the list in order of them
+pub sorted_in_order : {X : Type 0} (numbers : X → List ℕ) (n : ℕ) → ((x : X) → length (numbers x) ≡ n) → (lt : X → X → Bool) → ((x y : X) → lt x y ≡ is_lower (numbers x) (numbers y))
+    → (xs ys : List X) → IsSortedBy lt ys → IsStableBy lt xs ys → ys ≡ in_order numbers xs
+sorted_in_order numbers n long lt same xs ys up stable = sorted_is lt (order_by numbers n long lt same) xs ys up stable ∙ sorted_alike numbers lt same xs
+
+-- one number is compared, and then what follows
+then_by : (p q : Bool) (rest : Ordering) → is_lt (ordering_then (cond p Less (cond q Equal Greater)) rest) ≡ (p || (q && is_lt rest))
+then_by true q rest = refl
+then_by false true rest = refl
+then_by false false rest = refl
+
+then_lower : (m n : ℕ) (rest : Ordering) (ms ns : List ℕ) → is_lt rest ≡ is_lower ms ns → is_lt (ordering_then (nat_cmp m n) rest) ≡ is_lower (m ∷ ms) (n ∷ ns)
+then_lower m n rest ms ns e = then_by (nat_lt m n) (m == n) rest ∙ ap (λ (b : Bool). nat_lt m n || ((m == n) && b)) e
+
+last_by : (p q : Bool) → is_lt (cond p Less (cond q Equal Greater)) ≡ (p || (q && false))
+last_by true q = refl
+last_by false true = refl
+last_by false false = refl
+
+in_turn : (first second third : Ordering) → ordering_then (ordering_then first second) third ≡ ordering_then first (ordering_then second third)
+in_turn Less second third = refl
+in_turn Equal second third = refl
+in_turn Greater second third = refl
+
+-- parts by their visits and their numbers
+abbrev pub compare_parts : PartId → PartId → Ordering
+compare_parts part other = ordering_then (nat_cmp part.visit.0 other.visit.0) (nat_cmp part.part other.part)
+
+parts_lower : (part other : PartId) → is_lt (compare_parts part other) ≡ is_lower (part.visit.0 ∷ part.part ∷ []) (other.visit.0 ∷ other.part ∷ [])
+parts_lower part other = then_lower part.visit.0 other.visit.0 (nat_cmp part.part other.part) (part.part ∷ []) (other.part ∷ []) (last_by (nat_lt part.part other.part) (part.part == other.part))
+
+-- the keys of rows, and of clashes
+abbrev pub RowKey : Type 0
+RowKey = ℕ × ℕ × PartId
+
+abbrev pub row_key : PartRow → RowKey
+row_key row = (stand_number (stand_of row.part.place), row.part.from, row.id)
+
+abbrev pub compare_rows : RowKey → RowKey → Ordering
+compare_rows key other = ordering_then (ordering_then (nat_cmp key.0 other.0) (nat_cmp key.1 other.1)) (compare_parts key.2 other.2)
+
+rows_lower : (row other : PartRow) → is_lt (compare_rows (row_key row) (row_key other)) ≡ is_lower (part_order row) (part_order other)
+rows_lower row other =
+    let stand = stand_number (stand_of row.part.place) in
+    let stand2 = stand_number (stand_of other.part.place) in
+    let rest = compare_parts row.id other.id in
+    ap is_lt (in_turn (nat_cmp stand stand2) (nat_cmp row.part.from other.part.from) rest)
+    ∙ then_lower stand stand2 (ordering_then (nat_cmp row.part.from other.part.from) rest)
+    (row.part.from ∷ row.id.visit.0 ∷ row.id.part ∷ []) (other.part.from ∷ other.id.visit.0 ∷ other.id.part ∷ [])
+    (then_lower row.part.from other.part.from rest (row.id.visit.0 ∷ row.id.part ∷ []) (other.id.visit.0 ∷ other.id.part ∷ []) (parts_lower row.id other.id))
+
+-- a stable sort of rows
+pub sorted_rows : (rows sorted : List PartRow) → IsSortedByKey row_key compare_rows sorted → IsStableByKey row_key compare_rows rows sorted → sorted ≡ in_order part_order rows
+sorted_rows rows sorted up stable =
+    sorted_in_order part_order 4 (λ row. refl) (λ row other. is_lt (compare_rows (row_key row) (row_key other))) rows_lower rows sorted up stable
+
+abbrev pub ClashKey : Type 0
+ClashKey = ℕ × PartId × PartId
+
+abbrev pub clash_key : Clash → ClashKey
+clash_key clash = (clash.minute, clash.a, clash.b)
+
+abbrev pub compare_clashes : ClashKey → ClashKey → Ordering
+compare_clashes key other = ordering_then (ordering_then (nat_cmp key.0 other.0) (compare_parts key.1 other.1)) (compare_parts key.2 other.2)
+
+clashes_lower : (clash other : Clash) → is_lt (compare_clashes (clash_key clash) (clash_key other)) ≡ is_lower (alarm_order clash) (alarm_order other)
+clashes_lower clash other =
+    let last = compare_parts clash.b other.b in
+    let first = nat_cmp clash.a.visit.0 other.a.visit.0 in
+    let second = nat_cmp clash.a.part other.a.part in
+    ap is_lt (in_turn (nat_cmp clash.minute other.minute) (compare_parts clash.a other.a) last ∙ ap (ordering_then (nat_cmp clash.minute other.minute)) (in_turn first second last))
+    ∙ then_lower clash.minute other.minute (ordering_then first (ordering_then second last))
+    (clash.a.visit.0 ∷ clash.a.part ∷ clash.b.visit.0 ∷ clash.b.part ∷ []) (other.a.visit.0 ∷ other.a.part ∷ other.b.visit.0 ∷ other.b.part ∷ [])
+    (then_lower clash.a.visit.0 other.a.visit.0 (ordering_then second last) (clash.a.part ∷ clash.b.visit.0 ∷ clash.b.part ∷ []) (other.a.part ∷ other.b.visit.0 ∷ other.b.part ∷ [])
+    (then_lower clash.a.part other.a.part last (clash.b.visit.0 ∷ clash.b.part ∷ []) (other.b.visit.0 ∷ other.b.part ∷ []) (parts_lower clash.b other.b)))
+
+-- a stable sort of clashes
+pub sorted_clashes : (clashes sorted : List Clash) → IsSortedByKey clash_key compare_clashes sorted → IsStableByKey clash_key compare_clashes clashes sorted
+    → sorted ≡ in_order alarm_order clashes
+sorted_clashes clashes sorted up stable =
+    sorted_in_order alarm_order 5 (λ clash. refl) (λ clash other. is_lt (compare_clashes (clash_key clash) (clash_key other))) clashes_lower clashes sorted up stable

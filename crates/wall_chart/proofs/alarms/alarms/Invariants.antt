@@ -1,0 +1,7 @@
+use Rattle.std.proofs.Common.{◌≡◌, take}
+use Rattle.std.specs.List.{flat_map}
+use Rattle.wall_chart.specs.Alarms.{alarms_with}
+use Rattle.wall_chart.proofs.alarms.alarms.Given as goal
+
+abbrev pub invariant-loop-slot : goal.invariant-loop-slot
+invariant-loop-slot l = l.found.items ≡ flat_map (alarms_with l.airport l.day l.slots) (take l.slot-index l.slots)

@@ -1,0 +1,67 @@
+// Minutes and days as a chart writes them.
+ghost use Rattle.std.specs.Prelude.{◌≡◌, ◌≤◌, ◌<◌, ◌*◌, ◌++◌, OnOk, decimal};
+ghost use Rattle.apron_rules.specs.declared.limits.TheConstants.{MAX_DAYS};
+ghost use Rattle.mvt_grammar.specs.Canonical.{two_text};
+ghost use Rattle.plan_lists.specs.Days.{day_start};
+ghost use Rattle.wall_chart.specs.Times.{clock_text, span_text, time_text};
+
+use apron_base::{Memory, Minute};
+use itoa::Buffer;
+
+/// The minutes of a day.
+pub(crate) const DAY_LENGTH: u32 = 1440;
+
+/// The first minute of a day of a plan.
+pub(crate) fn day_start(day: u32) -> Minute
+    requires first { 1 ≤ day }
+    requires last { day ≤ MAX_DAYS }
+    ensures is { result ≡ day_start day }
+    ensures early { result < 1440 * MAX_DAYS }
+{
+    DAY_LENGTH * (day - 1)
+}
+
+/// Writes a number at the end.
+pub(crate) fn push_number(text: &mut Vec<u8>, number: u32) -> Result<(), Memory>
+    ensures text { OnOk result (text.new.items ≡ text.old.items ++ decimal number) }
+{
+    text.extend_from_slice(Buffer::new().format(number).as_bytes())?;
+    Ok(())
+}
+
+/// Writes a number below 100 at the end, in two digits.
+pub(crate) fn push_two(text: &mut Vec<u8>, number: u32) -> Result<(), Memory>
+    requires small { number < 100 }
+    ensures text { OnOk result (text.new.items ≡ text.old.items ++ two_text number) }
+{
+    let tens = b'0' + (number / 10) as u8;
+    let ones = b'0' + (number % 10) as u8;
+    text.extend_from_slice(&[tens, ones])?;
+    Ok(())
+}
+
+fn push_clock(text: &mut Vec<u8>, minute: u32) -> Result<(), Memory>
+    requires small { minute < 1440 }
+    ensures text { OnOk result (text.new.items ≡ text.old.items ++ clock_text minute) }
+{
+    push_two(text, minute / 60)?;
+    push_two(text, minute % 60)
+}
+
+/// Writes the day and the clock time of a minute at the end.
+pub(crate) fn push_time(text: &mut Vec<u8>, minute: Minute) -> Result<(), Memory>
+    ensures text { OnOk result (text.new.items ≡ text.old.items ++ time_text minute) }
+{
+    push_number(text, minute / DAY_LENGTH + 1)?;
+    text.push(b'/')?;
+    push_clock(text, minute % DAY_LENGTH)
+}
+
+/// Writes two minutes at the end, the first to the second.
+pub(crate) fn push_span(text: &mut Vec<u8>, from: Minute, to: Minute) -> Result<(), Memory>
+    ensures text { OnOk result (text.new.items ≡ text.old.items ++ span_text from to) }
+{
+    push_time(text, from)?;
+    text.push(b'-')?;
+    push_time(text, to)
+}
