@@ -1,57 +1,89 @@
--- What is known of a board, and of one after an ask.
+-- What is known of a legal history's plan, and of a board after an ask.
 use Rattle.std.proofs.Common.{◌≡◌, ◌∙◌, ◌<◌, ◌≤◌, ◌+◌, ◌∷◌, ◌++◌, [], ℕ, List, length, ap, sym, subst, arith}
 use Rattle.apron_base.proofs.Rising.{rises_more, rises_push}
+use Rattle.apron_base.specs.Histories.{Rises}
+use Rattle.apron_base.specs.Keeper.{AddsEntry, FailsToAdd, KeeperState}
 use Rattle.apron_rules.specs.declared.parts.AirportParts.{AirportParts}
 use Rattle.visit_book.specs.Numbers.{IsNumbered}
 use Rattle.plan_core.specs.PlanState.{PlanState, empty_plan}
 use Rattle.desk_words.specs.Commands.{IsCommandOf}
 use Rattle.desk_words.specs.declared.asks.Entry.{Entry}
-use Rattle.history_core.specs.Board.{BoardState, IsBoard}
+use Rattle.entry_bytes.specs.Entries.{entry_text}
+use Rattle.history_core.specs.Board.{BoardHeld, IsBoard}
 use Rattle.history_core.specs.History.{IsLegal, call_limit, call_of, replay}
 use Rattle.history_core.specs.Steps.{Steps, accepted, after_command}
+use Rattle.history_core.proofs.Keepers.{kept_added, kept_failed, kept_ready}
 use Rattle.history_core.proofs.Legal.{legal_counted}
 use Rattle.history_core.proofs.Replay.{after-push, replay-airport, taken_numbered, taken_push}
 
--- a board as contracts see it
-abbrev pub state_of : AirportParts → List Entry → ℕ → BoardState
-state_of airport history next = record { airport = airport; history = history; next = next }
+module _ (airport : AirportParts) (history : List Entry) (plan : PlanState) (is : plan ≡ replay airport history) where
+  -- the plan is of its airport
+  pub plan_airport : plan.airport ≡ airport
+  plan_airport = ap (λ (p : PlanState). p.airport) is ∙ replay-airport airport history
 
--- the plan of a board is of its airport
-pub board_airport : (plan : PlanState) (board : BoardState) → IsBoard plan board → plan.airport ≡ board.airport
-board_airport plan board h = ap (λ (p : PlanState). p.airport) h.plan_is ∙ replay-airport board.airport board.history
+  -- its version is the number of the entries
+  pub plan_version : IsLegal airport history → plan.version ≡ length history
+  plan_version legal = ap (λ (p : PlanState). p.version) is ∙ legal_counted airport history legal
 
--- its version is the number of its entries
-pub board_version : (plan : PlanState) (board : BoardState) → IsBoard plan board → plan.version ≡ length board.history
-board_version plan board h = ap (λ (p : PlanState). p.version) h.plan_is ∙ legal_counted board.airport board.history h.legal
+  -- its visits are numbered in order
+  pub plan_numbered : IsLegal airport history → IsNumbered plan.visits
+  plan_numbered legal = subst (λ (p : PlanState). IsNumbered p.visits) (sym is) (taken_numbered (empty_plan airport) 0 history legal.taken tt)
 
--- its visits are numbered in order
-pub board_numbered : (plan : PlanState) (board : BoardState) → IsBoard plan board → IsNumbered plan.visits
-board_numbered plan board h =
-    let legal : IsLegal board.airport board.history = h.legal in
-    subst (λ (p : PlanState). IsNumbered p.visits) (sym h.plan_is) (taken_numbered (empty_plan board.airport) 0 board.history legal.taken tt)
+-- a legal history with one more entry, whose command is accepted and whose call comes after the others
+pub legal_pushed : (airport : AirportParts) (history : List Entry) (next : ℕ) (entry : Entry) → IsLegal airport history → Rises call_of 1 next history
+    → IsCommandOf airport entry.command → Steps (replay airport history) (length history) entry.command accepted → next ≤ entry.call → entry.call < call_limit
+    → IsLegal airport (history ++ entry ∷ [])
+legal_pushed airport history next entry legal numbers valid steps up last = record {
+  taken = taken_push (empty_plan airport) 0 history entry legal.taken valid
+      (subst (λ (n : ℕ). Steps (replay airport history) n entry.command accepted) (omega arith) steps);
+  numbers = rises_push call_of 1 next call_limit history entry numbers up last;
+}
 
 -- the next call may have a later number
-pub board_called : (airport : AirportParts) (plan : PlanState) (history : List Entry) (next later : ℕ) → IsBoard plan (state_of airport history next)
-    → next ≤ later → later ≤ call_limit → IsBoard plan (state_of airport history later)
-board_called airport plan history next later h up few = record {
+pub board_called : {K : Type 0} (plan : PlanState) (keeper : KeeperState) (board : BoardHeld K) (later : ℕ) → IsBoard plan keeper board → board.next ≤ later
+    → later ≤ call_limit → IsBoard plan keeper (record board { next = later })
+board_called plan keeper board later h up few = record {
   legal = h.legal;
   plan_is = h.plan_is;
-  numbers = rises_more call_of 1 next later history h.numbers up;
+  numbers = rises_more call_of 1 board.next later board.history h.numbers up;
   calls = few;
+  kept = h.kept;
 }
 
--- a board after one more entry, by this call
-pub board_pushed : (airport : AirportParts) (plan new : PlanState) (history : List Entry) (next : ℕ) (entry : Entry) → IsBoard plan (state_of airport history next)
-    → IsCommandOf airport entry.command → Steps (replay airport history) (length history) entry.command accepted
-    → next ≤ entry.call → entry.call < call_limit → new ≡ after_command (replay airport history) entry.command
-    → IsBoard new (state_of airport (history ++ entry ∷ []) (entry.call + 1))
-board_pushed airport plan new history next entry h valid steps up last is = record {
-  legal = record {
-    taken = taken_push (empty_plan airport) 0 history entry h.legal.taken valid
-        (subst (λ (n : ℕ). Steps (replay airport history) n entry.command accepted) (omega arith) steps);
-    numbers = rises_push call_of 1 next call_limit history entry h.numbers up last;
-  };
-  plan_is = is ∙ sym (after-push (empty_plan airport) history entry);
-  numbers = rises_push call_of 1 next (entry.call + 1) history entry h.numbers up (omega arith);
-  calls = omega (arith, last);
-}
+-- an entry that the board can have next
+pub record IsNext {K : Type 0} (board : BoardHeld K) (entry : Entry) : Type 0 where
+  pub valid : IsCommandOf board.airport entry.command
+  pub steps : Steps (replay board.airport board.history) (length board.history) entry.command accepted
+  pub up : board.next ≤ entry.call
+  pub last : entry.call < call_limit
+
+-- a board after one more entry, by this call, which its keeper has got
+pub board_pushed : {K : Type 0} (plan new : PlanState) (first before after : KeeperState) (board : BoardHeld K) (keeper : K) (history : List Entry) (entry : Entry)
+    → IsBoard plan first board → IsNext board entry → before ≡ record first { room = before.room } → AddsEntry before after (entry_text entry)
+    → history ≡ board.history ++ entry ∷ [] → new ≡ after_command (replay board.airport board.history) entry.command
+    → IsBoard new after (record { keeper = keeper; airport = board.airport; history = history; next = entry.call + 1 })
+board_pushed plan new first before after board keeper history entry h next ready adds history_is is =
+    let last : entry.call < call_limit = next.last in
+    subst (λ (es : List Entry). IsBoard new after (record { keeper = keeper; airport = board.airport; history = es; next = entry.call + 1 })) (sym history_is)
+    (record {
+      legal = legal_pushed board.airport board.history board.next entry h.legal h.numbers next.valid next.steps next.up next.last;
+      plan_is = is ∙ sym (after-push (empty_plan board.airport) board.history entry);
+      numbers = rises_push call_of 1 board.next (entry.call + 1) board.history entry h.numbers next.up (omega arith);
+      calls = omega arith;
+      kept = kept_added board.airport board.history before after entry (kept_ready board.airport board.history first before h.kept ready) adds;
+    })
+
+-- a board after an ask whose append failed
+pub board_failed : {K : Type 0} (plan same : PlanState) (first before after : KeeperState) (board : BoardHeld K) (keeper : K) (history : List Entry) (entry : Entry)
+    → IsBoard plan first board → IsNext board entry → before ≡ record first { room = before.room } → FailsToAdd before after (entry_text entry)
+    → history ≡ board.history → same ≡ plan → IsBoard same after (record { keeper = keeper; airport = board.airport; history = history; next = board.next })
+board_failed plan same first before after board keeper history entry h next ready fails history_is plan_is =
+    subst (λ (es : List Entry). IsBoard same after (record { keeper = keeper; airport = board.airport; history = es; next = board.next })) (sym history_is)
+    (record {
+      legal = h.legal;
+      plan_is = plan_is ∙ h.plan_is;
+      numbers = h.numbers;
+      calls = h.calls;
+      kept = kept_failed board.airport board.history before after entry (kept_ready board.airport board.history first before h.kept ready)
+          (legal_pushed board.airport board.history board.next entry h.legal h.numbers next.valid next.steps next.up next.last) fails;
+    })

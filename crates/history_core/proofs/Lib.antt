@@ -10,6 +10,8 @@ pub mod Added
 pub mod NewVisits
 pub mod Bumps
 pub mod Takings
+pub mod Keepers
 pub mod Boards
+pub mod Openings
 pub mod Texts
 pub mod Crosses

@@ -1,7 +1,7 @@
 -- The bytes of replies, and what they show.
-use Rattle.std.proofs.Common.{◌≡◌, ◌≢◌, ◌∙◌, ◌++◌, [], ℕ, List, Option, None, Some, Result, Ok, Err, IfOk, length, append-nil, refl, sym, ap, subst}
+use Rattle.std.proofs.Common.{◌≡◌, ◌≢◌, ◌∙◌, ◌++◌, [], ℕ, List, Option, None, Some, Result, Ok, Err, length, append-nil, refl, sym, ap, subst}
 use Rattle.apron_base.specs.declared.listed.Memory.{Memory}
-use Rattle.apron_base.specs.declared.outside.Acted.TheVariants.{Reply as Replied, Memory as NoMemory}
+use Rattle.apron_base.specs.declared.outside.Acted.TheVariants.{Reply as Replied}
 use Rattle.apron_base.specs.declared.numbers.VisitNo.{VisitNo}
 use Rattle.apron_rules.specs.declared.parts.AirportParts.{AirportParts}
 use Rattle.visit_book.specs.declared.visits.Visit.{Visit}
@@ -14,38 +14,40 @@ use Rattle.desk_words.specs.declared.asks.Entry.{Entry}
 use Rattle.desk_words.specs.declared.replies.Reply.{Reply}
 use Rattle.desk_words.specs.declared.replies.Told.{Told}
 use Rattle.desk_words.specs.Replies.{IsTellable, reply_text}
-use Rattle.history_core.specs.Answer.{ActsAs, TextOf, added, changes, no_memory, replied, sought, visit_told}
-use Rattle.history_core.specs.Board.{BoardState, IsBoard}
+use Rattle.history_core.specs.Answer.{ActsAs, GivesText, Sought, TextOf, acted_of, added, changes, keeper_fault, no_memory, replied, sought, told, visit_told}
 use Rattle.history_core.specs.History.{IsLegal, replay}
+use Rattle.history_core.specs.declared.unanswered.Unanswered.{Unanswered}
+use Rattle.history_core.specs.declared.unanswered.Unanswered.TheVariants as unanswered
 use Rattle.history_core.specs.Steps.{Stepped, Steps, accepted, ahead, full, refused, repeated, reply_at, stepped_reply}
 use Rattle.history_core.specs.Taking.{IsAnswered}
 use Rattle.history_core.proofs.Added.{added_new}
+use Rattle.history_core.proofs.Legal.{front_legal}
 use Rattle.history_core.proofs.Replay.{replay-airport}
 
 -- texts of one airport, version and news
-same_text : (airport other : AirportParts) (version later : ℕ) (told : Told) → airport ≡ other → version ≡ later
-    → reply_text airport (record { version = version; told = told }) ≡ reply_text other (reply_at later told)
-same_text airport other version later told e f = rw (e, f) refl
+same_text : (airport other : AirportParts) (version later : ℕ) (news : Told) → airport ≡ other → version ≡ later
+    → reply_text airport (record { version = version; told = news }) ≡ reply_text other (reply_at later news)
+same_text airport other version later news e f = rw (e, f) refl
 
--- what is told of a plan as it is, by its board
-pub told_text : (plan : PlanState) (board : BoardState) (version : ℕ) (told : Told) → IsBoard plan board → version ≡ plan.version
-    → reply_text board.airport (record { version = version; told = told })
-    ≡ reply_text (replay board.airport board.history).airport (reply_at (replay board.airport board.history).version told)
-told_text plan board version told h is =
-    same_text board.airport (replay board.airport board.history).airport version (replay board.airport board.history).version told
-    (sym (replay-airport board.airport board.history)) (is ∙ ap (λ (p : PlanState). p.version) h.plan_is)
+-- what is told of a plan as it is
+pub told_text : (airport : AirportParts) (history : List Entry) (plan : PlanState) (version : ℕ) (news : Told) → plan ≡ replay airport history
+    → version ≡ plan.version → reply_text airport (record { version = version; told = news })
+    ≡ reply_text (replay airport history).airport (reply_at (replay airport history).version news)
+told_text airport history plan version news plan_is is =
+    same_text airport (replay airport history).airport version (replay airport history).version news
+    (sym (replay-airport airport history)) (is ∙ ap (λ (p : PlanState). p.version) plan_is)
 
--- a visit of a board can be told
+-- a visit of the plan can be told
 found_tellable : (found : Option Visit) → ((visit : Visit) → found ≡ Some visit → IsNewVisit (new_of visit)) → IsTellable (visit_told found)
 found_tellable None new = tt
 found_tellable (Some visit) new = new visit refl
 
-pub visit_tellable : (plan : PlanState) (board : BoardState) (number : VisitNo) → IsBoard plan board → IsTellable (visit_told (visit_at plan.visits number))
-visit_tellable plan board number h =
-    let legal : IsLegal board.airport board.history = h.legal in
-    subst (λ (p : PlanState). IsTellable (visit_told (visit_at p.visits number))) (sym h.plan_is)
-    (found_tellable (visit_at (replay board.airport board.history).visits number)
-    (λ visit found. let new : IsNewVisitOf board.airport (new_of visit) = added_new board.airport board.history number visit legal found in new.new_visit))
+pub visit_tellable : (airport : AirportParts) (history : List Entry) (plan : PlanState) (number : VisitNo) → plan ≡ replay airport history → IsLegal airport history
+    → IsTellable (visit_told (visit_at plan.visits number))
+visit_tellable airport history plan number plan_is legal =
+    subst (λ (p : PlanState). IsTellable (visit_told (visit_at p.visits number))) (sym plan_is)
+    (found_tellable (visit_at (replay airport history).visits number)
+    (λ visit found. let new : IsNewVisitOf airport (new_of visit) = added_new airport history number visit legal found in new.new_visit))
 
 -- the bytes of a reply are those at the plan that a history makes
 pub replayed_text : (airport : AirportParts) (history : List Entry) (reply : Reply) (bytes : List ℕ) → bytes ≡ reply_text airport reply
@@ -60,33 +62,45 @@ added_none call command (refused why) other = refl
 added_none call command full other = refl
 added_none call command accepted other = absurd (other refl)
 
+-- the bytes of what is told of the plan as it is
+pub told_gives : (airport : AirportParts) (history : List Entry) (plan : PlanState) (version call : ℕ) (news : Told) (bytes : List ℕ)
+    → plan ≡ replay airport history → version ≡ plan.version → bytes ≡ reply_text airport (record { version = version; told = news })
+    → TextOf (replay airport history) history call (told news) bytes history
+told_gives airport history plan version call news bytes plan_is is text =
+    (reply_at (replay airport history).version news, text ∙ told_text airport history plan version news plan_is is, (refl, refl))
+
 -- the bytes of an answer that changes nothing
-pub answered_text : (plan : PlanState) (board : BoardState) (call : ℕ) (command : Command) (reply : Reply) (bytes : List ℕ) → IsBoard plan board
-    → IsAnswered plan (length board.history) command reply → bytes ≡ reply_text board.airport reply
-    → TextOf (replay board.airport board.history) board.history call (changes command) bytes board.history
-answered_text plan board call command reply bytes h answered text =
-    let at_replay : IsAnswered (replay board.airport board.history) (length board.history) command reply =
-    subst (λ (p : PlanState). IsAnswered p (length board.history) command reply) h.plan_is answered in
+pub answered_text : (airport : AirportParts) (history : List Entry) (plan : PlanState) (call : ℕ) (command : Command) (reply : Reply) (bytes : List ℕ)
+    → plan ≡ replay airport history → IsAnswered plan (length history) command reply → bytes ≡ reply_text airport reply
+    → TextOf (replay airport history) history call (changes command) bytes history
+answered_text airport history plan call command reply bytes plan_is answered text =
+    let at_replay : IsAnswered (replay airport history) (length history) command reply =
+    subst (λ (p : PlanState). IsAnswered p (length history) command reply) plan_is answered in
     let none : added call command at_replay.stepped ≡ [] = added_none call command at_replay.stepped at_replay.other in
-    let same : board.history ≡ board.history ++ added call command at_replay.stepped =
-    sym (ap (λ (es : List Entry). board.history ++ es) none ∙ append-nil board.history) in
-    (reply, replayed_text board.airport board.history reply bytes text, (at_replay.stepped, at_replay.steps, at_replay.is, same))
+    let same : history ≡ history ++ added call command at_replay.stepped = sym (ap (λ (es : List Entry). history ++ es) none ∙ append-nil history) in
+    (reply, replayed_text airport history reply bytes text, (at_replay.stepped, at_replay.steps, at_replay.is, same))
 
 -- the bytes of an accepted command, which is the last entry then
-pub accepted_text : (board after : BoardState) (call : ℕ) (command : Command) (reply : Reply) (result : Result (List ℕ) Memory)
-    → Steps (replay board.airport board.history) (length board.history) command accepted
-    → reply ≡ stepped_reply (replay board.airport board.history) command accepted → IfOk result (λ bytes. bytes ≡ reply_text board.airport reply)
-    → IfOk result (λ bytes. after.history ≡ board.history ++ added call command accepted)
-    → IfOk result (λ bytes. TextOf (replay board.airport board.history) board.history call (changes command) bytes after.history)
-accepted_text board after call command reply (Ok bytes) steps is text history =
-    (reply, replayed_text board.airport board.history reply bytes text, (accepted, steps, is, history))
-accepted_text board after call command reply (Err memory) steps is text history = tt
+pub accepted_text : (airport : AirportParts) (history after : List Entry) (call : ℕ) (command : Command) (reply : Reply) (bytes : List ℕ)
+    → Steps (replay airport history) (length history) command accepted → reply ≡ stepped_reply (replay airport history) command accepted
+    → bytes ≡ reply_text airport reply → after ≡ history ++ added call command accepted
+    → TextOf (replay airport history) history call (changes command) bytes after
+accepted_text airport history after call command reply bytes steps is text last =
+    (reply, replayed_text airport history reply bytes text, (accepted, steps, is, last))
 
--- an act that shows a reply, or want of memory
-pub text_acts : (airport : AirportParts) (before : List Entry) (call : ℕ) (ask : Ask) (bytes : List ℕ) (after : List Entry)
-    → TextOf (replay airport before) before call (sought (replay airport before) ask) bytes after → ActsAs airport before call ask (Replied bytes) after
-text_acts airport before call ask bytes after (reply, text, replies) =
+-- a history that grew into a legal one was legal
+pub found_legal : (airport : AirportParts) (plan : PlanState) (before : List Entry) (call : ℕ) (asked : Sought) (result : Result (List ℕ) Unanswered) (after : List Entry)
+    → GivesText plan before call asked result after → IsLegal airport after → IsLegal airport before
+found_legal airport plan before call (told news) (Ok bytes) after (reply, text, (is, same)) legal = subst (IsLegal airport) same legal
+found_legal airport plan before call (changes command) (Ok bytes) after (reply, text, (stepped, steps, is, grown)) legal =
+    front_legal airport before (added call command stepped) (subst (IsLegal airport) grown legal)
+found_legal airport plan before call asked (Err unanswered.Memory) after same legal = subst (IsLegal airport) same legal
+found_legal airport plan before call asked (Err unanswered.Fault) after (accepts, same) legal = subst (IsLegal airport) same legal
+
+-- an act shows what is given
+pub text_acts : (airport : AirportParts) (before : List Entry) (call : ℕ) (ask : Ask) (result : Result (List ℕ) Unanswered) (after : List Entry)
+    → GivesText (replay airport before) before call (sought (replay airport before) ask) result after → ActsAs airport before call ask (acted_of result) after
+text_acts airport before call ask (Ok bytes) after (reply, text, replies) =
     (replied reply, ap Replied (text ∙ ap (λ (a : AirportParts). reply_text a reply) (replay-airport airport before)), replies)
-
-pub memory_acts : (airport : AirportParts) (before : List Entry) (call : ℕ) (ask : Ask) (after : List Entry) → after ≡ before → ActsAs airport before call ask NoMemory after
-memory_acts airport before call ask after same = (no_memory, refl, same)
+text_acts airport before call ask (Err unanswered.Memory) after same = (no_memory, refl, same)
+text_acts airport before call ask (Err unanswered.Fault) after (accepts, same) = (keeper_fault, refl, (accepts, same))

@@ -1,5 +1,5 @@
 -- What an ask is given at a history.
-use Rattle.std.specs.Prelude.{◌≡◌, ℕ, nat_lt, List, [], ◌∷◌, ◌++◌, length, Option, None, Some, if◌then◌else◌}
+use Rattle.std.specs.Prelude.{◌≡◌, ℕ, nat_lt, Bool, true, false, List, [], ◌∷◌, ◌++◌, length, Option, None, Some, Result, Ok, Err, if◌then◌else◌}
 use Rattle.apron_base.specs.declared.outside.Acted.{Acted}
 use Rattle.apron_base.specs.declared.outside.Acted.TheVariants.{Reply as Replied, Memory as NoMemory, Fault}
 use Rattle.apron_rules.specs.declared.parts.AirportParts.{AirportParts}
@@ -9,15 +9,20 @@ use Rattle.plan_core.specs.PlanState.{PlanState}
 use Rattle.desk_words.specs.declared.asks.Command.{Command}
 use Rattle.desk_words.specs.declared.asks.Entry.{Entry}
 use Rattle.desk_words.specs.declared.asks.What.{What}
-use Rattle.desk_words.specs.declared.asks.What.TheVariants.{Change, Version as AskVersion, Visit as AskVisit}
+use Rattle.desk_words.specs.declared.asks.What.TheVariants.{Change, Version as AskVersion, Visit as AskVisit, Plan as AskPlan, Unplaced as AskUnplaced, Chart as AskChart}
 use Rattle.desk_words.specs.declared.asks.Ask.{Ask}
 use Rattle.desk_words.specs.declared.replies.Reply.{Reply}
 use Rattle.desk_words.specs.declared.replies.Told.{Told}
-use Rattle.desk_words.specs.declared.replies.Told.TheVariants.{Version as ToldVersion, Visit as ToldVisit, NoVisit, Ahead}
+use Rattle.desk_words.specs.declared.replies.Told.TheVariants.{Version as ToldVersion, Visit as ToldVisit, Plan as ToldPlan, Unplaced as ToldUnplaced, Chart as ToldChart, NoVisit, Ahead}
 use Rattle.desk_words.specs.Fixed.{no_memory_text, keeper_fault_text}
 use Rattle.desk_words.specs.Replies.{reply_text}
+use Rattle.plan_lists.specs.Held.{held_on}
+use Rattle.plan_lists.specs.Unplaced.{unplaced}
+use Rattle.wall_chart.specs.Chart.{chart_text}
+use Rattle.history_core.specs.declared.unanswered.Unanswered.{Unanswered}
+use Rattle.history_core.specs.declared.unanswered.Unanswered.TheVariants as unanswered
 use Rattle.history_core.specs.Steps.{Stepped, Steps, accepted, reply_at, stepped_reply}
-use Rattle.history_core.specs.History.{replay}
+use Rattle.history_core.specs.History.{IsLegal, replay}
 
 -- what an ask comes to at a plan: a command that may change it, or what is told of it as it is
 pub data Sought : Type 0 where
@@ -34,6 +39,9 @@ abbrev pub sought_of : PlanState → What → Sought
 sought_of plan (Change command) = changes command
 sought_of plan AskVersion = told ToldVersion
 sought_of plan (AskVisit number) = told (visit_told (visit_at plan.visits (record { 0 = number })))
+sought_of plan (AskPlan day) = told (ToldPlan (held_on plan day))
+sought_of plan AskUnplaced = told (ToldUnplaced (unplaced plan))
+sought_of plan (AskChart day) = told (ToldChart (chart_text plan.airport plan day))
 
 -- what an ask comes to: one that has seen a later version than the plan's is ahead, whatever it asks
 abbrev pub sought : PlanState → Ask → Sought
@@ -88,6 +96,30 @@ shown airport keeper_fault = Fault
 abbrev pub ActsAs : AirportParts → List Entry → ℕ → Ask → Acted → List Entry → Type 0
 ActsAs airport before call ask acted after = (given : Given) × (acted ≡ shown airport given) × Gives airport before call ask given after
 
+-- the same, of an act that found a legal history and left one
+pub record ActsLegally (airport : AirportParts) (before : List Entry) (call : ℕ) (ask : Ask) (acted : Acted) (after : List Entry) : Type 0 where
+  pub found : IsLegal airport before
+  pub acts : ActsAs airport before call ask acted after
+  pub left : IsLegal airport after
+
 -- the bytes are those of the plan's reply to what is sought with this call number, and these are the history before and after it
 abbrev pub TextOf : PlanState → List Entry → ℕ → Sought → List ℕ → List Entry → Type 0
 TextOf plan before call asked bytes after = (reply : Reply) × (bytes ≡ reply_text plan.airport reply) × Replies plan before call asked reply after
+
+-- what comes of what is sought with this call number, and the history before and after it: the bytes of the plan's reply; or none for want of memory, or
+-- where the append of an accepted command failed
+abbrev pub GivesText : PlanState → List Entry → ℕ → Sought → Result (List ℕ) Unanswered → List Entry → Type 0
+GivesText plan before call asked (Ok bytes) after = TextOf plan before call asked bytes after
+GivesText plan before call asked (Err unanswered.Memory) after = after ≡ before
+GivesText plan before call asked (Err unanswered.Fault) after = IsAccepted plan (length before) asked × (after ≡ before)
+
+-- an append failed
+abbrev pub is_keeper_fault : Result (List ℕ) Unanswered → Bool
+is_keeper_fault (Err unanswered.Fault) = true
+is_keeper_fault _ = false
+
+-- how an act shows what came of it
+abbrev pub acted_of : Result (List ℕ) Unanswered → Acted
+acted_of (Ok bytes) = Replied bytes
+acted_of (Err unanswered.Memory) = NoMemory
+acted_of (Err unanswered.Fault) = Fault

@@ -1,26 +1,48 @@
--- A board as contracts see it.
-use Rattle.std.specs.Prelude.{◌≡◌, ◌≤◌, ℕ, List}
+-- A board as contracts see it, and what its keeper tells.
+use Rattle.std.specs.Prelude.{◌≡◌, ◌≤◌, ℕ, List, map, length, IfSome, None}
 use Rattle.apron_base.specs.Histories.{Rises}
+use Rattle.apron_base.specs.Keeper.{KeeperState, with_last}
 use Rattle.apron_base.specs.Machine.{MachineState}
 use Rattle.apron_rules.specs.declared.parts.AirportParts.{AirportParts}
 use Rattle.plan_core.specs.PlanState.{PlanState}
 use Rattle.desk_words.specs.declared.asks.Entry.{Entry}
+use Rattle.entry_bytes.specs.Entries.{entry_text}
 use Rattle.history_core.specs.History.{IsLegal, call_limit, call_of, replay}
 
--- its airport, its history, and the least number of its next call
-pub record BoardState : Type 0 where
+-- its keeper, its airport, its history, and the least number of its next call
+pub record BoardHeld (K : Type 0) : Type 0 where
+  pub keeper : K
   pub airport : AirportParts
   pub history : List Entry
   pub next : ℕ
 
--- what is true of every board, with the plan that it keeps: its history is legal, the plan is what the history makes, and the entries are of calls before
--- the next one
-pub record IsBoard (plan : PlanState) (board : BoardState) : Type 0 where
+-- the bytes of each entry, in order
+abbrev pub entry_texts : List Entry → List (List ℕ)
+entry_texts history = map entry_text history
+
+-- the bytes of an entry with which the history is still legal
+pub record IsNextText (airport : AirportParts) (history : List Entry) (bytes : List ℕ) : Type 0 where
+  pub entry : Entry
+  pub is : bytes ≡ entry_text entry
+  pub legal : IsLegal airport (with_last entry history)
+
+-- a keeper of the history: its entries, where it tells them, are the bytes of the history's, and it counts as many; an entry at risk can stand next, and
+-- there is none as long as no call has failed
+pub record IsKept (airport : AirportParts) (history : List Entry) (keeper : KeeperState) : Type 0 where
+  pub entries : IfSome keeper.entries (λ entries. entries ≡ entry_texts history)
+  pub number : keeper.number ≡ length history
+  pub at_risk : IfSome keeper.at_risk (IsNextText airport history)
+  pub safe : keeper.faults ≡ 0 → keeper.at_risk ≡ None
+
+-- what is true of every board, with the plan that it has and what its keeper tells: its history is legal, the plan is what the history makes, the entries
+-- are of calls before the next one, and the keeper keeps them
+pub record IsBoard {K : Type 0} (plan : PlanState) (keeper : KeeperState) (board : BoardHeld K) : Type 0 where
   pub legal : IsLegal board.airport board.history
   pub plan_is : plan ≡ replay board.airport board.history
   pub numbers : Rises call_of 1 board.next board.history
   pub calls : board.next ≤ call_limit
+  pub kept : IsKept board.airport board.history keeper
 
--- a board as a machine: no call changes its airport, and nothing of it can fail
-abbrev pub machine_state : BoardState → MachineState Entry AirportParts
-machine_state board = record { fixed = board.airport; history = board.history; next = board.next; faults = 0 }
+-- a board as a machine, by what its keeper tells: no call changes its airport, and it fails where the keeper does
+abbrev pub machine_state : {K : Type 0} → (K → KeeperState) → BoardHeld K → MachineState Entry AirportParts
+machine_state tells board = record { fixed = board.airport; history = board.history; next = board.next; faults = (tells board.keeper).faults }

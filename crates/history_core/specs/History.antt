@@ -1,5 +1,5 @@
 -- The plan that a history of commands makes, and which histories are legal.
-use Rattle.std.specs.Prelude.{◌+◌, ℕ, List, [], ◌∷◌}
+use Rattle.std.specs.Prelude.{◌≤◌, ◌+◌, ℕ, List, [], ◌∷◌}
 use Rattle.apron_base.specs.Histories.{Rises}
 use Rattle.apron_base.specs.declared.machine.TheConstants.{CALL_END}
 use Rattle.apron_rules.specs.declared.parts.AirportParts.{AirportParts}
@@ -9,7 +9,7 @@ use Rattle.plan_core.specs.PlanState.{PlanState, empty_plan}
 use Rattle.desk_words.specs.Commands.{IsCommandOf}
 use Rattle.desk_words.specs.declared.asks.Entry.{Entry}
 use Rattle.desk_words.specs.declared.asks.What.{What}
-use Rattle.desk_words.specs.declared.asks.What.TheVariants.{Change}
+use Rattle.desk_words.specs.declared.asks.What.TheVariants.{Change, Plan as AskPlan, Chart as AskChart}
 use Rattle.desk_words.specs.declared.asks.Ask.{Ask}
 use Rattle.history_core.specs.Steps.{Steps, accepted, after_command}
 
@@ -17,9 +17,11 @@ use Rattle.history_core.specs.Steps.{Steps, accepted, after_command}
 abbrev pub call_of : Entry → ℕ
 call_of entry = entry.call
 
--- what is asked is of the airport: each question is
+-- what is asked is of the airport: each question is, if the plan has the day that it is of
 abbrev pub IsWhatOf : AirportParts → What → Type 0
 IsWhatOf airport (Change command) = IsCommandOf airport command
+IsWhatOf airport (AskPlan day) = (1 ≤ day) × (day ≤ airport.days)
+IsWhatOf airport (AskChart day) = (1 ≤ day) × (day ≤ airport.days)
 IsWhatOf airport _ = Unit {0}
 
 -- the ask is of the airport

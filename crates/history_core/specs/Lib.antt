@@ -3,4 +3,5 @@ pub mod History
 pub mod Answer
 pub mod Taking
 pub mod Board
+pub mod Opening
 pub mod Laws

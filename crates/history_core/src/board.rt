@@ -1,58 +1,100 @@
 // The board.
-ghost use Rattle.std.specs.Prelude.{◌≡◌, ◌≢◌, ◌≤◌, ◌<◌, ◌+◌, ◌++◌, ◌∷◌, [], IfOk, OnErr, length};
+ghost use Rattle.std.specs.Prelude.{◌≡◌, ◌≤◌, ◌<◌, ◌+◌, IfErr, IfOk, IfSome, None, false, ℕ, length};
 ghost use Rattle.std.specs.Option.{option_copied};
+ghost use Rattle.apron_base.specs.Counts.{Counts};
 ghost use Rattle.apron_base.specs.Histories.{Rises};
+ghost use Rattle.apron_base.specs.Machine.{is_fault};
 ghost use Rattle.desk_words.specs.Commands.{IsCommandOf};
-ghost use Rattle.desk_words.specs.Replies.{IsTellable, reply_text};
-ghost use Rattle.history_core.specs.Steps.{Steps, accepted, reply_at, stepped_reply};
+ghost use Rattle.desk_words.specs.Replies.{IsTellable};
+ghost use Rattle.history_core.specs.Steps.{Steps, accepted, stepped_reply};
 ghost use Rattle.history_core.specs.History.{IsAskOf, IsLegal, call_limit, call_of, replay};
-ghost use Rattle.history_core.specs.Answer.{ActsAs, TextOf, changes, sought, visit_told};
+ghost use Rattle.history_core.specs.Answer.{ActsAs, GivesText, acted_of, changes, is_keeper_fault, sought, told, visit_told};
+ghost use Rattle.history_core.specs.Board.{IsKept};
+ghost use Rattle.history_core.specs.Opening.{CannotOpen, Opens};
 ghost use Rattle.history_core.specs.Taking.{IsChangeOf};
 
+use crate::OpenFault;
+use crate::opening::{Past, past_of};
+use crate::questions::{chart_told, plan_told, unplaced_told};
+use crate::room::make_room;
 use crate::taking::{Taken, take};
-use apron_base::{Acted, Listed, Memory, VisitNo};
+use crate::unanswered::Unanswered;
+use apron_base::{Acted, Keeper, Listed, Memory, VisitNo};
 use apron_rules::Airport;
 use desk_words::asks::{Ask, Command, Entry, What};
 use desk_words::replies::{Reply, Told, reply_bytes};
+use entry_bytes::encode_entry;
 use plan_core::{Change, Plan};
 use std::alloc::Global;
 use std::marker::Model;
 use visit_book::Visit;
 
-/// The plan of one airport with the history of accepted commands that made it, from no visit on.
+/// The plan of one airport with the history of accepted commands that made it, from no visit on, over a keeper of its
+/// entries. The keeper has each entry before the plan shows it.
 ///
-/// Contracts see the airport, the history, and the least number that the next call may have.
+/// Contracts see the keeper, the airport, the history, and the least number that the next call may have.
 #[derive(Drop)]
-pub struct Board<'a> {
+pub struct Board<'a, K: Keeper> {
     airport: &'a Airport,
+    keeper: K,
     plan: Plan,
     history: Vec<Entry>,
     next: u64,
 }
 
-impl<'a> Model for Board<'a> {
-    ghost use Rattle.history_core.specs.Board.{BoardState, IsBoard};
+impl<'a, K: Keeper> Model for Board<'a, K> {
+    ghost use Rattle.history_core.specs.Board.{BoardHeld, IsBoard};
 
-    ghost Value = { BoardState };
+    ghost Value = { BoardHeld K };
 
-    ghost view = { λ b. record { airport = b.airport.now; history = b.history.items; next = b.next } };
+    ghost view = { λ b. record { keeper = b.keeper; airport = b.airport.now; history = b.history.items; next = b.next } };
 
-    ghost invariant = { λ b. IsBoard b.plan.plan (record { airport = b.airport.now; history = b.history.items; next = b.next }) };
+    ghost invariant = { λ b. IsBoard b.plan.plan (K.state b.keeper)
+        (record { keeper = b.keeper; airport = b.airport.now; history = b.history.items; next = b.next }) };
 }
 
-impl<'a> Board<'a> {
-    /// A board of an airport without visits, with an empty history. Its first call may have number 1. At
-    /// `Err` memory is wanting.
-    pub fn new(alloc: Global, airport: &'a Airport) -> Result<Board<'a>, Memory>
-        ensures is { IfOk result (λ board. board ≡ record { airport = airport.now; history = []; next = 1 }) }
+impl<'a, K: Keeper> Board<'a, K> {
+    /// A board over a keeper that has these entries and none at risk: its history is what they spell, and its first call
+    /// may have the number above the last one's, or 1 where there is none. At `Err` the first entry that cannot stand is
+    /// named, or memory is wanting. Either way the keeper is as it was.
+    pub fn open(
+        alloc: Global,
+        airport: &'a Airport,
+        keeper: K,
+        entries: Vec<Listed<u8>>,
+    ) -> Result<Board<'a, K>, (OpenFault, K)>
+        requires entries { IfSome (K.state keeper).entries (λ kept. kept ≡ entries.items) }
+        requires number { (K.state keeper).number ≡ length entries.items }
+        requires at_risk { (K.state keeper).at_risk ≡ None }
+        ensures opened { IfOk result (Opens airport.entry.now keeper entries.items) }
+        ensures refused { IfErr result (λ refusal. CannotOpen airport.entry.now entries.items refusal.0) }
+        ensures back { IfErr result (λ refusal. refusal.1 ≡ keeper) }
     {
-        let plan = Plan::new(alloc, airport)?;
-        Ok(Board {
-            airport,
-            plan,
-            history: Vec::new(alloc),
-            next: 1,
-        })
+        match past_of(alloc, airport, entries.as_slice()) {
+            Ok(
+                Past {
+                    plan,
+                    history,
+                    next,
+                },
+            ) => Ok(Board {
+                airport,
+                keeper,
+                plan,
+                history,
+                next,
+            }),
+            Err(fault) => Err((fault, keeper)),
+        }
+    }
+
+    /// The keeper as it is: it keeps the board's history.
+    pub fn into_keeper(self) -> K
+        ensures keeper { result ≡ self.entry.keeper }
+        ensures kept { IsKept self.entry.airport self.entry.history (K.state result) }
+        ensures legal { IsLegal self.entry.airport self.entry.history }
+    {
+        self.keeper
     }
 
     /// The airport whose plan this is.
@@ -87,8 +129,9 @@ impl<'a> Board<'a> {
         self.next
     }
 
-    /// Answers an ask with this call number. All memory is taken before anything changes, so that
-    /// a refused or failed ask adds nothing. It answers a reply, or want of memory.
+    /// Answers an ask with this call number. All memory is taken before the keeper is given an entry, and the plan changes
+    /// once the keeper has it, so that an ask that is refused or fails adds nothing. It answers a reply, want of memory,
+    /// or `Fault`, exactly where the append of an accepted command failed.
     pub fn ask(&mut self, alloc: Global, call: u64, ask: &Ask) -> Acted
         requires valid { IsAskOf self.old.airport ask.now }
         requires next { self.old.next ≤ call }
@@ -97,27 +140,25 @@ impl<'a> Board<'a> {
         ensures airport { self.new.airport ≡ self.old.airport }
         ensures next { self.new.next ≡ call + 1 }
         ensures numbers { Rises call_of 1 self.new.next self.new.history }
+        ensures found { IsLegal self.old.airport self.old.history }
         ensures legal { IsLegal self.new.airport self.new.history }
-        ensures no_fault { result ≢ Acted.Fault }
+        ensures faults { Counts (is_fault result) (K.state self.old.keeper).faults (K.state self.new.keeper).faults }
     {
         let answered = self.answer(alloc, call, ask);
         self.next = call + 1;
-        match answered {
-            Ok(bytes) => Acted::Reply(bytes),
-            Err(Memory) => Acted::Memory,
-        }
+        acted_of(answered)
     }
 
-    // The bytes of the reply to an ask. At `Err` memory is wanting, and nothing has changed.
-    fn answer(&mut self, alloc: Global, call: u64, ask: &Ask) -> Result<Listed<u8>, Memory>
+    // The bytes of the reply to an ask. At `Err` the history and the plan are as before.
+    fn answer(&mut self, alloc: Global, call: u64, ask: &Ask) -> Result<Listed<u8>, Unanswered>
         requires valid { IsAskOf self.old.airport ask.now }
         requires next { self.old.next ≤ call }
         requires last { call < call_limit }
         ensures airport { self.new.airport ≡ self.old.airport }
         ensures next { self.new.next ≤ call + 1 }
-        ensures text { let plan = replay self.old.airport self.old.history in
-            IfOk result (λ bytes. TextOf plan self.old.history call (sought plan ask.now) bytes self.new.history) }
-        ensures kept { OnErr result (self.new.history ≡ self.old.history) }
+        ensures gives { let plan = replay self.old.airport self.old.history in
+            GivesText plan self.old.history call (sought plan ask.now) result self.new.history }
+        ensures faults { Counts (is_keeper_fault result) (K.state self.old.keeper).faults (K.state self.new.keeper).faults }
     {
         if ask.seen > self.plan.version() {
             return self.tell(alloc, Told::Ahead);
@@ -126,40 +167,52 @@ impl<'a> Board<'a> {
             What::Change(command) => self.change(alloc, call, command),
             What::Version => self.tell(alloc, Told::Version),
             What::Visit(number) => self.tell(alloc, visit_told(self.plan.visit(VisitNo(*number)))),
+            What::Plan(day) => self.tell(alloc, plan_told(alloc, self.airport, &self.plan, *day)?),
+            What::Unplaced => self.tell(alloc, unplaced_told(alloc, &self.plan)?),
+            What::Chart(day) => {
+                self.tell(alloc, chart_told(alloc, self.airport, &self.plan, *day)?)
+            }
         }
     }
 
     // Tells this of the plan as it is.
-    fn tell(&self, alloc: Global, told: Told) -> Result<Listed<u8>, Memory>
-        requires tellable { IsTellable told }
-        ensures text { let plan = replay self.now.airport self.now.history in
-            IfOk result (λ bytes. bytes ≡ reply_text plan.airport (reply_at plan.version told)) }
+    fn tell(&self, alloc: Global, news: Told) -> Result<Listed<u8>, Unanswered>
+        requires tellable { IsTellable news }
+        ensures gives { (call : ℕ) → let plan = replay self.now.airport self.now.history in
+            GivesText plan self.now.history call (told news) result self.now.history }
+        ensures no_fault { is_keeper_fault result ≡ false }
     {
         let reply = Reply {
             version: self.plan.version(),
-            told,
+            told: news,
         };
-        reply_bytes(alloc, self.airport, &reply)
+        Ok(reply_bytes(alloc, self.airport, &reply)?)
     }
 
-    fn change(&mut self, alloc: Global, call: u64, command: &Command) -> Result<Listed<u8>, Memory>
+    fn change(
+        &mut self,
+        alloc: Global,
+        call: u64,
+        command: &Command,
+    ) -> Result<Listed<u8>, Unanswered>
         requires valid { IsCommandOf self.old.airport command.now }
         requires next { self.old.next ≤ call }
         requires last { call < call_limit }
         ensures airport { self.new.airport ≡ self.old.airport }
         ensures next { self.new.next ≤ call + 1 }
-        ensures text { let plan = replay self.old.airport self.old.history in
-            IfOk result (λ bytes. TextOf plan self.old.history call (changes command.now) bytes self.new.history) }
-        ensures kept { OnErr result (self.new.history ≡ self.old.history) }
+        ensures gives { let plan = replay self.old.airport self.old.history in
+            GivesText plan self.old.history call (changes command.now) result self.new.history }
+        ensures faults { Counts (is_keeper_fault result) (K.state self.old.keeper).faults (K.state self.new.keeper).faults }
     {
         let entries = self.history.as_slice().len();
         match take(alloc, self.airport, &self.plan, entries, command)? {
             Taken::Accepted(change, reply) => self.accept(alloc, call, command, change, &reply),
-            Taken::Answered(reply) => reply_bytes(alloc, self.airport, &reply),
+            Taken::Answered(reply) => Ok(reply_bytes(alloc, self.airport, &reply)?),
         }
     }
 
-    // Makes the entry and the bytes of the reply, takes all room, and only then changes the history and the plan.
+    // Makes the entry with its bytes and those of the reply, takes all room, and gives the entry to the keeper. Only then
+    // does it change the history and the plan.
     fn accept(
         &mut self,
         alloc: Global,
@@ -167,7 +220,7 @@ impl<'a> Board<'a> {
         command: &Command,
         change: Change,
         reply: &Reply,
-    ) -> Result<Listed<u8>, Memory>
+    ) -> Result<Listed<u8>, Unanswered>
         requires valid { IsCommandOf self.old.airport command.now }
         requires taken { Steps (replay self.old.airport self.old.history) (length self.old.history) command.now accepted }
         requires change { IsChangeOf (replay self.old.airport self.old.history) command.now change }
@@ -176,21 +229,34 @@ impl<'a> Board<'a> {
         requires last { call < call_limit }
         ensures airport { self.new.airport ≡ self.old.airport }
         ensures next { self.new.next ≤ call + 1 }
-        ensures text { IfOk result (λ bytes. bytes ≡ reply_text self.old.airport reply.now) }
-        ensures entry { IfOk result (λ bytes. self.new.history ≡ self.old.history ++ record { call = call; command = command.now } ∷ []) }
-        ensures kept { OnErr result (self.new.history ≡ self.old.history) }
+        ensures gives { let plan = replay self.old.airport self.old.history in
+            GivesText plan self.old.history call (changes command.now) result self.new.history }
+        ensures faults { Counts (is_keeper_fault result) (K.state self.old.keeper).faults (K.state self.new.keeper).faults }
     {
         let entry = Entry {
             call,
             command: copy(alloc, command)?,
         };
+        let text = encode_entry(alloc, &entry)?;
         let bytes = reply_bytes(alloc, self.airport, reply)?;
-        self.plan.reserve(&change)?;
-        self.history.reserve(1)?;
+        make_room(&mut self.plan, &mut self.history, &change)?;
+        self.keeper.ready(alloc, text.len())?;
+        self.keeper.append(text.as_slice())?;
         self.history.push_reserved(entry);
         self.plan.install(change);
         self.next = call + 1;
         Ok(bytes)
+    }
+}
+
+fn acted_of(answered: Result<Listed<u8>, Unanswered>) -> Acted
+    ensures is { result ≡ acted_of answered }
+    ensures fault { is_fault result ≡ is_keeper_fault answered }
+{
+    match answered {
+        Ok(bytes) => Acted::Reply(bytes),
+        Err(Unanswered::Memory) => Acted::Memory,
+        Err(Unanswered::Fault) => Acted::Fault,
     }
 }
 

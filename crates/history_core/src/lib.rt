@@ -4,7 +4,11 @@
 mod board;
 mod laws;
 mod machine;
+mod opening;
+mod questions;
+mod room;
 mod taking;
+mod unanswered;
 
 pub use board::Board;
 pub use laws::{
@@ -12,3 +16,4 @@ pub use laws::{
     edits_are_of_the_last_entry, entries_of_legal_histories_make_versions,
     fronts_of_legal_histories_are_legal, legal_histories_make_sound_plans, visits_are_of_entries,
 };
+pub use opening::OpenFault;

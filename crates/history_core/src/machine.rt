@@ -1,12 +1,12 @@
 // A board as a machine, at which several desks can take turns.
 use crate::Board;
-use apron_base::{Acted, Machine};
+use apron_base::{Acted, Keeper, Machine};
 use apron_rules::AirportParts;
 use desk_words::asks::{Ask, Entry};
 use std::alloc::Global;
 
-impl<'a> Machine for Board<'a> {
-    ghost use Rattle.history_core.specs.Answer.{ActsAs};
+impl<'a, K: Keeper> Machine for Board<'a, K> {
+    ghost use Rattle.history_core.specs.Answer.{ActsLegally};
     ghost use Rattle.history_core.specs.Board.{machine_state};
     ghost use Rattle.history_core.specs.History.{IsAskOf, call_of};
 
@@ -16,13 +16,13 @@ impl<'a> Machine for Board<'a> {
 
     type Fixed = AirportParts;
 
-    ghost state = { machine_state };
+    ghost state = { machine_state K.state };
 
     ghost number = { call_of };
 
     ghost valid = { IsAskOf };
 
-    ghost answers = { ActsAs };
+    ghost answers = { ActsLegally };
 
     fn next_call(&self) -> u64 {
         self.next_call()

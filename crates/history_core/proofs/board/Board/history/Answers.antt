@@ -1,7 +1,4 @@
-use Rattle.std.proofs.Common.{subst}
-use Rattle.history_core.specs.Board.{BoardState}
-use Rattle.history_core.specs.History.{IsLegal}
 use Rattle.history_core.proofs.board.Board.history.Goals as goal
 
 pub returns-clause-legal : goal.returns-clause-legal
-returns-clause-legal c = subst (λ (b : BoardState). IsLegal b.airport b.history) c.self.view_is c.self.invariant.legal
+returns-clause-legal g c = rw (← c.self.view_is) c.self.invariant.legal

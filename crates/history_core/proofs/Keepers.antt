@@ -1,0 +1,69 @@
+-- What a keeper keeps of a history over its calls.
+use Rattle.std.proofs.Common.{◌≡◌, ◌∙◌, ◌+◌, ◌⊎◌, ◌∷◌, [], ℕ, List, Option, None, Some, IfSome, true, length, refl, ap, sym, subst, ⊎_elim, arith, length-append}
+use Rattle.std.proofs.lemmas.List.{map-append}
+use Rattle.std.specs.Option.{option_map}
+use Rattle.apron_base.specs.Counts.{Counts}
+use Rattle.apron_base.specs.Keeper.{AddsEntry, FailsToAdd, IsRiskOf, KeeperState, with_last}
+use Rattle.apron_rules.specs.declared.parts.AirportParts.{AirportParts}
+use Rattle.desk_words.specs.declared.asks.Entry.{Entry}
+use Rattle.entry_bytes.specs.Entries.{entry_text}
+use Rattle.history_core.specs.Board.{IsKept, IsNextText, entry_texts}
+use Rattle.history_core.specs.History.{IsLegal}
+
+-- the texts of entries with one more
+pub texts_push : (history : List Entry) (entry : Entry) → entry_texts (with_last entry history) ≡ with_last (entry_text entry) (entry_texts history)
+texts_push history entry = map-append entry_text history (entry ∷ [])
+
+told_push : (history : List Entry) (entry : Entry) (before : Option (List (List ℕ))) → IfSome before (λ es. es ≡ entry_texts history)
+    → IfSome (option_map (with_last (entry_text entry)) before) (λ es. es ≡ entry_texts (with_last entry history))
+told_push history entry None same = tt
+told_push history entry (Some es) same = ap (with_last (entry_text entry)) same ∙ sym (texts_push history entry)
+
+-- after an append the keeper keeps the history with that entry
+pub kept_added : (airport : AirportParts) (history : List Entry) (before after : KeeperState) (entry : Entry) → IsKept airport history before
+    → AddsEntry before after (entry_text entry) → IsKept airport (with_last entry history) after
+kept_added airport history before after entry kept adds = record {
+  entries = subst (λ o. IfSome o (λ es. es ≡ entry_texts (with_last entry history))) (sym adds.entries) (told_push history entry before.entries kept.entries);
+  number = adds.number ∙ (ap (λ n. n + 1) kept.number ∙ sym (length-append history (entry ∷ [])));
+  at_risk = subst (λ o. IfSome o (IsNextText airport (with_last entry history))) (sym adds.at_risk) tt;
+  safe = λ none. adds.at_risk;
+}
+
+at_risk : (airport : AirportParts) (history : List Entry) (before after : Option (List ℕ)) (entry : Entry) → IsLegal airport (with_last entry history)
+    → IfSome before (IsNextText airport history) → IsRiskOf after before (entry_text entry) → IfSome after (IsNextText airport history)
+at_risk airport history before after entry legal risk = ⊎_elim
+    (λ (none : after ≡ None). subst (λ o. IfSome o (IsNextText airport history)) (sym none) tt)
+    (⊎_elim
+    (λ (same : after ≡ before). subst (λ o. IfSome o (IsNextText airport history)) (sym same) risk)
+    (λ (this : after ≡ Some (entry_text entry)).
+    subst (λ o. IfSome o (IsNextText airport history)) (sym this) (record { entry = entry; is = refl; legal = legal })))
+
+-- after an append that failed it keeps the history as it was, and the entry may be at risk
+pub kept_failed : (airport : AirportParts) (history : List Entry) (before after : KeeperState) (entry : Entry) → IsKept airport history before
+    → IsLegal airport (with_last entry history) → FailsToAdd before after (entry_text entry) → IsKept airport history after
+kept_failed airport history before after entry kept legal fails = record {
+  entries = subst (λ o. IfSome o (λ es. es ≡ entry_texts history)) (sym fails.entries) kept.entries;
+  number = fails.number ∙ kept.number;
+  at_risk = at_risk airport history before.at_risk after.at_risk entry legal kept.at_risk fails.at_risk;
+  safe = λ none. let counts : Counts true before.faults after.faults = fails.faults in absurd (omega (arith, counts.1));
+}
+
+-- after it made room, whether that succeeded or not
+pub kept_ready : (airport : AirportParts) (history : List Entry) (before after : KeeperState) → IsKept airport history before
+    → after ≡ record before { room = after.room } → IsKept airport history after
+kept_ready airport history before after kept is = subst (IsKept airport history) (sym is) (record { entries = kept.entries; number = kept.number; at_risk = kept.at_risk; safe = kept.safe })
+
+-- a keeper that has the texts of a history and none at risk keeps it
+opened_told : (texts : List (List ℕ)) (history : List Entry) (kept : Option (List (List ℕ))) → IfSome kept (λ es. es ≡ texts) → texts ≡ entry_texts history
+    → IfSome kept (λ es. es ≡ entry_texts history)
+opened_told texts history None same is = tt
+opened_told texts history (Some es) same is = same ∙ is
+
+pub kept_opened : (airport : AirportParts) (texts : List (List ℕ)) (history : List Entry) (keeper : KeeperState) → IfSome keeper.entries (λ es. es ≡ texts)
+    → keeper.number ≡ length texts → keeper.at_risk ≡ None → texts ≡ entry_texts history → length texts ≡ length history → IsKept airport history keeper
+kept_opened airport texts history keeper entries number none is counted = record {
+  entries = opened_told texts history keeper.entries entries is;
+  number = number ∙ counted;
+  at_risk = subst (λ o. IfSome o (IsNextText airport history)) (sym none) tt;
+  safe = λ unfailed. none;
+}

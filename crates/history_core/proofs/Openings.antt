@@ -1,0 +1,158 @@
+-- Histories that are read entry for entry.
+use Rattle.std.proofs.Common.{◌≡◌, ◌≢◌, ◌∙◌, ◌<◌, ◌≤◌, ◌+◌, ◌∷◌, ◌++◌, [], ℕ, List, Result, Ok, Err, map, take, drop, drop-cons, get_or, suc, None, IfSome, length, refl, ap, sym, subst, arith}
+use Rattle.std.proofs.lemmas.List.{length-map, map-append, take-append-drop}
+use Rattle.apron_base.specs.Histories.{Rises}
+use Rattle.apron_base.specs.Keeper.{KeeperState, with_last}
+use Rattle.apron_rules.specs.declared.parts.AirportParts.{AirportParts}
+use Rattle.plan_core.specs.PlanState.{PlanState, empty_plan}
+use Rattle.desk_words.specs.Commands.{IsCommandOf}
+use Rattle.desk_words.specs.declared.asks.Entry.{Entry}
+use Rattle.desk_words.specs.declared.replies.Reply.{Reply}
+use Rattle.entry_bytes.specs.declared.faults.EntryFault.{EntryFault}
+use Rattle.entry_bytes.specs.declared.faults.EntryFault.TheVariants as unread
+use Rattle.history_core.specs.declared.opening.OpenFault.{OpenFault}
+use Rattle.history_core.specs.declared.opening.OpenFault.TheVariants.{BadEntry, WrongEntry, Memory}
+use Rattle.entry_bytes.specs.Entries.{decoded, entry_text}
+use Rattle.history_core.specs.Board.{BoardHeld, IsBoard, entry_texts}
+use Rattle.history_core.specs.History.{AreTakenFrom, IsLegal, after_entries, call_limit, call_of, replay}
+use Rattle.history_core.specs.Opening.{CannotOpen, IsNotNext, IsPast, IsReadOn, Spells, next_from, not_read}
+use Rattle.history_core.specs.Steps.{Steps, accepted, after_command}
+use Rattle.history_core.specs.Taking.{IsAnswered}
+use Rattle.history_core.proofs.Boards.{legal_pushed, plan_numbered, plan_version}
+use Rattle.history_core.proofs.Keepers.{kept_opened, texts_push}
+use Rattle.history_core.proofs.Replay.{after-push}
+use Rattle.history_core.proofs.Takings.{one_step}
+
+-- what was read
+abbrev read_as : {A E : Type 0} → A → Result A E
+read_as value = Ok value
+
+-- bytes that spell one more entry
+pub spells_push : (airport : AirportParts) (front : List (List ℕ)) (before : List Entry) (bytes : List ℕ) (entry : Entry) → Spells airport front before
+    → decoded airport bytes ≡ Ok entry → Spells airport (front ++ bytes ∷ []) (with_last entry before)
+spells_push airport front before bytes entry spells is =
+    map-append (decoded airport) front (bytes ∷ [])
+    ∙ (ap (λ (rs : List (Result Entry EntryFault)). rs ++ decoded airport bytes ∷ []) spells
+    ∙ (ap (λ (r : Result Entry EntryFault). map Ok before ++ r ∷ []) is ∙ sym (map-append (read_as {E = EntryFault}) before (entry ∷ []))))
+
+-- the number after one more entry
+next_push : (low : ℕ) (history : List Entry) (entry : Entry) → next_from low (history ++ entry ∷ []) ≡ entry.call + 1
+next_push low [] entry = refl
+next_push low (e ∷ history) entry = next_push (e.call + 1) history entry
+
+-- the numbers of a history are below that of the next call, which has a greater one than the last
+pub next_rises : (low high : ℕ) (history : List Entry) → Rises call_of low high history → Rises call_of low (next_from low history) history
+next_rises low high [] rises = omega arith
+next_rises low high (e ∷ history) rises = (rises.0, next_rises (e.call + 1) high history rises.1)
+
+pub next_within : (low high : ℕ) (history : List Entry) → Rises call_of low high history → next_from low history ≤ high
+next_within low high [] rises = rises
+next_within low high (e ∷ history) rises = next_within (e.call + 1) high history rises.1
+
+next_above : (low high : ℕ) (history : List Entry) (entry : Entry) → Rises call_of low high (history ++ entry ∷ []) → next_from low history ≤ entry.call
+next_above low high [] entry rises = rises.0
+next_above low high (e ∷ history) entry rises = next_above (e.call + 1) high history entry rises.1
+
+last_taken : (plan : PlanState) (count : ℕ) (history : List Entry) (entry : Entry) → AreTakenFrom plan count (history ++ entry ∷ [])
+    → Steps (after_entries plan history) (count + length history) entry.command accepted
+last_taken plan count [] entry taken =
+    let same : count ≡ count + length {A = Entry} [] = omega arith in subst (λ (n : ℕ). Steps plan n entry.command accepted) same taken.1
+last_taken plan count (e ∷ history) entry taken =
+    let counted : count + 1 + length history ≡ count + length (e ∷ history) = omega arith in
+    subst (λ (n : ℕ). Steps (after_entries plan (e ∷ history)) n entry.command accepted) counted
+    (last_taken (after_command plan e.command) (count + 1) history entry taken.2)
+
+-- a call that does not come after those of the history
+pub called_too_early : (airport : AirportParts) (history : List Entry) (entry : Entry) → entry.call < next_from 1 history → ¬ (IsLegal airport (with_last entry history))
+called_too_early airport history entry early legal =
+    let above : next_from 1 history ≤ entry.call = next_above 1 call_limit history entry legal.numbers in omega arith
+
+-- a command that is answered otherwise is not the next of the history
+pub answered_is_not_next : (airport : AirportParts) (plan : PlanState) (history : List Entry) (next : ℕ) (entry : Entry) (reply : Reply)
+    → IsPast airport plan history next → IsAnswered plan (length history) entry.command reply → ¬ (IsLegal airport (with_last entry history))
+answered_is_not_next airport plan history next entry reply past answered legal =
+    let taken : Steps (replay airport history) (0 + length history) entry.command accepted = last_taken (empty_plan airport) 0 history entry legal.taken in
+    let counted : 0 + length history ≡ length history = omega arith in
+    let steps : Steps (replay airport history) (length history) entry.command accepted =
+    subst (λ (n : ℕ). Steps (replay airport history) n entry.command accepted) counted taken in
+    let at_plan : Steps plan (length history) entry.command accepted =
+    subst (λ (p : PlanState). Steps p (length history) entry.command accepted) (sym past.plan_is) steps in
+    answered.other
+    (one_step plan (length history) entry.command answered.stepped accepted (plan_numbered airport history plan past.plan_is past.legal) answered.steps at_plan)
+
+-- a history that was read on by one entry
+pub past_pushed : (airport : AirportParts) (plan new : PlanState) (history : List Entry) (next : ℕ) (entry : Entry) → IsPast airport plan history next
+    → IsCommandOf airport entry.command → Steps plan (length history) entry.command accepted → next ≤ entry.call → entry.call < call_limit
+    → new ≡ after_command plan entry.command → IsPast airport new (with_last entry history) (entry.call + 1)
+past_pushed airport plan new history next entry past valid steps up last is = record {
+  legal = legal_pushed airport history (next_from 1 history) entry past.legal (next_rises 1 call_limit history (let legal : IsLegal airport history = past.legal in legal.numbers))
+      valid (subst (λ (p : PlanState). Steps p (length history) entry.command accepted) past.plan_is steps)
+      (subst (λ (n : ℕ). n ≤ entry.call) past.next_is up) last;
+  plan_is = is ∙ (ap (λ (p : PlanState). after_command p entry.command) past.plan_is ∙ sym (after-push (empty_plan airport) history entry));
+  next_is = sym (next_push 1 history entry);
+}
+
+-- texts and readings of so many entries and one more
+pub texts_read_on : (airport : AirportParts) (front : List (List ℕ)) (before after : List Entry) (bytes : List ℕ) → front ≡ entry_texts before
+    → IsReadOn airport before after bytes → front ++ bytes ∷ [] ≡ entry_texts after
+texts_read_on airport front before after bytes is read =
+    ap (λ (ts : List (List ℕ)). ts ++ bytes ∷ []) is
+    ∙ (ap (λ (text : List ℕ). entry_texts before ++ text ∷ []) read.text ∙ (sym (texts_push before read.entry) ∙ ap entry_texts (sym read.last)))
+
+pub spells_read_on : (airport : AirportParts) (front : List (List ℕ)) (before after : List Entry) (bytes : List ℕ) → Spells airport front before
+    → IsReadOn airport before after bytes → Spells airport (front ++ bytes ∷ []) after
+spells_read_on airport front before after bytes spells read =
+    subst (Spells airport (front ++ bytes ∷ [])) (sym read.last) (spells_push airport front before bytes read.entry spells read.is)
+
+-- no entry was read yet
+pub past_begun : (airport : AirportParts) (plan : PlanState) → plan ≡ empty_plan airport → IsPast airport plan [] 1
+past_begun airport plan is = record { legal = record { taken = tt; numbers = omega arith }; plan_is = is; next_is = refl }
+
+-- the number that the next entry would have
+pub past_counted : (airport : AirportParts) (plan : PlanState) (history : List Entry) (next version : ℕ) → IsPast airport plan history next → version ≡ plan.version
+    → version + 1 ≡ length history + 1
+past_counted airport plan history next version past is = ap (λ n. n + 1) (is ∙ plan_version airport history plan past.plan_is past.legal)
+
+-- bytes that are not read are not the next entry
+pub not_read_is_not_next : (airport : AirportParts) (before : List Entry) (bytes : List ℕ) (number : ℕ) (fault : EntryFault) (read : Result Entry EntryFault)
+    → number ≡ length before + 1 → read ≡ Err fault → (read ≢ Err unread.Memory → read ≡ decoded airport bytes) → IsNotNext airport before bytes (not_read number fault)
+not_read_is_not_next airport before bytes number unread.Memory read counted is gives = tt
+not_read_is_not_next airport before bytes number unread.BadKind read counted is gives =
+    (counted, (unread.BadKind, sym (gives (λ memory. absurd (cc))) ∙ is))
+not_read_is_not_next airport before bytes number (unread.BadField at) read counted is gives =
+    (counted, (unread.BadField at, sym (gives (λ memory. absurd (cc))) ∙ is))
+not_read_is_not_next airport before bytes number (unread.TrailingBytes at) read counted is gives =
+    (counted, (unread.TrailingBytes at, sym (gives (λ memory. absurd (cc))) ∙ is))
+
+-- the first bytes that are not the next entry
+pub stops_at : (airport : AirportParts) (entries front : List (List ℕ)) (bytes : List ℕ) (back : List (List ℕ)) (before : List Entry) (fault : OpenFault)
+    → entries ≡ front ++ bytes ∷ back → Spells airport front before → IsLegal airport before → IsNotNext airport before bytes fault
+    → CannotOpen airport entries fault
+stops_at airport entries front bytes back before (BadEntry number) is spells legal why =
+    record { front = front; bytes = bytes; back = back; is = is; before = before; spells = spells; legal = legal; why = why }
+stops_at airport entries front bytes back before (WrongEntry number) is spells legal why =
+    record { front = front; bytes = bytes; back = back; is = is; before = before; spells = spells; legal = legal; why = why }
+stops_at airport entries front bytes back before Memory is spells legal why = tt
+
+-- the bytes at a place, with those before and behind them
+pub parted_at : (entries : List (List ℕ)) (place : ℕ) (bytes : List ℕ) → place < length entries → bytes ≡ get_or entries place bytes
+    → entries ≡ take place entries ++ bytes ∷ drop (suc place) entries
+parted_at entries place bytes within is =
+    sym (take-append-drop place entries) ∙ ap (λ (rest : List (List ℕ)). take place entries ++ rest)
+    (drop-cons entries place bytes within ∙ ap (λ (b : List ℕ). b ∷ drop (suc place) entries) (sym is))
+
+-- a board over a keeper that was just opened
+pub board_opened : {K : Type 0} (plan : PlanState) (keeper : KeeperState) (board : BoardHeld K) (texts : List (List ℕ))
+    → IsPast board.airport plan board.history board.next → IfSome keeper.entries (λ es. es ≡ texts) → keeper.number ≡ length texts → keeper.at_risk ≡ None
+    → texts ≡ entry_texts board.history → IsBoard plan keeper board
+board_opened plan keeper board texts past entries number none is =
+    let legal : IsLegal board.airport board.history = past.legal in
+    let numbers = next_rises 1 call_limit board.history legal.numbers in
+    let within = next_within 1 call_limit board.history legal.numbers in
+    record {
+      legal = legal;
+      plan_is = past.plan_is;
+      numbers = subst (λ (n : ℕ). Rises call_of 1 n board.history) (sym past.next_is) numbers;
+      calls = subst (λ (n : ℕ). n ≤ call_limit) (sym past.next_is) within;
+      kept = kept_opened board.airport texts board.history keeper entries number none is (ap length is ∙ length-map board.history entry_text);
+    }

@@ -1,0 +1,77 @@
+-- What opening a board over kept entries gives.
+use Rattle.std.specs.Prelude.{◌≡◌, ◌+◌, ℕ, List, [], ◌∷◌, ◌++◌, map, length, Ok, Err}
+use Rattle.apron_base.specs.Keeper.{with_last}
+use Rattle.apron_rules.specs.declared.parts.AirportParts.{AirportParts}
+use Rattle.plan_core.specs.PlanState.{PlanState}
+use Rattle.desk_words.specs.declared.asks.Entry.{Entry}
+use Rattle.entry_bytes.specs.declared.faults.EntryFault.{EntryFault}
+use Rattle.entry_bytes.specs.declared.faults.EntryFault.TheVariants as unread
+use Rattle.entry_bytes.specs.Entries.{decoded, entry_text}
+use Rattle.history_core.specs.declared.opening.OpenFault.{OpenFault}
+use Rattle.history_core.specs.declared.opening.OpenFault.TheVariants.{BadEntry, WrongEntry, Memory}
+use Rattle.history_core.specs.Board.{BoardHeld, entry_texts}
+use Rattle.history_core.specs.History.{IsLegal, replay}
+
+-- these bytes are read as this history, entry for entry
+abbrev pub Spells : AirportParts → List (List ℕ) → List Entry → Type 0
+Spells airport entries history = map (decoded airport) entries ≡ map Ok history
+
+-- the least number of a call after these entries, where it was this one before them: one above the last one's
+abbrev pub next_from : ℕ → List Entry → ℕ
+next_from next [] = next
+next_from next (entry ∷ entries) = next_from (entry.call + 1) entries
+
+-- the least number of a call after this history: 1 where there is no entry
+abbrev pub next_after : List Entry → ℕ
+next_after history = next_from 1 history
+
+-- a board was opened over the keeper with these bytes: the history is what they are read as, and is legal
+pub record Opens {K : Type 0} (airport : AirportParts) (kept : K) (entries : List (List ℕ)) (board : BoardHeld K) : Type 0 where
+  pub keeper : board.keeper ≡ kept
+  pub airport_is : board.airport ≡ airport
+  pub spells : Spells airport entries board.history
+  pub texts : entries ≡ entry_texts board.history
+  pub legal : IsLegal airport board.history
+  pub next : board.next ≡ next_after board.history
+
+-- why these bytes are not the next entry of a history, and the number that it would have: they are read as no entry, or as one with which the history is
+-- not legal; or memory is wanting
+abbrev pub IsNotNext : AirportParts → List Entry → List ℕ → OpenFault → Type 0
+IsNotNext airport before bytes (BadEntry number) = (number ≡ length before + 1) × ((fault : EntryFault) × (decoded airport bytes ≡ Err fault))
+IsNotNext airport before bytes (WrongEntry number) =
+    (number ≡ length before + 1) × ((entry : Entry) × (decoded airport bytes ≡ Ok entry) × ¬ (IsLegal airport (with_last entry before)))
+IsNotNext airport before bytes Memory = Unit {0}
+
+-- why an entry of this number cannot stand that is not read for this fault
+abbrev pub not_read : ℕ → EntryFault → OpenFault
+not_read number unread.Memory = Memory
+not_read number fault = BadEntry number
+
+-- the first bytes of these that are not the next entry: those before them are read as a legal history
+pub record StopsAt (airport : AirportParts) (entries : List (List ℕ)) (fault : OpenFault) : Type 0 where
+  pub front : List (List ℕ)
+  pub bytes : List ℕ
+  pub back : List (List ℕ)
+  pub is : entries ≡ front ++ bytes ∷ back
+  pub before : List Entry
+  pub spells : Spells airport front before
+  pub legal : IsLegal airport before
+  pub why : IsNotNext airport before bytes fault
+
+-- why no board is opened over these bytes: for the first of them that are not the next entry, or memory is wanting
+abbrev pub CannotOpen : AirportParts → List (List ℕ) → OpenFault → Type 0
+CannotOpen airport entries Memory = Unit {0}
+CannotOpen airport entries fault = StopsAt airport entries fault
+
+-- a history that was read so far: it is legal, this plan is what it makes, and this is the least number of the next call
+pub record IsPast (airport : AirportParts) (plan : PlanState) (history : List Entry) (next : ℕ) : Type 0 where
+  pub legal : IsLegal airport history
+  pub plan_is : plan ≡ replay airport history
+  pub next_is : next ≡ next_after history
+
+-- a history was read on by these bytes, which spell its last entry
+pub record IsReadOn (airport : AirportParts) (before after : List Entry) (bytes : List ℕ) : Type 0 where
+  pub entry : Entry
+  pub is : decoded airport bytes ≡ Ok entry
+  pub text : bytes ≡ entry_text entry
+  pub last : after ≡ with_last entry before

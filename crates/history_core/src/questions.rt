@@ -1,0 +1,56 @@
+// What is told of a plan as it is.
+ghost use Rattle.std.specs.Prelude.{◌≡◌, ◌≤◌, IfOk};
+ghost use Rattle.desk_words.specs.Replies.{IsTellable};
+ghost use Rattle.plan_lists.specs.Held.{held_on};
+ghost use Rattle.plan_lists.specs.Unplaced.{unplaced};
+ghost use Rattle.wall_chart.specs.Chart.{chart_text};
+
+use apron_base::Memory;
+use apron_rules::Airport;
+use desk_words::replies::Told;
+use plan_core::Plan;
+use plan_lists::{held_on, unplaced};
+use std::alloc::Global;
+use wall_chart::chart;
+
+/// The parts that hold a stand on a day, counted from 1. The only error is want of memory.
+pub(crate) fn plan_told(
+    alloc: Global,
+    airport: &Airport,
+    plan: &Plan,
+    day: u32,
+) -> Result<Told, Memory>
+    requires airport { airport.now ≡ plan.now.plan.airport }
+    requires first { 1 ≤ day }
+    ensures told { IfOk result (λ news. news ≡ Told.Plan (held_on plan.now.plan day)) }
+    ensures tellable { IfOk result IsTellable }
+{
+    let parts = held_on(alloc, airport, plan, day)?;
+    Ok(Told::Plan { parts })
+}
+
+/// The parts that wait for a stand. The only error is want of memory.
+pub(crate) fn unplaced_told(alloc: Global, plan: &Plan) -> Result<Told, Memory>
+    ensures told { IfOk result (λ news. news ≡ Told.Unplaced (unplaced plan.now.plan)) }
+    ensures tellable { IfOk result IsTellable }
+{
+    let parts = unplaced(alloc, plan)?;
+    Ok(Told::Unplaced { parts })
+}
+
+/// The wall chart of a day, counted from 1. The only error is want of memory.
+pub(crate) fn chart_told(
+    alloc: Global,
+    airport: &Airport,
+    plan: &Plan,
+    day: u32,
+) -> Result<Told, Memory>
+    requires airport { airport.now ≡ plan.now.plan.airport }
+    requires first { 1 ≤ day }
+    requires last { day ≤ airport.now.days }
+    ensures told { IfOk result (λ news. news ≡ Told.Chart (chart_text plan.now.plan.airport plan.now.plan day)) }
+    ensures tellable { IfOk result IsTellable }
+{
+    let text = chart(alloc, airport, plan, day)?;
+    Ok(Told::Chart { text })
+}

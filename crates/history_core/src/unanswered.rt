@@ -1,0 +1,33 @@
+// Why an ask gets no reply of the plan.
+use apron_base::{Failed, Memory};
+
+/// Why an ask gets no reply of the plan.
+#[derive(Clone, Copy, Debug)]
+pub(crate) enum Unanswered {
+    /// Memory is wanting.
+    Memory,
+    /// The keeper failed to append an accepted command.
+    Fault,
+}
+
+impl From<Memory> for Unanswered {
+    ghost use Rattle.std.specs.Prelude.{◌≡◌};
+    ghost use Rattle.history_core.specs.declared.unanswered.Unanswered.TheVariants as unanswered;
+
+    ghost from_gives = { λ _ why. why ≡ unanswered.Memory };
+
+    fn from(_: Memory) -> Self {
+        Unanswered::Memory
+    }
+}
+
+impl From<Failed> for Unanswered {
+    ghost use Rattle.std.specs.Prelude.{◌≡◌};
+    ghost use Rattle.history_core.specs.declared.unanswered.Unanswered.TheVariants as unanswered;
+
+    ghost from_gives = { λ _ why. why ≡ unanswered.Fault };
+
+    fn from(_: Failed) -> Self {
+        Unanswered::Fault
+    }
+}
