@@ -1,17 +1,22 @@
-//! Measures how fast an airport is read, and how fast its stand rules are looked up: `airport_bench 100
-//! airport.toml types.csv` reads an airport at every limit 100 times, and then asks of all pairs of stands of
-//! these files, with all pairs of types on them, which exclude each other.
+//! Measures how fast an airport is read, and how fast its stand rules, its neighbours and the slots of a stand are
+//! looked up: `airport_bench 100 airport.toml types.csv` reads an airport at every limit 100 times, asks of all
+//! pairs of stands of these files, with all pairs of types on them, which exclude each other, then 100,000 times
+//! for the neighbours of each stand, and 100 times for the slots at each minute of a full stand.
 #![tactic(auto)]
 
 mod limits;
+mod looks;
 mod rules;
 
 use crate::limits::{airport_file, type_file};
+use crate::looks::{Looks, SLOTS, full_stand, looks_at_neighbours, looks_at_slots};
 use crate::rules::{Count, count_of};
 use airport_files::read_airport;
 use apron_base::FileShelf;
 use apron_check::MAX_FILE;
 use apron_rules::Airport;
+use std::marker::Brand;
+use std::sync::ledger::Blank;
 use std::time::{Duration, Instant};
 use std::{env, io};
 
@@ -44,9 +49,41 @@ fn measure_reading(rt: &HostRuntime, times: u64) -> io::Result<()> {
 fn measure_rules(rt: &HostRuntime, airport: &Airport) -> io::Result<()> {
     let start = Instant::now(rt)?;
     let Count { pairs, excluded } = count_of(airport);
-    let nanos = micros(start.elapsed(rt)?).saturating_mul(1000) / pairs.max(1);
+    let nanos = nanos_of(start.elapsed(rt)?, pairs);
     println!(rt;
         "{pairs} pairs of stands with types: {excluded} exclude each other, {nanos} nanoseconds each"
+    )
+}
+
+// The nanoseconds of each of so many looks.
+fn nanos_of(duration: Duration, looks: u64) -> u64 {
+    micros(duration).saturating_mul(1000) / looks.max(1)
+}
+
+// Looks up the neighbours of each stand, a thousand times so often.
+fn measure_neighbours(rt: &HostRuntime, airport: &Airport, times: u64) -> io::Result<()> {
+    let start = Instant::now(rt)?;
+    let Looks { looks, found } = looks_at_neighbours(airport, times.saturating_mul(1000));
+    let nanos = nanos_of(start.elapsed(rt)?, looks);
+    println!(rt;
+        "{looks} looks at the neighbours of a stand: {found} found, {nanos} nanoseconds each"
+    )
+}
+
+// Looks up the slots at each minute of a full stand, so often.
+fn measure_slots(rt: &HostRuntime, times: u64) -> io::Result<()> {
+    let alloc = rt.alloc();
+    let Ok(index) = full_stand(alloc) else {
+        return Err(io::Error::from(io::ErrorKind::OutOfMemory));
+    };
+    let start = Instant::now(rt)?;
+    let Ok(Looks { looks, found }) = looks_at_slots::<Brand>(alloc, &index, times, Blank::new(1))
+    else {
+        return Err(io::Error::from(io::ErrorKind::OutOfMemory));
+    };
+    let nanos = nanos_of(start.elapsed(rt)?, looks);
+    println!(rt;
+        "{looks} looks at the slots of a stand with {SLOTS}: {found} found, {nanos} nanoseconds each"
     )
 }
 
@@ -54,7 +91,7 @@ fn measure_rules(rt: &HostRuntime, airport: &Airport) -> io::Result<()> {
 fn airport_of(rt: &HostRuntime, airport: &str, types: &str) -> io::Result<Airport> {
     let mut shelf = FileShelf::new(rt);
     match apron_check::airport_of(rt.alloc(), airport, types, &mut shelf) {
-        Ok(airport) => Ok(airport),
+        Ok(files) => Ok(files.airport),
         Err(_) => Err(io::Error::from(io::ErrorKind::InvalidData)),
     }
 }
@@ -64,10 +101,13 @@ fn main(rt: HostRuntime) -> io::Result<()> {
     let (Some(times), Some(airport), Some(types)) = (words.next(), words.next(), words.next())
     else {
         return println!(rt;
-            "airport_bench TIMES AIRPORT TYPES reads an airport at every limit so many times, and looks up the rules of all pairs of stands and types of these files"
+            "airport_bench TIMES AIRPORT TYPES reads an airport at every limit so many times, looks up the rules of all pairs of stands and types of these files, and looks at the neighbours of their stands and at the slots of a full one"
         );
     };
-    measure_reading(&rt, times.as_str().parse::<u64>().unwrap_or(1))?;
+    let times = times.as_str().parse::<u64>().unwrap_or(1);
+    measure_reading(&rt, times)?;
     let airport = airport_of(&rt, airport.as_str(), types.as_str())?;
-    measure_rules(&rt, &airport)
+    measure_rules(&rt, &airport)?;
+    measure_neighbours(&rt, &airport, times)?;
+    measure_slots(&rt, times)
 }

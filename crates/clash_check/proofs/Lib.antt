@@ -1,7 +1,6 @@
 pub mod Among
 pub mod Counted
 pub mod Everywhere
-pub mod Filled
 pub mod Looked
 pub mod Meetings
 pub mod Ordered

@@ -6,8 +6,6 @@ mod clashes;
 mod first;
 mod laws;
 mod near;
-#[cfg(test)]
-mod tests;
 
 pub use clashes::clashes_of;
 pub use first::{first_clash, first_clash_without};

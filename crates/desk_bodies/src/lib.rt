@@ -10,6 +10,3 @@ pub use commits::{CommitText, EditText, MAX_EDITS, read_commit};
 pub use fields::BodyFault;
 pub use reports::{EventText, ReportText, read_cancel, read_report};
 pub use visits::{VisitText, read_visit};
-
-#[cfg(test)]
-mod tests;

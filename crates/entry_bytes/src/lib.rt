@@ -11,8 +11,6 @@ mod messages;
 mod new_visits;
 mod reader;
 mod reports;
-#[cfg(test)]
-mod tests;
 mod writing;
 
 pub use entries::{decode_entry, encode_entry};

@@ -8,6 +8,3 @@ mod laws;
 
 pub use effects::{Movement, effect_of, movement_meant};
 pub use laws::{effects_are_of_one_visit, happenings_keep_visits};
-
-#[cfg(test)]
-mod tests;

@@ -1,0 +1,325 @@
+// Entries, read and written again, and the first fault of what is none.
+use apron_base::{Letter, Listed, Name};
+use apron_rules::{Airport, AirportParts, Date, Frontage, StandRow, TypeRow};
+use entry_bytes::{EntryFault, decode_entry, encode_entry};
+use std::alloc::Global;
+use std::test::Fail;
+
+fn stand(name: Name, centre: u32) -> StandRow {
+    StandRow {
+        name,
+        frontage: Name::literal(b"N"),
+        centre,
+        letter: Letter::C,
+        buffer: 10,
+        half_of: None,
+    }
+}
+
+// A type whose aircraft stay for 40 minutes at least.
+fn kind(name: Name) -> TypeRow {
+    TypeRow {
+        name,
+        span: 3_580,
+        least: 40,
+    }
+}
+
+// Six stands, seven types, and three days.
+fn airport(alloc: Global) -> Result<Airport, Fail> {
+    let stands = [
+        stand(Name::literal(b"N1"), 4_000),
+        stand(Name::literal(b"N2"), 8_030),
+        stand(Name::literal(b"N3"), 12_060),
+        stand(Name::literal(b"N4"), 16_090),
+        stand(Name::literal(b"N5"), 20_120),
+        stand(Name::literal(b"N6"), 24_150),
+    ];
+    let kinds = [
+        kind(Name::literal(b"A319")),
+        kind(Name::literal(b"A320")),
+        kind(Name::literal(b"A321")),
+        kind(Name::literal(b"B737")),
+        kind(Name::literal(b"B738")),
+        kind(Name::literal(b"B739")),
+        kind(Name::literal(b"E190")),
+    ];
+    let frontage = Frontage {
+        name: Name::literal(b"N"),
+        objects: Listed::new(alloc),
+    };
+    let parts = AirportParts {
+        station: Name::literal(b"APR"),
+        first: Date {
+            year: 2026,
+            month: 3,
+            day: 27,
+        },
+        days: 3,
+        taxi_in: 5,
+        tow: 20,
+        frontages: Listed::from_vec(Vec::from_array(alloc, [frontage])?),
+        stands: Listed::from_vec(Vec::from_array(alloc, stands)?),
+        pairs: Listed::new(alloc),
+        types: Listed::from_vec(Vec::from_array(alloc, kinds)?),
+    };
+    match Airport::new(alloc, parts) {
+        Ok(airport) => Ok(airport),
+        Err(_) => Err(Fail::new("an airport without fault")),
+    }
+}
+
+// V1 is an aircraft of the first type, of class 3, from 600 to 660.
+const ADDED: &[u8] = b"\x01\0\0\0\0\0\0\0\x01\x02V1\0\0\x03\x58\x02\0\0\x94\x02\0\0\0\0";
+
+// The draft 1 of the desk D puts it on the first stand.
+const PUT: &[u8] = b"\x02\0\0\0\0\0\0\0\x02\x01D\x01\0\0\0\x01\0\0\0\x01\x01\x01\0\0\0\x01\0\0";
+
+// V2 is one of the fourth type, of class 5, from 700 to 760. It comes by LH123 of day 1, and leaves by LH124A of day 2.
+const KEYED: &[u8] =
+    b"\x03\0\0\0\0\0\0\0\x01\x02V2\x03\0\x05\xBC\x02\0\0\xF8\x02\0\0\x01\x02LH\x7B\0\0\x01\x01\x02LH\x7C\0A\x02";
+
+// With the greatest call number: put 1.2 on the last stand, lift 258.1, cut 1.1 at 630, join 1.1.
+const EDITED: &[u8] =
+    b"\xFF\xFF\xFF\xFF\xFF\xFF\xFF\x3F\x02\x01D\x02\0\0\0\x09\0\0\0\x04\x01\x01\0\0\0\x02\x05\0\x02\x02\x01\0\0\x01\x03\x01\0\0\0\x01\x76\x02\0\0\x04\x01\0\0\0\x01";
+
+// An estimate for LH123 of the 27th, of 34 bytes.
+const MESSAGE: &[u8] = b"\x04\0\0\0\0\0\0\0\x03\x22MVT\nLH123/27.DABCD.MUC\nEA0620 APR\n";
+
+// Part 1 of visit 2 came on block on the last stand at 610.
+const CAME: &[u8] = b"\x05\0\0\0\0\0\0\0\x04\x02\0\0\0\x01\x01\x05\0\x62\x02\0\0";
+
+// Visit 2 went off block at 660.
+const WENT: &[u8] = b"\x06\0\0\0\0\0\0\0\x04\x02\0\0\0\x02\x94\x02\0\0";
+
+// Visit 258 is cancelled.
+const CANCELLED: &[u8] = b"\x07\0\0\0\0\0\0\0\x05\x02\x01\0\0";
+
+// The bytes that are written of the entry that is read of these.
+#[tactic(auto, using(entry_bytes::proofs::CommandsOf::command_of))]
+fn again(alloc: Global, airport: &Airport, bytes: &[u8]) -> Option<Vec<u8>> {
+    let entry = decode_entry(alloc, airport, bytes).ok()?;
+    let again = encode_entry(alloc, &entry).ok()?;
+    Some(again.into_vec())
+}
+
+fn is_same(alloc: Global, airport: &Airport, bytes: &[u8]) -> bool {
+    match again(alloc, airport, bytes) {
+        Some(again) => again.as_slice() == bytes,
+        None => false,
+    }
+}
+
+#[test]
+fn entries_are_read_and_written_again(rt: HostRuntime) -> Result<(), Fail> {
+    let airport = airport(rt.alloc())?;
+    for bytes in [ADDED, PUT, KEYED, EDITED, MESSAGE, CAME, WENT, CANCELLED] {
+        assert!(rt; is_same(rt.alloc(), &airport, bytes), "of {bytes:?}");
+    }
+    Ok(())
+}
+
+const FAULTS: [(&[u8], EntryFault); 60] = [
+    (b"", EntryFault::BadField(0)),
+    (b"\x01\0\0\0\0\0\0", EntryFault::BadField(0)),
+    (b"\0\0\0\0\0\0\0\x40\x09", EntryFault::BadField(0)),
+    (b"\x01\0\0\0\0\0\0\0", EntryFault::BadField(8)),
+    (b"\x01\0\0\0\0\0\0\0\0", EntryFault::BadKind),
+    (b"\x01\0\0\0\0\0\0\0\x06", EntryFault::BadKind),
+    (b"\x01\0\0\0\0\0\0\0\x01", EntryFault::BadField(9)),
+    (b"\x01\0\0\0\0\0\0\0\x01\0", EntryFault::BadField(9)),
+    (b"\x01\0\0\0\0\0\0\0\x01\x02V", EntryFault::BadField(9)),
+    (b"\x01\0\0\0\0\0\0\0\x01\x02v1", EntryFault::BadField(9)),
+    (
+        b"\x01\0\0\0\0\0\0\0\x01\x0DABCDEFGHIJKLM",
+        EntryFault::BadField(9),
+    ),
+    (b"\x01\0\0\0\0\0\0\0\x01\x02V1\0", EntryFault::BadField(12)),
+    (
+        b"\x01\0\0\0\0\0\0\0\x01\x02V1\x07\0",
+        EntryFault::BadField(12),
+    ),
+    (
+        b"\x01\0\0\0\0\0\0\0\x01\x02V1\0\0",
+        EntryFault::BadField(14),
+    ),
+    (
+        b"\x01\0\0\0\0\0\0\0\x01\x02V1\0\0\x0A",
+        EntryFault::BadField(14),
+    ),
+    (
+        b"\x01\0\0\0\0\0\0\0\x01\x02V1\0\0\x03\x58\x02\0",
+        EntryFault::BadField(15),
+    ),
+    (
+        b"\x01\0\0\0\0\0\0\0\x01\x02V1\0\0\x03\xE0\x10\0\0\x94",
+        EntryFault::BadField(15),
+    ),
+    (
+        b"\x01\0\0\0\0\0\0\0\x01\x02V1\0\0\x03\x58\x02\0\0\x94",
+        EntryFault::BadField(19),
+    ),
+    (
+        b"\x01\0\0\0\0\0\0\0\x01\x02V1\0\0\x03\x58\x02\0\0\xE1\x10\0\0",
+        EntryFault::BadField(19),
+    ),
+    (
+        b"\x01\0\0\0\0\0\0\0\x01\x02V1\0\0\x03\x58\x02\0\0\x7F\x02\0\0",
+        EntryFault::BadField(19),
+    ),
+    (
+        b"\x01\0\0\0\0\0\0\0\x01\x02V1\0\0\x03\x58\x02\0\0\x80\x02\0\0",
+        EntryFault::BadField(23),
+    ),
+    (
+        b"\x01\0\0\0\0\0\0\0\x01\x02V1\0\0\x03\x58\x02\0\0\xE0\x10\0\0\x02",
+        EntryFault::BadField(23),
+    ),
+    (
+        b"\x01\0\0\0\0\0\0\0\x01\x02V1\0\0\x03\x58\x02\0\0\x94\x02\0\0\x01\x02L",
+        EntryFault::BadField(24),
+    ),
+    (
+        b"\x01\0\0\0\0\0\0\0\x01\x02V1\0\0\x03\x58\x02\0\0\x94\x02\0\0\x01\x0212",
+        EntryFault::BadField(24),
+    ),
+    (
+        b"\x01\0\0\0\0\0\0\0\x01\x02V1\0\0\x03\x58\x02\0\0\x94\x02\0\0\x01\x02LH\x10\x27",
+        EntryFault::BadField(27),
+    ),
+    (
+        b"\x01\0\0\0\0\0\0\0\x01\x02V1\0\0\x03\x58\x02\0\0\x94\x02\0\0\x01\x02LH\x0F\x27a",
+        EntryFault::BadField(29),
+    ),
+    (
+        b"\x01\0\0\0\0\0\0\0\x01\x02V1\0\0\x03\x58\x02\0\0\x94\x02\0\0\x01\x02LH\x7B\0A\x04",
+        EntryFault::BadField(30),
+    ),
+    (
+        b"\x01\0\0\0\0\0\0\0\x01\x02V1\0\0\x03\x58\x02\0\0\x94\x02\0\0\x01\x02LH\x7B\0\0\x03",
+        EntryFault::BadField(31),
+    ),
+    (
+        b"\x01\0\0\0\0\0\0\0\x01\x02V1\0\0\x03\x58\x02\0\0\x94\x02\0\0\0\0\0",
+        EntryFault::TrailingBytes(25),
+    ),
+    (b"\x02\0\0\0\0\0\0\0\x02\x01d", EntryFault::BadField(9)),
+    (
+        b"\x02\0\0\0\0\0\0\0\x02\x01D\x01\0\0",
+        EntryFault::BadField(11),
+    ),
+    (
+        b"\x02\0\0\0\0\0\0\0\x02\x01D\x01\0\0\0\x01\0\0",
+        EntryFault::BadField(15),
+    ),
+    (
+        b"\x02\0\0\0\0\0\0\0\x02\x01D\x01\0\0\0\x01\0\0\0\0",
+        EntryFault::BadField(19),
+    ),
+    (
+        b"\x02\0\0\0\0\0\0\0\x02\x01D\x01\0\0\0\x01\0\0\0\x41",
+        EntryFault::BadField(19),
+    ),
+    (
+        b"\x02\0\0\0\0\0\0\0\x02\x01D\x01\0\0\0\x01\0\0\0\x40",
+        EntryFault::BadField(20),
+    ),
+    (
+        b"\x02\0\0\0\0\0\0\0\x02\x01D\x01\0\0\0\x01\0\0\0\x01\x05",
+        EntryFault::BadField(20),
+    ),
+    (
+        b"\x02\0\0\0\0\0\0\0\x02\x01D\x01\0\0\0\x01\0\0\0\x01\x02\x01\0\0",
+        EntryFault::BadField(21),
+    ),
+    (
+        b"\x02\0\0\0\0\0\0\0\x02\x01D\x01\0\0\0\x01\0\0\0\x01\x04\x01\0\0\0",
+        EntryFault::BadField(25),
+    ),
+    (
+        b"\x02\0\0\0\0\0\0\0\x02\x01D\x01\0\0\0\x01\0\0\0\x01\x01\x01\0\0\0\x01\x06\0",
+        EntryFault::BadField(26),
+    ),
+    (
+        b"\x02\0\0\0\0\0\0\0\x02\x01D\x01\0\0\0\x01\0\0\0\x01\x03\x01\0\0\0\x01\x76\x02\0",
+        EntryFault::BadField(26),
+    ),
+    (
+        b"\x02\0\0\0\0\0\0\0\x02\x01D\x01\0\0\0\x01\0\0\0\x02\x02\x01\0\0\0\x01",
+        EntryFault::BadField(26),
+    ),
+    (
+        b"\x02\0\0\0\0\0\0\0\x02\x01D\x01\0\0\0\x01\0\0\0\x01\x02\x01\0\0\0\x01\0",
+        EntryFault::TrailingBytes(26),
+    ),
+    (b"\x04\0\0\0\0\0\0\0\x03", EntryFault::BadField(9)),
+    (
+        b"\x04\0\0\0\0\0\0\0\x03\x11MVT\nLH0/01.A.APR",
+        EntryFault::BadField(9),
+    ),
+    (b"\x04\0\0\0\0\0\0\0\x03\x04MVT\n", EntryFault::BadField(9)),
+    (
+        b"\x04\0\0\0\0\0\0\0\x03\x12MVT\nLH00/01.A.APR\n",
+        EntryFault::BadField(9),
+    ),
+    (
+        b"\x04\0\0\0\0\0\0\0\x03\x10MVT\nLH0/01.A.APR",
+        EntryFault::BadField(9),
+    ),
+    (
+        b"\x04\0\0\0\0\0\0\0\x03\x11MVT\nLH0/01.A.APR\n\0",
+        EntryFault::TrailingBytes(27),
+    ),
+    (b"\x04\0\0\0\0\0\0\0\x04\x02\0\0", EntryFault::BadField(9)),
+    (
+        b"\x04\0\0\0\0\0\0\0\x04\x02\0\0\0",
+        EntryFault::BadField(13),
+    ),
+    (
+        b"\x04\0\0\0\0\0\0\0\x04\x02\0\0\0\0",
+        EntryFault::BadField(13),
+    ),
+    (
+        b"\x04\0\0\0\0\0\0\0\x04\x02\0\0\0\x03",
+        EntryFault::BadField(13),
+    ),
+    (
+        b"\x04\0\0\0\0\0\0\0\x04\x02\0\0\0\x01",
+        EntryFault::BadField(14),
+    ),
+    (
+        b"\x04\0\0\0\0\0\0\0\x04\x02\0\0\0\x01\x01\x05",
+        EntryFault::BadField(15),
+    ),
+    (
+        b"\x04\0\0\0\0\0\0\0\x04\x02\0\0\0\x01\x01\x06\0",
+        EntryFault::BadField(15),
+    ),
+    (
+        b"\x04\0\0\0\0\0\0\0\x04\x02\0\0\0\x01\x01\x05\0\x62\x02\0",
+        EntryFault::BadField(17),
+    ),
+    (
+        b"\x04\0\0\0\0\0\0\0\x04\x02\0\0\0\x02\x94\x02\0",
+        EntryFault::BadField(14),
+    ),
+    (
+        b"\x04\0\0\0\0\0\0\0\x04\x02\0\0\0\x02\x94\x02\0\0\0",
+        EntryFault::TrailingBytes(18),
+    ),
+    (b"\x04\0\0\0\0\0\0\0\x05\x02\x01\0", EntryFault::BadField(9)),
+    (
+        b"\x04\0\0\0\0\0\0\0\x05\x02\x01\0\0\0",
+        EntryFault::TrailingBytes(13),
+    ),
+];
+
+#[test]
+fn the_first_fault_is_found_at_its_place(rt: HostRuntime) -> Result<(), Fail> {
+    let airport = airport(rt.alloc())?;
+    for (bytes, fault) in &FAULTS {
+        let found = decode_entry(rt.alloc(), &airport, bytes).err();
+        assert_eq!(rt; found, Some(*fault), "of {bytes:?}");
+    }
+    Ok(())
+}

@@ -1,0 +1,5 @@
+// Plans that are drawn at the demo airport.
+mod clashes;
+mod demo;
+mod draws;
+mod settling;
