@@ -1,13 +1,16 @@
 -- A desk alone takes its turns at the history that it has seen.
-use Rattle.std.proofs.Common.{◌≡◌, ◌≢◌, ◌∙◌, ◌≤◌, ◌<◌, ◌+◌, ◌-◌, ℕ, zero, suc, List, [], ◌∷◌, ◌++◌, length, refl, sym, ap, arith, append-nil}
+use Rattle.std.proofs.Common.{◌≡◌, ◌∙◌, ◌≤◌, ◌<◌, ◌+◌, ◌-◌, ℕ, zero, suc, List, [], ◌∷◌, ◌++◌, length, refl, sym, ap, arith, append-nil}
 use Rattle.std.proofs.lemmas.Bool.{eqb-true}
 use Rattle.std.proofs.lemmas.Bool.Decides.{nat_tests}
+use Rattle.apron_base.specs.Counts.{Counts}
 use Rattle.apron_base.specs.Histories.{Every}
+use Rattle.apron_base.specs.Keeper.{KeeperState}
+use Rattle.apron_base.specs.Machine.{is_fault}
 use Rattle.apron_base.specs.declared.outside.Acted.{Acted}
 use Rattle.apron_base.specs.declared.outside.Acted.TheVariants.{Reply as Replied, Memory as NoMemory, Fault, Spent}
 use Rattle.desk_words.specs.declared.asks.Ask.{Ask}
 use Rattle.history_core.specs.Answer.{ActsAs, Given, Gives, replied, no_memory, keeper_fault}
-use Rattle.history_core.specs.Board.{BoardState}
+use Rattle.history_core.specs.Board.{BoardHeld}
 use Rattle.history_core.specs.History.{IsLegal, call_limit}
 use Rattle.desk_http.specs.Alone.{AloneAsks, IsAlone, alone_port, numbers_from}
 use Rattle.desk_http.specs.Ports.{CountsGiven, ShowsAsk}
@@ -40,11 +43,11 @@ calls_push first next h =
     ap (numbers_from first) count ∙ (numbers_from-push first (next - first) ∙ ap (λ n. numbers_from first (next - first) ++ n ∷ []) last)
 
 -- an ask of a desk alone gets its turn
-turn : (before after : BoardState) (first : ℕ) (ask : Ask) (given : Given)
+turn : {K : Type 0} (tells : K → KeeperState) (before after : BoardHeld K) (first : ℕ) (ask : Ask) (given : Given)
     → IsAlone before first → IsLegal before.airport after.history → before.next < call_limit → Gives before.airport before.history before.next ask given after.history
-    → after.next ≡ before.next + 1 → CountsGiven given 0 0
-    → AloneAsks before.airport (alone_port (record { board = before; first = first })) ask given (alone_port (record { board = after; first = first }))
-turn before after first ask given h still last gives next cause = (
+    → after.next ≡ before.next + 1 → CountsGiven given (tells before.keeper).faults (tells after.keeper).faults
+    → AloneAsks before.airport (alone_port tells (record { board = before; first = first })) ask given (alone_port tells (record { board = after; first = first }))
+turn tells before after first ask given h still last gives next cause = (
   record {
     history = before.history;
     call = before.next;
@@ -67,17 +70,22 @@ turn before after first ask given h still last gives next cause = (
 )
 
 -- what a desk alone shows of an ask
-pub alone_shows : (before after : BoardState) (first : ℕ) (ask : Ask) (acted : Acted)
+pub alone_shows : {K : Type 0} (tells : K → KeeperState) (before after : BoardHeld K) (first : ℕ) (ask : Ask) (acted : Acted)
     → IsAlone before first → IsLegal before.airport after.history → before.next < call_limit → ActsAs before.airport before.history before.next ask acted after.history
-    → after.next ≡ before.next + 1 → acted ≢ Fault
-    → ShowsAsk AloneAsks before.airport (alone_port (record { board = before; first = first })) ask acted (alone_port (record { board = after; first = first }))
-alone_shows before after first ask (Replied bytes) h still last (replied reply, shows, gives) next free = (replied reply, shows, turn before after first ask (replied reply) h still last gives next (omega arith))
-alone_shows before after first ask (Replied bytes) h still last (no_memory, shows, gives) next free = absurd (cc)
-alone_shows before after first ask (Replied bytes) h still last (keeper_fault, shows, gives) next free = absurd (cc)
-alone_shows before after first ask NoMemory h still last (replied reply, shows, gives) next free = absurd (cc)
-alone_shows before after first ask NoMemory h still last (no_memory, shows, gives) next free = (no_memory, shows, turn before after first ask no_memory h still last gives next (omega arith))
-alone_shows before after first ask NoMemory h still last (keeper_fault, shows, gives) next free = absurd (cc)
-alone_shows before after first ask Fault h still last acts next free = absurd (free refl)
-alone_shows before after first ask Spent h still last (replied reply, shows, gives) next free = absurd (cc)
-alone_shows before after first ask Spent h still last (no_memory, shows, gives) next free = absurd (cc)
-alone_shows before after first ask Spent h still last (keeper_fault, shows, gives) next free = absurd (cc)
+    → after.next ≡ before.next + 1 → Counts (is_fault acted) (tells before.keeper).faults (tells after.keeper).faults
+    → ShowsAsk AloneAsks before.airport (alone_port tells (record { board = before; first = first })) ask acted (alone_port tells (record { board = after; first = first }))
+alone_shows tells before after first ask (Replied bytes) h still last (replied reply, shows, gives) next counts =
+    (replied reply, shows, turn tells before after first ask (replied reply) h still last gives next (omega (arith, counts)))
+alone_shows tells before after first ask (Replied bytes) h still last (no_memory, shows, gives) next counts = absurd (cc)
+alone_shows tells before after first ask (Replied bytes) h still last (keeper_fault, shows, gives) next counts = absurd (cc)
+alone_shows tells before after first ask NoMemory h still last (replied reply, shows, gives) next counts = absurd (cc)
+alone_shows tells before after first ask NoMemory h still last (no_memory, shows, gives) next counts =
+    (no_memory, shows, turn tells before after first ask no_memory h still last gives next (omega (arith, counts)))
+alone_shows tells before after first ask NoMemory h still last (keeper_fault, shows, gives) next counts = absurd (cc)
+alone_shows tells before after first ask Fault h still last (replied reply, shows, gives) next counts = absurd (cc)
+alone_shows tells before after first ask Fault h still last (no_memory, shows, gives) next counts = absurd (cc)
+alone_shows tells before after first ask Fault h still last (keeper_fault, shows, gives) next counts =
+    (keeper_fault, shows, turn tells before after first ask keeper_fault h still last gives next counts)
+alone_shows tells before after first ask Spent h still last (replied reply, shows, gives) next counts = absurd (cc)
+alone_shows tells before after first ask Spent h still last (no_memory, shows, gives) next counts = absurd (cc)
+alone_shows tells before after first ask Spent h still last (keeper_fault, shows, gives) next counts = absurd (cc)

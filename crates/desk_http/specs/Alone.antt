@@ -3,18 +3,19 @@ use Rattle.std.specs.Prelude.{◌≡◌, ◌==◌, ◌+◌, ◌-◌, ◌≤◌, 
 use Rattle.apron_rules.specs.declared.parts.AirportParts.{AirportParts}
 use Rattle.desk_words.specs.declared.asks.Ask.{Ask}
 use Rattle.apron_base.specs.Histories.{Rises}
+use Rattle.apron_base.specs.Keeper.{KeeperState}
 use Rattle.history_core.specs.Answer.{Given}
 use Rattle.history_core.specs.History.{call_limit, call_of, IsLegal}
-use Rattle.history_core.specs.Board.{BoardState}
+use Rattle.history_core.specs.Board.{BoardHeld}
 use Rattle.desk_http.specs.Ports.{PortState, Turn}
 
 -- a desk alone: its board, and the number that its first call has
-pub record AloneState : Type 0 where
-  pub board : BoardState
+pub record AloneHeld (K : Type 0) : Type 0 where
+  pub board : BoardHeld K
   pub first : ℕ
 
 -- what is true of every desk alone: its calls come from its first number on, its history is legal and numbered below its next call
-pub record IsAlone (board : BoardState) (first : ℕ) : Type 0 where
+pub record IsAlone {K : Type 0} (board : BoardHeld K) (first : ℕ) : Type 0 where
   pub begun : first ≤ board.next
   pub numbers : Rises call_of 1 board.next board.history
   pub legal : IsLegal board.airport board.history
@@ -24,14 +25,15 @@ abbrev pub numbers_from : ℕ → ℕ → List ℕ
 numbers_from first zero = []
 numbers_from first (suc count) = first ∷ numbers_from (first + 1) count
 
--- what a desk alone tells: it has seen the board's history, its calls are the numbers from the first up to the board's next, and no append can fail
-abbrev pub alone_port : AloneState → PortState
-alone_port alone = record {
+-- what a desk alone tells, by what its board's keeper tells: it has seen the board's history, its calls are the numbers from the first up to the board's
+-- next, and its count of faults is the keeper's
+abbrev pub alone_port : {K : Type 0} → (K → KeeperState) → AloneHeld K → PortState
+alone_port tells alone = record {
   first = alone.first;
   seen = alone.board.history;
   calls = numbers_from alone.first (alone.board.next - alone.first);
   spent = alone.board.next == call_limit;
-  faults = 0;
+  faults = (tells alone.board.keeper).faults;
 }
 
 -- an ask of a desk alone gets its turn at the history that it has seen, and with the next number

@@ -7,6 +7,7 @@ pub mod Targets
 pub mod Table
 pub mod Finding
 pub mod CommitsRoute
+pub mod DaysRoute
 pub mod VisitsRoute
 pub mod MessagesRoute
 pub mod ReportsRoute

@@ -11,28 +11,16 @@ use Rattle.desk_words.specs.declared.asks.Ask.{Ask}
 use Rattle.desk_words.specs.declared.asks.What.{What}
 use Rattle.desk_words.specs.declared.asks.What.TheVariants as what
 use Rattle.desk_words.specs.declared.early.Early.{Early}
-use Rattle.desk_words.specs.declared.early.Early.TheVariants.{NoRoute, OnlyGet, OnlyPost, BadSeen, Unbuilt}
+use Rattle.desk_words.specs.declared.early.Early.TheVariants.{NoRoute, OnlyGet, OnlyPost, BadSeen}
 use Rattle.desk_http.specs.Numbers.{within}
 use Rattle.desk_http.specs.CommitsRoute.{commit_asked}
+use Rattle.desk_http.specs.DaysRoute.{day_asked}
 use Rattle.desk_http.specs.MessagesRoute.{message_asked}
 use Rattle.desk_http.specs.ReportsRoute.{cancel_asked, report_asked}
 use Rattle.desk_http.specs.VisitsRoute.{visit_added}
 use Rattle.desk_http.specs.Targets.{route_of}
 use Rattle.desk_http.specs.declared.routes.Route.{Route}
 use Rattle.desk_http.specs.declared.routes.Route.TheVariants.{Visits, Commits, Mvt, Reports, Cancels, Version, Unplaced, Visit, Plan, Chart}
-
--- whether the route is there already
-abbrev pub is_built : Route → Bool
-is_built Visits = true
-is_built Commits = true
-is_built Mvt = true
-is_built Reports = true
-is_built Cancels = true
-is_built Version = true
-is_built (Visit number) = true
-is_built Unplaced = false
-is_built (Plan day) = false
-is_built (Chart day) = false
 
 -- whether a body comes with the requests of a route
 abbrev pub takes_body : Route → Bool
@@ -90,11 +78,10 @@ said_in request = record {
   body = request.body;
 }
 
--- the route that a request takes: one that is there, by its method
+-- the route that a request takes, by its method
 abbrev pub route_taken : List ℕ → List ℕ → Result Route Early
 route_taken method target = do
   route ← ok_or (route_of target) NoRoute
-  built ← refuse_if (not (is_built route)) Unbuilt
   taken ← refuse_if (not (bytes_eq method (method_of route))) (only route)
   Ok route
 
@@ -105,7 +92,7 @@ pub record ReadsBody (said : Said) : Type 0 where
   pub body : reads_json route ≡ true
   pub seen : IsSome said.seen
 
--- what is asked of a route with this body
+-- what is asked of a route with this body, where a day is looked at and no body
 abbrev pub what_asked : AirportParts → Route → List ℕ → Result What Early
 what_asked airport Visits body = visit_added airport body
 what_asked airport Commits body = commit_asked airport body
@@ -114,11 +101,11 @@ what_asked airport Reports body = report_asked airport body
 what_asked airport Cancels body = cancel_asked body
 what_asked airport Version body = Ok what.Version
 what_asked airport (Visit number) body = Ok (what.Visit number)
-what_asked airport Unplaced body = Err Unbuilt
-what_asked airport (Plan day) body = Err Unbuilt
-what_asked airport (Chart day) body = Err Unbuilt
+what_asked airport Unplaced body = Ok what.Unplaced
+what_asked airport (Plan day) body = day_asked airport day (what.Plan day)
+what_asked airport (Chart day) body = day_asked airport day (what.Chart day)
 
--- what is asked, or the first reply that is fixed: by the target and the method, then by the version that the desk says it has seen, then by the body
+-- what is asked, or the first reply that is fixed: by the target and the method, then by the version that the desk says it has seen, then by the day or the body
 abbrev pub asked_by : AirportParts → Said → Result Ask Early
 asked_by airport said = do
   route ← route_taken said.method said.target

@@ -7,11 +7,12 @@ use Rattle.apron_base.specs.declared.outside.Outcome.{Outcome}
 use Rattle.apron_base.specs.declared.outside.Outcome.TheVariants.{Ended, Closed, Cut, Malformed, Limit, ReadFault, WriteFault, Spent, Memory}
 use Rattle.apron_rules.specs.declared.parts.AirportParts.{AirportParts}
 use Rattle.http_framing.specs.declared.bodies.Refusal.{Refusal}
+use Rattle.http_framing.specs.declared.bodies.Refusal.TheVariants.{Head, Encoding, Large, Length}
 use Rattle.http_framing.specs.Closing.{is_closing}
 use Rattle.http_framing.specs.Requests.{Request, HasRequest, IsPartial, IsMalformed}
 use Rattle.http_framing.specs.Streams.{Ends, ended, cut, Splits, IsOpen}
 use Rattle.desk_words.specs.declared.asks.Ask.{Ask}
-use Rattle.desk_words.specs.Fixed.{bad_head_text}
+use Rattle.desk_words.specs.Fixed.{bad_encoding_text, bad_head_text, large_body_text, no_length_text}
 use Rattle.history_core.specs.Answer.{Given}
 use Rattle.desk_http.specs.Answers.{Answered, sends, exhausted, unread, Answers, Sent, sent_text}
 use Rattle.desk_http.specs.Ports.{PortState}
@@ -37,7 +38,10 @@ pub data Last : Type 0 where
 
 -- the bytes of the reply to bytes that are refused
 abbrev pub refusal_text : Refusal → List ℕ
-refusal_text why = bad_head_text
+refusal_text Head = bad_head_text
+refusal_text Encoding = bad_encoding_text
+refusal_text Large = large_body_text
+refusal_text Length = no_length_text
 
 -- the bytes of what was sent last
 abbrev pub last_text : AirportParts → Last → List ℕ

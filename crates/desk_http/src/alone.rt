@@ -2,7 +2,7 @@
 ghost use Rattle.std.specs.Prelude.{◌≡◌};
 
 use crate::DeskPort;
-use apron_base::{Acted, CALL_END};
+use apron_base::{Acted, CALL_END, Keeper};
 use apron_rules::Airport;
 use desk_words::asks::Ask;
 use history_core::Board;
@@ -12,25 +12,25 @@ use std::marker::Model;
 /// The port of a desk that has a board to itself. It numbers its calls from the board's next one
 /// on, and waits for nobody.
 #[derive(Drop)]
-pub struct Alone<'a> {
-    board: Board<'a>,
+pub struct Alone<'a, K: Keeper> {
+    board: Board<'a, K>,
     first: u64,
 }
 
-impl<'a> Model for Alone<'a> {
+impl<'a, K: Keeper> Model for Alone<'a, K> {
     ghost use Rattle.std.specs.Prelude.{◌≤◌};
-    ghost use Rattle.desk_http.specs.Alone.{AloneState, IsAlone};
+    ghost use Rattle.desk_http.specs.Alone.{AloneHeld, IsAlone};
 
-    ghost Value = { AloneState };
+    ghost Value = { AloneHeld K };
 
     ghost view = { λ a. record { board = a.board; first = a.first } };
 
     ghost invariant = { λ a. IsAlone a.board a.first };
 }
 
-impl<'a> Alone<'a> {
+impl<'a, K: Keeper> Alone<'a, K> {
     /// A desk that has made no call yet.
-    pub fn new(board: Board<'a>) -> Alone<'a>
+    pub fn new(board: Board<'a, K>) -> Alone<'a, K>
         ensures board { result.board ≡ board.entry }
         ensures first { result.first ≡ board.entry.next }
     {
@@ -39,19 +39,23 @@ impl<'a> Alone<'a> {
     }
 
     /// The board after the desk's calls.
-    pub fn into_board(self) -> Board<'a>
+    pub fn into_board(self) -> Board<'a, K>
         ensures board { result ≡ self.entry.board }
     {
         self.board
     }
 }
 
-impl<'a> DeskPort for Alone<'a> {
+impl<'a, K: Keeper> DeskPort for Alone<'a, K> {
     ghost use Rattle.desk_http.specs.Alone.{AloneAsks, alone_port};
+
+    type Place = ();
 
     ghost airport_of = { λ a. a.board.airport };
 
-    ghost port = { alone_port };
+    ghost place = { λ a. tt };
+
+    ghost port = { alone_port K.state };
 
     ghost asks = { AloneAsks };
 

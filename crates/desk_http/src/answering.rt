@@ -67,6 +67,7 @@ pub(crate) trait Answerer<P: DeskPort> {
         parts: &RequestParts<'_>,
     ) -> Result<PreparedReply, Unanswered>
         ensures airport { P.airport_of port.new ≡ P.airport_of port.old }
+        ensures place { P.place port.new ≡ P.place port.old }
         ensures came { (request : Request) → ArePartsOf request parts.now
             → IsAnswer (P.airport_of port.old) (comes (P.airport_of port.old) (P.port port.old) request) result (P.port port.new) };
 }
@@ -94,6 +95,7 @@ impl<P: DeskPort> Answerer<P> for DeskRoutes {
 fn answer_ask<P: DeskPort>(alloc: Global, port: &mut P, ask: &Ask) -> Option<PreparedReply>
     requires valid { IsAskOf (P.airport_of port.old) ask.now }
     ensures airport { P.airport_of port.new ≡ P.airport_of port.old }
+    ensures place { P.place port.new ≡ P.place port.old }
     ensures came { IsReply P.asks (P.airport_of port.old) (P.port port.old) ask.now result (P.port port.new) }
 {
     match port.ask(alloc, ask) {

@@ -15,8 +15,14 @@ pub trait DeskPort {
     ghost use Rattle.history_core.specs.Answer.{Given};
     ghost use Rattle.desk_http.specs.Ports.{PortState, Turn, ShowsAsk};
 
+    /// What no call changes beside the airport.
+    type Place;
+
     /// The airport of the board's plan. No call changes it.
     ghost airport_of: { Self → AirportParts };
+
+    /// The port's place: for a seat its board and its share. No call changes it.
+    ghost place: { Self → Self.Place };
 
     /// What the port tells of itself.
     ghost port: { Self → PortState };
@@ -32,6 +38,7 @@ pub trait DeskPort {
     fn ask(&mut self, alloc: Global, ask: &Ask) -> Acted
         requires valid { IsAskOf (airport_of self.old) ask.now }
         ensures airport { airport_of self.new ≡ airport_of self.old }
+        ensures place { place self.new ≡ place self.old }
         ensures shows { ShowsAsk asks (airport_of self.old) (port self.old) ask.now result (port self.new) };
 
     /// Whatever a port gives, it gives at the whole history as the ask's turn found it.

@@ -2,7 +2,7 @@
 ghost use Rattle.std.specs.Prelude.{◌≡◌, true, Err, IfOk};
 ghost use Rattle.history_core.specs.History.{IsAskOf, IsWhatOf};
 ghost use Rattle.desk_http.specs.Finding.{Finds, said_by};
-ghost use Rattle.desk_http.specs.Routes.{ReadsBody, asked_by as asked_by_lem, is_built as is_built_lem, method_of as method_of_lem, only as only_lem, reads_json, route_taken as route_taken_lem, seen_of as seen_of_lem, takes_body as takes_body_lem, what_asked as what_asked_lem};
+ghost use Rattle.desk_http.specs.Routes.{ReadsBody, asked_by as asked_by_lem, method_of as method_of_lem, only as only_lem, reads_json, route_taken as route_taken_lem, seen_of as seen_of_lem, takes_body as takes_body_lem, what_asked as what_asked_lem};
 
 use crate::numbers::within;
 use crate::targets::DeskRoutes;
@@ -15,11 +15,13 @@ use http_framing::{FieldNumber, RequestParts};
 use std::alloc::Global;
 
 mod commits;
+mod days;
 mod messages;
 mod reports;
 mod visits;
 
 use commits::commit_asked;
+use days::day_asked;
 use messages::message_asked;
 use reports::{cancel_asked, report_asked};
 use visits::visit_added;
@@ -104,33 +106,15 @@ pub(crate) fn asked_by(
     Ok(Ask { seen, what })
 }
 
-// The route that a request takes: one that is there, by its method.
+// The route that a request takes, by its method.
 fn route_taken(routes: &DeskRoutes, method: &[u8], target: &[u8]) -> Result<Route, Early>
     ensures is { result ≡ route_taken_lem method.now target.now }
 {
     let route = routes.route_of(target).ok_or(Early::NoRoute)?;
-    if !is_built(route) {
-        return Err(Early::Unbuilt);
-    }
     if method != method_of(route) {
         return Err(only(route));
     }
     Ok(route)
-}
-
-fn is_built(route: Route) -> bool
-    ensures is { result ≡ is_built_lem route }
-{
-    match route {
-        Route::Visits
-        | Route::Commits
-        | Route::Mvt
-        | Route::Reports
-        | Route::Cancels
-        | Route::Version
-        | Route::Visit(_) => true,
-        Route::Unplaced | Route::Plan(_) | Route::Chart(_) => false,
-    }
 }
 
 // Whether a body comes with the requests of a route.
@@ -171,7 +155,7 @@ fn seen_of(seen: FieldNumber) -> Option<u32>
     }
 }
 
-// What is asked of a route with this body.
+// What is asked of a route with this body. A day is looked at, and no body then.
 fn what_asked(alloc: Global, airport: &Airport, route: Route, body: &[u8]) -> Result<What, Unasked>
     ensures asked { Finds (what_asked_lem airport.now route body.now) result }
     ensures memory { result ≡ Err Unasked.Memory → reads_json route ≡ true }
@@ -185,6 +169,8 @@ fn what_asked(alloc: Global, airport: &Airport, route: Route, body: &[u8]) -> Re
         Route::Cancels => cancel_asked(alloc, body),
         Route::Version => Ok(What::Version),
         Route::Visit(number) => Ok(What::Visit(number)),
-        Route::Unplaced | Route::Plan(_) | Route::Chart(_) => Err(Unasked::AtOnce(Early::Unbuilt)),
+        Route::Unplaced => Ok(What::Unplaced),
+        Route::Plan(day) => Ok(day_asked(airport, day, What::Plan(day))?),
+        Route::Chart(day) => Ok(day_asked(airport, day, What::Chart(day))?),
     }
 }

@@ -30,6 +30,7 @@ pub fn session<P: DeskPort, S: Source, W: Sink>(
         (record { source = S.state source.old; sink = W.state sink.old; port = P.port port.old })
         (record { source = S.state source.new; sink = W.state sink.new; port = P.port port.new }) result }
     ensures airport { P.airport_of port.new ≡ P.airport_of port.old }
+    ensures place { P.place port.new ≡ P.place port.old }
 {
     let Ok(routes) = DeskRoutes::new(alloc) else {
         return Outcome::Memory;
@@ -49,6 +50,7 @@ fn session_by<P: DeskPort, A: Answerer<P>, S: Source, W: Sink>(
         (record { source = S.state source.old; sink = W.state sink.old; port = P.port port.old })
         (record { source = S.state source.new; sink = W.state sink.new; port = P.port port.new }) result }
     ensures airport { P.airport_of port.new ≡ P.airport_of port.old }
+    ensures place { P.place port.new ≡ P.place port.old }
 {
     let Ok(mut incoming) = Incoming::new(alloc) else {
         return Outcome::Memory;
@@ -124,6 +126,7 @@ fn take_turn<P: DeskPort, A: Answerer<P>, S: Source, W: Sink>(
         (record { source = S.state source.new; sink = W.state sink.new; port = P.port port.new })
         incoming.old incoming.new result }
     ensures airport { P.airport_of port.new ≡ P.airport_of port.old }
+    ensures place { P.place port.new ≡ P.place port.old }
 {
     'reading: loop {
         match incoming.front() {
@@ -154,6 +157,7 @@ fn serve<P: DeskPort, A: Answerer<P>, W: Sink>(
     ensures served { (request : Request) → ArePartsOf request parts.now
         → IsServed (P.airport_of port.old) (A.comes (P.airport_of port.old) (P.port port.old) request) (W.state sink.old) (W.state sink.new) result (P.port port.new) }
     ensures airport { P.airport_of port.new ≡ P.airport_of port.old }
+    ensures place { P.place port.new ≡ P.place port.old }
 {
     match answerer.answer(alloc, port, parts) {
         Ok(reply) => match reply.put(sink) {
@@ -169,6 +173,9 @@ fn refusal_text(why: Refusal) -> &'static [u8]
     ensures text { result.now ≡ refusal_text_lem why }
 {
     match why {
-        Refusal::Head | Refusal::Encoding | Refusal::Large | Refusal::Length => fixed::bad_head(),
+        Refusal::Head => fixed::bad_head(),
+        Refusal::Encoding => fixed::bad_encoding(),
+        Refusal::Large => fixed::large_body(),
+        Refusal::Length => fixed::no_length(),
     }
 }

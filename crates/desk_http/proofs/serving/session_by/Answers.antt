@@ -10,6 +10,7 @@ pub loop-count-init : goal.loop-count-init
 loop-count-init g c = record {
   so_far = begins (g.A.Answerer.comes (g.P.DeskPort.airport_of c.args.port.now)) _ _ c.in-Ok.incoming c.in-Ok.ensures.empty;
   airport = refl;
+  place = refl;
 }
 
 pub returns-in-Some-clause-by : goal.returns-in-Some-clause-by
@@ -22,6 +23,7 @@ loop-count-preserved g c = record {
   so_far = goes_on (g.A.Answerer.comes (g.P.DeskPort.airport_of c.args.port.now)) _ _ _ _ _ _ _ c.take_turn-turned.result c.loop-count.invariant.so_far
       (turn_at g.A.Answerer.comes _ _ _ _ _ _ _ c.loop-count.invariant.airport c.take_turn-turned.ensures.turn) (sym c.outcome_of.ensures.is ∙ c.in-None.is);
   airport = c.take_turn-turned.ensures.airport ∙ c.loop-count.invariant.airport;
+  place = c.take_turn-turned.ensures.place ∙ c.loop-count.invariant.place;
 }
 
 pub returns-clause-by : goal.returns-clause-by

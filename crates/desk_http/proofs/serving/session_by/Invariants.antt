@@ -10,4 +10,5 @@ invariant-loop-count g l = record {
       (record { source = g.S.Source.state l.source; sink = g.W.Sink.state l.sink; port = g.P.DeskPort.port l.port })
       l.incoming l.count;
   airport : g.P.DeskPort.airport_of l.port ≡ g.P.DeskPort.airport_of l.fn.port;
+  place : g.P.DeskPort.place l.port ≡ g.P.DeskPort.place l.fn.port;
 }

@@ -1,13 +1,13 @@
 use Rattle.std.proofs.Common.{◌≡◌, ◌<◌, ◌≤◌, ◌+◌, ◌∙◌, ap, arith, subst}
 use Rattle.history_core.specs.Answer.{ActsAs}
 use Rattle.history_core.specs.History.{IsLegal, call_limit}
-use Rattle.desk_http.specs.Alone.{AloneAsks, AloneState, alone_port}
+use Rattle.desk_http.specs.Alone.{AloneAsks, AloneHeld, alone_port}
 use Rattle.desk_http.specs.Ports.{ShowsAsk}
 use Rattle.desk_http.proofs.OneDesk.{alone_shows}
 use Rattle.desk_http.proofs.alone.AloneDeskPort.ask.Goals as goal
 
 pub returns-clause-shows : goal.returns-clause-shows
-returns-clause-shows c =
+returns-clause-shows g c =
     let before = c.self.inside.board in
     let after = c.ask.new.self in
     let call : c.next_call-call.result ≡ before.next = c.next_call-call.ensures.value in
@@ -15,6 +15,9 @@ returns-clause-shows c =
     let last : before.next < call_limit = omega arith in
     let acts : ActsAs before.airport before.history before.next c.args.ask.now c.ask.result after.history =
     subst (λ n. ActsAs before.airport before.history n c.args.ask.now c.ask.result after.history) call c.ask.ensures.acts in
-    subst (λ (a : AloneState). ShowsAsk AloneAsks a.board.airport (alone_port a) c.args.ask.now c.ask.result (alone_port (record { board = after; first = c.self.inside.first }))) c.self.view_is
-    (alone_shows before after c.self.inside.first c.args.ask.now c.ask.result c.self.invariant
-    (subst (λ airport. IsLegal airport after.history) c.ask.ensures.airport c.ask.ensures.legal) last acts (c.ask.ensures.next ∙ ap (λ n. n + 1) call) c.ask.ensures.no_fault)
+    let tells = g.K.Keeper.state in
+    subst (λ (a : AloneHeld g.row.K.Denot). ShowsAsk AloneAsks a.board.airport (alone_port tells a) c.args.ask.now c.ask.result
+    (alone_port tells (record { board = after; first = c.self.inside.first })))
+    c.self.view_is
+    (alone_shows tells before after c.self.inside.first c.args.ask.now c.ask.result c.self.invariant
+    (subst (λ airport. IsLegal airport after.history) c.ask.ensures.airport c.ask.ensures.legal) last acts (c.ask.ensures.next ∙ ap (λ n. n + 1) call) c.ask.ensures.faults)
