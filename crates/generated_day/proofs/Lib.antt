@@ -1,0 +1,4 @@
+pub mod OfDay
+pub mod Steps
+pub mod Bumped
+pub mod Opened

@@ -1,0 +1,132 @@
+-- How a day is made: visit by visit, over a history that grows.
+use Rattle.std.specs.Prelude.{◌≡◌, ◌+◌, ◌/◌, ◌%◌, ◌==◌, ℕ, zero, suc, nat_lt, Bool, List, [], length, count_by, not}
+use Rattle.std.specs.Bool.{MatchBool}
+use Rattle.std.specs.List.{flat_map}
+use Rattle.visit_book.specs.Places.{stand_of}
+use Rattle.visit_book.specs.declared.visits.Part.{Part}
+use Rattle.visit_book.specs.declared.visits.Visit.{Visit}
+use Rattle.desk_words.specs.declared.asks.Command.{Command}
+use Rattle.desk_words.specs.declared.asks.Command.TheVariants.{AddVisit, Message}
+use Rattle.desk_words.specs.declared.asks.Entry.{Entry}
+use Rattle.desk_words.specs.declared.asks.What.TheVariants.{Change}
+use Rattle.desk_words.specs.declared.replies.Reply.{Reply}
+use Rattle.desk_words.specs.declared.replies.Told.{Told}
+use Rattle.desk_words.specs.declared.replies.Told.TheVariants.{Message as MessageTaken}
+use Rattle.std.specs.Option.{is_some}
+use Rattle.history_core.specs.Answer.{Gives, replied}
+use Rattle.history_core.specs.History.{replay}
+use Rattle.plan_core.specs.PlanState.{PlanState}
+use Rattle.generated_day.specs.Asked.{drawn_visit, estimate, put_first, scheduled_on}
+use Rattle.generated_day.specs.DayAirport.{day_airport}
+use Rattle.generated_day.specs.Draws.{drawn, seed_after}
+use Rattle.generated_day.specs.declared.airport.TheConstants.{STANDS}
+use Rattle.generated_day.specs.declared.summary.Summary.{Summary}
+
+-- a day in the making: its history, the number of the next call, the generator's number, the number of the next draft, and how many commits were refused
+-- and how many parts were told of as bumped so far
+pub record Day : Type 0 where
+  pub history : List Entry
+  pub next : ℕ
+  pub seed : ℕ
+  pub draft : ℕ
+  pub refused : ℕ
+  pub bumped : ℕ
+
+-- nothing was asked and drawn yet
+abbrev pub first_day : Day
+first_day = record { history = []; next = 1; seed = 1; draft = 1; refused = 0; bumped = 0 }
+
+-- the plan of the day as it is
+abbrev pub plan_of : Day → PlanState
+plan_of day = replay day_airport day.history
+
+-- this was asked with the next call, and this is the plan's reply to it
+abbrev pub IsAsked : Command → Day → Reply → Day → Type 0
+IsAsked command day reply after =
+    Gives day_airport day.history day.next (record { seen = 0; what = Change command }) (replied reply) after.history
+    × (after ≡ record day { history = after.history; next = day.next + 1 })
+
+-- the entry of what was asked was added
+abbrev pub is_accepted : Day → Day → Bool
+is_accepted day after = nat_lt (length day.history) (length after.history)
+
+-- the visit of this number was drawn, and asked to be added
+pub record IsAdded (number : ℕ) (day after : Day) : Type 0 where
+  pub asked : Day
+  pub reply : Reply
+  pub is : IsAsked (AddVisit (drawn_visit number day.seed)) day reply asked
+  pub after_is : after ≡ record asked { seed = seed_after 4 day.seed }
+
+-- the next draft was asked to put the visit on the stand
+pub record IsPut (number stand : ℕ) (day after : Day) : Type 0 where
+  pub asked : Day
+  pub reply : Reply
+  pub is : IsAsked (put_first day.draft (plan_of day).version number stand) day reply asked
+  pub after_is : after ≡ record asked { draft = day.draft + 1 }
+
+-- the day with one more commit that was refused
+abbrev pub with_refusal : Day → Day
+with_refusal day = record day { refused = day.refused + 1 }
+
+-- the visit was asked to be put on so many stands in a row, from the t-th behind the first on, up to the first that is accepted
+abbrev pub IsTried : ℕ → ℕ → ℕ → ℕ → Day → Day → Type 0
+IsTried zero number first t day after = after ≡ day
+IsTried (suc turns) number first t day after =
+    (put : Day) × IsPut number ((first + t) % STANDS) day put
+    × MatchBool (is_accepted day put) (after ≡ put) (IsTried turns number first (t + 1) (with_refusal put) after)
+
+-- a stand was drawn, and it and the seven behind it were tried
+abbrev pub IsPlaced : ℕ → Day → Day → Type 0
+IsPlaced number day after = IsTried 8 number (drawn STANDS (seed_after 1 day.seed)) 0 (record day { seed = seed_after 1 day.seed }) after
+
+-- how many parts a message's reply tells of as bumped
+abbrev pub count_bumped : Told → ℕ
+count_bumped (MessageTaken parts visit) = length parts
+count_bumped told = 0
+
+-- a delay was drawn, and the visit of this number was told to be later by it and 20 minutes
+pub record IsDelayed (number : ℕ) (day after : Day) : Type 0 where
+  pub asked : Day
+  pub reply : Reply
+  pub is : IsAsked (Message (estimate number (scheduled_on (plan_of day).visits number) (20 + drawn 60 (seed_after 1 day.seed)))) day reply asked
+  pub after_is : after ≡ record asked { seed = seed_after 1 day.seed; bumped = day.bumped + count_bumped reply.told }
+
+-- what is made with the visit of this number: it is added and placed, and with each fourth one the visit of half its number is delayed
+pub record IsMade (number : ℕ) (day after : Day) : Type 0 where
+  pub added : Day
+  pub placed : Day
+  pub adds : IsAdded number day added
+  pub places : IsPlaced number added placed
+  pub delays : MatchBool (number % 4 == 0) (IsDelayed (number / 2) placed after) (after ≡ placed)
+
+-- the day of so many visits
+abbrev pub IsDayOf : ℕ → Day → Type 0
+IsDayOf zero after = after ≡ first_day
+IsDayOf (suc visits) after = (day : Day) × IsDayOf visits day × IsMade (visits + 1) day after
+
+-- the parts of the visits
+abbrev pub parts_of : List Visit → List Part
+parts_of visits = flat_map (λ visit. visit.parts) visits
+
+-- the part is on a stand
+abbrev pub is_placed : Part → Bool
+is_placed part = is_some (stand_of part.place)
+
+-- the part is on none
+abbrev pub is_unplaced : Part → Bool
+is_unplaced part = not (is_placed part)
+
+-- what there is in the end
+abbrev pub summary_of : Day → Summary
+summary_of day = let plan = plan_of day in record {
+  visits = length plan.visits;
+  placed = count_by is_placed (parts_of plan.visits);
+  unplaced = count_by is_unplaced (parts_of plan.visits);
+  refused = day.refused;
+  bumped = day.bumped;
+  version = plan.version;
+}
+
+-- the summary of a generated day of so many visits
+abbrev pub MakesDay : ℕ → Summary → Type 0
+MakesDay visits summary = (day : Day) × IsDayOf visits day × (summary ≡ summary_of day)

@@ -1,0 +1,15 @@
+//! A day that is generated: visits of drawn types and times, put on drawn stands of one airport, and late by messages,
+//! all asked of a board. It is for measuring and comparing, and says nothing of real days. It knows no files and no desks.
+#![tactic(auto)]
+
+mod airport;
+mod asks;
+mod counts;
+mod draws;
+mod making;
+mod making_steps;
+mod making_visits;
+mod summary;
+
+pub use making_visits::{MAX_MADE, make_day};
+pub use summary::{Summary, summary_line};

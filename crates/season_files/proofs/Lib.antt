@@ -1,0 +1,7 @@
+pub mod RecordWalk
+pub mod Plain
+pub mod Times
+pub mod TypeNames
+pub mod Lines
+pub mod Numbers
+pub mod ReadBack

@@ -1,0 +1,6 @@
+pub mod CsvReading
+pub mod Records
+pub mod Seasons
+pub mod CsvWriting
+pub mod Texts
+pub mod Laws

@@ -1,0 +1,85 @@
+// The visits of a text, read record by record.
+ghost use Rattle.std.specs.Prelude.{◌≡◌, ℕ, List, Some, OnOk, IfOk, IfErr, ◌<◌, ◌+◌, ◌^◌, length, All};
+ghost use Rattle.csv.specs.declared.parser.State.{State};
+ghost use Rattle.visit_book.specs.NewVisits.{IsNewVisitOf};
+ghost use Rattle.season_files.specs.CsvReading.{IsReading};
+ghost use Rattle.season_files.specs.Seasons.{Reads, Refuses, season_in, season_left, visits_left};
+
+use crate::csv_reading::{read_row, start};
+use crate::faults::SeasonFault;
+use crate::records::{is_header, visit_of};
+use apron_base::Listed;
+use apron_rules::Airport;
+use csv::{ByteRecord, Reader};
+use std::alloc::Global;
+use visit_book::{Key, NewVisit};
+
+// Reads the first record, which is the header.
+fn read_header(
+    airport: &Airport,
+    rdr: &mut Reader<&[u8]>,
+    row: &mut ByteRecord,
+) -> Result<(), SeasonFault>
+    ensures ok { OnOk result ((turns : ℕ) (s : State) (left : List ℕ) → IsReading (λ b. Some b.now) rdr.old s left
+        → (t : State) × (rest : List ℕ) × IsReading (λ b. Some b.now) rdr.new t rest
+        × (season_left airport.now (turns + 1) s left ≡ visits_left airport.now 2 turns t rest)) }
+    ensures err { IfErr result (λ e. (turns : ℕ) (s : State) (left : List ℕ) → IsReading (λ b. Some b.now) rdr.old s left
+        → Refuses e (season_left airport.now (turns + 1) s left)) }
+{
+    if !read_row(rdr, row)? {
+        return Err(SeasonFault::BadRow(1));
+    }
+    if is_header(row) {
+        Ok(())
+    } else {
+        Err(SeasonFault::BadRow(1))
+    }
+}
+
+// Reads the records after the header, as many as `turns`.
+fn read_visits(
+    alloc: Global,
+    airport: &Airport,
+    rdr: &mut Reader<&[u8]>,
+    row: &mut ByteRecord,
+    turns: usize,
+) -> Result<Listed<NewVisit>, SeasonFault>
+    requires few { turns < 2 ^ 31 }
+    ensures value { (s : State) (left : List ℕ) → IsReading (λ b. Some b.now) rdr.old s left → Reads result (visits_left airport.now 2 turns s left) }
+    ensures new { IfOk result (All (IsNewVisitOf airport.now)) }
+{
+    let mut visits = Listed::new(alloc);
+    for k in 0..turns {
+        if !read_row(rdr, row)? {
+            return Ok(visits);
+        }
+        let Some(new) = visit_of(airport, row) else {
+            return Err(SeasonFault::BadRow(k as u32 + 2));
+        };
+        // This names the type of a field of what is pushed, which the proof of the push has to be told.
+        let _named: Option<Key> = new.arr;
+        if visits.push(new).is_err() {
+            return Err(SeasonFault::Memory);
+        }
+    }
+    Ok(visits)
+}
+
+/// The visits of a season file for the airport, in order of its records. The minutes are from 00:00 UTC of the
+/// airport's first day, and days are counted from 1, which is that day. At `BadRow` the record of this number is the
+/// first that is refused, counted from 1 with the header: it is missing as header, it has not nine fields or one of another form,
+/// its type is not of the airport, or its times are not such as a visit can have there.
+pub fn read_season(
+    alloc: Global,
+    airport: &Airport,
+    text: &[u8],
+) -> Result<Listed<NewVisit>, SeasonFault>
+    requires few { length text.now < 2 ^ 31 }
+    ensures read { Reads result (season_in airport.now text.now) }
+    ensures new { IfOk result (All (IsNewVisitOf airport.now)) }
+{
+    let mut rdr = start(alloc, text);
+    let mut row = ByteRecord::new(alloc);
+    read_header(airport, &mut rdr, &mut row)?;
+    read_visits(alloc, airport, &mut rdr, &mut row, text.len())
+}
