@@ -2,7 +2,7 @@
 ghost use Rattle.std.specs.Prelude.{◌≡◌, ◌≤◌, IfOk};
 ghost use Rattle.history_core.specs.History.{IsAskOf};
 
-use apron_base::{Acted, Letter, Listed, Name, StandNo, TypeNo, VisitNo};
+use apron_base::{Acted, Letter, Listed, Name, StandNo, SteadyKeeper, TypeNo, VisitNo};
 use apron_rules::{Airport, AirportParts, Date, Frontage, StandRow, TypeRow};
 use desk_words::asks::{Ask, Command, What};
 use history_core::Board;
@@ -11,6 +11,8 @@ use std::sync::Wait;
 use std::test::Fail;
 use turn_board::TurnBoard;
 use visit_book::{Edit, NewVisit, is_in_time};
+
+mod threads;
 
 const SECOND_ADDED: &[u8] =
     b"HTTP/1.1 200 OK\r\nContent-Type: application/json\r\nContent-Length: 23\r\nX-Version: 2\r\n\r\n{\"version\":2,\"visit\":2}";
@@ -111,12 +113,17 @@ fn asked(what: What) -> Ask
 }
 
 // A board at which this was asked.
-fn board_after<'a>(alloc: Global, airport: &'a Airport, ask: &Ask) -> Result<Board<'a>, Fail>
+fn board_after<'a>(
+    alloc: Global,
+    airport: &'a Airport,
+    ask: &Ask,
+) -> Result<Board<'a, SteadyKeeper>, Fail>
     requires valid { IsAskOf airport.now ask.now }
     ensures airport { IfOk result (λ board. board.airport ≡ airport.entry.now) }
     ensures next { IfOk result (λ board. board.next ≡ 2) }
 {
-    let Ok(mut board) = Board::new(alloc, airport) else {
+    let keeper = SteadyKeeper::new(alloc, Vec::new(alloc));
+    let Ok(mut board) = Board::open(alloc, airport, keeper, Vec::new(alloc)) else {
         return Err(Fail::new("memory"));
     };
     board.ask(alloc, 1, ask);
@@ -143,7 +150,7 @@ struct Want<'t> {
 fn is_met<R: Wait>(
     rt: &R,
     alloc: Global,
-    board: Board,
+    board: Board<SteadyKeeper>,
     first: &Ask,
     second: &Ask,
     want: &Want,

@@ -1,0 +1,98 @@
+-- A call of a seat that got its turn, as its port tells it.
+use Rattle.std.proofs.Common.{◌≡◌, ◌≢◌, ◌∙◌, ◌<◌, ◌+◌, ℕ, Bool, true, false, cond, List, [], ◌∷◌, ◌++◌, map, refl, sym, ap, subst, arith}
+use Rattle.std.specs.Prelude.{count_by}
+use Rattle.std.proofs.lemmas.List.{map-append}
+use Rattle.std.proofs.lemmas.List.Sums.{sum_by-append}
+use Rattle.std.proofs.lemmas.Bool.Decides.{nat_tests}
+use Rattle.apron_base.specs.Counts.{Counts}
+use Rattle.apron_base.specs.Histories.{Every}
+use Rattle.apron_base.specs.Machine.{MachineState, is_fault}
+use Rattle.apron_base.proofs.Rising.{rises_length}
+use Rattle.apron_base.specs.declared.outside.Acted.{Acted}
+use Rattle.apron_base.specs.declared.outside.Acted.TheVariants.{Reply as Replied, Memory as NoMemory, Fault, Spent}
+use Rattle.apron_rules.specs.declared.parts.AirportParts.{AirportParts}
+use Rattle.desk_words.specs.declared.asks.Ask.{Ask}
+use Rattle.desk_words.specs.declared.asks.Entry.{Entry}
+use Rattle.history_core.specs.Answer.{ActsLegally, Given, keeper_fault, no_memory, replied, shown}
+use Rattle.history_core.specs.History.{call_of}
+use Rattle.turn_board.specs.Board.{GotTurn, SeatState, Sits, TurnBoardState}
+use Rattle.turn_board.specs.declared.view.Call.{Call}
+use Rattle.desk_http.specs.Ports.{CountsGiven, ShowsAsk, Turn}
+use Rattle.desk_turns.specs.Seats.{is_risen, number_of, port_of}
+
+every_map : (P : ℕ → Type 0) (calls : List Call) → Every (λ (call : Call). P call.number) calls → Every P (map number_of calls)
+every_map P [] h = tt
+every_map P (call ∷ calls) h = (h.0, every_map P calls h.1)
+
+risen_push : (calls : List Call) (last : Call) → count_by is_risen (calls ++ last ∷ []) ≡ count_by is_risen calls + cond (is_risen last) 1 0
+risen_push calls last = let more = sum_by-append (λ (call : Call). cond (is_risen call) 1 0) calls (last ∷ []) in omega (arith, more)
+
+-- the count of a port rises where something was given for a failure, and never falls
+counts : (given : Given) (airport : AirportParts) (answer : Acted) (last : Call) (before : ℕ)
+    → answer ≡ shown airport given → Counts (is_fault answer) last.found last.left
+    → CountsGiven given before (before + cond (is_risen last) 1 0)
+counts (replied reply) airport answer last before shows faults = omega arith
+counts no_memory airport answer last before shows faults = omega arith
+counts keeper_fault airport answer last before shows faults =
+    let rose : Counts true last.found last.left = subst (λ (a : Acted). Counts (is_fault a) last.found last.left) shows faults in
+    let risen : is_risen last ≡ true = let more = rose.1 in grind (arith, nat_tests) in
+    let one : cond {A = ℕ} (is_risen last) 1 0 ≡ 1 = ap (λ (b : Bool). cond {A = ℕ} b 1 0) risen in
+    (omega arith, omega (arith, one))
+
+-- what a call that got its turn was given
+turn : {M : Type 0} (state : M → MachineState Entry AirportParts) (board : TurnBoardState AirportParts) (before after : SeatState Entry AirportParts) (ask : Ask) (answer : Acted)
+    → Sits board before → after.exhausted ≡ false → GotTurn state call_of ActsLegally before (record { ask = ask; answer = answer }) after
+    → (given : Given) × (answer ≡ shown board.start.fixed given)
+    × Turn board.start.fixed (port_of (record { board = board; seat = before })) ask given (port_of (record { board = board; seat = after }))
+turn state board before after ask answer sits still got =
+    let history : List Entry = (state got.found).history in
+    let last : Call = record { number = got.ticket; found = (state got.found).faults; left = (state got.left).faults } in
+    let fixed : (state got.found).fixed ≡ board.start.fixed = (got.start board.start sits.start).0 in
+    let act : ActsLegally board.start.fixed history got.ticket ask answer after.seen =
+    subst (λ (airport : AirportParts). ActsLegally airport history got.ticket ask answer after.seen) fixed
+    (subst (λ (seen : List Entry). ActsLegally (state got.found).fixed history got.ticket ask answer seen) (sym got.seen) got.answered) in
+    let given : Given = act.acts.0 in
+    let risen : count_by is_risen after.calls ≡ count_by is_risen before.calls + cond (is_risen last) 1 0 = ap (count_by is_risen) got.calls ∙ risen_push before.calls last in (
+      given,
+      act.acts.1,
+      record {
+        history = history;
+        call = got.ticket;
+        from = let few = rises_length call_of 1 got.ticket history got.rises in omega arith;
+        later = record {
+          new = got.extends.rest;
+          is = got.extends.is;
+          above = every_map (λ (call : ℕ). Every (λ (entry : Entry). call < call_of entry) got.extends.rest) before.calls got.extends.later;
+        };
+        legal = act.found;
+        still = act.left;
+        numbers = got.rises;
+        above = every_map (λ (own : ℕ). own < got.ticket) before.calls got.new;
+        last = got.end;
+        gives = act.acts.2;
+        first = refl;
+        calls = ap (map number_of) got.calls ∙ map-append number_of before.calls (last ∷ []);
+        spent = got.note;
+        stays = λ spent. absurd (cc);
+        faults = subst (CountsGiven given (count_by is_risen before.calls)) (sym risen) (counts given board.start.fixed answer last (count_by is_risen before.calls) act.acts.1 got.acts.faults);
+      },
+    )
+
+not_true : (b : Bool) → (b ≡ true → ⊥) → b ≡ false
+not_true true h = absurd (h refl)
+not_true false h = refl
+
+-- what a seat shows of an ask
+pub seat_shows : {M : Type 0} (state : M → MachineState Entry AirportParts) (board : TurnBoardState AirportParts) (before after : SeatState Entry AirportParts) (ask : Ask) (answer : Acted)
+    → Sits board before
+    → (answer ≡ Spent → after ≡ record before { exhausted = true }) → (after.exhausted ≡ true → answer ≡ Spent)
+    → (answer ≢ Spent → GotTurn state call_of ActsLegally before (record { ask = ask; answer = answer }) after)
+    → ShowsAsk Turn board.start.fixed (port_of (record { board = board; seat = before })) ask answer (port_of (record { board = board; seat = after }))
+seat_shows state board before after ask Spent sits unasked still got =
+    ap (λ (seat : SeatState Entry AirportParts). port_of (record { board = board; seat = seat })) (unasked refl)
+seat_shows state board before after ask (Replied bytes) sits unasked still got =
+    let some : Replied bytes ≢ Spent = λ e. cc in turn state board before after ask (Replied bytes) sits (not_true after.exhausted (λ spent. some (still spent))) (got some)
+seat_shows state board before after ask NoMemory sits unasked still got =
+    let some : NoMemory ≢ Spent = λ e. cc in turn state board before after ask NoMemory sits (not_true after.exhausted (λ spent. some (still spent))) (got some)
+seat_shows state board before after ask Fault sits unasked still got =
+    let some : Fault ≢ Spent = λ e. cc in turn state board before after ask Fault sits (not_true after.exhausted (λ spent. some (still spent))) (got some)

@@ -1,0 +1,3 @@
+mod Asking
+mod Working
+pub mod Crosses

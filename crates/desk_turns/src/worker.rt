@@ -1,0 +1,61 @@
+// A worker: it serves the connections of its listener one after the other.
+ghost use Rattle.std.specs.Prelude.{◌≡◌, ◌≤◌};
+ghost use Rattle.desk_turns.specs.Work.{ServesNext, Works};
+
+use apron_base::{Failed, Listener};
+use desk_http::{DeskPort, session};
+use std::alloc::Global;
+use std::sync::Wait;
+
+/// How a worker ended.
+#[derive(Clone, Copy, Debug, PartialEq, Eq)]
+pub enum WorkEnd {
+    /// All its connections were finished.
+    Done,
+    /// The listener failed.
+    ListenerFault,
+}
+
+/// Accepts so many connections one after the other, serves a session on each over the port, and finishes it with the
+/// session's outcome, whatever that is. It ends before its time only where the listener fails.
+pub fn work<P: DeskPort, L: Listener, R: Wait>(
+    rt: &R,
+    alloc: Global,
+    port: &mut P,
+    listener: &mut L,
+    connections: u32,
+) -> WorkEnd
+    requires accepted { (L.state listener.old).ended ≤ (L.state listener.old).accepted }
+    ensures works { Works (record { source = L.In.state; sink = L.Out.state }) P.asks (P.airport_of port.old) connections
+        (record { listener = L.state listener.old; port = P.port port.old })
+        (record { listener = L.state listener.new; port = P.port port.new }) result }
+    ensures airport { P.airport_of port.new ≡ P.airport_of port.old }
+    ensures place { P.place port.new ≡ P.place port.old }
+{
+    for _served in 0..connections {
+        if let Err(Failed) = serve_next(rt, alloc, port, listener) {
+            return WorkEnd::ListenerFault;
+        }
+    }
+    WorkEnd::Done
+}
+
+// Serves the next connection, and finishes it. At `Err` the listener failed, and none was accepted.
+fn serve_next<P: DeskPort, L: Listener, R: Wait>(
+    rt: &R,
+    alloc: Global,
+    port: &mut P,
+    listener: &mut L,
+) -> Result<(), Failed>
+    requires accepted { (L.state listener.old).ended ≤ (L.state listener.old).accepted }
+    ensures serves { ServesNext (record { source = L.In.state; sink = L.Out.state }) P.asks (P.airport_of port.old)
+        (record { listener = L.state listener.old; port = P.port port.old })
+        (record { listener = L.state listener.new; port = P.port port.new }) result }
+    ensures airport { P.airport_of port.new ≡ P.airport_of port.old }
+    ensures place { P.place port.new ≡ P.place port.old }
+{
+    let (mut source, mut sink) = listener.accept(rt)?;
+    let outcome = session(alloc, port, &mut source, &mut sink);
+    listener.finish(source, sink, outcome);
+    Ok(())
+}

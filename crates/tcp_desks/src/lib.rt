@@ -1,0 +1,7 @@
+//! Desks that come over TCP: the system's listener as a `Listener`. It knows nothing of what is read and written, and
+//! tells nothing of it.
+#![tactic(auto)]
+
+mod listening;
+
+pub use listening::TcpDesks;
