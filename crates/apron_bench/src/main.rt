@@ -1,5 +1,5 @@
 //! Measures how fast a desk's commits are answered, over few visits and over many: `apron_bench airport.toml types.csv`
-//! has them answered in memory, at the large example airport.
+//! has them answered in memory, on a journal in memory, at the large example airport.
 #![tactic(auto)]
 
 mod replies;
@@ -7,8 +7,9 @@ mod requests;
 
 use crate::replies::Replies;
 use crate::requests::{Requests, requests_of};
-use apron_base::{FileShelf, Memory, SteadySource, Word};
+use apron_base::{FileShelf, Memory, NullSink, SteadySource, Word};
 use apron_run::run;
+use journal_disk::{MemoryDisk, Room};
 use std::alloc::Global;
 use std::time::Instant;
 use std::{env, io};
@@ -16,13 +17,27 @@ use std::{env, io};
 // The most bytes that the source gives at once, as in a packet of a network.
 const PIECE: usize = 1460;
 
-// The words of the command that is measured.
-fn words(alloc: Global, airport: &str, types: &str) -> Result<Vec<Word>, Memory> {
+// More bytes than the entry of a visit or of a commit of one edit has on the disk, with its share of those of 64 edits.
+const MOST_OF_AN_ENTRY: usize = 100;
+
+// This command's words.
+fn words(alloc: Global, word: &str, airport: &str, types: &str) -> Result<Vec<Word>, Memory> {
     let mut words = Vec::new(alloc);
-    words.push(Word::new(alloc, "desk")?)?;
+    words.push(Word::new(alloc, word)?)?;
     words.push(Word::new(alloc, airport)?)?;
     words.push(Word::new(alloc, types)?)?;
     Ok(words)
+}
+
+// An empty disk with room for a journal of so many entries.
+fn disk_for(alloc: Global, entries: usize) -> Result<MemoryDisk, Memory> {
+    let bytes = entries.saturating_add(10).saturating_mul(MOST_OF_AN_ENTRY);
+    let room = Room {
+        bytes,
+        written: bytes,
+        calls: entries.saturating_add(10).saturating_mul(4),
+    };
+    MemoryDisk::new(alloc, Vec::new(alloc), room, Vec::new(alloc))
 }
 
 // A source that gives these bytes in pieces.
@@ -37,15 +52,37 @@ fn in_pieces(alloc: Global, bytes: Vec<u8>) -> Result<SteadySource, Memory> {
 
 // Has so many commits answered over so many visits, and prints how many replies were of status 200 and how many not, how many
 // commits were answered a second, and how long the first and the last of them took.
-fn measure(rt: &HostRuntime, words: &[Word], visits: u32, commits: u32) -> io::Result<()> {
+fn measure(
+    rt: &HostRuntime,
+    init: &[Word],
+    desk: &[Word],
+    visits: u32,
+    commits: u32,
+) -> io::Result<()> {
     let alloc: Global = rt.alloc();
     let Requests { bytes, before } = requests_of(alloc, visits, commits)?;
-    let Ok(mut source) = in_pieces(alloc, bytes) else {
+    let entries = (before as usize).saturating_add(commits as usize);
+    let (Ok(mut source), Ok(mut disk)) = (in_pieces(alloc, bytes), disk_for(alloc, entries)) else {
         return Err(io::Error::from(io::ErrorKind::OutOfMemory));
     };
     let mut shelf = FileShelf::new(rt);
+    let _ = run(
+        alloc,
+        init,
+        &mut shelf,
+        &mut source,
+        &mut NullSink,
+        &mut disk,
+    );
     let mut replies = Replies::new(rt, before, commits);
-    let status = run(alloc, words, &mut shelf, &mut source, &mut replies);
+    let status = run(
+        alloc,
+        desk,
+        &mut shelf,
+        &mut source,
+        &mut replies,
+        &mut disk,
+    );
     let (accepted, refused, few) = (replies.accepted, replies.refused, replies.few());
     let (Some(start), Some(first), Some(last), Some(end)) = (
         replies.start,
@@ -76,11 +113,15 @@ fn main(rt: HostRuntime) -> io::Result<()> {
             "apron_bench AIRPORT TYPES has commits answered over 6, 500 and 5000 visits, at an airport with stands A1 to A24 and B1 and the type A320"
         );
     };
-    let Ok(words) = words(rt.alloc(), airport.as_str(), types.as_str()) else {
+    let (airport, types) = (airport.as_str(), types.as_str());
+    let (Ok(init), Ok(desk)) = (
+        words(rt.alloc(), "init", airport, types),
+        words(rt.alloc(), "desk", airport, types),
+    ) else {
         return Err(io::Error::from(io::ErrorKind::OutOfMemory));
     };
     for (visits, commits) in [(6, 100_000), (500, 10_000), (5000, 500)] {
-        measure(&rt, words.as_slice(), visits, commits)?;
+        measure(&rt, init.as_slice(), desk.as_slice(), visits, commits)?;
     }
     Ok(())
 }

@@ -5,6 +5,8 @@ use Rattle.apron_base.specs.Shelf.{ShelfState}
 use Rattle.apron_rules.specs.declared.parts.AirportParts.{AirportParts}
 use Rattle.airport_files.specs.declared.read.FileFault.{FileFault}
 use Rattle.airport_files.specs.Meaning.{meaning}
+use Rattle.apron_check.specs.Digests.{digests_of}
+use Rattle.apron_check.specs.declared.files.AirportFiles.{AirportFiles}
 use Rattle.apron_check.specs.declared.faults.FilesFault.{FilesFault}
 use Rattle.apron_check.specs.declared.faults.FilesFault.TheVariants.{Faulty, AirportTooLong, TypesTooLong, ShelfFault, Memory}
 
@@ -16,6 +18,15 @@ max_file = 1048576
 pub record AreOfFile (file : Option (List ℕ)) (bytes : List ℕ) : Type 0 where
   pub told : IfSome file (λ kept. bytes ≡ kept)
   pub short : length bytes ≤ max_file
+
+-- two files that aren't too long make this airport together, and these are their digests
+pub record Make (airport types : Option (List ℕ)) (made : AirportFiles) : Type 0 where
+  pub airport_bytes : List ℕ
+  pub types_bytes : List ℕ
+  pub of_airport : AreOfFile airport airport_bytes
+  pub of_types : AreOfFile types types_bytes
+  pub airport_is : meaning airport_bytes types_bytes ≡ Ok made.airport
+  pub digests_are : made.digests ≡ digests_of airport_bytes types_bytes
 
 -- two files that aren't too long mean this together
 pub record Mean (airport types : Option (List ℕ)) (meant : Result AirportParts FileFault) : Type 0 where
@@ -31,8 +42,8 @@ IsTooLong file before after = MatchOption file (RoseBy (max_file + 1) before.rea
 
 -- why an airport, or a fault in its place, is found in the files of two names: each has its cause but want of memory, and that of a failing shelf
 -- is its count
-abbrev pub HasCause : ShelfState → ShelfState → List ℕ → List ℕ → Result AirportParts FilesFault → Type 0
-HasCause before after airport types (Ok parts) = Mean (before.file airport) (before.file types) (Ok parts)
+abbrev pub HasCause : ShelfState → ShelfState → List ℕ → List ℕ → Result AirportFiles FilesFault → Type 0
+HasCause before after airport types (Ok made) = Make (before.file airport) (before.file types) made
 HasCause before after airport types (Err (Faulty fault)) = Mean (before.file airport) (before.file types) (Err fault)
 HasCause before after airport types (Err AirportTooLong) = IsTooLong (before.file airport) before after
 HasCause before after airport types (Err TypesTooLong) = ((bytes : List ℕ) × AreOfFile (before.file airport) bytes) × IsTooLong (before.file types) before after
@@ -40,12 +51,12 @@ HasCause before after airport types (Err ShelfFault) = Unit {0}
 HasCause before after airport types (Err Memory) = Unit {0}
 
 -- the shelf failed
-abbrev pub is_shelf_fault : Result AirportParts FilesFault → Bool
+abbrev pub is_shelf_fault : Result AirportFiles FilesFault → Bool
 is_shelf_fault (Err ShelfFault) = true
 is_shelf_fault found = false
 
 -- what is found in the files of two names, and what that does to the shelf: its files stay, and it fails only where that is told
-pub record Finds (before after : ShelfState) (airport types : List ℕ) (found : Result AirportParts FilesFault) : Type 0 where
+pub record Finds (before after : ShelfState) (airport types : List ℕ) (found : Result AirportFiles FilesFault) : Type 0 where
   pub cause : HasCause before after airport types found
   pub counts : Counts (is_shelf_fault found) before.faults after.faults
   pub more : before.read ≤ after.read

@@ -1,3 +1,4 @@
+pub mod Digests
 pub mod Faults
 pub mod Files
 pub mod Lines

@@ -1,5 +1,6 @@
-// The airport of two files, by their names on a shelf.
+// The airport of two files, by their names on a shelf, and the files' digests.
 ghost use Rattle.std.specs.Prelude.{◌≡◌};
+ghost use Rattle.apron_check.specs.Digests.{digests_of};
 ghost use Rattle.apron_check.specs.Faults.{unread_as};
 ghost use Rattle.apron_check.specs.Files.{Finds};
 
@@ -7,21 +8,31 @@ use crate::FilesFault;
 use airport_files::read_airport;
 use apron_base::{Shelf, ShelfFault};
 use apron_rules::Airport;
+use journal_disk::digest_of;
 use std::alloc::Global;
 
 /// The most bytes of a file: 1 MiB.
 pub const MAX_FILE: u32 = 1_048_576;
 
-/// The airport that the airport file and the type file of these names make. First the airport file is
-/// read from the shelf and then the type file, and then what they mean together is looked at. At `Err`
-/// the first fault on this way is told: that a file is over 1 MiB, what is wrong in them, that the shelf
-/// failed, or that memory is wanting.
+/// An airport, and the files that make it.
+#[derive(Drop)]
+pub struct AirportFiles {
+    /// The airport.
+    pub airport: Airport,
+    /// The SHA-256 of the airport file, and then that of the type file, 32 bytes each.
+    pub digests: [u8; 64],
+}
+
+/// The airport that the airport file and the type file of these names make, with their digests. First the
+/// airport file is read from the shelf and then the type file, and then what they mean together is looked
+/// at. At `Err` the first fault on this way is told: that a file is over 1 MiB, what is wrong in them, that
+/// the shelf failed, or that memory is wanting.
 pub fn airport_of<F: Shelf>(
     alloc: Global,
     airport: &str,
     types: &str,
     shelf: &mut F,
-) -> Result<Airport, FilesFault>
+) -> Result<AirportFiles, FilesFault>
     ensures finds { Finds (F.state shelf.old) (F.state shelf.new) airport.now types.now result }
 {
     let airport = match shelf.read_file(alloc, airport, MAX_FILE) {
@@ -33,9 +44,23 @@ pub fn airport_of<F: Shelf>(
         Err(fault) => return Err(unread(fault, FilesFault::TypesTooLong)),
     };
     match read_airport(alloc, airport.as_slice(), types.as_slice()) {
-        Ok(airport) => Ok(airport),
+        Ok(made) => Ok(AirportFiles {
+            airport: made,
+            digests: digests_of(airport.as_slice(), types.as_slice()),
+        }),
         Err(fault) => Err(FilesFault::from(fault)),
     }
+}
+
+// The digests of two files, one behind the other.
+fn digests_of(airport: &[u8], types: &[u8]) -> [u8; 64]
+    ensures are { result ≡ digests_of airport.now types.now }
+{
+    let mut both = [0; 64];
+    let (front, back) = both.split_at_mut(32);
+    front.copy_from_slice(&digest_of(airport));
+    back.copy_from_slice(&digest_of(types));
+    both
 }
 
 // Why there is no airport where a file isn't given.

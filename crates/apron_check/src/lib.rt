@@ -1,4 +1,5 @@
-//! The two files of an airport on a shelf: the airport that they make, or why they make none, and the lines that tell either.
+//! The two files of an airport on a shelf: the airport that they make and their digests, or why they make none, and the
+//! lines that tell either. It doesn't know what is done at the airport.
 #![tactic(auto)]
 
 mod faults;
@@ -6,8 +7,8 @@ mod files;
 mod line;
 
 pub use faults::FilesFault;
-pub use files::{MAX_FILE, airport_of};
-pub use line::{put_counts, put_fault};
+pub use files::{AirportFiles, MAX_FILE, airport_of};
+pub use line::{put_both, put_counts, put_fault, put_number};
 
 #[cfg(test)]
 mod tests;

@@ -88,13 +88,15 @@ fn limit_word(limit: Limit) -> &'static str
     }
 }
 
-fn put_number<W: Sink>(sink: &mut W, head: &[u8], number: u64) -> Result<(), Failed>
+/// Writes a text and a number in digits behind it. At `Err` the sink failed, and a front of both was written.
+pub fn put_number<W: Sink>(sink: &mut W, head: &[u8], number: u64) -> Result<(), Failed>
     ensures puts { Puts (W.state sink.old) (W.state sink.new) result (head.now ++ decimal number) }
 {
     put_both(sink, head, Buffer::new().format(number).as_bytes())
 }
 
-fn put_both<W: Sink>(sink: &mut W, head: &[u8], tail: &[u8]) -> Result<(), Failed>
+/// Writes a text and then another. At `Err` the sink failed, and a front of both was written.
+pub fn put_both<W: Sink>(sink: &mut W, head: &[u8], tail: &[u8]) -> Result<(), Failed>
     ensures puts { Puts (W.state sink.old) (W.state sink.new) result (head.now ++ tail.now) }
 {
     sink.put(head)?;

@@ -86,7 +86,7 @@ fn found_in(
     let mut shelf = MapShelf::new(files, Vec::from_slice(alloc, failing_reads)?);
     let mut sink = ListSink::new(alloc, 1000, Vec::from_slice(alloc, failing_puts)?)?;
     let (fine, put) = match airport_of(alloc, "A", "T", &mut shelf) {
-        Ok(airport) => (true, put_counts(&mut sink, &airport)),
+        Ok(files) => (true, put_counts(&mut sink, &files.airport)),
         Err(fault) => (false, put_fault(&mut sink, &fault)),
     };
     Ok(Found {

@@ -1,7 +1,11 @@
 // What the program does with whole inputs. The expected texts are written by hand from the format of requests and replies.
 mod commits;
+mod crashes;
+mod journals;
 mod limits;
 mod lines;
+mod lists;
+mod messages;
 mod movements;
 mod routes;
 mod seen;
@@ -11,6 +15,7 @@ mod words_and_files;
 
 use apron_base::{Kept, ListSink, ListSource, Listed, MapShelf, Memory, Word};
 use apron_run::run;
+use journal_disk::{MemoryDisk, Room, digest_of};
 use std::alloc::Global;
 use std::fmt::Debug;
 use std::process::Abort;
@@ -65,7 +70,7 @@ const FIRST: &[u8] =
     b"POST /visits HTTP/1.1\r\nContent-Length: 78\r\n\r\n{\"name\":\"V1\",\"type\":\"A320\",\"class\":3,\"on\":600,\"off\":660,\"arr\":null,\"dep\":null}POST /commits HTTP/1.1\r\nContent-Length: 83\r\n\r\n{\"desk\":\"D\",\"draft\":1,\"base\":1,\"edits\":[{\"put\":{\"visit\":1,\"part\":1,\"stand\":\"N1\"}}]}";
 
 // What the program is run on: its words, the texts of the files `A` and `T`, its input, how many bytes of it the source gives
-// at a time, and which calls fail.
+// at a time, what the disk has in it, and which calls fail.
 #[derive(Clone, Copy)]
 struct Run<'a> {
     words: &'a str,
@@ -76,9 +81,13 @@ struct Run<'a> {
     failing_files: &'a [u64],
     failing_reads: &'a [u64],
     failing_puts: &'a [u64],
+    // whether the disk has a journal of the two files with no entry; else it has the bytes that are stored
+    is_new: bool,
+    stored: &'a [u8],
+    failing_calls: &'a [u64],
 }
 
-// A session at the example airport, whose input is empty.
+// A session at the example airport, on an empty journal, whose input is empty.
 const DEMO: Run = Run {
     words: "desk A T",
     airport: AIRPORT,
@@ -88,7 +97,18 @@ const DEMO: Run = Run {
     failing_files: &[],
     failing_reads: &[],
     failing_puts: &[],
+    is_new: true,
+    stored: &[],
+    failing_calls: &[],
 };
+
+// What became of a run: the bytes that it wrote, its status, and its disk.
+#[derive(Drop)]
+struct Ended {
+    output: Vec<u8>,
+    status: u8,
+    disk: MemoryDisk,
+}
 
 impl Run<'_> {
     // The program writes this output, and ends with this status.
@@ -100,6 +120,14 @@ impl Run<'_> {
         output: &[u8],
         status: u8,
     ) -> Result<(), Memory> {
+        let ended = self.ends(alloc)?;
+        assert_eq!(rt; ended.output.as_slice(), output, "{shows:?}");
+        assert_eq!(rt; ended.status, status, "{shows:?}");
+        Ok(())
+    }
+
+    // Runs the program.
+    fn ends(&self, alloc: Global) -> Result<Ended, Memory> {
         let files = Vec::from_array(
             alloc,
             [
@@ -114,12 +142,47 @@ impl Run<'_> {
             self.failing_reads.to_vec(alloc)?,
         );
         let mut sink = ListSink::new(alloc, 200_000, self.failing_puts.to_vec(alloc)?)?;
+        let mut disk = self.disk(alloc)?;
         let words = words(alloc, self.words)?;
-        let ended = run(alloc, words.as_slice(), &mut shelf, &mut source, &mut sink);
-        assert_eq!(rt; sink.bytes(), output, "{shows:?}");
-        assert_eq!(rt; ended, status, "{shows:?}");
-        Ok(())
+        let status = run(
+            alloc,
+            words.as_slice(),
+            &mut shelf,
+            &mut source,
+            &mut sink,
+            &mut disk,
+        );
+        Ok(Ended {
+            output: sink.bytes().to_vec(alloc)?,
+            status,
+            disk,
+        })
     }
+
+    fn disk(&self, alloc: Global) -> Result<MemoryDisk, Memory> {
+        let first = if self.is_new {
+            empty_journal(alloc, self.airport, self.types)?
+        } else {
+            self.stored.to_vec(alloc)?
+        };
+        MemoryDisk::new(alloc, first, ROOM, self.failing_calls.to_vec(alloc)?)
+    }
+}
+
+// Room for a session of some thousand commits.
+const ROOM: Room = Room {
+    bytes: 200_000,
+    written: 200_000,
+    calls: 20_000,
+};
+
+// A journal with no entry: what it begins with, the digests of both files, and a closed gate.
+fn empty_journal(alloc: Global, airport: &str, types: &str) -> Result<Vec<u8>, Memory> {
+    let mut journal = Vec::from_slice(alloc, b"APRNJ1\r\n")?;
+    journal.extend_from_slice(&digest_of(airport.as_bytes()))?;
+    journal.extend_from_slice(&digest_of(types.as_bytes()))?;
+    journal.push(0)?;
+    Ok(journal)
 }
 
 fn words(alloc: Global, texts: &str) -> Result<Vec<Word>, Memory> {

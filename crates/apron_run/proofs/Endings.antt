@@ -1,27 +1,28 @@
 -- How a session stops, and what that is to its input.
-use Rattle.std.proofs.Common.{◌≡◌, ◌≢◌, ◌<◌, ◌≤◌, ◌+◌, ◌∙◌, inl, inr, ℕ, List, [], ◌∷◌, ◌++◌, Option, None, Some, true, refl, sym, ap, subst, append-nil, length, length-append, take, arith}
+use Rattle.std.proofs.Common.{◌≡◌, ◌<◌, ◌≤◌, ◌+◌, ◌∙◌, inl, inr, ℕ, List, [], ◌∷◌, ◌++◌, Option, None, Some, true, refl, sym, ap, subst, append-nil, length, length-append, take, arith, Result, Ok, Err}
 use Rattle.std.specs.Prelude.{All}
 use Rattle.std.specs.Io.KnownBytes.{Consumes}
 use Rattle.apron_base.specs.declared.outside.Outcome.{Outcome}
 use Rattle.apron_base.specs.declared.outside.Outcome.TheVariants as came
 use Rattle.apron_rules.specs.declared.parts.AirportParts.{AirportParts}
-use Rattle.http_framing.specs.Closing.{is_closing}
+use Rattle.desk_words.specs.declared.asks.Ask.{Ask}
+use Rattle.desk_words.specs.declared.early.Early.{Early}
 use Rattle.http_framing.specs.Requests.{Request, HasRequest}
 use Rattle.http_framing.specs.Streams.{ended, cut, closed, malformed, IsOpen, Requests, Splits}
 use Rattle.http_framing.proofs.StreamLaws.{malformed_more, requests_closed, requests_of, splits_more, splits_push, whole_more}
 use Rattle.desk_http.specs.Alone.{AloneAsks}
-use Rattle.desk_http.specs.Answers.{Answered, Answers, Sent, sends, sent_text}
-use Rattle.desk_http.specs.Ports.{PortState}
+use Rattle.desk_http.specs.Answers.{Answered, Answers, FindsExhausted, Sent, exhausted, sends, sent_text}
+use Rattle.desk_http.specs.Ports.{IsExhausted, PortState}
+use Rattle.desk_http.specs.Routes.{routed}
 use Rattle.desk_http.specs.Runs.{Runs}
 use Rattle.desk_http.specs.Session.{ComesFirst, EndsAfter, IsCount, IsRead, Last, Progress, WritesLast, last_text, most_requests, no_progress, nothing, refusal, refusal_text, reply, texts_of}
 use Rattle.desk_http.proofs.SoFar.{runs_push, texts_of-push}
 use Rattle.apron_check.specs.Lines.{fault_line}
 use Rattle.apron_check.specs.declared.faults.FilesFault.TheVariants as files
-use Rattle.apron_run.specs.Desk.{fresh_port}
-use Rattle.apron_run.specs.Headline.{Carried, CutsRefusal, CutsReply, Exchange, GoesOn, IsUnread, Sends, StopsInside, StopsWith}
+use Rattle.apron_run.specs.Headline.{Carried, Exchange, Sends, StopsWith}
 use Rattle.apron_run.specs.Statuses.{status_of_outcome}
 use Rattle.apron_run.specs.declared.status.Status.{Status}
-use Rattle.apron_run.specs.declared.status.Status.TheVariants.{Done, ReadFault, WriteFault, Cut, Memory, Malformed, Limit}
+use Rattle.apron_run.specs.declared.status.Status.TheVariants.{Done, ReadFault, WriteFault, Cut, Memory, Malformed, Limit, Spent}
 
 -- what a source that tells its bytes has left, and what was taken before it
 pub record HasLeft (input taken : List ℕ) (left : Option (List ℕ)) : Type 0 where
@@ -48,19 +49,48 @@ abbrev pub IsTail : Outcome → List ℕ → Type 0
 IsTail came.Memory tail = (count : ℕ) × (tail ≡ take count (fault_line files.Memory))
 IsTail other tail = tail ≡ []
 
--- what a session answered of its input, how it stopped, and the port after it
-pub record Meets (airport : AirportParts) (carried : Carried) (status : Status) (new : PortState) : Type 0 where
+-- one port tells what the other does, but for whether it is exhausted
+pub record AreAlike (one other : PortState) : Type 0 where
+  pub first : one.first ≡ other.first
+  pub seen : one.seen ≡ other.seen
+  pub calls : one.calls ≡ other.calls
+  pub faults : one.faults ≡ other.faults
+
+-- a port is like itself
+same_alike : (one other : PortState) → other ≡ one → AreAlike one other
+same_alike one other same = record {
+  first = sym (ap (λ (port : PortState). port.first) same);
+  seen = sym (ap (λ (port : PortState). port.seen) same);
+  calls = sym (ap (λ (port : PortState). port.calls) same);
+  faults = sym (ap (λ (port : PortState). port.faults) same);
+}
+
+-- what a session that began with this port answered of its input, how it stopped, and the port after it
+pub record Meets (airport : AirportParts) (start : PortState) (carried : Carried) (status : Status) (after : PortState) : Type 0 where
   pub exchange : Exchange
+  pub new : PortState
+  pub alike : AreAlike new after
+  pub spent : status ≡ Spent → after.spent ≡ true
   pub splits : Splits carried.input exchange.requests exchange.rest
   pub few : length exchange.requests ≤ most_requests
-  pub runs : Runs (Sends airport) fresh_port exchange.requests exchange.sents new
+  pub runs : Runs (Sends airport) start exchange.requests exchange.sents new
   pub stops : StopsWith airport status carried exchange
 
-module _ (airport : AirportParts) (input taken more : List ℕ) (front : input ≡ taken ++ more) (done : Progress) (served after : PortState)
-    (splits : Splits taken done.requests done.rest) (stay : All IsOpen done.requests) (runs : Runs (Sends airport) fresh_port done.requests done.sents served) where
+module _ (airport : AirportParts) (start : PortState) (input taken more : List ℕ) (front : input ≡ taken ++ more) (done : Progress) (served after : PortState)
+    (splits : Splits taken done.requests done.rest) (stay : All IsOpen done.requests) (runs : Runs (Sends airport) start done.requests done.sents served) where
   -- what comes of a request at the airport
   abbrev Comes : PortState → Request → Answered → PortState → Type 0
   Comes = Answers AloneAsks airport
+
+  -- an ask found the port exhausted
+  record FoundSpent (asked : Result Ask Early) : Type 0 where
+    pub ask : Ask
+    pub asks : asked ≡ Ok ask
+    pub exhausted : IsExhausted served after
+
+  found_spent : (asked : Result Ask Early) → FindsExhausted AloneAsks airport served asked after → FoundSpent asked
+  found_spent (Err early) h = absurd h
+  found_spent (Ok ask) h = record { ask = ask; asks = refl; exhausted = h }
 
   -- the bytes of the session, with this output
   abbrev carrying : List ℕ → Carried
@@ -86,24 +116,35 @@ module _ (airport : AirportParts) (input taken more : List ℕ) (front : input �
       splits_more taken more behind (done.requests ++ request ∷ []) (splits_push taken done.rest behind done.requests request splits first)
 
   -- the session stopped behind those requests
-  open_meets : (output : List ℕ) (status : Status) → after ≡ served → length done.requests ≤ most_requests → StopsWith airport status (carrying output) open_exchange
-      → Meets airport (carrying output) status after
-  open_meets output status same few stops = record {
+  open_stops : (output : List ℕ) (status : Status) → AreAlike served after → (status ≡ Spent → after.spent ≡ true) → length done.requests ≤ most_requests
+      → StopsWith airport status (carrying output) open_exchange → Meets airport start (carrying output) status after
+  open_stops output status alike spent few stops = record {
     exchange = open_exchange;
+    new = served;
+    alike = alike;
+    spent = spent;
     few = few;
     splits = subst (λ i. Splits i done.requests (done.rest ++ more)) (sym front) open_splits;
-    runs = subst (Runs (Sends airport) fresh_port done.requests done.sents) (sym same) runs;
+    runs = runs;
     stops = stops;
   }
 
+  -- the same, with the port as it was
+  open_meets : (output : List ℕ) (status : Status) → after ≡ served → (status ≡ Spent → ⊥) → length done.requests ≤ most_requests
+      → StopsWith airport status (carrying output) open_exchange → Meets airport start (carrying output) status after
+  open_meets output status same other few stops = open_stops output status (same_alike served after same) (λ is. absurd (other is)) few stops
+
   -- the session stopped behind one more
   more_meets : (request : Request) (sent : Sent) (output : List ℕ) (status : Status) → (first : ComesFirst Comes done.rest request (sends sent) served after)
-      → length done.requests < most_requests → StopsWith airport status (carrying output) (one_more request sent first.behind) → Meets airport (carrying output) status after
-  more_meets request sent output status first few stops = record {
+      → (status ≡ Spent → ⊥) → length done.requests < most_requests → StopsWith airport status (carrying output) (one_more request sent first.behind) → Meets airport start (carrying output) status after
+  more_meets request sent output status first other few stops = record {
+    new = after;
+    alike = same_alike after after refl;
+    spent = λ is. absurd (other is);
     exchange = one_more request sent first.behind;
     few = let one : length (done.requests ++ request ∷ []) ≡ length done.requests + 1 = length-append done.requests (request ∷ []) in omega arith;
     splits = subst (λ i. Splits i (done.requests ++ request ∷ []) (first.behind ++ more)) (sym front) (more_splits request first.behind first.first);
-    runs = runs_push (Sends airport) fresh_port served after done.requests done.sents request sent runs first.comes;
+    runs = runs_push (Sends airport) start served after done.requests done.sents request sent runs first.comes;
     stops = stops;
   }
 
@@ -113,27 +154,45 @@ module _ (airport : AirportParts) (input taken more : List ℕ) (front : input �
 
   -- how a session that wanted memory stopped
   wants_memory : (output : List ℕ) → length done.requests < most_requests → ((count : ℕ) × (output ≡ texts ++ take count (fault_line files.Memory)))
-      → EndsAfter Comes came.Memory done nothing served after → Meets airport (carrying output) Memory after
-  wants_memory output few wrote (inl (request, first)) = open_meets output Memory first.comes.1 (omega arith) (
+      → EndsAfter Comes came.Memory done nothing served after → Meets airport start (carrying output) Memory after
+  wants_memory output few wrote (inl (request, first)) = open_meets output Memory first.comes.1 (λ is. cc) (omega arith) (
     record { stay = stay; few = few },
     inr (record { request = request; behind = first.behind ++ more; whole = whole_more done.rest more request first.behind first.first; takes = first.comes.0 }),
     wrote,
   )
-  wants_memory output few wrote (inr (none, same)) = open_meets output Memory same (omega arith) (
+  wants_memory output few wrote (inr (none, same)) = open_meets output Memory same (λ is. cc) (omega arith) (
     record { stay = stay; few = few },
     inl (ap (λ (p : Progress). p.requests) none, sym (front ∙ ap (λ t. t ++ more) (nothing_taken none))),
     wrote,
   )
+
+  -- how a session stopped whose port was exhausted
+  spent_meets : (request : Request) → (first : ComesFirst Comes done.rest request exhausted served after) → (output : List ℕ)
+      → length done.requests < most_requests → output ≡ texts → Meets airport start (carrying output) Spent after
+  spent_meets request first output few wrote =
+      let found : FoundSpent (routed airport request) = found_spent (routed airport request) first.comes in
+      open_stops output Spent
+      (record {
+        first = sym (ap (λ (port : PortState). port.first) found.exhausted);
+        seen = sym (ap (λ (port : PortState). port.seen) found.exhausted);
+        calls = sym (ap (λ (port : PortState). port.calls) found.exhausted);
+        faults = sym (ap (λ (port : PortState). port.faults) found.exhausted);
+      })
+      (λ is. ap (λ (port : PortState). port.spent) found.exhausted) (omega arith) (
+        record { stay = stay; few = few },
+        record { request = request; behind = first.behind ++ more; whole = whole_more done.rest more request first.behind first.first; ask = found.ask; asks = found.asks },
+        wrote,
+      )
 
   -- at the end of the input all of it was taken
   all_taken : more ≡ [] → input ≡ taken
   all_taken none = front ∙ (ap (λ m. taken ++ m) none ∙ append-nil taken)
 
   -- how a session stopped, for each outcome
-  pub session_meets : (outcome : Outcome) (last : Last) (written tail : List ℕ) → outcome ≢ came.Spent → EndsAfter Comes outcome done last served after
+  pub session_meets : (outcome : Outcome) (last : Last) (written tail : List ℕ) → EndsAfter Comes outcome done last served after
       → IsRead outcome (Some more) → IsCount outcome (length done.requests) → WritesLast outcome (last_text airport last) written → IsTail outcome tail
-      → Meets airport (carrying ((texts ++ written) ++ tail)) (status_of_outcome outcome) after
-  session_meets came.Ended nothing written tail unspent ends read count wrote end = open_meets _ Done ends.1 (omega arith) (
+      → Meets airport start (carrying ((texts ++ written) ++ tail)) (status_of_outcome outcome) after
+  session_meets came.Ended nothing written tail ends read count wrote end = open_meets _ Done ends.1 (λ is. cc) (omega arith) (
     inl (
       record { stay = stay; few = count },
       subst (λ i. Requests i done.requests ended) (sym (all_taken read))
@@ -141,13 +200,13 @@ module _ (airport : AirportParts) (input taken more : List ℕ) (front : input �
     ),
     bare texts written tail wrote end,
   )
-  session_meets came.Cut nothing written tail unspent ends read count wrote end = open_meets _ Cut ends.1 (omega arith) (
+  session_meets came.Cut nothing written tail ends read count wrote end = open_meets _ Cut ends.1 (λ is. cc) (omega arith) (
     record { stay = stay; few = count },
     subst (λ i. Requests i done.requests cut) (sym (all_taken read))
         (requests_of taken done.rest done.requests cut splits stay ends.0),
     bare texts written tail wrote end,
   )
-  session_meets came.Malformed (refusal why) written tail unspent ends read count wrote end = open_meets _ Malformed ends.1 (omega arith) (
+  session_meets came.Malformed (refusal why) written tail ends read count wrote end = open_meets _ Malformed ends.1 (λ is. cc) (omega arith) (
     record { stay = stay; few = count },
     (
       why,
@@ -156,18 +215,18 @@ module _ (airport : AirportParts) (input taken more : List ℕ) (front : input �
       ending_with texts written tail (refusal_text why) wrote end,
     ),
   )
-  session_meets came.Limit nothing written tail unspent ends read count wrote end = open_meets _ Limit ends.1 (omega arith) (stay, count, bare texts written tail wrote end)
-  session_meets came.ReadFault nothing written tail unspent ends read count wrote end = open_meets _ ReadFault ends.1 (omega arith) (
+  session_meets came.Limit nothing written tail ends read count wrote end = open_meets _ Limit ends.1 (λ is. cc) (omega arith) (stay, count, bare texts written tail wrote end)
+  session_meets came.ReadFault nothing written tail ends read count wrote end = open_meets _ ReadFault ends.1 (λ is. cc) (omega arith) (
     record { stay = stay; few = count },
     record { part = done.rest; are = refl; cut_off = ends.0 },
     bare texts written tail wrote end,
   )
-  session_meets came.Closed (reply request sent) written tail unspent (closing, first) read count wrote end = more_meets request sent _ Done first count (
+  session_meets came.Closed (reply request sent) written tail (closing, first) read count wrote end = more_meets request sent _ Done first (λ is. cc) count (
     inr (subst (λ i. Requests i (done.requests ++ request ∷ []) closed) (sym front)
         (requests_closed (taken ++ more) (first.behind ++ more) done.requests request (more_splits request first.behind first.first) stay closing)),
     ending_with texts written tail (sent_text airport sent) wrote end ∙ sym (texts_of-push airport done.sents sent),
   )
-  session_meets came.WriteFault (reply request sent) written tail unspent first read count wrote end = more_meets request sent _ WriteFault first count
+  session_meets came.WriteFault (reply request sent) written tail first read count wrote end = more_meets request sent _ WriteFault first (λ is. cc) count
       (inl (record {
         before = open_exchange;
         goes_on = record { stay = stay; few = count };
@@ -178,14 +237,14 @@ module _ (airport : AirportParts) (input taken more : List ℕ) (front : input �
         count = wrote.0;
         bytes = ending_with texts written tail (take wrote.0 (sent_text airport sent)) wrote.1 end;
       }))
-  session_meets came.WriteFault (refusal why) written tail unspent ends read count wrote end = open_meets _ WriteFault ends.1 (omega arith) (inr (record {
+  session_meets came.WriteFault (refusal why) written tail ends read count wrote end = open_meets _ WriteFault ends.1 (λ is. cc) (omega arith) (inr (record {
     goes_on = record { stay = stay; few = count };
     why = why;
     malformed = malformed_more done.rest more why ends.0;
     count = wrote.0;
     bytes = ending_with texts written tail (take wrote.0 (refusal_text why)) wrote.1 end;
   }))
-  session_meets came.Memory nothing written tail unspent ends read count wrote (n, end) =
+  session_meets came.Memory nothing written tail ends read count wrote (n, end) =
       wants_memory _ count (n, ap (λ w. (texts ++ w) ++ tail) wrote ∙ (ap (λ t. t ++ tail) (append-nil texts) ∙ ap (λ t. texts ++ t) end)) ends
-  session_meets came.Spent last written tail unspent ends read count wrote end = absurd (unspent refl)
-  session_meets other last written tail unspent ends read count wrote end = absurd ends.0
+  session_meets came.Spent nothing written tail (request, first) read count wrote end = spent_meets request first _ count (bare texts written tail wrote end)
+  session_meets other last written tail ends read count wrote end = absurd ends.0

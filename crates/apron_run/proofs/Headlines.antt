@@ -1,35 +1,38 @@
 -- The headline of a run of the word `desk`.
-use Rattle.std.proofs.Common.{◌≡◌, ◌⊎◌, ◌∙◌, ◌+◌, ◌<◌, ℕ, Bool, true, false, List, [], ◌++◌, Option, None, Some, length, take, inl, inr, Result, Ok, Err, refl, sym, ap, subst, zero-add, arith}
+use Rattle.std.proofs.Common.{◌≡◌, ◌∙◌, ◌+◌, ℕ, Bool, true, false, List, [], ◌++◌, Option, None, Some, length, take, inl, inr, Result, Ok, Err, refl, sym, ap, subst, zero-add, arith}
 use Rattle.std.specs.Prelude.{IfSome, count_by}
 use Rattle.std.specs.Io.KnownBytes.{Appends, Consumes}
 use Rattle.std.proofs.lemmas.List.{take_all}
-use Rattle.std.proofs.lemmas.List.Elements.{All-from_recursion}
 use Rattle.apron_base.specs.Ends.{SinkState, Wrote}
 use Rattle.apron_base.specs.declared.outside.Outcome.{Outcome}
 use Rattle.apron_base.specs.declared.outside.Outcome.TheVariants as came
 use Rattle.apron_base.proofs.Runs.{wrote_both, wrote_none}
 use Rattle.apron_rules.specs.declared.parts.AirportParts.{AirportParts}
-use Rattle.http_framing.specs.Streams.{IsOpen}
 use Rattle.visit_book.specs.declared.visits.NewVisit.{NewVisit}
 use Rattle.desk_words.specs.declared.asks.Entry.{Entry}
-use Rattle.history_core.specs.History.{IsLegal}
+use Rattle.history_core.specs.History.{IsLegal, call_limit}
+use Rattle.history_core.specs.Opening.{next_after}
 use Rattle.history_core.proofs.Added.{visits_added}
 use Rattle.history_core.proofs.Drafts.{drafts_made}
 use Rattle.history_core.proofs.Legal.{front_legal, legal_sound}
-use Rattle.desk_http.specs.Alone.{alone_port, numbers_from}
+use Rattle.desk_http.specs.Alone.{numbers_from}
 use Rattle.desk_http.specs.Ports.{PortState}
 use Rattle.desk_http.specs.Session.{IsRead, is_write_fault, texts_of}
+use Rattle.desk_http.proofs.OneDesk.{length-numbers_from}
 use Rattle.apron_check.specs.Lines.{fault_line}
+use Rattle.apron_check.specs.declared.files.AirportFiles.{AirportFiles}
 use Rattle.apron_check.specs.declared.faults.FilesFault.{FilesFault}
 use Rattle.apron_check.specs.declared.faults.FilesFault.TheVariants as files
 use Rattle.apron_run.specs.Check.{TellsFault}
-use Rattle.apron_run.specs.Desk.{FindsNoMemory, RunsDesk, RunsFound, RunsSession, ServesDesk, TellsOutcome, fresh_port}
-use Rattle.apron_run.specs.Headline.{AllSound, Carried, HasItsEntry, Headline, IsOfItsEntry, TellsEarly, TellsFoundHeadline, TellsHeadline, TellsOf, is_given}
-use Rattle.apron_run.specs.Statuses.{code_of, status_of_fault, status_of_outcome}
+use Rattle.apron_run.specs.Journal.{KeepsHistory}
+use Rattle.apron_run.specs.Desk.{FindsNoJournal, MeetsDesk, RunsDesk, RunsFound, ServesDesk, TellsMet, TellsOutcome, begun}
+use Rattle.apron_run.specs.Headline.{AllSound, Carried, HasItsEntry, Headline, IsOfItsEntry, TellsEarly, TellsFoundHeadline, TellsHeadline, TellsOf, TellsUnopened, is_given}
+use Rattle.apron_run.specs.Statuses.{code_of, status_of_outcome}
+use Rattle.apron_run.specs.Unusable.{TellsUnusable, unusable_line}
 use Rattle.apron_run.specs.Words.{Asked, desk as desk_asked}
-use Rattle.apron_run.specs.World.{Ends, World, ends_of}
+use Rattle.apron_run.specs.World.{DiskSeen, Ends, World, ends_of}
+use Rattle.apron_run.specs.declared.unusable.Unusable.{Unusable}
 use Rattle.apron_run.specs.declared.status.Status.{Status}
-use Rattle.apron_run.specs.declared.status.Status.TheVariants.{Memory}
 use Rattle.apron_run.proofs.Calls.{Leaves, run_leaves}
 use Rattle.apron_run.proofs.Endings.{HasLeft, IsTail, Meets, has_left, session_meets}
 
@@ -65,10 +68,6 @@ told came.WriteFault before after status h = silent came.WriteFault before after
 told came.Spent before after status h = silent came.Spent before after status refl h
 
 module _ (airport : AirportParts) where
-  -- a history without entries is legal
-  nothing_is_legal : IsLegal airport []
-  nothing_is_legal = record { taken = tt; numbers = omega arith }
-
   -- the plan is sound after each entry of a legal history
   all_sound : (history : List Entry) → IsLegal airport history → AllSound airport history
   all_sound history legal = λ front back is. legal_sound airport front (front_legal airport front back (subst (IsLegal airport) is legal))
@@ -82,12 +81,18 @@ module _ (airport : AirportParts) where
   all_of_their_entries history legal version added = visits_added airport history version added legal
 
   -- what a session met is the headline
-  headline_of : (carried : Carried) (status : Status) (new : PortState) → new.faults ≡ 0 → Meets airport carried status new → Headline airport carried (code_of status)
-  headline_of carried status new no_faults met =
+  headline_of : (opened : List Entry) (before after : DiskSeen) (carried : Carried) (status : Status) (port : PortState) → IsLegal airport opened
+      → Meets airport (begun opened before.faults) carried status port → (port.spent ≡ true → port.first + length port.calls ≡ call_limit)
+      → port.faults ≡ after.faults → KeepsHistory airport port.seen after → Headline airport opened before after carried (code_of status)
+  headline_of opened before after carried status port legal_before met used counted kept =
       let exchange = met.exchange in
+      let new = met.new in
+      let alike = met.alike in
+      let first : ℕ = next_after opened in
       let count : ℕ = count_by is_given exchange.sents in
-      let leaves : Leaves airport fresh_port new count = run_leaves airport fresh_port new exchange.requests exchange.sents met.runs in
-      let legal : IsLegal airport new.seen = leaves.legal nothing_is_legal in
+      let leaves : Leaves airport (begun opened before.faults) new count = run_leaves airport (begun opened before.faults) new exchange.requests exchange.sents met.runs in
+      let legal : IsLegal airport new.seen = leaves.legal legal_before in
+      let calls : new.calls ≡ numbers_from first count = leaves.calls 0 refl ∙ ap (numbers_from first) (zero-add count) in
       record {
         status = status;
         code_is = refl;
@@ -97,93 +102,102 @@ module _ (airport : AirportParts) where
         runs = met.runs;
         few = met.few;
         stops = met.stops;
-        calls = leaves.calls 0 refl ∙ ap (numbers_from 1) (zero-add count);
+        begins = leaves.begins;
+        calls = calls;
+        spent = λ is.
+            let many : length port.calls ≡ count = ap length (sym alike.calls ∙ calls) ∙ length-numbers_from first count in
+            let begins : port.first ≡ first = sym alike.first ∙ leaves.first in
+            let all : port.first + length port.calls ≡ call_limit = used (met.spent is) in
+            ap (λ n. first + n) (sym many) ∙ (ap (λ n. n + length port.calls) (sym begins) ∙ all);
         legal = legal;
         sound = all_sound new.seen legal;
         drafts = all_have_entries new.seen legal;
         visits = all_of_their_entries new.seen legal;
-        faults = no_faults;
+        faults = alike.faults ∙ counted;
+        keeps = subst (λ history. KeepsHistory airport history after) (sym alike.seen) kept;
       }
-
-  -- no session was met
-  nothing_meets : (input tail : List ℕ) → IsTail came.Memory tail → Meets airport (record { input = input; left = input; output = tail }) Memory fresh_port
-  nothing_meets input tail (n, is) = record {
-    exchange = record { requests = []; sents = []; rest = input };
-    splits = refl;
-    few = omega arith;
-    runs = refl;
-    stops = (record { stay = All-from_recursion IsOpen [] tt; few = omega arith }, inl (refl, refl), (n, is));
-  }
-
-  -- the headline of a session
-  session_headline : (input : List ℕ) (before after : Ends) (sink : SinkState) (outcome : Outcome) (status : Status) → before.source.left ≡ Some input
-      → ServesDesk airport before after outcome → Told outcome after.sink sink status → TellsOf airport input before (record { source = after.source; sink = sink }) (code_of status)
-  session_headline input before after sink outcome status left serves told =
-      let session = serves.session in
-      let done = session.done in
-      let consumed : Consumes (Some input) after.source.left session.taken = subst (λ l. Consumes l after.source.left session.taken) left (let took = session.took in took.left) in
-      let more : HasLeft input session.taken after.source.left = has_left input session.taken after.source.left consumed in
-      let written : List ℕ = texts_of airport done.sents ++ session.written in
-      let all = wrote_both (is_write_fault outcome) told.failed before.sink after.sink sink written told.tail session.wrote told.wrote in
-      let carried : Carried = record { input = input; left = more.rest; output = written ++ told.tail } in
-      let met : Meets airport carried (status_of_outcome outcome) (alone_port serves.desk) =
-      session_meets airport input session.taken more.rest more.front done session.served (alone_port serves.desk) session.splits session.stay session.runs
-      outcome session.last session.written told.tail serves.unspent session.ends (subst (IsRead outcome) more.is session.read) session.count session.last_written told.end in (
-        more.rest,
-        written ++ told.tail,
-        more.is,
-        all.told,
-        subst (λ (s : Status). Headline airport carried (code_of s)) (sym told.status_is) (headline_of carried (status_of_outcome outcome) (alone_port serves.desk) refl met),
-      )
-
-  -- the headline where no session was met
-  nothing_headline : (input : List ℕ) (before after : Ends) (sink : SinkState) (outcome : Outcome) (status : Status) → before.source.left ≡ Some input
-      → FindsNoMemory before after outcome → Told outcome after.sink sink status → TellsOf airport input before (record { source = after.source; sink = sink }) (code_of status)
-  nothing_headline input before after sink outcome status left finds told =
-      let wrote : Wrote told.failed before.sink sink told.tail = subst (λ (ends : Ends). Wrote told.failed ends.sink sink told.tail) finds.kept told.wrote in
-      let end : IsTail came.Memory told.tail = subst (λ (o : Outcome). IsTail o told.tail) finds.outcome_is told.end in
-      let is : status ≡ Memory = told.status_is ∙ ap status_of_outcome finds.outcome_is in
-      let carried : Carried = record { input = input; left = input; output = told.tail } in (
-        input,
-        told.tail,
-        ap (λ (ends : Ends). ends.source.left) finds.kept ∙ left,
-        wrote.told,
-        subst (λ (s : Status). Headline airport carried (code_of s)) (sym is) (headline_of carried Memory fresh_port refl (nothing_meets input told.tail end)),
-      )
 
 -- what holds of each value that there may be
 if_some : {A : Type 0} (option : Option A) (P : A → Type 0) → ((value : A) → option ≡ Some value → P value) → IfSome option P
 if_some None P holds = tt
 if_some (Some value) P holds = holds value refl
 
--- the headline of a session at an airport
-session_tells : (airport : AirportParts) (before after : Ends) (status : Status) → RunsSession airport before after status
-    → TellsFoundHeadline (Ok airport) before after (code_of status)
-session_tells airport before after status runs =
-    let ended : Ends = record { source = after.source; sink = runs.sink } in
-    let told_is : Told runs.outcome runs.sink after.sink status = told runs.outcome runs.sink after.sink status runs.tells in
-    if_some before.source.left (λ input. TellsOf airport input before after (code_of status)) (λ input left. elim runs.meets [
-      | inl serves ↦ session_headline airport input before ended after.sink runs.outcome status left serves told_is
-      | inr finds ↦ nothing_headline airport input before ended after.sink runs.outcome status left finds told_is
-    ])
+-- the headline of a session on a journal
+session_headline : (files : AirportFiles) (input : List ℕ) (before after : Ends) (sink : SinkState) (outcome : Outcome) (status : Status) → before.source.left ≡ Some input
+    → (serves : ServesDesk files before after outcome) → Told outcome after.sink sink status
+    → TellsOf files.airport serves.opened input before (record { source = after.source; sink = sink; disk = after.disk }) (code_of status)
+session_headline files input before after sink outcome status left serves told =
+    let session = serves.session in
+    let done = session.done in
+    let start : PortState = begun serves.opened before.disk.faults in
+    let consumed : Consumes (Some input) after.source.left session.taken = subst (λ l. Consumes l after.source.left session.taken) left (let took = session.took in took.left) in
+    let more : HasLeft input session.taken after.source.left = has_left input session.taken after.source.left consumed in
+    let written : List ℕ = texts_of files.airport done.sents ++ session.written in
+    let all = wrote_both (is_write_fault outcome) told.failed before.sink after.sink sink written told.tail session.wrote told.wrote in
+    let carried : Carried = record { input = input; left = more.rest; output = written ++ told.tail } in
+    let met : Meets files.airport start carried (status_of_outcome outcome) serves.port =
+    session_meets files.airport start input session.taken more.rest more.front done session.served serves.port session.splits session.stay session.runs
+    outcome session.last session.written told.tail session.ends (subst (IsRead outcome) more.is session.read) session.count session.last_written told.end in
+    let opens = serves.opens in (
+      more.rest,
+      written ++ told.tail,
+      more.is,
+      all.told,
+      subst (λ (s : Status). Headline files.airport serves.opened before.disk after.disk carried (code_of s)) (sym told.status_is)
+          (headline_of files.airport serves.opened before.disk after.disk carried (status_of_outcome outcome) serves.port opens.legal met serves.spent serves.faults serves.keeps),
+    )
+
+-- the headline where there is no journal to work on
+unopened_headline : (files : AirportFiles) (before after : Ends) (sink : SinkState) (why : Unusable) (status : Status) → FindsNoJournal files before after why
+    → TellsUnusable why after.sink sink status → TellsUnopened files before (record { source = after.source; sink = sink; disk = after.disk }) (code_of status)
+unopened_headline files before after sink why status finds (inl (is, wrote)) = record {
+  why = why;
+  code_is = ap code_of is;
+  source = finds.source;
+  disk = finds.disk;
+  count = length (unusable_line why);
+  wrote = subst (Appends before.sink.told sink.told) (sym (take_all (length (unusable_line why)) (unusable_line why) (omega arith)))
+      (subst (λ (s : SinkState). Appends s.told sink.told (unusable_line why)) finds.sink wrote.told);
+}
+unopened_headline files before after sink why status finds (inr (is, (count, wrote))) = record {
+  why = why;
+  code_is = ap code_of is;
+  source = finds.source;
+  disk = finds.disk;
+  count = count;
+  wrote = subst (λ (s : SinkState). Appends s.told sink.told (take count (unusable_line why))) finds.sink wrote.told;
+}
+
+-- the headline of a run on a journal, by what was met there
+met_tells : (files : AirportFiles) (before after : Ends) (sink : SinkState) (met : Result Outcome Unusable) (status : Status) → MeetsDesk files before after met
+    → TellsMet met after.sink sink status → TellsFoundHeadline (Ok files) before (record { source = after.source; sink = sink; disk = after.disk }) (code_of status)
+met_tells files before after sink (Ok outcome) status serves tells = inl (record {
+  opened = serves.opened;
+  opens = serves.opens;
+  tells = if_some before.source.left (λ input. TellsOf files.airport serves.opened input before (record { source = after.source; sink = sink; disk = after.disk }) (code_of status))
+      (λ input left. session_headline files input before after sink outcome status left serves (told outcome after.sink sink status tells));
+})
+met_tells files before after sink (Err why) status finds tells = inr (unopened_headline files before after sink why status finds tells)
 
 -- the headline where the files have a fault
-early_tells : (fault : FilesFault) (before after : Ends) (status : Status) → after.source ≡ before.source → TellsFault fault before.sink after.sink status
+early_tells : (fault : FilesFault) (before after : Ends) (status : Status) → after.source ≡ before.source → after.disk ≡ before.disk → TellsFault fault before.sink after.sink status
     → TellsEarly fault before after (code_of status)
-early_tells fault before after status source (inl (is, wrote)) = record {
+early_tells fault before after status source disk (inl (is, wrote)) = record {
   code_is = ap code_of is;
   source = source;
+  disk = disk;
   count = length (fault_line fault);
   wrote = subst (Appends before.sink.told after.sink.told) (sym (take_all (length (fault_line fault)) (fault_line fault) (omega arith))) wrote.told;
 }
-early_tells fault before after status source (inr (is, (count, wrote))) =
-    record { code_is = ap code_of is; source = source; count = count; wrote = wrote.told }
+early_tells fault before after status source disk (inr (is, (count, wrote))) =
+    record { code_is = ap code_of is; source = source; disk = disk; count = count; wrote = wrote.told }
 
 -- the headline of what was found in the two files
-found_tells : (found : Result AirportParts FilesFault) (before after : Ends) (status : Status) → RunsFound found before after status
+found_tells : (found : Result AirportFiles FilesFault) (before after : Ends) (status : Status) → RunsFound found before after status
     → TellsFoundHeadline found before after (code_of status)
-found_tells (Ok airport) before after status runs = session_tells airport before after status runs
-found_tells (Err fault) before after status (source, tells) = early_tells fault before after status source tells
+found_tells (Ok files) before after status runs =
+    met_tells files before (record { source = after.source; sink = runs.sink; disk = after.disk }) after.sink runs.met status runs.meets runs.tells
+found_tells (Err fault) before after status (source, disk, tells) = early_tells fault before after status source disk tells
 
 -- the headline of a run
 pub run_headline : (airport types : List ℕ) (before after : World) (status : Status) → RunsDesk airport types before after status

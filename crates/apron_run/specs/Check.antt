@@ -1,9 +1,9 @@
 -- What the word `check` does.
 use Rattle.std.specs.Prelude.{ℕ, List, Result, Ok, Err}
 use Rattle.apron_base.specs.Ends.{SinkState}
-use Rattle.apron_rules.specs.declared.parts.AirportParts.{AirportParts}
 use Rattle.apron_check.specs.Files.{Finds}
 use Rattle.apron_check.specs.Lines.{counts_line, fault_line}
+use Rattle.apron_check.specs.declared.files.AirportFiles.{AirportFiles}
 use Rattle.apron_check.specs.declared.faults.FilesFault.{FilesFault}
 use Rattle.apron_run.specs.Print.{Writes}
 use Rattle.apron_run.specs.Statuses.{status_of_fault}
@@ -16,12 +16,12 @@ abbrev pub TellsFault : FilesFault → SinkState → SinkState → Status → Ty
 TellsFault fault before after status = Writes (fault_line fault) (status_of_fault fault) (status_of_fault fault) before after status
 
 -- the line that tells what was found in the two files, with its status
-abbrev pub TellsFound : Result AirportParts FilesFault → SinkState → SinkState → Status → Type 0
-TellsFound (Ok parts) before after status = Writes (counts_line parts) Done WriteFault before after status
+abbrev pub TellsFound : Result AirportFiles FilesFault → SinkState → SinkState → Status → Type 0
+TellsFound (Ok files) before after status = Writes (counts_line files.airport) Done WriteFault before after status
 TellsFound (Err fault) before after status = TellsFault fault before after status
 
 -- the airport file and the type file of these names were read, and the line that tells what was found in them was written
 pub record ChecksFiles (airport types : List ℕ) (before after : World) (status : Status) : Type 0 where
-  pub found : Result AirportParts FilesFault
+  pub found : Result AirportFiles FilesFault
   pub finds : Finds before.shelf after.shelf airport types found
   pub tells : TellsFound found before.sink after.sink status

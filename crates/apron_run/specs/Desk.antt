@@ -1,62 +1,87 @@
--- What the word `desk` does: one session of a desk alone at the airport of two files, whose plan begins with no visit.
-use Rattle.std.specs.Prelude.{◌≡◌, ◌≢◌, ◌⊎◌, ℕ, List, [], false, Result, Ok, Err}
+-- What the word `desk` does: one session of a desk alone at the airport of two files, on the journal of it that is on the disk.
+use Rattle.std.specs.Prelude.{◌≡◌, ◌==◌, ◌+◌, ◌≤◌, ℕ, List, [], length, true, MatchBool, Result, Ok, Err}
+use Rattle.apron_base.specs.Counts.{Counts}
 use Rattle.apron_base.specs.Ends.{SinkState}
 use Rattle.apron_base.specs.declared.outside.Outcome.{Outcome}
-use Rattle.apron_base.specs.declared.outside.Outcome.TheVariants.{Memory, Spent}
-use Rattle.apron_rules.specs.declared.parts.AirportParts.{AirportParts}
-use Rattle.apron_check.specs.Files.{Finds}
-use Rattle.apron_check.specs.declared.faults.FilesFault.{FilesFault}
-use Rattle.apron_check.specs.declared.faults.FilesFault.TheVariants as files
-use Rattle.desk_http.specs.Alone.{AloneAsks, AloneState, alone_port}
+use Rattle.apron_base.specs.declared.outside.Outcome.TheVariants.{Memory}
+use Rattle.desk_words.specs.declared.asks.Entry.{Entry}
+use Rattle.history_core.specs.History.{call_limit}
+use Rattle.history_core.specs.Opening.{next_after}
+use Rattle.desk_http.specs.Alone.{AloneAsks}
 use Rattle.desk_http.specs.Ports.{PortState}
 use Rattle.desk_http.specs.Session.{Moment, SessionOf}
+use Rattle.apron_check.specs.Files.{Finds}
+use Rattle.apron_check.specs.declared.files.AirportFiles.{AirportFiles}
+use Rattle.apron_check.specs.declared.faults.FilesFault.{FilesFault}
+use Rattle.apron_check.specs.declared.faults.FilesFault.TheVariants as files
 use Rattle.apron_run.specs.Check.{TellsFault}
-use Rattle.apron_run.specs.Statuses.{status_of_outcome}
+use Rattle.apron_run.specs.Journal.{KeepsHistory, NotOpened, OpensTo}
+use Rattle.apron_run.specs.Statuses.{is_disk_fault, may_serve, status_of_outcome}
+use Rattle.apron_run.specs.Unusable.{TellsUnusable}
 use Rattle.apron_run.specs.World.{Ends, World, ends_of}
 use Rattle.apron_run.specs.declared.status.Status.{Status}
+use Rattle.apron_run.specs.declared.unusable.Unusable.{Unusable}
 
 -- what a session knows of its ends and of its port
 abbrev pub moment : Ends → PortState → Moment
 moment ends port = record { source = ends.source; sink = ends.sink; port = port }
 
--- a desk that has seen nothing and asked nothing
-abbrev pub fresh_port : PortState
-fresh_port = record { first = 1; seen = []; calls = []; spent = false; faults = 0 }
+-- a desk that has made no call yet: it has seen the history that was opened, its calls go on from the last entry's number, and the disk has failed so often
+abbrev pub begun : List Entry → ℕ → PortState
+begun opened faults = record { first = next_after opened; seen = opened; calls = []; spent = next_after opened == call_limit; faults = faults }
 
--- one session of a desk alone at the airport, whose call numbers don't come to their end
-pub record ServesDesk (airport : AirportParts) (before after : Ends) (outcome : Outcome) : Type 0 where
-  pub desk : AloneState
-  pub session : SessionOf AloneAsks airport (moment before fresh_port) (moment after (alone_port desk)) outcome
-  pub unspent : outcome ≢ Spent
+-- One session of a desk alone: it began with the history that the disk opened to, and left the disk with the history as it then was. Where the desk's call
+-- numbers were exhausted, all of them have been used.
+pub record ServesDesk (files : AirportFiles) (before after : Ends) (outcome : Outcome) : Type 0 where
+  pub opened : List Entry
+  pub opens : OpensTo files before.disk opened
+  pub port : PortState
+  pub session : SessionOf AloneAsks files.airport (moment before (begun opened before.disk.faults)) (moment after port) outcome
+  pub spent : port.spent ≡ true → port.first + length port.calls ≡ call_limit
+  pub faults : port.faults ≡ after.disk.faults
+  pub keeps : KeepsHistory files.airport port.seen after.disk
 
--- no memory was there to begin with: nothing was taken and nothing written
-pub record FindsNoMemory (before after : Ends) (outcome : Outcome) : Type 0 where
-  pub kept : after ≡ before
-  pub outcome_is : outcome ≡ Memory
+-- there is no journal to work on: nothing was taken and nothing written, and the disk reads as before
+pub record FindsNoJournal (files : AirportFiles) (before after : Ends) (why : Unusable) : Type 0 where
+  pub source : after.source ≡ before.source
+  pub sink : after.sink ≡ before.sink
+  pub disk : NotOpened files before.disk after.disk why
 
--- a session at the airport, or none for want of memory
-abbrev pub MeetsDesk : AirportParts → Ends → Ends → Outcome → Type 0
-MeetsDesk airport before after outcome = ServesDesk airport before after outcome ⊎ FindsNoMemory before after outcome
+-- a session on the journal of these files, or why there is none to work on
+abbrev pub MeetsDesk : AirportFiles → Ends → Ends → Result Outcome Unusable → Type 0
+MeetsDesk files before after (Ok outcome) = ServesDesk files before after outcome
+MeetsDesk files before after (Err why) = FindsNoJournal files before after why
 
 -- what is written behind a session, and its status: the line that tells want of memory, and nothing behind others
 abbrev pub TellsOutcome : Outcome → SinkState → SinkState → Status → Type 0
 TellsOutcome Memory before after status = TellsFault files.Memory before after status
 TellsOutcome outcome before after status = (after ≡ before) × (status ≡ status_of_outcome outcome)
 
--- a session at the airport, and what is told of its outcome
-pub record RunsSession (airport : AirportParts) (before after : Ends) (status : Status) : Type 0 where
-  pub outcome : Outcome
-  pub sink : SinkState
-  pub meets : MeetsDesk airport before (record { source = after.source; sink = sink }) outcome
-  pub tells : TellsOutcome outcome sink after.sink status
+-- the same where there may have been no journal to work on, which its line tells
+abbrev pub TellsMet : Result Outcome Unusable → SinkState → SinkState → Status → Type 0
+TellsMet (Ok outcome) before after status = TellsOutcome outcome before after status
+TellsMet (Err why) before after status = TellsUnusable why before after status
 
--- what is done with what was found in the two files: a session at their airport; or the line of their fault is written, and the source is as it was
-abbrev pub RunsFound : Result AirportParts FilesFault → Ends → Ends → Status → Type 0
-RunsFound (Ok airport) before after status = RunsSession airport before after status
-RunsFound (Err fault) before after status = (after.source ≡ before.source) × TellsFault fault before.sink after.sink status
+-- a session on the journal of these files, or none, and what is told of either
+pub record RunsOnJournal (files : AirportFiles) (before after : Ends) (status : Status) : Type 0 where
+  pub met : Result Outcome Unusable
+  pub sink : SinkState
+  pub meets : MeetsDesk files before (record { source = after.source; sink = sink; disk = after.disk }) met
+  pub tells : TellsMet met sink after.sink status
+
+-- what is done with what was found in the two files: a session on their journal; or the line of their fault is written, and the source and the disk are as
+-- they were
+abbrev pub RunsFound : Result AirportFiles FilesFault → Ends → Ends → Status → Type 0
+RunsFound (Ok files) before after status = RunsOnJournal files before after status
+RunsFound (Err fault) before after status = (after.source ≡ before.source) × (after.disk ≡ before.disk) × TellsFault fault before.sink after.sink status
+
+-- the disk's count of faults: it may have risen in a session, whose replies then say so; it rose where the status says that the disk failed, and else it
+-- stands still
+abbrev pub ServedCounts : Status → ℕ → ℕ → Type 0
+ServedCounts status before now = MatchBool (may_serve status) (before ≤ now) (Counts (is_disk_fault status) before now)
 
 -- the airport file and the type file of these names were read, and this was done with what was found in them
 pub record RunsDesk (airport types : List ℕ) (before after : World) (status : Status) : Type 0 where
-  pub found : Result AirportParts FilesFault
+  pub found : Result AirportFiles FilesFault
   pub finds : Finds before.shelf after.shelf airport types found
   pub runs : RunsFound found (ends_of before) (ends_of after) status

@@ -1,5 +1,5 @@
--- The headline: what the output of a desk's session is to its input.
-use Rattle.std.specs.Prelude.{◌≡◌, ◌⊎◌, ◌<◌, ◌≤◌, ◌↔◌, ℕ, Bool, true, false, All, List, [], ◌∷◌, ◌++◌, length, take, count_by, Some, IfSome, Result, Ok, Err}
+-- The headline: what the output of a desk's session, and what it leaves on the disk, are to its input and what it found there.
+use Rattle.std.specs.Prelude.{◌≡◌, ◌⊎◌, ◌<◌, ◌≤◌, ◌↔◌, ◌+◌, ℕ, Bool, true, false, All, List, [], ◌∷◌, ◌++◌, length, take, count_by, Some, IfSome, Result, Ok, Err}
 use Rattle.std.specs.Io.KnownBytes.{Appends}
 use Rattle.http_framing.specs.declared.bodies.Refusal.{Refusal}
 use Rattle.http_framing.specs.Requests.{Request, HasRequest, IsMalformed, IsPartial}
@@ -7,23 +7,30 @@ use Rattle.http_framing.specs.Streams.{ended, cut, closed, malformed, IsOpen, Re
 use Rattle.apron_rules.specs.declared.parts.AirportParts.{AirportParts}
 use Rattle.visit_book.specs.declared.visits.NewVisit.{NewVisit}
 use Rattle.plan_core.specs.Drafts.{draft_version}
+use Rattle.desk_words.specs.declared.asks.Ask.{Ask}
 use Rattle.desk_words.specs.declared.asks.Entry.{Entry}
-use Rattle.history_core.specs.History.{IsLegal, IsSoundPlan, replay}
+use Rattle.history_core.specs.History.{IsLegal, IsSoundPlan, call_limit, replay}
 use Rattle.history_core.specs.Laws.{HasAdded, HasCommit, HasVisit}
+use Rattle.history_core.specs.Opening.{next_after}
 use Rattle.desk_http.specs.Answers.{Answers, Sent, TakesMemory, at_once, given, sends, sent_text}
 use Rattle.desk_http.specs.Alone.{AloneAsks, numbers_from}
 use Rattle.desk_http.specs.Ports.{PortState}
+use Rattle.desk_http.specs.Routes.{routed}
 use Rattle.desk_http.specs.Runs.{Runs}
 use Rattle.desk_http.specs.Session.{most_requests, refusal_text, texts_of}
 use Rattle.apron_check.specs.Files.{Finds}
 use Rattle.apron_check.specs.Lines.{fault_line}
+use Rattle.apron_check.specs.declared.files.AirportFiles.{AirportFiles}
 use Rattle.apron_check.specs.declared.faults.FilesFault.{FilesFault}
 use Rattle.apron_check.specs.declared.faults.FilesFault.TheVariants as files
-use Rattle.apron_run.specs.Desk.{fresh_port}
+use Rattle.apron_run.specs.Desk.{begun}
+use Rattle.apron_run.specs.Journal.{KeepsHistory, NotOpened, OpensTo}
 use Rattle.apron_run.specs.Statuses.{code_of, status_of_fault}
-use Rattle.apron_run.specs.World.{Ends, World, ends_of}
+use Rattle.apron_run.specs.Unusable.{status_of_unusable, unusable_line}
+use Rattle.apron_run.specs.World.{DiskSeen, Ends, World, ends_of}
 use Rattle.apron_run.specs.declared.status.Status.{Status}
-use Rattle.apron_run.specs.declared.status.Status.TheVariants.{Done, ReadFault, WriteFault, Cut, Memory, Malformed, Limit}
+use Rattle.apron_run.specs.declared.status.Status.TheVariants.{Done, ReadFault, WriteFault, Cut, Memory, Malformed, Limit, Spent}
+use Rattle.apron_run.specs.declared.unusable.Unusable.{Unusable}
 
 -- the bytes of a session: all that the source had, what it still has behind it, and what was written
 pub record Carried : Type 0 where
@@ -55,6 +62,18 @@ pub record IsUnread (bytes : List ℕ) : Type 0 where
   pub whole : HasRequest bytes request behind
   pub takes : TakesMemory request
 
+-- a request stands whole at the front of the bytes that asks something of the plan of the airport
+pub record IsUnasked (airport : AirportParts) (bytes : List ℕ) : Type 0 where
+  pub request : Request
+  pub behind : List ℕ
+  pub whole : HasRequest bytes request behind
+  pub ask : Ask
+  pub asks : routed airport request ≡ Ok ask
+
+-- the entries of a history, and then those that came
+abbrev pub GoesOnFrom : List Entry → List Entry → Type 0
+GoesOnFrom opened history = (added : List Entry) × (history ≡ opened ++ added)
+
 -- whether a reply was given by the board
 abbrev pub is_given : Sent → Bool
 is_given (at_once reply) = false
@@ -85,9 +104,9 @@ module _ (airport : AirportParts) where
     pub bytes : output ≡ replies_text exchange ++ take count (refusal_text why)
 
   -- Where in its input a session stopped that ended with this status, and what it wrote. With Done, Cut and Malformed it came to the end of the
-  -- input's requests, and with Limit it answered as many as it may. With ReadFault it stopped inside a request, with WriteFault at a reply, and with
-  -- Memory before it took anything or at a request whose body is to be read as JSON; then the line that tells it was written behind the replies, or a
-  -- front of it.
+  -- input's requests, and with Limit it answered as many as it may. With ReadFault it stopped inside a request, with WriteFault at a reply, with Spent
+  -- at a request that asks something of the plan, and with Memory before it took anything or at a request whose body is to be read as JSON; then the
+  -- line that tells it was written behind the replies, or a front of it.
   abbrev pub StopsWith : Status → Carried → Exchange → Type 0
   StopsWith Done carried exchange =
       (GoesOn exchange × Requests carried.input exchange.requests ended ⊎ Requests carried.input exchange.requests closed)
@@ -101,6 +120,7 @@ module _ (airport : AirportParts) where
   StopsWith WriteFault carried exchange = CutsReply exchange carried.output ⊎ CutsRefusal exchange carried.output
   StopsWith Memory carried exchange = GoesOn exchange × ((exchange.requests ≡ []) × (carried.left ≡ carried.input) ⊎ IsUnread exchange.rest)
       × ((count : ℕ) × (carried.output ≡ replies_text exchange ++ take count (fault_line files.Memory)))
+  StopsWith Spent carried exchange = GoesOn exchange × IsUnasked airport exchange.rest × (carried.output ≡ replies_text exchange)
   StopsWith status carried exchange = ⊥
 
   -- what is sent for a request, and the port after it
@@ -121,8 +141,9 @@ module _ (airport : AirportParts) where
   IsOfItsEntry history version added = HasVisit (replay airport history).visits version added ↔ HasAdded history version added
 
   -- The headline: the requests at the front of the input, a million at most, were answered in order, and the output is the replies, as far as the status
-  -- says, of one legal history that begins with no entry. A request that asks nothing of the plan has its fixed reply. Each other one reached the board
-  -- with the next call number, from 1 on. An ask that has seen a later version than the plan's is told that it is ahead. Any other visit is added exactly
+  -- says, of one legal history that begins with the entries that the journal had. A request that asks nothing of the plan has its fixed reply. Each other
+  -- one reached the board with the next call number, from the one above the last of those entries on, or from 1 on where there was none; at the end of
+  -- these numbers the session ends. An ask that has seen a later version than the plan's is told that it is ahead. Any other visit is added exactly
   -- where no visit has its name, and there is a place for one more visit and one more entry; the same visit again is told the version of its entry, and
   -- other data under its name is refused. Any other commit is accepted exactly where it was not made over a later version, its draft is new, its edits
   -- (which put, lift, cut and join parts) apply to the plan as it then is and leave no clash, and the history takes one more entry; a draft that came
@@ -131,42 +152,64 @@ module _ (airport : AirportParts) where
   -- against its visit, its part and its minute, and never for a clash; a cancel is, where its visit is not there, has left or is on block. A message and
   -- a report change the one visit that they are of, and then settle the plan: planned parts that can't stay lose their stands, and the reply names them.
   -- A cancelled visit stands nowhere. A question is told what the plan then is. In the place of each of these replies there may be the one that memory is
-  -- wanting, and then nothing has changed. No reply says that an append failed. After each entry the plan is sound.
-  pub record Headline (carried : Carried) (code : ℕ) : Type 0 where
+  -- wanting, and in the place of the reply to a command that the plan accepts the one that its entry could not be kept, where the disk's count of faults
+  -- rose at it; and then nothing has changed. After each entry the plan is sound. At the end the disk is a journal of the history, or, where it has failed,
+  -- of this and perhaps one entry more that was not acknowledged, with which it is still legal.
+  pub record Headline (opened : List Entry) (before after : DiskSeen) (carried : Carried) (code : ℕ) : Type 0 where
     pub status : Status
     pub code_is : code ≡ code_of status
     pub exchange : Exchange
     pub new : PortState
     pub splits : Splits carried.input exchange.requests exchange.rest
     pub few : length exchange.requests ≤ most_requests
-    pub runs : Runs Sends fresh_port exchange.requests exchange.sents new
+    pub runs : Runs Sends (begun opened before.faults) exchange.requests exchange.sents new
     pub stops : StopsWith status carried exchange
-    pub calls : new.calls ≡ numbers_from 1 (count_by is_given exchange.sents)
+    pub begins : GoesOnFrom opened new.seen
+    pub calls : new.calls ≡ numbers_from (next_after opened) (count_by is_given exchange.sents)
+    pub spent : status ≡ Spent → next_after opened + count_by is_given exchange.sents ≡ call_limit
     pub legal : IsLegal airport new.seen
     pub sound : AllSound new.seen
     pub drafts : (desk : List ℕ) (number version : ℕ) → HasItsEntry new.seen desk number version
     pub visits : (version : ℕ) (added : NewVisit) → IsOfItsEntry new.seen version added
-    pub faults : new.faults ≡ 0
+    pub faults : new.faults ≡ after.faults
+    pub keeps : KeepsHistory airport new.seen after
 
   -- the headline of this input, with what the source and the sink tell afterwards; what the sink told before it tells then too
-  abbrev pub TellsOf : List ℕ → Ends → Ends → ℕ → Type 0
-  TellsOf input before after code = (left output : List ℕ) × (after.source.left ≡ Some left) × Appends before.sink.told after.sink.told output
-      × Headline (record { input = input; left = left; output = output }) code
+  abbrev pub TellsOf : List Entry → List ℕ → Ends → Ends → ℕ → Type 0
+  TellsOf opened input before after code = (left output : List ℕ) × (after.source.left ≡ Some left) × Appends before.sink.told after.sink.told output
+      × Headline opened before.disk after.disk (record { input = input; left = left; output = output }) code
 
--- the line of a fault of the files was written, or a front of it, and nothing else; the source is as it was
+-- the journal of the files opened, and the headline begins with its history, where the source tells its bytes
+pub record TellsOpened (files : AirportFiles) (before after : Ends) (code : ℕ) : Type 0 where
+  pub opened : List Entry
+  pub opens : OpensTo files before.disk opened
+  pub tells : IfSome before.source.left (λ input. TellsOf files.airport opened input before after code)
+
+-- there is no journal of the files to work on: the line that tells why was written, or a front of it, and nothing else; the source is as it was, and the
+-- disk reads as before
+pub record TellsUnopened (files : AirportFiles) (before after : Ends) (code : ℕ) : Type 0 where
+  pub why : Unusable
+  pub code_is : code ≡ code_of (status_of_unusable why)
+  pub source : after.source ≡ before.source
+  pub disk : NotOpened files before.disk after.disk why
+  pub count : ℕ
+  pub wrote : Appends before.sink.told after.sink.told (take count (unusable_line why))
+
+-- the line of a fault of the files was written, or a front of it, and nothing else; the source and the disk are as they were
 pub record TellsEarly (fault : FilesFault) (before after : Ends) (code : ℕ) : Type 0 where
   pub code_is : code ≡ code_of (status_of_fault fault)
   pub source : after.source ≡ before.source
+  pub disk : after.disk ≡ before.disk
   pub count : ℕ
   pub wrote : Appends before.sink.told after.sink.told (take count (fault_line fault))
 
--- the headline of what was found in the two files: of a session at their airport, where the source tells its bytes; or that their fault is told
-abbrev pub TellsFoundHeadline : Result AirportParts FilesFault → Ends → Ends → ℕ → Type 0
-TellsFoundHeadline (Ok airport) before after code = IfSome before.source.left (λ input. TellsOf airport input before after code)
+-- the headline of what was found in the two files: of a session on their journal, or that there is none to work on; or that their fault is told
+abbrev pub TellsFoundHeadline : Result AirportFiles FilesFault → Ends → Ends → ℕ → Type 0
+TellsFoundHeadline (Ok files) before after code = TellsOpened files before after code ⊎ TellsUnopened files before after code
 TellsFoundHeadline (Err fault) before after code = TellsEarly fault before after code
 
 -- the headline, at what was found in the airport file and the type file of these names
 pub record TellsHeadline (airport types : List ℕ) (before after : World) (code : ℕ) : Type 0 where
-  pub found : Result AirportParts FilesFault
+  pub found : Result AirportFiles FilesFault
   pub finds : Finds before.shelf after.shelf airport types found
   pub tells : TellsFoundHeadline found (ends_of before) (ends_of after) code

@@ -3,7 +3,12 @@ pub mod Words
 pub mod WordsShown
 pub mod Statuses
 pub mod Print
+pub mod Unusable
 pub mod Check
+pub mod Init
+pub mod Journal
 pub mod Desk
+pub mod Chart
+pub mod Make
 pub mod Headline
 pub mod Run

@@ -11,11 +11,15 @@ Writes text whole cut before after status =
 -- what the word `--help` prints
 unfoldable pub help_text : List ℕ
 help_text =
-    codes "apron: airport stand allocation\n\napron desk AIRPORT TYPES     answers HTTP requests from standard input on standard output, at the\n                             airport of an airport file and a type file\napron check AIRPORT TYPES    reads an airport file and a type file, and prints how much they\n                             hold, or the first fault in them\napron --help                 prints this text\napron --version              prints the version\n"
+    codes "apron: airport stand allocation\n\napron init AIRPORT TYPES JOURNAL   makes an empty journal for the airport of an airport file and a\n                                   type file\napron desk AIRPORT TYPES JOURNAL   answers HTTP requests from standard input on standard output at\n                                   that airport, and keeps in its journal what it accepts\napron chart AIRPORT TYPES DAY JOURNAL\n                                   prints the wall chart of a day of the plan in that journal\napron check AIRPORT TYPES          reads an airport file and a type file, and prints how much they\n                                   hold, or the first fault in them\napron make VISITS                  prints the summary of a generated day of 1 to 5,000 visits\napron --help                       prints this text\napron --version                    prints the version\n"
 
 -- what the word `--version` prints
 unfoldable pub version_text : List ℕ
 version_text = codes "apron 0.1.0\n"
+
+-- what is printed where a journal was made
+unfoldable pub made_text : List ℕ
+made_text = codes "ok\n"
 
 -- what is printed for words that ask for nothing that there is
 unfoldable pub usage_text : List ℕ

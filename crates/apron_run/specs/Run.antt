@@ -1,11 +1,14 @@
--- What the program does with its words, its files and its bytes.
+-- What the program does with its words, its files, its bytes and its disk.
 use Rattle.std.specs.Prelude.{◌≡◌, ◌≤◌, ℕ, Bool, true, false, MatchBool}
 use Rattle.apron_base.specs.Counts.{Counts}
-use Rattle.apron_run.specs.Words.{Asked, desk, check, help, version, faulty}
+use Rattle.apron_run.specs.Words.{Asked, desk, init, check, chart, make, help, version, faulty}
 use Rattle.apron_run.specs.World.{World}
-use Rattle.apron_run.specs.Statuses.{code_of, is_read_fault, is_shelf_fault, is_told, is_write_fault}
-use Rattle.apron_run.specs.Desk.{RunsDesk}
+use Rattle.apron_run.specs.Statuses.{code_of, is_disk_fault, is_read_fault, is_shelf_fault, is_told, is_write_fault}
+use Rattle.apron_run.specs.Desk.{RunsDesk, ServedCounts}
+use Rattle.apron_run.specs.Init.{InitsJournal}
+use Rattle.apron_run.specs.Chart.{ChartsFiles}
 use Rattle.apron_run.specs.Check.{ChecksFiles}
+use Rattle.apron_run.specs.Make.{TellsDay}
 use Rattle.apron_run.specs.Print.{Writes, help_text, usage_text, version_text}
 use Rattle.apron_run.specs.declared.status.Status.{Status}
 use Rattle.apron_run.specs.declared.status.Status.TheVariants.{Done, Usage, WriteFault}
@@ -13,7 +16,10 @@ use Rattle.apron_run.specs.declared.status.Status.TheVariants.{Done, Usage, Writ
 -- what is done for what the words ask for, from one moment to the other: one line for each
 abbrev pub Does : Asked → World → World → Status → Type 0
 Does (desk airport types) before after status = RunsDesk airport types before after status
+Does (init airport types) before after status = InitsJournal airport types before after status
 Does (check airport types) before after status = ChecksFiles airport types before after status
+Does (chart airport types day) before after status = ChartsFiles airport types day before after status
+Does (make visits) before after status = TellsDay visits before.sink after.sink status
 Does help before after status = Writes help_text Done WriteFault before.sink after.sink status
 Does version before after status = Writes version_text Done WriteFault before.sink after.sink status
 Does faulty before after status = Writes usage_text Usage Usage before.sink after.sink status
@@ -23,8 +29,13 @@ Does faulty before after status = Writes usage_text Usage Usage before.sink afte
 abbrev pub SinkCounts : Status → ℕ → ℕ → Type 0
 SinkCounts status before now = MatchBool (is_told status) (before ≤ now) (Counts (is_write_fault status) before now)
 
+-- the disk's count of faults: a session's where one is asked for; else it rose where the status says that the disk failed, or stands still
+abbrev pub DiskCounts : Asked → Status → ℕ → ℕ → Type 0
+DiskCounts (desk airport types) status before now = ServedCounts status before now
+DiskCounts asked status before now = Counts (is_disk_fault status) before now
+
 -- what the program does for what is asked of it, from one moment to the other, and the status that its number stands for. No end fails but where the
--- status says so, or at the line that tells a status.
+-- status says so, or at the line that tells a status; and the disk in a session, at a reply that says so.
 pub record RunsAs (asked : Asked) (before after : World) (code : ℕ) : Type 0 where
   pub status : Status
   pub code_is : code ≡ code_of status
@@ -32,6 +43,7 @@ pub record RunsAs (asked : Asked) (before after : World) (code : ℕ) : Type 0 w
   pub shelf : Counts (is_shelf_fault status) before.shelf.faults after.shelf.faults
   pub source : Counts (is_read_fault status) before.source.faults after.source.faults
   pub sink : SinkCounts status before.sink.faults after.sink.faults
+  pub disk : DiskCounts asked status before.disk.faults after.disk.faults
 
 -- what isn't used stays as it is
 abbrev pub KeptUnless : {E : Type 0} → Bool → E → E → Type 0

@@ -5,7 +5,7 @@ use Rattle.apron_base.specs.declared.outside.Outcome.TheVariants as outcome
 use Rattle.apron_check.specs.declared.faults.FilesFault.{FilesFault}
 use Rattle.apron_check.specs.declared.faults.FilesFault.TheVariants as files
 use Rattle.apron_run.specs.declared.status.Status.{Status}
-use Rattle.apron_run.specs.declared.status.Status.TheVariants.{Done, Usage, FileFault, ShelfFault, ReadFault, WriteFault, Cut, Memory, Malformed, Limit, Spent}
+use Rattle.apron_run.specs.declared.status.Status.TheVariants.{Done, Usage, FileFault, ShelfFault, ReadFault, WriteFault, DiskFault, JournalFault, Cut, Memory, Malformed, NotEmpty, Limit, Spent}
 
 -- the number of a status
 abbrev pub code_of : Status → ℕ
@@ -15,9 +15,12 @@ code_of FileFault = 3
 code_of ShelfFault = 4
 code_of ReadFault = 5
 code_of WriteFault = 6
+code_of DiskFault = 7
+code_of JournalFault = 8
 code_of Cut = 10
 code_of Memory = 12
 code_of Malformed = 13
+code_of NotEmpty = 14
 code_of Limit = 16
 code_of Spent = 17
 
@@ -56,10 +59,26 @@ abbrev pub is_write_fault : Status → Bool
 is_write_fault WriteFault = true
 is_write_fault status = false
 
+-- the status says that the disk failed
+abbrev pub is_disk_fault : Status → Bool
+is_disk_fault DiskFault = true
+is_disk_fault status = false
+
+-- a session may have come before the status
+abbrev pub may_serve : Status → Bool
+may_serve FileFault = false
+may_serve ShelfFault = false
+may_serve DiskFault = false
+may_serve JournalFault = false
+may_serve status = true
+
 -- a line tells the status, which stays where the sink fails at that line
 abbrev pub is_told : Status → Bool
 is_told Usage = true
 is_told FileFault = true
 is_told ShelfFault = true
+is_told DiskFault = true
+is_told JournalFault = true
+is_told NotEmpty = true
 is_told Memory = true
 is_told status = false

@@ -1,13 +1,22 @@
 -- What the words of the command line ask for.
-use Rattle.std.specs.Prelude.{ℕ, ◌==◌, ◌||◌, not, List, [], ◌∷◌, Bool, true, false, codes, if◌then◌else◌}
+use Rattle.std.specs.Prelude.{ℕ, ◌==◌, length, nat_le, slice_index, ◌&&◌, ◌||◌, not, Option, Some, None, List, [], ◌∷◌, Bool, true, false, codes, if◌then◌else◌}
+use Rattle.std.specs.Char.{is_ascii_digit}
+use Rattle.std.specs.List.{list_all}
 use Rattle.std.specs.Str.{bytes_eq}
+use Rattle.apron_base.specs.Digits.{number_of}
+use Rattle.apron_base.specs.declared.digits.TheConstants.{MAX_DIGITS}
+use Rattle.generated_day.specs.declared.making_visits.TheConstants.{MAX_MADE}
 use Rattle.apron_run.specs.Statuses.{code_of}
-use Rattle.apron_run.specs.declared.status.Status.TheVariants.{FileFault, ShelfFault}
+use Rattle.apron_run.specs.declared.status.Status.TheVariants.{Usage, FileFault, ShelfFault, DiskFault, JournalFault, Memory}
 
--- what words ask for: a session of a desk at the airport of the two files of these names, a check of two files, a text, or nothing that there is
+-- what words ask for, with the names of an airport file and a type file where it has to do with an airport: a session of a desk on its journal, an empty
+-- journal, a check of the two files, a chart of the day that these digits name; or a text, or nothing that there is
 pub data Asked : Type 0 where
   desk : List ℕ → List ℕ → Asked
+  init : List ℕ → List ℕ → Asked
   check : List ℕ → List ℕ → Asked
+  chart : List ℕ → List ℕ → List ℕ → Asked
+  make : ℕ → Asked
   help : Asked
   version : Asked
   faulty : Asked
@@ -19,25 +28,79 @@ asked_by_one word = if bytes_eq word (codes "--help") then help else (if bytes_e
 -- what a word asks for that has the names of an airport file and a type file behind it
 abbrev pub asked_of_files : List ℕ → List ℕ → List ℕ → Asked
 asked_of_files word airport types =
-    if bytes_eq word (codes "desk") then desk airport types else (if bytes_eq word (codes "check") then check airport types else faulty)
+    if bytes_eq word (codes "desk") then desk airport types
+    else (if bytes_eq word (codes "init") then init airport types
+    else (if bytes_eq word (codes "check") then check airport types
+    else faulty))
 
--- what the words ask for: `desk` or `check` with the names of two files, `--help` or `--version`
+-- a zero stands before others
+abbrev pub is_padded : List ℕ → Bool
+is_padded text = nat_le 2 (length text) && slice_index text 0 == 48
+
+-- decimal digits, of which the first is no zero unless it is alone
+abbrev pub is_plain_number : List ℕ → Bool
+is_plain_number text = nat_le 1 (length text) && list_all is_ascii_digit text && not (is_padded text)
+
+-- what a word asks for that has the names of an airport file and a type file and then digits behind it
+abbrev pub asked_of_day : List ℕ → List ℕ → List ℕ → List ℕ → Asked
+asked_of_day word airport types day = if bytes_eq word (codes "chart") && is_plain_number day then chart airport types day else faulty
+
+-- what the word `make` asks for with this number: a generated day of 1 to 5,000 visits
+abbrev pub made_of : Option ℕ → Asked
+made_of None = faulty
+made_of (Some visits) = if nat_le 1 visits && nat_le visits MAX_MADE then make visits else faulty
+
+-- what a word asks for that has digits behind it
+abbrev pub asked_with_number : List ℕ → List ℕ → Asked
+asked_with_number word number = if bytes_eq word (codes "make") && is_plain_number number then made_of (number_of number MAX_DIGITS) else faulty
+
+-- what the words ask for: `desk`, `init` or `check` with the names of two files, `chart` with these and a number, `make` with a number, `--help` or
+-- `--version`
 abbrev pub asked_by : List (List ℕ) → Asked
 asked_by (word ∷ []) = asked_by_one word
+asked_by (word ∷ number ∷ []) = asked_with_number word number
 asked_by (word ∷ airport ∷ types ∷ []) = asked_of_files word airport types
+asked_by (word ∷ airport ∷ types ∷ day ∷ []) = asked_of_day word airport types day
 asked_by words = faulty
 
 -- the program ends with this number since two files give no airport, or the shelf none of them
 abbrev pub ends_at_files : ℕ → Bool
 ends_at_files code = code == code_of FileFault || code == code_of ShelfFault
 
+-- the program ends with this number since there is no airport, or no journal of it
+abbrev pub ends_at_journal : ℕ → Bool
+ends_at_journal code = ends_at_files code || code == code_of DiskFault || code == code_of JournalFault
+
+-- the program ends with this number before it comes to making a journal
+abbrev pub ends_before_journal : ℕ → Bool
+ends_before_journal code = ends_at_files code || code == code_of Memory
+
+-- the program ends with this number before it comes to a chart's journal
+abbrev pub ends_before_chart : ℕ → Bool
+ends_before_chart code = ends_at_files code || code == code_of Usage
+
+-- the program may end with the number of faulty words: where they are, or where the plan has no such day
+abbrev pub may_be_usage : Asked → Bool
+may_be_usage faulty = true
+may_be_usage (chart airport types day) = true
+may_be_usage asked = false
+
 -- whether the source is read for it where the program ends with this number
 abbrev pub uses_source : Asked → ℕ → Bool
-uses_source (desk airport types) code = not (ends_at_files code)
+uses_source (desk airport types) code = not (ends_at_journal code)
 uses_source asked code = false
+
+-- whether the disk is used for it where the program ends with this number
+abbrev pub uses_disk : Asked → ℕ → Bool
+uses_disk (desk airport types) code = not (ends_at_files code)
+uses_disk (init airport types) code = not (ends_before_journal code)
+uses_disk (chart airport types day) code = not (ends_before_chart code)
+uses_disk asked code = false
 
 -- whether the shelf is read for it
 abbrev pub uses_shelf : Asked → Bool
 uses_shelf (desk airport types) = true
+uses_shelf (init airport types) = true
 uses_shelf (check airport types) = true
+uses_shelf (chart airport types day) = true
 uses_shelf asked = false

@@ -1,12 +1,22 @@
 -- What contracts see of what the words ask for.
+use Rattle.std.specs.Prelude.{◌≤◌}
+use Rattle.generated_day.specs.declared.making_visits.TheConstants.{MAX_MADE}
 use Rattle.apron_run.specs.declared.words.Asked.{Asked as Read}
 use Rattle.apron_run.specs.declared.words.Asked.TheVariants as read
-use Rattle.apron_run.specs.Words.{Asked, desk, check, help, version, faulty}
+use Rattle.apron_run.specs.Words.{Asked, desk, init, check, chart, make, help, version, faulty}
 
 -- the same, with the names in place of the words
 abbrev pub shown : Read → Asked
 shown (read.Desk airport types) = desk airport.now types.now
+shown (read.Init airport types) = init airport.now types.now
 shown (read.Check airport types) = check airport.now types.now
+shown (read.Chart airport types day) = chart airport.now types.now day.now
+shown (read.Make visits) = make visits
 shown read.Help = help
 shown read.Version = version
 shown read.Faulty = faulty
+
+-- a number of visits that a generated day can have
+abbrev pub IsFitting : Read → Type 0
+IsFitting (read.Make visits) = (1 ≤ visits) × (visits ≤ MAX_MADE)
+IsFitting asked = Unit {0}

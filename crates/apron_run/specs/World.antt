@@ -1,18 +1,40 @@
 -- The outside as it is at one moment.
+use Rattle.std.specs.Prelude.{ℕ, List, Option}
 use Rattle.apron_base.specs.Ends.{SinkState, SourceState}
 use Rattle.apron_base.specs.Shelf.{ShelfState}
+use Rattle.journal_disk.specs.Disk.{DiskState}
 
--- the shelf of files, the source of bytes, and the sink of bytes
+-- what a disk reads as where it tells that, and how often it has failed
+pub record DiskSeen : Type 0 where
+  pub contents : Option (List ℕ)
+  pub faults : ℕ
+
+-- what is seen of a disk without a crash
+abbrev pub seen_of : DiskState → DiskSeen
+seen_of disk = record { contents = disk.contents; faults = disk.faults }
+
+-- the shelf of files, the source of bytes, the sink of bytes, and the disk
 pub record World : Type 0 where
   pub shelf : ShelfState
   pub source : SourceState
   pub sink : SinkState
+  pub disk : DiskSeen
 
--- the source and the sink alone
+-- the same without the shelf
 pub record Ends : Type 0 where
   pub source : SourceState
   pub sink : SinkState
+  pub disk : DiskSeen
 
 -- those of the outside
 abbrev pub ends_of : World → Ends
-ends_of world = record { source = world.source; sink = world.sink }
+ends_of world = record { source = world.source; sink = world.sink; disk = world.disk }
+
+-- the sink and the disk alone
+pub record Outs : Type 0 where
+  pub sink : SinkState
+  pub disk : DiskSeen
+
+-- those of the outside
+abbrev pub outs_of : World → Outs
+outs_of world = record { sink = world.sink; disk = world.disk }

@@ -1,6 +1,6 @@
 // The word `check`.
 ghost use Rattle.apron_check.specs.Files.{Finds};
-ghost use Rattle.apron_rules.specs.declared.parts.AirportParts.{AirportParts};
+ghost use Rattle.apron_check.specs.declared.files.AirportFiles.{AirportFiles};
 ghost use Rattle.apron_check.specs.declared.faults.FilesFault.{FilesFault};
 ghost use Rattle.std.specs.Prelude.{Result};
 ghost use Rattle.apron_run.specs.Check.{TellsFault, TellsFound};
@@ -19,11 +19,11 @@ pub(crate) fn check<F: Shelf, W: Sink>(
     shelf: &mut F,
     sink: &mut W,
 ) -> Status
-    ensures checks { (found : Result AirportParts FilesFault) × Finds (F.state shelf.old) (F.state shelf.new) airport.now types.now found
+    ensures checks { (found : Result AirportFiles FilesFault) × Finds (F.state shelf.old) (F.state shelf.new) airport.now types.now found
         × TellsFound found (W.state sink.old) (W.state sink.new) result }
 {
     match airport_of(alloc, airport, types, shelf) {
-        Ok(airport) => match put_counts(sink, &airport) {
+        Ok(files) => match put_counts(sink, &files.airport) {
             Ok(()) => Status::Done,
             Err(Failed) => Status::WriteFault,
         },

@@ -1,71 +1,112 @@
 // The word `desk`.
-ghost use Rattle.std.specs.Prelude.{◌≡◌, not, false};
-ghost use Rattle.apron_run.specs.Desk.{MeetsDesk, RunsDesk, RunsSession};
+ghost use Rattle.std.specs.Prelude.{◌≡◌, ℕ, not, false, OnErr};
+ghost use Rattle.apron_run.specs.Desk.{MeetsDesk, RunsDesk, RunsOnJournal};
 ghost use Rattle.apron_run.specs.Run.{KeptUnless};
 ghost use Rattle.apron_run.specs.Statuses.{code_of};
-ghost use Rattle.apron_run.specs.Words.{ends_at_files};
+ghost use Rattle.apron_run.specs.Words.{ends_at_files, ends_at_journal};
+ghost use Rattle.apron_run.specs.World.{seen_of};
 
 use crate::Status;
 use crate::check::tell_fault;
+use crate::journal::{close_board, open_board};
+use crate::same_disk::{Named, SameDisk};
 use crate::status::status_of_outcome;
+use crate::unusable::{Unusable, tell_unusable};
 use apron_base::{Outcome, Shelf, Sink, Source};
-use apron_check::{FilesFault, airport_of};
-use apron_rules::Airport;
+use apron_check::{AirportFiles, FilesFault, airport_of};
 use desk_http::{Alone, session};
-use history_core::Board;
+use journal_disk::Disk;
 use std::alloc::Global;
+use std::marker::{Brand, PhantomData};
 
-/// Answers HTTP requests from the source on the sink, at the airport that the two files of these names make; or prints
-/// why they make none.
-pub(crate) fn desk<F: Shelf, S: Source, W: Sink>(
+/// Answers HTTP requests from the source on the sink, at the airport that the two files of these names make, on the journal of
+/// it that is on the disk; or prints why there is none.
+pub(crate) fn desk<F: Shelf, S: Source, W: Sink, D: Disk>(
     alloc: Global,
     airport: &str,
     types: &str,
     shelf: &mut F,
     source: &mut S,
     sink: &mut W,
+    disk: &mut D,
 ) -> Status
     ensures runs { RunsDesk airport.now types.now
-        (record { shelf = F.state shelf.old; source = S.state source.old; sink = W.state sink.old })
-        (record { shelf = F.state shelf.new; source = S.state source.new; sink = W.state sink.new }) result }
-    ensures kept { KeptUnless (not (ends_at_files (code_of result))) source.old source.new }
+        (record { shelf = F.state shelf.old; source = S.state source.old; sink = W.state sink.old; disk = seen_of (D.state disk.old) })
+        (record { shelf = F.state shelf.new; source = S.state source.new; sink = W.state sink.new; disk = seen_of (D.state disk.new) }) result }
+    ensures untaken { KeptUnless (not (ends_at_journal (code_of result))) source.old source.new }
+    ensures kept { KeptUnless (not (ends_at_files (code_of result))) disk.old disk.new }
 {
     match airport_of(alloc, airport, types, shelf) {
-        Ok(airport) => run_session(alloc, &airport, source, sink),
+        Ok(files) => run_on_journal(alloc, &files, source, sink, disk),
         Err(fault) => tell_fault(sink, &fault),
     }
 }
 
-// One session at the airport. Behind one that wanted memory the line that tells it is printed.
-fn run_session<S: Source, W: Sink>(
+// One session on the journal of these files. Behind one that wanted memory the line that tells it is printed, and where there
+// is no journal to work on the line that tells why.
+fn run_on_journal<S: Source, W: Sink, D: Disk>(
     alloc: Global,
-    airport: &Airport,
+    files: &AirportFiles,
     source: &mut S,
     sink: &mut W,
+    disk: &mut D,
 ) -> Status
-    ensures runs { RunsSession airport.now (record { source = S.state source.old; sink = W.state sink.old })
-        (record { source = S.state source.new; sink = W.state sink.new }) result }
+    ensures runs { RunsOnJournal files.now
+        (record { source = S.state source.old; sink = W.state sink.old; disk = seen_of (D.state disk.old) })
+        (record { source = S.state source.new; sink = W.state sink.new; disk = seen_of (D.state disk.new) }) result }
+    ensures untaken { KeptUnless (not (ends_at_journal (code_of result))) source.old source.new }
     ensures no_file { ends_at_files (code_of result) ≡ false }
 {
-    match serve(alloc, airport, source, sink) {
-        Outcome::Memory => tell_fault(sink, &FilesFault::Memory),
-        outcome => status_of_outcome(outcome),
+    let (met, _disk) = serve_on::<Brand, S, W, D>(alloc, files, source, sink, disk);
+    match met {
+        Ok(Outcome::Memory) => tell_fault(sink, &FilesFault::Memory),
+        Ok(outcome) => status_of_outcome(outcome),
+        Err(why) => tell_unusable(sink, &why),
     }
 }
 
-// One session on the plan of the airport that has no visit yet.
-fn serve<S: Source, W: Sink>(
+// The same with the borrow of the disk given back, by its name.
+fn serve_on<'d, N: Named, S: Source, W: Sink, D: Disk>(
     alloc: Global,
-    airport: &Airport,
+    files: &AirportFiles,
     source: &mut S,
     sink: &mut W,
-) -> Outcome
-    ensures meets { MeetsDesk airport.now (record { source = S.state source.old; sink = W.state sink.old })
-        (record { source = S.state source.new; sink = W.state sink.new }) result }
+    disk: &'d mut D,
+) -> (Result<Outcome, Unusable>, &'d mut D)
+    requires named { disk.ghost_name ≡ N.name }
+    ensures same { result.1.ghost_name ≡ disk.entry.ghost_name }
+    ensures meets { MeetsDesk files.now
+        (record { source = S.state source.old; sink = W.state sink.old; disk = seen_of (D.state disk.old) })
+        (record { source = S.state source.new; sink = W.state sink.new; disk = seen_of (D.state result.1.now) }) result.0 }
+    ensures untaken { OnErr result.0 (source.new ≡ source.old) }
 {
-    let Ok(board) = Board::new(alloc, airport) else {
-        return Outcome::Memory;
+    let same: SameDisk<'d, N, D> = SameDisk {
+        disk,
+        of: PhantomData,
+    };
+    let (met, back) = serve(alloc, files, source, sink, same);
+    let SameDisk { disk, .. } = back;
+    (met, disk)
+}
+
+// One session at the board of these files over their journal on the disk.
+fn serve<S: Source, W: Sink, D: Disk>(
+    alloc: Global,
+    files: &AirportFiles,
+    source: &mut S,
+    sink: &mut W,
+    disk: D,
+) -> (Result<Outcome, Unusable>, D)
+    ensures meets { MeetsDesk files.now
+        (record { source = S.state source.old; sink = W.state sink.old; disk = seen_of (D.state disk) })
+        (record { source = S.state source.new; sink = W.state sink.new; disk = seen_of (D.state result.1) }) result.0 }
+    ensures untaken { OnErr result.0 (source.new ≡ source.old) }
+{
+    let board = match open_board(alloc, files, disk) {
+        Ok(board) => board,
+        Err((why, disk)) => return (Err(why), disk),
     };
     let mut desk = Alone::new(board);
-    session(alloc, &mut desk, source, sink)
+    let outcome = session(alloc, &mut desk, source, sink);
+    (Ok(outcome), close_board(desk.into_board()))
 }

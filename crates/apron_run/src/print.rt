@@ -1,6 +1,6 @@
 // The words that print a text.
 ghost use Rattle.std.specs.Prelude.{◌≡◌};
-ghost use Rattle.apron_run.specs.Print.{Writes, help_text, usage_text, version_text};
+ghost use Rattle.apron_run.specs.Print.{Writes, help_text, made_text, usage_text, version_text};
 
 use crate::Status;
 use apron_base::{Failed, Sink};
@@ -19,6 +19,13 @@ pub(crate) fn print_version<W: Sink>(sink: &mut W) -> Status
     print(sink, version())
 }
 
+/// Prints that a journal was made.
+pub(crate) fn print_made<W: Sink>(sink: &mut W) -> Status
+    ensures writes { Writes made_text Status.Done Status.WriteFault (W.state sink.old) (W.state sink.new) result }
+{
+    print(sink, made())
+}
+
 /// Prints the line for faulty words. The status stays theirs where the sink fails at it.
 pub(crate) fn print_usage<W: Sink>(sink: &mut W) -> Status
     ensures writes { Writes usage_text Status.Usage Status.Usage (W.state sink.old) (W.state sink.new) result }
@@ -28,7 +35,8 @@ pub(crate) fn print_usage<W: Sink>(sink: &mut W) -> Status
     Status::Usage
 }
 
-fn print<W: Sink>(sink: &mut W, text: &[u8]) -> Status
+/// Prints this text.
+pub(crate) fn print<W: Sink>(sink: &mut W, text: &[u8]) -> Status
     ensures writes { Writes text.now Status.Done Status.WriteFault (W.state sink.old) (W.state sink.new) result }
 {
     match sink.put(text) {
@@ -41,7 +49,7 @@ fn print<W: Sink>(sink: &mut W, text: &[u8]) -> Status
 fn help() -> &'static [u8]
     ensures text { result.now ≡ help_text }
 {
-    b"apron: airport stand allocation\n\napron desk AIRPORT TYPES     answers HTTP requests from standard input on standard output, at the\n                             airport of an airport file and a type file\napron check AIRPORT TYPES    reads an airport file and a type file, and prints how much they\n                             hold, or the first fault in them\napron --help                 prints this text\napron --version              prints the version\n"
+    b"apron: airport stand allocation\n\napron init AIRPORT TYPES JOURNAL   makes an empty journal for the airport of an airport file and a\n                                   type file\napron desk AIRPORT TYPES JOURNAL   answers HTTP requests from standard input on standard output at\n                                   that airport, and keeps in its journal what it accepts\napron chart AIRPORT TYPES DAY JOURNAL\n                                   prints the wall chart of a day of the plan in that journal\napron check AIRPORT TYPES          reads an airport file and a type file, and prints how much they\n                                   hold, or the first fault in them\napron make VISITS                  prints the summary of a generated day of 1 to 5,000 visits\napron --help                       prints this text\napron --version                    prints the version\n"
 }
 
 // What `--version` prints.
@@ -49,6 +57,13 @@ fn version() -> &'static [u8]
     ensures text { result.now ≡ version_text }
 {
     b"apron 0.1.0\n"
+}
+
+// What is printed where a journal was made.
+fn made() -> &'static [u8]
+    ensures text { result.now ≡ made_text }
+{
+    b"ok\n"
 }
 
 // What is printed for words that ask for nothing that there is.

@@ -20,12 +20,18 @@ pub enum Status {
     ReadFault,
     /// The sink failed.
     WriteFault,
+    /// The disk failed before there was a journal to work on.
+    DiskFault,
+    /// What the disk reads as is no journal of the airport, or no history of it.
+    JournalFault,
     /// The input ended within a request.
     Cut,
     /// Memory was wanting.
     Memory,
     /// A request's head was refused.
     Malformed,
+    /// A journal is made on an empty disk only.
+    NotEmpty,
     /// A session answered as many requests as it may.
     Limit,
     /// There were no more call numbers.
@@ -44,9 +50,12 @@ impl Status {
             Status::ShelfFault => 4,
             Status::ReadFault => 5,
             Status::WriteFault => 6,
+            Status::DiskFault => 7,
+            Status::JournalFault => 8,
             Status::Cut => 10,
             Status::Memory => 12,
             Status::Malformed => 13,
+            Status::NotEmpty => 14,
             Status::Limit => 16,
             Status::Spent => 17,
         }

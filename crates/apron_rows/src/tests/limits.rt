@@ -71,7 +71,7 @@ fn the_greatest_commits_are_taken(rt: HostRuntime) -> Result<(), Fail> {
             "65537 bytes",
             1,
             MOST_OF_A_BODY + 1,
-            "400 close {\"error\":\"head\"}",
+            "413 close {\"error\":\"large\"}",
             13,
         ),
     ] {
@@ -126,12 +126,14 @@ fn a_session_ends_at_its_limit(rt: HostRuntime) -> Result<(), Fail> {
         [kept(alloc, "A", AIRPORT)?, kept(alloc, "T", TYPES)?],
     )?;
     let words = words(alloc, DEMO.words)?;
+    let mut disk = DEMO.disk(alloc)?;
     let status = run(
         alloc,
         words.as_slice(),
         &mut SteadyShelf::new(files),
         &mut SteadySource::new(input, Vec::new(alloc)),
         &mut NullSink,
+        &mut disk,
     );
     assert_eq!(rt; status, 16);
     Ok(())

@@ -98,6 +98,10 @@ fn phrase_of(code: &str) -> &'static str {
         "404" => "Not Found",
         "405" => "Method Not Allowed",
         "409" => "Conflict",
+        "411" => "Length Required",
+        "413" => "Payload Too Large",
+        "501" => "Not Implemented",
+        "503" => "Service Unavailable",
         _ => "Unprocessable Entity",
     }
 }

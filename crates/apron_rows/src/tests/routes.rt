@@ -124,47 +124,81 @@ const SESSIONS: &str = r#"
 < 404 1 {"error":"visit","version":1}
 > GET /visits/4294967295
 < 404 1 {"error":"visit","version":1}
-# What is not there yet is told as such, whatever the method and the day.
+# Lists and charts are read too, and a day is one of the plan.
 > GET /unplaced
-< 400 - {"error":"unbuilt"}
-> POST /unplaced
-< 400 - {"error":"unbuilt"}
-> PUT /unplaced
-< 400 - {"error":"unbuilt"}
-> HEAD /unplaced
-< 400 - {"error":"unbuilt"}
+< 200 0 {"parts":[],"version":0}
 > GET /plan/1
-< 400 - {"error":"unbuilt"}
-> POST /plan/1
-< 400 - {"error":"unbuilt"}
-> PUT /plan/1
-< 400 - {"error":"unbuilt"}
-> HEAD /plan/1
-< 400 - {"error":"unbuilt"}
+< 200 0 {"parts":[],"version":0}
+> GET /plan/3
+< 200 0 {"parts":[],"version":0}
+> GET /plan/4
+< 404 - {"error":"day"}
 > GET /plan/4294967295
-< 400 - {"error":"unbuilt"}
-> POST /plan/4294967295
-< 400 - {"error":"unbuilt"}
-> PUT /plan/4294967295
-< 400 - {"error":"unbuilt"}
-> HEAD /plan/4294967295
-< 400 - {"error":"unbuilt"}
-> GET /chart/3
-< 400 - {"error":"unbuilt"}
+< 404 - {"error":"day"}
+> GET /chart/4
+< 404 - {"error":"day"}
+> GET /chart/4294967295
+< 404 - {"error":"day"}
+> POST /unplaced
+< 405 GET {"error":"method"}
+> POST /plan/1
+< 405 GET {"error":"method"}
+> POST /plan/4
+< 405 GET {"error":"method"}
 > POST /chart/3
-< 400 - {"error":"unbuilt"}
+< 405 GET {"error":"method"}
+> POST /chart/4
+< 405 GET {"error":"method"}
+> PUT /unplaced
+< 405 GET {"error":"method"}
+> PUT /plan/1
+< 405 GET {"error":"method"}
+> PUT /plan/4
+< 405 GET {"error":"method"}
 > PUT /chart/3
-< 400 - {"error":"unbuilt"}
+< 405 GET {"error":"method"}
+> PUT /chart/4
+< 405 GET {"error":"method"}
+> HEAD /unplaced
+< 405 GET {"error":"method"}
+> HEAD /plan/1
+< 405 GET {"error":"method"}
+> HEAD /plan/4
+< 405 GET {"error":"method"}
 > HEAD /chart/3
-< 400 - {"error":"unbuilt"}
-> GET /chart/9
-< 400 - {"error":"unbuilt"}
-> POST /chart/9
-< 400 - {"error":"unbuilt"}
-> PUT /chart/9
-< 400 - {"error":"unbuilt"}
-> HEAD /chart/9
-< 400 - {"error":"unbuilt"}
+< 405 GET {"error":"method"}
+> HEAD /chart/4
+< 405 GET {"error":"method"}
+> DELETE /unplaced
+< 405 GET {"error":"method"}
+> DELETE /plan/1
+< 405 GET {"error":"method"}
+> DELETE /plan/4
+< 405 GET {"error":"method"}
+> DELETE /chart/3
+< 405 GET {"error":"method"}
+> DELETE /chart/4
+< 405 GET {"error":"method"}
+> get /unplaced
+< 405 GET {"error":"method"}
+> get /plan/1
+< 405 GET {"error":"method"}
+> get /plan/4
+< 405 GET {"error":"method"}
+> get /chart/3
+< 405 GET {"error":"method"}
+> get /chart/4
+< 405 GET {"error":"method"}
+> GETS /unplaced
+< 405 GET {"error":"method"}
+> GETS /plan/1
+< 405 GET {"error":"method"}
+> GETS /plan/4
+< 405 GET {"error":"method"}
+> GETS /chart/3
+< 405 GET {"error":"method"}
+> GETS /chart/4
+< 405 GET {"error":"method"}
 > GET /version
 < 200 0 {"version":0}
 # Another target has no route, whatever the method.

@@ -40,7 +40,10 @@ const SESSIONS: &str = r#"
 < 404 - {"error":"route"}
 + X-Seen: 1
 > GET /plan/9
-< 400 - {"error":"unbuilt"}
+< 404 - {"error":"day"}
++ X-Seen: 1
+> GET /unplaced
+< 200 1 {"parts":[{"bump":null,"from":600,"part":1,"to":660,"visit":1}],"version":1}
 + X-Seen: 1
 > PUT /version
 < 405 GET {"error":"method"}
@@ -79,7 +82,10 @@ const SESSIONS: &str = r#"
 < 404 - {"error":"route"}
 + X-Seen: 2
 > GET /plan/9
-< 400 - {"error":"unbuilt"}
+< 404 - {"error":"day"}
++ X-Seen: 2
+> GET /unplaced
+< 409 1 {"error":"ahead","version":1}
 + X-Seen: 2
 > PUT /version
 < 405 GET {"error":"method"}
@@ -118,7 +124,10 @@ const SESSIONS: &str = r#"
 < 404 - {"error":"route"}
 + X-Seen: one
 > GET /plan/9
-< 400 - {"error":"unbuilt"}
+< 400 - {"error":"seen"}
++ X-Seen: one
+> GET /unplaced
+< 400 - {"error":"seen"}
 + X-Seen: one
 > PUT /version
 < 405 GET {"error":"method"}

@@ -63,7 +63,7 @@ fn how_input_ends(rt: HostRuntime) -> Result<(), Fail> {
     let version = "< 200 0 {\"version\":0}";
     let route = "< 404 - {\"error\":\"route\"}";
     let head = "< 400 close {\"error\":\"head\"}";
-    let rows: [(&[u8], &str, u8); 22] = [
+    let rows: [(&[u8], &str, u8); 25] = [
         (b"", "", 0),
         (b"\r\n\n\r", "", 0),
         (b"\r\r", head, 13),
@@ -100,13 +100,36 @@ fn how_input_ends(rt: HostRuntime) -> Result<(), Fail> {
             0,
         ),
         (b"POST /other HTTP/1.1\nContent-Length: 1\n\n{", route, 0),
-        (b"POST /commits HTTP/1.1\n\n", head, 13),
+        (
+            b"POST /commits HTTP/1.1\n\n",
+            "< 411 close {\"error\":\"length\"}",
+            13,
+        ),
         (
             b"POST /visits HTTP/1.1\nContent-Length: 65537\n\n",
+            "< 413 close {\"error\":\"large\"}",
+            13,
+        ),
+        (
+            b"GET / HTTP/1.1\nTransfer-Encoding: chunked\n\n",
+            "< 501 close {\"error\":\"encoding\"}",
+            13,
+        ),
+        (
+            b"POST /mvt HTTP/1.1\nContent-Length: x\nTransfer-Encoding: chunked\n\n",
+            "< 501 close {\"error\":\"encoding\"}",
+            13,
+        ),
+        (
+            b"POST /mvt HTTP/1.1\nContent-Length: 65537\nContent-Length: 1\n\n",
             head,
             13,
         ),
-        (b"GET / HTTP/1.1\nTransfer-Encoding: chunked\n\n", head, 13),
+        (
+            b"GET /mvt HTTP/1.1\n\n",
+            "< 405 POST {\"error\":\"method\"}",
+            0,
+        ),
         (b"GET /\xFF HTTP/1.1\n\n", head, 13),
         (
             b"GET / HTTP/1.1\n\nGET  / HTTP/1.1\n\nGET / HTTP/1.1\n\n",

@@ -3,7 +3,7 @@ use super::{AIRPORT, DEMO, FIRST, Run, TYPES};
 use std::test::Fail;
 
 const HELP: &[u8] =
-    b"apron: airport stand allocation\n\napron desk AIRPORT TYPES     answers HTTP requests from standard input on standard output, at the\n                             airport of an airport file and a type file\napron check AIRPORT TYPES    reads an airport file and a type file, and prints how much they\n                             hold, or the first fault in them\napron --help                 prints this text\napron --version              prints the version\n";
+    b"apron: airport stand allocation\n\napron init AIRPORT TYPES JOURNAL   makes an empty journal for the airport of an airport file and a\n                                   type file\napron desk AIRPORT TYPES JOURNAL   answers HTTP requests from standard input on standard output at\n                                   that airport, and keeps in its journal what it accepts\napron chart AIRPORT TYPES DAY JOURNAL\n                                   prints the wall chart of a day of the plan in that journal\napron check AIRPORT TYPES          reads an airport file and a type file, and prints how much they\n                                   hold, or the first fault in them\napron make VISITS                  prints the summary of a generated day of 1 to 5,000 visits\napron --help                       prints this text\napron --version                    prints the version\n";
 
 // An airport whose one stand is on a frontage that there isn't.
 const UNKNOWN_FRONTAGE: &str = r#"frontage = [{ name = "N", objects = [] }]
@@ -22,7 +22,7 @@ tow = 20
 #[test]
 fn words_that_print(rt: HostRuntime) -> Result<(), Fail> {
     let usage = b"usage\n".as_slice();
-    let rows: [(&str, &[u8], u8, u8); 20] = [
+    let rows: [(&str, &[u8], u8, u8); 36] = [
         ("", usage, 2, 2),
         ("desk", usage, 2, 2),
         ("desk demo", usage, 2, 2),
@@ -31,6 +31,16 @@ fn words_that_print(rt: HostRuntime) -> Result<(), Fail> {
         ("Desk A T", usage, 2, 2),
         ("A T desk", usage, 2, 2),
         ("demo", usage, 2, 2),
+        ("init", usage, 2, 2),
+        ("init A", usage, 2, 2),
+        ("init A T T", usage, 2, 2),
+        ("init T A", b"airport file: not toml\n", 3, 3),
+        ("init A missing", b"shelf fault\n", 4, 4),
+        ("chart A T", usage, 2, 2),
+        ("chart A T 0", usage, 2, 2),
+        ("chart A T 4", usage, 2, 2),
+        ("chart A T 01", usage, 2, 2),
+        ("make 01", usage, 2, 2),
         ("--version --help", usage, 2, 2),
         ("--version A T", usage, 2, 2),
         ("check", usage, 2, 2),
@@ -38,6 +48,22 @@ fn words_that_print(rt: HostRuntime) -> Result<(), Fail> {
         ("checks A T", usage, 2, 2),
         ("check A T T", usage, 2, 2),
         ("--versio", usage, 2, 2),
+        ("make", usage, 2, 2),
+        ("make 0", usage, 2, 2),
+        ("make 5001", usage, 2, 2),
+        ("make ten", usage, 2, 2),
+        (
+            "make 1",
+            b"visits 1 placed 1 unplaced 0 refused 0 bumped 0 version 2\n",
+            0,
+            6,
+        ),
+        (
+            "make 50",
+            b"visits 50 placed 50 unplaced 0 refused 6 bumped 0 version 112\n",
+            0,
+            6,
+        ),
         ("--version", b"apron 0.1.0\n", 0, 6),
         ("--help", HELP, 0, 6),
         ("check A T", b"ok: 13 stands, 7 types, 3 days\n", 0, 6),
@@ -60,7 +86,7 @@ fn words_that_print(rt: HostRuntime) -> Result<(), Fail> {
     Ok(())
 }
 
-// The two files, the failing calls of the shelf, the line and the status, of a desk as of a check.
+// The two files, the failing calls of the shelf, the line and the status, of each word that begins with two files.
 #[test]
 fn faulty_files_are_told(rt: HostRuntime) -> Result<(), Fail> {
     let rows: [(&str, &str, &[u64], &[u8], u8); 6] = [
@@ -72,7 +98,7 @@ fn faulty_files_are_told(rt: HostRuntime) -> Result<(), Fail> {
         (AIRPORT, TYPES, &[1], b"shelf fault\n", 4),
     ];
     for (airport, types, failing_files, line, status) in rows {
-        for words in ["desk A T", "check A T"] {
+        for words in ["desk A T", "init A T", "check A T", "chart A T 1"] {
             let run = Run {
                 words,
                 airport,

@@ -1,0 +1,308 @@
+// Journals: how they are made, what desks keep in them, and what is told of those that can't be used.
+use super::lines::Session;
+use super::{AIRPORT, DEMO, Ended, FIRST, Run, TYPES, empty_journal};
+use apron_base::Memory;
+use std::alloc::Global;
+use std::test::Fail;
+
+// What is told of a journal whose type file's digest ends otherwise: the digests are those of the example's airport file and
+// type file, as `sha256sum` prints them.
+const OTHER: &str =
+    "journal: other airport f4322cbd517c34ea64e3618053a31d3cebd8158e78f41df924c9cd7d7eebee27dd66539480850f9e7014ae931bdde5384de9e0a0808582f966878f70cca179ff f4322cbd517c34ea64e3618053a31d3cebd8158e78f41df924c9cd7d7eebee27dd66539480850f9e7014ae931bdde5384de9e0a0808582f966878f70cca17942\n";
+
+// Visit V1 of type A320 and class 3 from 600 to 660, by call 1.
+const V1: &[u8] = b"\x01\0\0\0\0\0\0\0\x01\x02V1\0\0\x03\x58\x02\0\0\x94\x02\0\0\0\0";
+
+// The same with the call number 0, which no call has.
+const V0: &[u8] = b"\0\0\0\0\0\0\0\0\x01\x02V1\0\0\x03\x58\x02\0\0\x94\x02\0\0\0\0";
+
+// The same of V2, by call 2.
+const V2: &[u8] = b"\x02\0\0\0\0\0\0\0\x01\x02V2\0\0\x03\x58\x02\0\0\x94\x02\0\0\0\0";
+
+// Draft 1 of desk D over version 1, by call 2: visit 1 is put on the first stand.
+const STANDS: &[u8] = b"\x02\0\0\0\0\0\0\0\x02\x01D\x01\0\0\0\x01\0\0\0\x01\x01\x01\0\0\0\x01\0\0";
+
+// The requests that add three visits, and one for the version.
+const THREE: &[u8] =
+    b"POST /visits HTTP/1.1\r\nContent-Length: 56\r\n\r\n{\"name\":\"V1\",\"type\":\"A320\",\"class\":3,\"on\":600,\"off\":660}POST /visits HTTP/1.1\r\nContent-Length: 56\r\n\r\n{\"name\":\"V2\",\"type\":\"A320\",\"class\":3,\"on\":600,\"off\":660}POST /visits HTTP/1.1\r\nContent-Length: 56\r\n\r\n{\"name\":\"V3\",\"type\":\"A320\",\"class\":3,\"on\":600,\"off\":660}GET /version HTTP/1.1\r\n\r\n";
+
+// One for the version, the commit of FIRST, and one that adds V2.
+const AGAIN: &[u8] =
+    b"GET /version HTTP/1.1\r\n\r\nPOST /commits HTTP/1.1\r\nContent-Length: 83\r\n\r\n{\"desk\":\"D\",\"draft\":1,\"base\":1,\"edits\":[{\"put\":{\"visit\":1,\"part\":1,\"stand\":\"N1\"}}]}POST /visits HTTP/1.1\r\nContent-Length: 56\r\n\r\n{\"name\":\"V2\",\"type\":\"A320\",\"class\":3,\"on\":600,\"off\":660}";
+
+// A journal of the two files with these entries.
+fn journal_of(alloc: Global, entries: &[&[u8]]) -> Result<Vec<u8>, Memory> {
+    let mut journal = empty_journal(alloc, AIRPORT, TYPES)?;
+    for entry in entries {
+        let _ = journal.pop();
+        journal.push(1)?;
+        journal.extend_from_slice(&(entry.len().min(1024) as u16).to_le_bytes())?;
+        journal.extend_from_slice(entry)?;
+        journal.push(0)?;
+    }
+    Ok(journal)
+}
+
+// The two requests make these entries, 132 bytes with the header.
+fn keeps_two(alloc: Global) -> Result<bool, Fail> {
+    let run = Run {
+        input: FIRST,
+        ..DEMO
+    };
+    let Ended { disk, .. } = run.ends(alloc)?;
+    let journal = journal_of(alloc, &[V1, STANDS])?;
+    Ok(journal.len() == 132 && disk.bytes() == journal.as_slice())
+}
+
+// A desk on that journal begins with them, and goes on.
+fn goes_on(alloc: Global) -> Result<bool, Fail> {
+    let mut session = Session::of(alloc, "")?;
+    session.tell(alloc, "200 2 {\"version\":2}")?;
+    session.tell(alloc, "200 2 {\"version\":2}")?;
+    session.tell(alloc, "200 3 {\"version\":3,\"visit\":2}")?;
+    let journal = journal_of(alloc, &[V1, STANDS])?;
+    let run = Run {
+        input: AGAIN,
+        is_new: false,
+        stored: journal.as_slice(),
+        ..DEMO
+    };
+    let ended = run.ends(alloc)?;
+    Ok(ended.status == 0 && ended.output.as_slice() == session.output.as_slice())
+}
+
+#[test]
+fn two_requests_are_kept(rt: HostRuntime) -> Result<(), Fail> {
+    let alloc = rt.alloc();
+    let kept = keeps_two(alloc)?;
+    assert!(rt; kept);
+    let goes_on = goes_on(alloc)?;
+    assert!(rt; goes_on);
+    Ok(())
+}
+
+// What a disk has before a journal is made on it.
+#[derive(Clone, Copy, Debug)]
+enum Before {
+    Nothing,
+    Journal,
+    Letter,
+}
+
+fn stored_before(alloc: Global, before: Before) -> Result<Vec<u8>, Memory> {
+    match before {
+        Before::Nothing => Ok(Vec::new(alloc)),
+        Before::Journal => empty_journal(alloc, AIRPORT, TYPES),
+        Before::Letter => Ok(Vec::from_slice(alloc, b"x")?),
+    }
+}
+
+// What `init` prints on such a disk, its status, and whether the disk is an empty journal then.
+fn makes<'a>(
+    alloc: Global,
+    stored: &'a [u8],
+    failing_calls: &'a [u64],
+    failing_puts: &'a [u64],
+) -> Result<(Vec<u8>, u8, bool), Fail> {
+    let run = Run {
+        words: "init A T",
+        is_new: false,
+        stored,
+        failing_calls,
+        failing_puts,
+        failing_reads: &[0],
+        ..DEMO
+    };
+    let Ended {
+        output,
+        status,
+        disk,
+    } = run.ends(alloc)?;
+    let made = empty_journal(alloc, AIRPORT, TYPES)?;
+    let is_journal = made.len() == 73 && disk.bytes() == made.as_slice();
+    Ok((output, status, is_journal))
+}
+
+// What is made of an empty disk, and of one that isn't: the calls that fail, the line, the status, and whether it is an empty
+// journal then. The sink fails at a line, too.
+#[test]
+fn journals_are_made(rt: HostRuntime) -> Result<(), Fail> {
+    let rows: [(Before, &[u64], &[u64], &[u8], u8, bool); 8] = [
+        (Before::Nothing, &[], &[], b"ok\n", 0, true),
+        (Before::Nothing, &[], &[0], b"", 6, true),
+        (Before::Journal, &[], &[], b"journal not empty\n", 14, true),
+        (Before::Journal, &[], &[0], b"", 14, true),
+        (Before::Letter, &[], &[], b"journal not empty\n", 14, false),
+        (Before::Nothing, &[0], &[], b"disk fault\n", 7, false),
+        (Before::Nothing, &[1], &[], b"disk fault\n", 7, false),
+        (Before::Nothing, &[2], &[0], b"", 7, true),
+    ];
+    for (before, failing_calls, failing_puts, line, status, is_journal) in rows {
+        let stored = stored_before(rt.alloc(), before)?;
+        let (output, ended, is) = makes(rt.alloc(), &stored, failing_calls, failing_puts)?;
+        let holds = output.as_slice() == line && ended == status && is == is_journal;
+        assert!(rt; holds, "{before:?} {failing_calls:?} {failing_puts:?}");
+    }
+    Ok(())
+}
+
+// A journal with no entry and this byte at this place.
+fn changed(alloc: Global, at: usize, byte: u8) -> Result<Vec<u8>, Memory> {
+    let mut changed = empty_journal(alloc, AIRPORT, TYPES)?;
+    if let Some(place) = changed.get_mut(at) {
+        *place = byte;
+    }
+    Ok(changed)
+}
+
+// The first bytes of a journal with no entry, and then others.
+fn with(alloc: Global, length: usize, others: &[u8]) -> Result<Vec<u8>, Memory> {
+    let mut all = empty_journal(alloc, AIRPORT, TYPES)?;
+    all.truncate(length);
+    all.extend_from_slice(others)?;
+    Ok(all)
+}
+
+// On a disk of these bytes this line is told with status 8, no byte of the input is taken, and the disk reads as before.
+fn is_told(alloc: Global, stored: &[u8], line: &str) -> Result<bool, Fail> {
+    let run = Run {
+        is_new: false,
+        stored,
+        input: FIRST,
+        failing_reads: &[0],
+        ..DEMO
+    };
+    let ended = run.ends(alloc)?;
+    Ok(
+        ended.status == 8
+            && ended.output.as_slice() == line.as_bytes()
+            && ended.disk.bytes() == stored,
+    )
+}
+
+#[test]
+fn headers_that_are_none_are_told(rt: HostRuntime) -> Result<(), Fail> {
+    let alloc = rt.alloc();
+    let rows: [(usize, &[u8], &str); 7] = [
+        (0, b"", "journal: not a journal\n"),
+        (72, b"", "journal: not a journal\n"),
+        (72, b"\x01", "journal: record 1\n"),
+        (72, b"\x01\0\0\0", "journal: record 1\n"),
+        (72, b"\x01\x01\x04\0\0", "journal: record 1\n"),
+        (72, b"\x01\x01\0x\x01", "journal: record 2\n"),
+        (72, b"\x01\x01\0x\0", "journal: entry 1 unreadable\n"),
+    ];
+    for (length, others, line) in rows {
+        let stored = with(alloc, length, others)?;
+        let told = is_told(alloc, &stored, line)?;
+        assert!(rt; told, "{length} {others:?}");
+    }
+    for (at, byte, line) in [(5usize, b'2', "journal: not a journal\n"), (71, 255, OTHER)] {
+        let stored = changed(alloc, at, byte)?;
+        let told = is_told(alloc, &stored, line)?;
+        assert!(rt; told, "{at}");
+    }
+    Ok(())
+}
+
+#[test]
+fn entries_that_are_none_are_told(rt: HostRuntime) -> Result<(), Fail> {
+    let alloc = rt.alloc();
+    let unknown = b"\x02\0\0\0\0\0\0\0\x06".as_slice();
+    for (first, second, line) in [
+        (V1, unknown, "journal: entry 2 unreadable\n"),
+        (STANDS, V1, "journal: entry 1 refused\n"),
+        (V1, V1, "journal: entry 2 refused\n"),
+        (V2, V1, "journal: entry 2 refused\n"),
+        (V0, V1, "journal: entry 1 refused\n"),
+    ] {
+        let stored = journal_of(alloc, &[first, second])?;
+        let told = is_told(alloc, &stored, line)?;
+        assert!(rt; told, "{line}");
+    }
+    Ok(())
+}
+
+// With these calls of the disk failing these replies are sent, and so many calls are made.
+fn is_answered(
+    alloc: Global,
+    failing_calls: &'static [u64],
+    replies: [&'static str; 4],
+    calls: usize,
+) -> Result<bool, Fail> {
+    let mut session = Session::of(alloc, "")?;
+    for reply in replies {
+        session.tell(alloc, reply)?;
+    }
+    let run = Run {
+        input: THREE,
+        failing_calls,
+        ..DEMO
+    };
+    let ended = run.ends(alloc)?;
+    Ok(
+        ended.status == 0
+            && ended.output.as_slice() == session.output.as_slice()
+            && ended.disk.calls().len() == calls,
+    )
+}
+
+const FAILED: &str = "503 - {\"error\":\"keeper\"}";
+
+const ONE: &str = "200 1 {\"version\":1,\"visit\":1}";
+
+const TWO: &str = "200 2 {\"version\":2,\"visit\":2}";
+
+const THIRD: &str = "200 3 {\"version\":3,\"visit\":3}";
+
+// The calls that fail, the replies to the three visits and to the question, and how many calls of the disk were made. Opening
+// makes three, an append four, and two before them where the third or the fourth of the one before failed.
+#[test]
+fn appends_that_fail_are_told(rt: HostRuntime) -> Result<(), Fail> {
+    let two = "200 2 {\"version\":2}";
+    let rows: [(&[u64], [&str; 4], usize); 14] = [
+        (&[], [ONE, TWO, THIRD, "200 3 {\"version\":3}"], 15),
+        (&[3], [FAILED, ONE, TWO, two], 12),
+        (&[4], [FAILED, ONE, TWO, two], 13),
+        (&[5], [FAILED, ONE, TWO, two], 16),
+        (&[6], [FAILED, ONE, TWO, two], 17),
+        (&[7], [ONE, FAILED, TWO, two], 12),
+        (&[8], [ONE, FAILED, TWO, two], 13),
+        (&[9], [ONE, FAILED, TWO, two], 16),
+        (&[10], [ONE, FAILED, TWO, two], 17),
+        (&[14], [ONE, TWO, FAILED, two], 15),
+        (&[6, 7], [FAILED, FAILED, ONE, "200 1 {\"version\":1}"], 14),
+        (&[6, 8], [FAILED, FAILED, ONE, "200 1 {\"version\":1}"], 15),
+        (
+            &[3, 4, 5],
+            [FAILED, FAILED, FAILED, "200 0 {\"version\":0}"],
+            6,
+        ),
+        (
+            &[6, 7, 8],
+            [FAILED, FAILED, FAILED, "200 0 {\"version\":0}"],
+            9,
+        ),
+    ];
+    for (failing_calls, replies, calls) in rows {
+        let answered = is_answered(rt.alloc(), failing_calls, replies, calls)?;
+        assert!(rt; answered, "{failing_calls:?}");
+    }
+    Ok(())
+}
+
+// Each call of an opening fails in turn.
+#[test]
+fn openings_that_fail_are_told(rt: HostRuntime) -> Result<(), Fail> {
+    let rows: [&[u64]; 3] = [&[0], &[1], &[2]];
+    for failing_calls in rows {
+        let run = Run {
+            input: FIRST,
+            failing_reads: &[0],
+            failing_calls,
+            ..DEMO
+        };
+        run.gives(&rt, rt.alloc(), &failing_calls, b"disk fault\n", 7)?;
+    }
+    Ok(())
+}

@@ -1,0 +1,48 @@
+-- What is seen of a disk, by what its calls tell of it.
+use Rattle.std.proofs.Common.{◌≡◌, ◌≢◌, ℕ, List, length, refl, ap, subst, false, Option, None, Some}
+use Rattle.std.specs.Prelude.{IfSome}
+use Rattle.apron_base.specs.Counts.{Counts}
+use Rattle.journal_disk.specs.Disk.{Between, DiskState, IsSafe, TellsAlike, Told}
+use Rattle.journal_disk.specs.Faults.{InitFails}
+use Rattle.journal_disk.specs.Header.{empty_journal}
+use Rattle.journal_disk.specs.declared.fault.JournalFault.{JournalFault}
+use Rattle.journal_disk.specs.declared.fault.JournalFault.TheVariants as journal
+use Rattle.apron_run.specs.Init.{IsMade, Makes}
+use Rattle.apron_run.specs.World.{seen_of}
+
+-- what holds of what is told, if it is
+pub if_told : (contents : Option (List ℕ)) (P : List ℕ → Type 0) → ((bytes : List ℕ) → contents ≡ Some bytes → P bytes) → IfSome contents P
+if_told None P holds = tt
+if_told (Some bytes) P holds = holds bytes refl
+
+-- what is known of a value that there is
+pub known : {A : Type 0} (option : Option A) (P : A → Type 0) (value : A) → IfSome option P → option ≡ Some value → P value
+known None P value holds is = absurd cc
+known (Some other) P value holds is = let same : other ≡ value = cc in subst P same holds
+
+-- a disk that told what it read as tells it still: these bytes, if each that it could tell is these
+reads_as : (told contents : Option (List ℕ)) (bytes wanted : List ℕ) → told ≡ Some bytes → Between (λ _ _. Unit {0}) told contents
+    → ((now : List ℕ) → contents ≡ Some now → now ≡ wanted) → contents ≡ Some wanted
+reads_as (Some other) (Some now) bytes wanted is alike same = ap Some (same now refl)
+reads_as (Some other) None bytes wanted is alike same = absurd alike
+reads_as None contents bytes wanted is alike same = absurd cc
+
+-- a journal was made
+pub is_made : (digests : List ℕ) (before after : DiskState) → Told before (λ bytes. length bytes ≡ 0) → Told before (λ _. IsSafe (empty_journal digests) after)
+    → TellsAlike before after → Told after (after.images after.moment) → Counts false before.faults after.faults → IsMade digests (seen_of before) (seen_of after)
+is_made digests before after empty safe alike reads counts = record {
+  empty = if_told before.contents (λ bytes. length bytes ≡ 0) empty;
+  reads = if_told before.contents (λ _. after.contents ≡ Some (empty_journal digests)) (λ bytes is.
+      reads_as before.contents after.contents bytes (empty_journal digests) is alike (λ now here. safe bytes is now (reads now here)));
+  counts = counts;
+}
+
+-- why none was made
+pub is_refused : (digests : List ℕ) (before after : DiskState) (fault : JournalFault) → InitFails before after fault → Makes digests (seen_of before) (seen_of after) (Some fault)
+is_refused digests before after journal.DiskFault fails = fails
+is_refused digests before after journal.NotEmpty (told, stays, counts) =
+    record { bytes = if_told before.contents (λ bytes. length bytes ≢ 0) told; reads = stays.contents; counts = counts }
+is_refused digests before after journal.NotAJournal fails = absurd fails
+is_refused digests before after (journal.OtherAirport kept given) fails = absurd fails
+is_refused digests before after (journal.BadRecord number) fails = absurd fails
+is_refused digests before after journal.Memory fails = absurd fails

@@ -1,0 +1,70 @@
+-- The journal of an airport on a disk: what it opens to, why it doesn't, and what a disk keeps of a history.
+use Rattle.std.specs.Prelude.{◌≡◌, ◌⊎◌, ℕ, List, true, false, IfSome, Ok}
+use Rattle.apron_base.specs.Counts.{Counts}
+use Rattle.apron_base.specs.Keeper.{KeeperState, with_last}
+use Rattle.apron_rules.specs.declared.parts.AirportParts.{AirportParts}
+use Rattle.desk_words.specs.declared.asks.Entry.{Entry}
+use Rattle.history_core.specs.Board.{BoardHeld, IsNextText, entry_texts}
+use Rattle.history_core.specs.History.{IsLegal}
+use Rattle.history_core.specs.Opening.{CannotOpen, next_after}
+use Rattle.journal_disk.specs.Disk.{DiskState}
+use Rattle.journal_disk.specs.Extent.{JournalHeld, keeper_of}
+use Rattle.journal_disk.specs.Faults.{TextFails}
+use Rattle.journal_disk.specs.Header.{digests_in, opening_of}
+use Rattle.journal_disk.specs.declared.fault.JournalFault.{JournalFault}
+use Rattle.journal_disk.specs.declared.fault.JournalFault.TheVariants as journal
+use Rattle.apron_check.specs.declared.files.AirportFiles.{AirportFiles}
+use Rattle.apron_run.specs.World.{DiskSeen}
+use Rattle.apron_run.specs.declared.unusable.Unusable.{Unusable}
+use Rattle.apron_run.specs.declared.unusable.Unusable.TheVariants.{Journal, Entries}
+
+-- what a journal tells as a keeper, by what its disk tells
+abbrev pub journal_tells : {D : Type 0} → (D → DiskState) → JournalHeld D → KeeperState
+journal_tells state held = keeper_of held.extent (state held.disk)
+
+-- the disk opens as the journal of these files, and its entries are those of this legal history
+pub record OpensTo (files : AirportFiles) (disk : DiskSeen) (opened : List Entry) : Type 0 where
+  pub legal : IsLegal files.airport opened
+  pub entries : IfSome disk.contents (λ bytes. opening_of files.digests bytes ≡ Ok (entry_texts opened))
+
+-- a board was opened over the journal of these files that is on the disk, and so far no call of the disk has failed
+pub record IsOpened {K : Type 0} (tells : K → KeeperState) (files : AirportFiles) (disk : DiskSeen) (board : BoardHeld K) : Type 0 where
+  pub airport_is : board.airport ≡ files.airport
+  pub opens : OpensTo files disk board.history
+  pub next : board.next ≡ next_after board.history
+  pub faults : (tells board.keeper).faults ≡ disk.faults
+
+-- why the disk is not opened as the journal of the files of these digests: it failed, or memory is wanting, or it is what the disk reads as
+abbrev pub FailsToOpen : List ℕ → DiskSeen → DiskSeen → JournalFault → Type 0
+FailsToOpen digests before after journal.DiskFault = Counts true before.faults after.faults
+FailsToOpen digests before after journal.NotEmpty = ⊥
+FailsToOpen digests before after fault = Counts false before.faults after.faults × IfSome before.contents (λ bytes. TextFails digests bytes fault)
+
+-- the disk opens as the journal of the files, and no board is opened over its entries
+pub record OpensInVain (files : AirportFiles) (before after : DiskSeen) (entries : List (List ℕ)) : Type 0 where
+  pub opening : IfSome before.contents (λ bytes. opening_of files.digests bytes ≡ Ok entries)
+  pub counts : Counts false before.faults after.faults
+
+-- why there is no journal of these files to work on
+abbrev pub WhyUnusable : AirportFiles → DiskSeen → DiskSeen → Unusable → Type 0
+WhyUnusable files before after (Journal fault) = FailsToOpen files.digests before after fault
+WhyUnusable files before after (Entries fault) = (entries : List (List ℕ)) × OpensInVain files before after entries × CannotOpen files.airport entries fault
+
+-- no board was opened, and the disk reads as before
+pub record NotOpened (files : AirportFiles) (before after : DiskSeen) (why : Unusable) : Type 0 where
+  pub reads : after.contents ≡ before.contents
+  pub cause : WhyUnusable files before after why
+
+-- the bytes are a journal with these entries
+abbrev pub HasEntries : List ℕ → List (List ℕ) → Type 0
+HasEntries bytes entries = opening_of (digests_in bytes) bytes ≡ Ok entries
+
+-- the bytes are a journal of the history, or of this and one entry more that was not acknowledged, with which the history is still legal
+abbrev pub Holds : AirportParts → List Entry → List ℕ → Type 0
+Holds airport history bytes =
+    HasEntries bytes (entry_texts history) ⊎ ((risk : List ℕ) × IsNextText airport history risk × HasEntries bytes (with_last risk (entry_texts history)))
+
+-- the disk, where it tells what it reads as, holds the history, and as long as it never failed, just that
+pub record KeepsHistory (airport : AirportParts) (history : List Entry) (disk : DiskSeen) : Type 0 where
+  pub holds : IfSome disk.contents (Holds airport history)
+  pub exact : disk.faults ≡ 0 → IfSome disk.contents (λ bytes. HasEntries bytes (entry_texts history))

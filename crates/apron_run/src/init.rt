@@ -1,0 +1,52 @@
+// The word `init`.
+ghost use Rattle.std.specs.Prelude.{◌≡◌, false, not, Result};
+ghost use Rattle.apron_check.specs.Files.{Finds};
+ghost use Rattle.apron_check.specs.declared.faults.FilesFault.{FilesFault};
+ghost use Rattle.apron_check.specs.declared.files.AirportFiles.{AirportFiles};
+ghost use Rattle.apron_run.specs.Init.{InitsFound, MakesJournal};
+ghost use Rattle.apron_run.specs.Run.{KeptUnless};
+ghost use Rattle.apron_run.specs.Statuses.{code_of};
+ghost use Rattle.apron_run.specs.Words.{ends_before_journal};
+ghost use Rattle.apron_run.specs.World.{seen_of};
+
+use crate::Status;
+use crate::check::tell_fault;
+use crate::print::print_made;
+use crate::unusable::{Unusable, tell_unusable};
+use apron_base::{Shelf, Sink};
+use apron_check::{AirportFiles, airport_of};
+use journal_disk::Disk;
+use std::alloc::Global;
+
+/// Makes a journal with no entry on an empty disk, for the airport that the two files of these names make; or prints why
+/// there is none.
+pub(crate) fn init<F: Shelf, W: Sink, D: Disk>(
+    alloc: Global,
+    airport: &str,
+    types: &str,
+    shelf: &mut F,
+    sink: &mut W,
+    disk: &mut D,
+) -> Status
+    ensures inits { (found : Result AirportFiles FilesFault) × Finds (F.state shelf.old) (F.state shelf.new) airport.now types.now found
+        × InitsFound found (record { sink = W.state sink.old; disk = seen_of (D.state disk.old) })
+        (record { sink = W.state sink.new; disk = seen_of (D.state disk.new) }) result }
+    ensures kept { KeptUnless (not (ends_before_journal (code_of result))) disk.old disk.new }
+{
+    match airport_of(alloc, airport, types, shelf) {
+        Ok(files) => make_journal(&files, sink, disk),
+        Err(fault) => tell_fault(sink, &fault),
+    }
+}
+
+// The journal of these files.
+fn make_journal<W: Sink, D: Disk>(files: &AirportFiles, sink: &mut W, disk: &mut D) -> Status
+    ensures makes { MakesJournal files.now (record { sink = W.state sink.old; disk = seen_of (D.state disk.old) })
+        (record { sink = W.state sink.new; disk = seen_of (D.state disk.new) }) result }
+    ensures comes { ends_before_journal (code_of result) ≡ false }
+{
+    match journal_disk::init(disk, &files.digests) {
+        Ok(()) => print_made(sink),
+        Err(fault) => tell_unusable(sink, &Unusable::Journal(fault)),
+    }
+}

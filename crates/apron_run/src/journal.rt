@@ -1,0 +1,40 @@
+// The board of an airport over its journal on a disk.
+ghost use Rattle.std.specs.Prelude.{◌≡◌, IfErr, IfOk};
+ghost use Rattle.apron_run.specs.Journal.{IsOpened, KeepsHistory, NotOpened, journal_tells};
+ghost use Rattle.apron_run.specs.World.{seen_of};
+
+use crate::unusable::Unusable;
+use apron_check::AirportFiles;
+use history_core::Board;
+use journal_disk::{Disk, Journal};
+use std::alloc::Global;
+
+/// Opens the journal of these files on the disk, and the board of its entries. At `Err` it is told why there is none to work on,
+/// and the disk is handed back, which reads as before.
+pub(crate) fn open_board<'f, D: Disk>(
+    alloc: Global,
+    files: &'f AirportFiles,
+    disk: D,
+) -> Result<Board<'f, Journal<D>>, (Unusable, D)>
+    ensures opened { IfOk result (IsOpened (journal_tells D.state) files.entry.now (seen_of (D.state disk))) }
+    ensures stays { IfOk result (λ board. (D.state board.keeper.disk).contents ≡ (D.state disk).contents) }
+    ensures refused { IfErr result (λ refusal.
+        NotOpened files.entry.now (seen_of (D.state disk)) (seen_of (D.state refusal.1)) refusal.0) }
+{
+    let (journal, entries) = match Journal::open(alloc, disk, &files.digests) {
+        Ok(opened) => opened,
+        Err((fault, disk)) => return Err((Unusable::Journal(fault), disk)),
+    };
+    match Board::open(alloc, &files.airport, journal, entries) {
+        Ok(board) => Ok(board),
+        Err((fault, journal)) => Err((Unusable::Entries(fault), journal.into_disk())),
+    }
+}
+
+/// Gives back the disk of a board that is not needed any more. It keeps the board's history.
+pub(crate) fn close_board<D: Disk>(board: Board<'_, Journal<D>>) -> D
+    ensures keeps { KeepsHistory board.entry.airport board.entry.history (seen_of (D.state result)) }
+    ensures disk { result ≡ board.entry.keeper.disk }
+{
+    board.into_keeper().into_disk()
+}

@@ -1,0 +1,33 @@
+// The word `make`.
+ghost use Rattle.std.specs.Prelude.{◌≤◌, IfOk};
+ghost use Rattle.apron_run.specs.Make.{IsDayLine, TellsDay};
+
+use crate::Status;
+use crate::check::tell_fault;
+use crate::print::print;
+use apron_base::{Listed, Memory, Sink};
+use apron_check::FilesFault;
+use generated_day::{MAX_MADE, make_day, summary_line};
+use std::alloc::Global;
+
+/// Prints the summary of a generated day of so many visits, 1 to 5,000.
+pub(crate) fn make<W: Sink>(alloc: Global, visits: u32, sink: &mut W) -> Status
+    requires some { 1 ≤ visits }
+    requires few { visits ≤ MAX_MADE }
+    ensures tells { TellsDay visits (W.state sink.old) (W.state sink.new) result }
+{
+    match day_line(alloc, visits) {
+        Ok(line) => print(sink, line.as_slice()),
+        Err(Memory) => tell_fault(sink, &FilesFault::Memory),
+    }
+}
+
+// The line of the day of so many visits.
+fn day_line(alloc: Global, visits: u32) -> Result<Listed<u8>, Memory>
+    requires some { 1 ≤ visits }
+    requires few { visits ≤ MAX_MADE }
+    ensures line { IfOk result (IsDayLine visits) }
+{
+    let summary = make_day(alloc, visits)?;
+    summary_line(alloc, &summary)
+}
