@@ -5,7 +5,9 @@ ghost use Rattle.visit_book.specs.NewVisits.{HasFlight};
 
 use super::demo::{BUFFER, LEAST, STANDS, TYPES, demo};
 use super::draws::Draws;
-use apron_base::{Acted, Listed, Memory, Minute, Name, PartId, Slot, StandNo, TypeNo, VisitNo};
+use apron_base::{
+    Acted, Listed, Memory, Minute, Name, PartId, Slot, StandNo, SteadyKeeper, TypeNo, VisitNo,
+};
 use apron_rules::{Airport, Rule};
 use desk_words::asks::{Ask, Command, What};
 use history_core::Board;
@@ -361,7 +363,7 @@ fn with_happened(
 }
 
 // Whether the board answers.
-fn is_answered(alloc: Global, board: &mut Board, ask: &Ask) -> bool
+fn is_answered(alloc: Global, board: &mut Board<SteadyKeeper>, ask: &Ask) -> bool
     requires valid { IsAskOf board.old.airport ask.now }
     ensures airport { board.new.airport ≡ board.old.airport }
 {
@@ -373,7 +375,7 @@ fn is_answered(alloc: Global, board: &mut Board, ask: &Ask) -> bool
 fn is_settled(
     alloc: Global,
     airport: &Airport,
-    board: &mut Board,
+    board: &mut Board<SteadyKeeper>,
     ask: &Ask,
     number: u32,
 ) -> Result<bool, Memory>
@@ -390,7 +392,12 @@ fn is_settled(
     Ok(settled.as_slice() == after)
 }
 
-fn add_all(alloc: Global, airport: &Airport, draws: &mut Draws, board: &mut Board) -> bool
+fn add_all(
+    alloc: Global,
+    airport: &Airport,
+    draws: &mut Draws,
+    board: &mut Board<SteadyKeeper>,
+) -> bool
     requires types { length airport.now.types ≡ TYPES }
     requires airport { board.old.airport ≡ airport.now }
     ensures airport { board.new.airport ≡ board.old.airport }
@@ -411,7 +418,7 @@ fn place_some(
     alloc: Global,
     airport: &Airport,
     draws: &mut Draws,
-    board: &mut Board,
+    board: &mut Board<SteadyKeeper>,
 ) -> Result<bool, Memory>
     requires stands { length airport.now.stands ≡ STANDS }
     requires airport { board.old.airport ≡ airport.now }
@@ -443,7 +450,7 @@ fn all_settled(
     alloc: Global,
     airport: &Airport,
     draws: &mut Draws,
-    board: &mut Board,
+    board: &mut Board<SteadyKeeper>,
 ) -> Result<bool, Memory>
     requires stands { length airport.now.stands ≡ STANDS }
     requires airport { board.old.airport ≡ airport.now }
@@ -465,7 +472,10 @@ fn holds(alloc: Global, airport: &Airport, seed: u32) -> Result<bool, Memory>
     requires types { length airport.now.types ≡ TYPES }
 {
     let mut draws = Draws::of(seed);
-    let mut board = Board::new(alloc, airport)?;
+    let keeper = SteadyKeeper::new(alloc, Vec::new(alloc));
+    let Ok(mut board) = Board::open(alloc, airport, keeper, Vec::new(alloc)) else {
+        return Err(Memory);
+    };
     Ok(
         add_all(alloc, airport, &mut draws, &mut board)
             && place_some(alloc, airport, &mut draws, &mut board)?
