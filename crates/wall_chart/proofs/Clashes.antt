@@ -1,29 +1,38 @@
--- The first of some minutes at which two slots clash, and the alarms of a day.
-use Rattle.std.proofs.Common.{◌≡◌, ◌∙◌, ◌<◌, ◌≤◌, ◌+◌, ◌++◌, ◌&&◌, ◌⊎◌, inl, inr, ℕ, zero, suc, min, max, nat_lt, Bool, true, false, cond, List, [], ◌∷◌, refl, sym, ap, arith, Option, None, Some, append_assoc, length, slice_index_or, take}
-use Rattle.std.specs.Prelude.{filter, filter_map, option_map, option_to_list}
+-- The clashes of a slot on a day are those of the slot for the minutes of the day alone; and the alarms of a day.
+use Rattle.std.proofs.Common.{◌≡◌, ◌∙◌, ◌<◌, ◌≤◌, ◌+◌, ◌++◌, ◌==◌, ◌&&◌, ◌⊎◌, inl, inr, ℕ, zero, suc, min, max, nat_lt, Bool, true, false, cond, List, [], ◌∷◌, refl, sym, ap, subst, arith, Option, None, Some, length, get_or}
+use Rattle.std.proofs.lemmas.List.Elements.{All-contains, Contains-get_or}
+use Rattle.std.specs.Prelude.{Contains, filter, filter_map, nat_le, option_map}
 use Rattle.std.specs.List.{flat_map, cons_option}
 use Rattle.std.specs.Option.{option_or}
 use Rattle.std.proofs.lemmas.Bool.Decides.{nat_tests}
-use Rattle.std.proofs.lemmas.List.{take_more}
-use Rattle.std.proofs.lemmas.List.Elements.{filter_map-append}
 use Rattle.apron_base.specs.declared.slot.Slot.{Slot}
 use Rattle.apron_rules.specs.declared.parts.AirportParts.{AirportParts}
 use Rattle.apron_rules.specs.declared.rules.Clash.{Clash}
 use Rattle.apron_rules.specs.declared.rules.Rule.{Rule}
-use Rattle.apron_rules.specs.Clash.{is_held, rule_at}
-use Rattle.clash_check.specs.Meetings.{Meeting, meeting_from}
-use Rattle.clash_check.proofs.Meetings.{not_held}
+use Rattle.apron_rules.specs.Clash.{IsSlotOf, IsSound, is_held, rule_at}
+use Rattle.apron_rules.specs.Rules.{breaks_of}
+use Rattle.apron_rules.proofs.Bordering.{filter_passed}
+use Rattle.stand_index.specs.Slots.{StandSlots}
+use Rattle.clash_check.specs.Clear.{IsClear}
+use Rattle.clash_check.specs.Indexed.{all_slots}
+use Rattle.clash_check.specs.Meetings.{Meeting, by_part, clash_with, clashes_with, is_smaller, meeting, meeting_from}
+use Rattle.clash_check.proofs.Among.{others_none}
+use Rattle.clash_check.proofs.Meetings.{first_meeting, never_meeting, not_held}
+use Rattle.clash_check.proofs.Ordered.{listed_first, listed_later}
+use Rattle.visit_book.specs.declared.visits.Visit.{Visit}
+use Rattle.visit_book.specs.Slots.{slots_of}
+use Rattle.plan_core.specs.Indexed.{IsIndexed}
 use Rattle.plan_lists.specs.Days.{day_length, day_start, minutes_of_day}
-use Rattle.wall_chart.specs.Alarms.{alarm, alarms, alarms_with, alarm_order, are_actual, clash_on}
+use Rattle.wall_chart.specs.Alarms.{alarm, alarms, alarms_with, alarm_order, clash_on, is_actual_on, is_in_order, of_day}
 use Rattle.wall_chart.specs.Cells.{is_held_at_some}
 use Rattle.wall_chart.specs.Order.{in_order}
-use Rattle.wall_chart.proofs.OfDay.{lists_alike, span_of_day}
+use Rattle.wall_chart.proofs.OfDay.{span_of_day}
 
 abbrev at_rule : ℕ → Rule → Meeting
 at_rule m rule = record { minute = m; rule = rule }
 
 -- slots that clash at none of these minutes don't meet
-pub never_from : (airport : AirportParts) (p q : Slot) (m more : ℕ) → ((k : ℕ) → m ≤ k → k < m + more → rule_at airport p q k ≡ None) → meeting_from airport p q m more ≡ None
+never_from : (airport : AirportParts) (p q : Slot) (m more : ℕ) → ((k : ℕ) → m ≤ k → k < m + more → rule_at airport p q k ≡ None) → meeting_from airport p q m more ≡ None
 unfolding meeting_from
 never_from airport p q m zero none = refl
 never_from airport p q m (suc more) none =
@@ -34,7 +43,7 @@ here_or_later : (m k : ℕ) → m ≤ k → (k ≡ m) ⊎ (m + 1 ≤ k)
 here_or_later m k h = grind arith
 
 -- they meet at the first minute at which they clash
-pub first_from : (airport : AirportParts) (p q : Slot) (k : ℕ) (rule : Rule) → rule_at airport p q k ≡ Some rule → (m more : ℕ) → m ≤ k → k < m + more
+first_from : (airport : AirportParts) (p q : Slot) (k : ℕ) (rule : Rule) → rule_at airport p q k ≡ Some rule → (m more : ℕ) → m ≤ k → k < m + more
     → ((j : ℕ) → m ≤ j → j < k → rule_at airport p q j ≡ None) → meeting_from airport p q m more ≡ Some (at_rule k rule)
 unfolding meeting_from
 first_from airport p q k rule is m zero low high none = absurd (omega arith)
@@ -45,50 +54,132 @@ first_from airport p q k rule is m (suc more) low high none = elim (here_or_late
       ∙ first_from airport p q k rule is (m + 1) more later (omega arith) (λ j from below. none j (omega (arith, from)) below)
 ]
 
--- where both are held at the minute, and none before is a minute of both
-pub held_first : (p q : Slot) (start m : ℕ) → m ≡ max start (max p.from q.from) → m < p.end → m < q.end → (is_held p m && is_held q m) ≡ true
-held_first p q start m e f g = grind (arith, nat_tests)
-
-pub not_before : (p q : Slot) (start m j : ℕ) → m ≡ max start (max p.from q.from) → start ≤ j → j < m → (is_held p j && is_held q j) ≡ false
-not_before p q start m j e f g = grind (arith, nat_tests)
-
-pub never_held : (p q : Slot) (start long m k : ℕ) → m ≡ max start (max p.from q.from) → (p.end ≤ m) ⊎ (q.end ≤ m) ⊎ (start + long ≤ m) → start ≤ k → k < start + long
-    → (is_held p k && is_held q k) ≡ false
-never_held p q start long m k e f low high = grind (arith, nat_tests)
-
-not_on_day : (slot : Slot) (start long k : ℕ) → nat_lt (max slot.from start) (min slot.end (start + long)) ≡ false → start ≤ k → k < start + long → is_held slot k ≡ false
-not_on_day slot start long k e low high = grind (arith, nat_tests)
-
 and_no : (a b : Bool) → (a ≡ false) ⊎ (b ≡ false) → (a && b) ≡ false
 and_no false b e = refl
 and_no true b (inl e) = absurd (cc)
 and_no true b (inr e) = e
 
--- slots of which one is not held on the day give no alarm
-no_clash : (airport : AirportParts) (day : ℕ) (p q : Slot) → (is_held_at_some (minutes_of_day day) p ≡ false) ⊎ (is_held_at_some (minutes_of_day day) q ≡ false) → clash_on airport day p q ≡ None
-no_clash airport day p q off =
-    let start = day_start day in
-    let none : (k : ℕ) → start ≤ k → k < start + day_length → rule_at airport p q k ≡ None =
-    λ k low high. not_held airport p q k (and_no (is_held p k) (is_held q k) (elim off [
-      | inl e ↦ inl (not_on_day p start day_length k (sym (span_of_day p.from p.end day) ∙ e) low high)
-      | inr e ↦ inr (not_on_day q start day_length k (sym (span_of_day q.from q.end day) ∙ e) low high)
-    ])) in
-    rw (never_from airport p q start day_length none) refl
+no_and : (a b : Bool) → (a && b) ≡ false → (a ≡ false) ⊎ (b ≡ false)
+no_and false b e = inl refl
+no_and true b e = inr e
 
-no_alarm_by : (b : Bool) (found : Option Clash) → found ≡ None → ◌≡◌ {A = Option Clash} (cond b found None) None
-no_alarm_by true found e = e
-no_alarm_by false found e = refl
+-- the slot of a day is held on the day as the slot is, and at no other minute
+held_on_day : (from end start long k : ℕ) → start ≤ k → k < start + long → (nat_le (max from start) k && nat_lt k (min end (start + long))) ≡ (nat_le from k && nat_lt k end)
+held_on_day from end start long k low high = grind (arith, nat_tests)
 
-no_alarm : (airport : AirportParts) (day : ℕ) (p q : Slot) → (is_held_at_some (minutes_of_day day) p ≡ false) ⊎ (is_held_at_some (minutes_of_day day) q ≡ false) → alarm airport day p q ≡ None
-no_alarm airport day p q off = no_alarm_by (are_actual p q) (clash_on airport day p q) (no_clash airport day p q off)
+not_on_day : (from end start long k : ℕ) → (k < start) ⊎ (start + long ≤ k) → (nat_le (max from start) k && nat_lt k (min end (start + long))) ≡ false
+not_on_day from end start long k (inl low) = grind (arith, nat_tests)
+not_on_day from end start long k (inr high) = grind (arith, nat_tests)
 
-mapped_filter : {X Y : Type 0} (h : X → Option Y) (p : X → Bool) (xs : List X) → ((x : X) → p x ≡ false → h x ≡ None) → filter_map h (filter p xs) ≡ filter_map h xs
-mapped_filter h p [] none = refl
-mapped_filter {X} {Y} h p (x ∷ xs) none = cases (mapped_filter h p xs none) (p x) refl
+abbrev rule_if : AirportParts → Slot → Slot → ℕ → Bool → Option Rule
+rule_if airport p q k held = cond (p.part.visit.0 == q.part.visit.0) None (cond (held && is_held q k) (breaks_of airport p.stand p.kind q.stand q.kind) None)
+
+rule_on_day : (airport : AirportParts) (day : ℕ) (p q : Slot) (k : ℕ) → day_start day ≤ k → k < day_start day + day_length → rule_at airport (of_day day p) q k ≡ rule_at airport p q k
+rule_on_day airport day p q k low high = ap (rule_if airport p q k) (held_on_day p.from p.end (day_start day) day_length k low high)
+
+inside_by : (start long k : ℕ) → ((k < start) ⊎ (start + long ≤ k) → ⊥) → (start ≤ k) × (k < start + long)
+inside_by start long k never = (grind arith, grind arith)
+
+rule_inside : (airport : AirportParts) (day : ℕ) (p q : Slot) (k : ℕ) (rule : Rule) → rule_at airport (of_day day p) q k ≡ Some rule → (day_start day ≤ k) × (k < day_start day + day_length)
+rule_inside airport day p q k rule e = inside_by (day_start day) day_length k (λ outside.
+    let none : rule_at airport (of_day day p) q k ≡ None = not_held airport (of_day day p) q k
+    (and_no (is_held (of_day day p) k) (is_held q k) (inl (not_on_day p.from p.end (day_start day) day_length k outside))) in cc)
+
+-- the first minute at which the slot of a day clashes with another is the first of the day at which the slot does
+met_on_day : (airport : AirportParts) (day : ℕ) (p q : Slot) → meeting airport (of_day day p) q ≡ meeting_from airport p q (day_start day) day_length
+met_on_day airport day p q = cases (meeting airport (of_day day p) q) refl
   where
-    cases : filter_map h (filter p xs) ≡ filter_map h xs → (b : Bool) → p x ≡ b → filter_map h (cond b (x ∷ filter p xs) (filter p xs)) ≡ cons_option (h x) (filter_map h xs)
-    cases rest true e = ap (cons_option (h x)) rest
-    cases rest false e = rest ∙ ap (λ (found : Option Y). cons_option found (filter_map h xs)) (sym (none x e))
+    cases : (found : Option Meeting) → meeting airport (of_day day p) q ≡ found → found ≡ meeting_from airport p q (day_start day) day_length
+    cases None e = sym (never_from airport p q (day_start day) day_length (λ k low high. sym (rule_on_day airport day p q k low high) ∙ never_meeting airport (of_day day p) q k e))
+    cases (Some at) e =
+        let first = first_meeting airport (of_day day p) q at e in
+        let inside = rule_inside airport day p q at.minute at.rule first.rule in
+        sym (first_from airport p q at.minute at.rule (sym (rule_on_day airport day p q at.minute inside.0 inside.1) ∙ first.rule) (day_start day) day_length inside.0 inside.1
+        (λ j low below. sym (rule_on_day airport day p q j low (omega (arith, below, inside.1))) ∙ first.before j (omega arith) below))
+
+abbrev of_parts : Slot → Slot → Meeting → Clash
+of_parts p q at = record { minute = at.minute; a = p.part; b = q.part; rule = at.rule }
+
+clash_on_day : (airport : AirportParts) (day : ℕ) (p q : Slot) → clash_with airport (of_day day p) q ≡ clash_on airport day p q
+clash_on_day airport day p q = ap (option_map (of_parts p q)) (met_on_day airport day p q)
+
+abbrev kept : {Y : Type 0} → (Y → Bool) → Option Y → Option Y
+kept p None = None
+kept p (Some y) = cond (p y) (Some y) None
+
+kept_more : {Y : Type 0} (p : Y → Bool) (found : Option Y) (ys : List Y) → filter p (cons_option found ys) ≡ cons_option (kept p found) (filter p ys)
+kept_more p None ys = refl
+kept_more {Y} p (Some y) ys = cases (p y)
+  where
+    cases : (b : Bool) → cond b (y ∷ filter p ys) (filter p ys) ≡ cons_option (cond b (Some y) None) (filter p ys)
+    cases true = refl
+    cases false = refl
+
+-- what is found of each item and passes a test, where another search finds just that
+filter_mapped : {X Y : Type 0} (p : Y → Bool) (h g : X → Option Y) (xs : List X) → ((x : X) → Contains xs x → kept p (h x) ≡ g x) → filter p (filter_map h xs) ≡ filter_map g xs
+filter_mapped p h g [] same = refl
+filter_mapped {X} {Y} p h g (x ∷ xs) same =
+    kept_more p (h x) (filter_map h xs)
+    ∙ (ap (λ (found : Option Y). cons_option found (filter p (filter_map h xs))) (same x (listed_first x xs))
+    ∙ ap (cons_option (g x)) (filter_mapped p h g xs (λ y k. same y (listed_later x xs y k))))
+
+-- a planned slot of a sound plan clashes with no slot
+planned_none : (airport : AirportParts) (slots : List Slot) (p q : Slot) (k : ℕ) → IsSound airport slots → Contains slots p → Contains slots q → q.actual ≡ false
+    → (found : Option Rule) → rule_at airport p q k ≡ found → found ≡ None
+planned_none airport slots p q k sound in_p in_q planned None e = refl
+planned_none airport slots p q k sound in_p in_q planned (Some rule) e =
+    let both : (p.actual && q.actual) ≡ true = sound p q k rule in_p in_q e in
+    let no : (p.actual && q.actual) ≡ false = and_no p.actual q.actual (inr planned) in
+    absurd (cc)
+
+kept_by : (order : Bool) (p q : Slot) (found : Option Meeting) → is_smaller p.part q.part ≡ order → kept is_in_order (option_map (of_parts p q) found) ≡ cond order (option_map (of_parts p q) found) None
+kept_by true p q None e = refl
+kept_by false p q None e = refl
+kept_by order p q (Some at) e = ap (λ (b : Bool). cond b (Some (of_parts p q at)) None) e
+
+alarm_by : (first second order : Bool) (found : Option Clash) → first ≡ true → (second ≡ false → found ≡ None) → cond order found None ≡ cond (first && second && order) found None
+alarm_by true true order found e none = refl
+alarm_by true false true found e none = none refl
+alarm_by true false false found e none = refl
+alarm_by false second order found e none = absurd (cc)
+
+-- the clash of an actual slot of a sound plan with another on the day, if that is of a greater part, is their alarm
+alarm_of : (airport : AirportParts) (day : ℕ) (slots : List Slot) (p q : Slot) → IsSound airport slots → Contains slots p → p.actual ≡ true → Contains slots q
+    → kept is_in_order (clash_with airport (of_day day p) q) ≡ alarm airport day p q
+alarm_of airport day slots p q sound in_p actual in_q =
+    let start = day_start day in
+    let met = meeting_from airport p q start day_length in
+    let none : q.actual ≡ false → clash_on airport day p q ≡ None =
+    λ planned. ap (option_map (of_parts p q)) (never_from airport p q start day_length (λ k low high. planned_none airport slots p q k sound in_p in_q planned (rule_at airport p q k) refl)) in
+    ap (kept is_in_order) (clash_on_day airport day p q)
+    ∙ (kept_by (is_smaller p.part q.part) p q met refl
+    ∙ alarm_by p.actual q.actual (is_smaller p.part q.part) (clash_on airport day p q) actual none)
+
+-- the clashes of an actual slot on the day with those of greater parts are its alarms
+pub alarms_of : (airport : AirportParts) (day : ℕ) (slots : List Slot) (slot : Slot) → IsSound airport slots → Contains slots slot → slot.actual ≡ true
+    → filter is_in_order (clashes_with airport (of_day day slot) slots) ≡ alarms_with airport day slots slot
+alarms_of airport day slots slot sound listed actual =
+    filter_mapped is_in_order (clash_with airport (of_day day slot)) (alarm airport day slot) slots (λ other in_other. alarm_of airport day slots slot other sound listed actual in_other)
+
+off_day : (from end start long k : ℕ) → nat_lt (max from start) (min end (start + long)) ≡ false → start ≤ k → k < start + long → (nat_le from k && nat_lt k end) ≡ false
+off_day from end start long k e low high = grind (arith, nat_tests)
+
+no_alarm_by : (first second order : Bool) (found : Option Clash) → (first ≡ false) ⊎ (found ≡ None) → ◌≡◌ {A = Option Clash} (cond (first && second && order) found None) None
+no_alarm_by false second order found e = refl
+no_alarm_by true true true found (inr e) = e
+no_alarm_by true true true found (inl e) = absurd (cc)
+no_alarm_by true true false found e = refl
+no_alarm_by true false order found e = refl
+
+-- a slot that is not actual, or not held on the day, gives no alarm
+no_alarm : (airport : AirportParts) (day : ℕ) (p q : Slot) → is_actual_on day p ≡ false → alarm airport day p q ≡ None
+no_alarm airport day p q off =
+    let start = day_start day in
+    no_alarm_by p.actual q.actual (is_smaller p.part q.part) (clash_on airport day p q) (elim (no_and p.actual (is_held_at_some (minutes_of_day day) p) off) [
+      | inl planned ↦ inl planned
+      | inr away ↦ inr (ap (option_map (of_parts p q)) (never_from airport p q start day_length (λ k low high. not_held airport p q k
+          (and_no (is_held p k) (is_held q k) (inl (off_day p.from p.end start day_length k (sym (span_of_day p.from p.end day) ∙ away) low high))))))
+    ])
 
 mapped_none : {X Y : Type 0} (h : X → Option Y) (xs : List X) → ((x : X) → h x ≡ None) → filter_map h xs ≡ []
 mapped_none h [] none = refl
@@ -102,22 +193,43 @@ lists_filter {S} {Y} g p (s ∷ items) none = cases (lists_filter g p items none
     cases rest true e = ap (λ ys. g s ++ ys) rest
     cases rest false e = rest ∙ ap (λ ys. ys ++ flat_map g items) (sym (none s e))
 
--- slots that are not held on the day give no alarm
-pub alarms_of_day : (airport : AirportParts) (day : ℕ) (slots : List Slot) → alarms airport day (filter (is_held_at_some (minutes_of_day day)) slots) ≡ alarms airport day slots
-alarms_of_day airport day slots =
-    let p : Slot → Bool = is_held_at_some (minutes_of_day day) in
-    ap (in_order alarm_order)
-    (lists_alike (alarms_with airport day (filter p slots)) (alarms_with airport day slots) (filter p slots)
-    (λ slot. mapped_filter (alarm airport day slot) p slots (λ other e. no_alarm airport day slot other (inr e)))
-    ∙ lists_filter (alarms_with airport day slots) p slots (λ slot e. mapped_none (alarm airport day slot) slots (λ other. no_alarm airport day slot other (inl e))))
+-- the alarms of a day are those of the actual slots that are held on it
+pub alarms_are : (airport : AirportParts) (day : ℕ) (slots : List Slot) → in_order alarm_order (flat_map (alarms_with airport day slots) (filter (is_actual_on day) slots)) ≡ alarms airport day slots
+alarms_are airport day slots =
+    ap (in_order alarm_order) (lists_filter (alarms_with airport day slots) (is_actual_on day) slots
+    (λ slot off. mapped_none (alarm airport day slot) slots (λ other. no_alarm airport day slot other off)))
 
-of_one : {X Y : Type 0} (h : X → Option Y) (x : X) (found : Option Y) → h x ≡ found → filter_map h (x ∷ []) ≡ option_to_list found
-of_one h x (Some y) is = rw is refl
-of_one h x None is = rw is refl
+-- the slots of the loop are actual slots of the visits
+pub actual_listed : (airport : AirportParts) (visits : List Visit) (day : ℕ) (slots : List Slot) (k : ℕ) (d : Slot) → slots ≡ filter (is_actual_on day) (slots_of airport visits) → k < length slots
+    → Contains (slots_of airport visits) (get_or slots k d) × ((get_or slots k d).actual ≡ true)
+actual_listed airport visits day slots k d are inside =
+    let slot = get_or slots k d in
+    let listed : Contains (filter (is_actual_on day) (slots_of airport visits)) slot = subst (λ (xs : List Slot). Contains xs slot) are (Contains-get_or slots k d inside) in
+    let passed = filter_passed (is_actual_on day) (slots_of airport visits) slot listed in
+    (passed.0, first_of slot.actual (is_held_at_some (minutes_of_day day) slot) passed.1)
+  where
+    first_of : (a b : Bool) → (a && b) ≡ true → a ≡ true
+    first_of true b e = refl
+    first_of false b e = absurd (cc)
 
--- what is found of one more item
-pub mapped_more : {X Y : Type 0} (h : X → Option Y) (old : List Y) (xs : List X) (i : ℕ) (d : X) (before after : List Y) (found : Option Y) → i < length xs → before ≡ old ++ filter_map h (take i xs)
-    → found ≡ h (slice_index_or xs i d) → after ≡ before ++ option_to_list found → after ≡ old ++ filter_map h (take (i + 1) xs)
-mapped_more h old xs i d before after found within so_far here then =
-    rw (then, so_far, here, take_more xs i d within, filter_map-append h (take i xs) (slice_index_or xs i d ∷ []), of_one h (slice_index_or xs i d) (h (slice_index_or xs i d)) refl)
-    (append_assoc old (filter_map h (take i xs)) (option_to_list (h (slice_index_or xs i d))))
+-- a slot of the plan for the minutes of a day has a stand and a type of the airport
+pub day_slot_of : (airport a : AirportParts) (index : List StandSlots) (visits : List Visit) (day : ℕ) (slot own : Slot) → airport ≡ a → IsClear a index [] → IsIndexed a index visits
+    → Contains (slots_of airport visits) slot → own ≡ of_day day slot → IsSlotOf airport own
+day_slot_of airport a index visits day slot own same clear indexed listed e =
+    let there : Contains (slots_of a visits) slot = subst (λ (b : AirportParts). Contains (slots_of b visits) slot) same listed in
+    let is : IsSlotOf a slot = All-contains (IsSlotOf a) (all_slots index) slot clear.slots ((indexed.slots slot).1 there) in
+    let here : IsSlotOf airport slot = subst (λ (b : AirportParts). IsSlotOf b slot) (sym same) is in
+    subst (IsSlotOf airport) (sym e) (here.0, here.1)
+
+-- what is put last for one actual slot
+pub alarms_more : (airport a : AirportParts) (index : List StandSlots) (visits : List Visit) (day : ℕ) (slot own : Slot) (clashes kept old new : List Clash) → airport ≡ a → IsClear a index []
+    → IsIndexed a index visits → by_part (all_slots index) ≡ slots_of a visits → Contains (slots_of airport visits) slot → slot.actual ≡ true → own ≡ of_day day slot
+    → clashes ≡ clashes_with airport own (by_part (all_slots index)) → kept ≡ filter is_in_order clashes → new ≡ old ++ kept → new ≡ old ++ alarms_with airport day (slots_of airport visits) slot
+alarms_more airport a index visits day slot own clashes kept old new same clear indexed ordered listed actual cut are left then =
+    let all : IsSound a (all_slots index) = subst (IsSound a) (others_none (all_slots index)) clear.sound in
+    let sound_there : IsSound a (slots_of a visits) = λ p q m rule in_p in_q is. all p q m rule ((indexed.slots p).1 in_p) ((indexed.slots q).1 in_q) is in
+    let sound : IsSound airport (slots_of airport visits) = subst (λ (b : AirportParts). IsSound b (slots_of b visits)) (sym same) sound_there in
+    let slots : by_part (all_slots index) ≡ slots_of airport visits = ordered ∙ ap (λ (b : AirportParts). slots_of b visits) (sym same) in
+    then ∙ ap (λ (ys : List Clash). old ++ ys)
+    (left ∙ (ap (filter is_in_order) (are ∙ (ap (λ (s : Slot). clashes_with airport s (by_part (all_slots index))) cut ∙ ap (clashes_with airport (of_day day slot)) slots))
+    ∙ alarms_of airport day (slots_of airport visits) slot sound listed actual))

@@ -1,23 +1,16 @@
 -- Texts that grow by pieces.
 use Rattle.std.proofs.Common.{◌≡◌, ◌∙◌, ◌≤◌, ◌+◌, ◌-◌, ◌++◌, ◌∷◌, [], ℕ, suc, List, sym, ap, arith, append_assoc, length, map, replicate, take}
-use Rattle.std.specs.Prelude.{codes, filter}
+use Rattle.std.specs.Prelude.{codes}
 use Rattle.std.specs.List.{flat_map, range_with_len}
 use Rattle.std.proofs.lemmas.List.{flat_map_more, take-replicate}
 use Rattle.std.proofs.lemmas.List.FromFn.{map-range_with_len_more}
 use Rattle.apron_base.specs.declared.numbers.StandNo.{StandNo}
-use Rattle.apron_base.specs.declared.slot.Slot.{Slot}
 use Rattle.apron_rules.specs.declared.parts.AirportParts.{AirportParts}
-use Rattle.apron_rules.specs.declared.rules.Clash.{Clash}
 use Rattle.apron_rules.specs.Neighbours.{first_stands}
 use Rattle.visit_book.specs.Slots.{slots_of}
 use Rattle.plan_core.specs.PlanState.{PlanState}
-use Rattle.plan_lists.specs.Days.{minutes_of_day}
-use Rattle.wall_chart.specs.Alarms.{alarm_line}
-use Rattle.wall_chart.specs.Cells.{is_held_at_some}
 use Rattle.wall_chart.specs.Chart.{alarm_lines, chart_text, first_line, part_lines, stand_lines, unplaced_lines}
 use Rattle.wall_chart.specs.Rows.{filled_up}
-use Rattle.wall_chart.proofs.Clashes.{alarms_of_day}
-use Rattle.wall_chart.proofs.OfDay.{stand_lines_of_day}
 
 -- a name and the spaces behind it
 pub filled_by : (old name before after : List ℕ) (spaces : ℕ) → before ≡ old ++ name → spaces ≡ 6 - length name → after ≡ before ++ take spaces (replicate 6 32) → after ≡ old ++ filled_up name
@@ -44,20 +37,15 @@ stands_more f old before after n so_far then =
     ∙ (flat_map_more f old (first_stands n) (record { 0 = n }) ∙ ap (λ (k : ℕ). old ++ flat_map f (first_stands k)) next))
 
 -- the chart from its pieces
-pub whole : (airport : AirportParts) (plan : PlanState) (day : ℕ) (slots : List Slot) (first stands parts unplaced alarmed all : List ℕ)
-    → slots ≡ filter (is_held_at_some (minutes_of_day day)) (slots_of airport plan.visits)
-    → first ≡ first_line airport plan.version day → stands ≡ first ++ stand_lines airport slots day → parts ≡ stands ++ part_lines airport plan day
-    → unplaced ≡ parts ++ unplaced_lines airport plan day → alarmed ≡ unplaced ++ alarm_lines airport slots day → all ≡ alarmed ++ codes "END\n" → all ≡ chart_text airport plan day
+pub whole : (airport : AirportParts) (plan : PlanState) (day : ℕ) (first stands parts unplaced alarmed all : List ℕ)
+    → first ≡ first_line airport plan.version day → stands ≡ first ++ stand_lines airport (slots_of airport plan.visits) day → parts ≡ stands ++ part_lines airport plan day
+    → unplaced ≡ parts ++ unplaced_lines airport plan day → alarmed ≡ unplaced ++ alarm_lines airport (slots_of airport plan.visits) day → all ≡ alarmed ++ codes "END\n"
+    → all ≡ chart_text airport plan day
 unfolding chart_text
-whole airport plan day slots first stands parts unplaced alarmed all are one two three four five six =
-    let every = slots_of airport plan.visits in
-    let cells : stand_lines airport slots day ≡ stand_lines airport every day =
-    ap (λ (xs : List Slot). stand_lines airport xs day) are ∙ stand_lines_of_day airport every day (length airport.stands) in
-    let rings : alarm_lines airport slots day ≡ alarm_lines airport every day =
-    ap (λ (xs : List Slot). alarm_lines airport xs day) are ∙ ap (λ (clashes : List Clash). codes "ALARMS\n" ++ flat_map alarm_line clashes) (alarms_of_day airport day every) in
+whole airport plan day first stands parts unplaced alarmed all one two three four five six =
+    let slots = slots_of airport plan.visits in
     six ∙ ap (λ (xs : List ℕ). xs ++ codes "END\n")
     (five ∙ ap (λ (xs : List ℕ). xs ++ alarm_lines airport slots day)
     (four ∙ ap (λ (xs : List ℕ). xs ++ unplaced_lines airport plan day)
     (three ∙ ap (λ (xs : List ℕ). xs ++ part_lines airport plan day)
-    (two ∙ (ap (λ (xs : List ℕ). xs ++ stand_lines airport slots day) one ∙ ap (λ (ys : List ℕ). first_line airport plan.version day ++ ys) cells))))
-    ∙ ap (λ (ys : List ℕ). first_line airport plan.version day ++ stand_lines airport every day ++ part_lines airport plan day ++ unplaced_lines airport plan day ++ ys) rings)
+    (two ∙ ap (λ (xs : List ℕ). xs ++ stand_lines airport slots day) one))))

@@ -1,12 +1,13 @@
 -- The alarms: actual parts that clash on a day.
-use Rattle.std.specs.Prelude.{◌++◌, ◌∷◌, [], ◌&&◌, ℕ, Bool, List, Option, None, option_map, codes, filter_map, if◌then◌else◌}
+use Rattle.std.specs.Prelude.{◌+◌, ◌++◌, ◌∷◌, [], ◌&&◌, max, min, ℕ, Bool, List, Option, None, option_map, codes, filter_map, if◌then◌else◌}
 use Rattle.std.specs.List.{flat_map}
 use Rattle.apron_base.specs.declared.slot.Slot.{Slot}
 use Rattle.apron_rules.specs.declared.parts.AirportParts.{AirportParts}
 use Rattle.apron_rules.specs.declared.rules.Clash.{Clash}
 use Rattle.clash_check.specs.Meetings.{is_smaller, meeting_from}
 use Rattle.desk_words.specs.PartObjects.{rule_word}
-use Rattle.plan_lists.specs.Days.{day_length, day_start}
+use Rattle.plan_lists.specs.Days.{day_length, day_start, minutes_of_day}
+use Rattle.wall_chart.specs.Cells.{is_held_at_some}
 use Rattle.wall_chart.specs.Order.{in_order}
 use Rattle.wall_chart.specs.Rows.{part_text}
 use Rattle.wall_chart.specs.Times.{time_text}
@@ -23,6 +24,18 @@ clash_on airport day slot other =
 -- the alarm of two actual parts, the first of which is the smaller: their clash on the day, if they clash on it
 abbrev pub alarm : AirportParts → ℕ → Slot → Slot → Option Clash
 alarm airport day slot other = if are_actual slot other then clash_on airport day slot other else None
+
+-- an actual part is held at some minute of the day
+abbrev pub is_actual_on : ℕ → Slot → Bool
+is_actual_on day slot = slot.actual && is_held_at_some (minutes_of_day day) slot
+
+-- the slot, held for those of its minutes that are of the day
+abbrev pub of_day : ℕ → Slot → Slot
+of_day day slot = record slot { from = max slot.from (day_start day); end = min slot.end (day_start day + day_length) }
+
+-- the first part of the clash is the smaller one
+abbrev pub is_in_order : Clash → Bool
+is_in_order clash = is_smaller clash.a clash.b
 
 -- what orders the alarms: the minute, and the two parts
 abbrev pub alarm_order : Clash → List ℕ

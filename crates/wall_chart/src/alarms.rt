@@ -1,31 +1,37 @@
 // The alarms: actual parts that clash on a day.
-ghost use Rattle.std.specs.Prelude.{◌≡◌, ◌≤◌, ◌++◌, All, IfOk, OnOk, filter_map, option_to_list};
-ghost use Rattle.apron_rules.specs.Clash.{IsSlotOf};
+ghost use Rattle.std.specs.Prelude.{◌≡◌, ◌≤◌, ◌++◌, true, Contains, IfOk, OnOk};
 ghost use Rattle.apron_rules.specs.declared.limits.TheConstants.{MAX_DAYS};
-ghost use Rattle.wall_chart.specs.Alarms.{alarm, alarm_line, alarms, alarms_with, are_actual, clash_on};
+ghost use Rattle.visit_book.specs.Slots.{slots_of};
+ghost use Rattle.wall_chart.specs.Alarms.{alarm_line, alarms, alarms_with, is_in_order, of_day};
 ghost use Rattle.wall_chart.specs.Chart.{alarm_lines};
 
 use crate::rows::{push_part, push_rule};
+use crate::slots::actual_slots;
 use crate::times::{DAY_LENGTH, day_start, push_time};
-use apron_base::{Memory, Slot};
+use apron_base::{Memory, Slot, Steps};
 use apron_rules::{Airport, Clash};
+use clash_check::clashes_of;
+use plan_core::Plan;
 use std::alloc::Global;
+use std::sync::ledger::Ledger;
 
-/// Writes the lines of the alarms that these slots make on the day at the end.
-pub(crate) fn push_alarm_lines(
+/// Writes the lines of the day's alarms at the end.
+pub(crate) fn push_alarm_lines<L: Ledger>(
     alloc: Global,
     text: &mut Vec<u8>,
     airport: &Airport,
-    slots: &[Slot],
+    plan: &Plan,
     day: u32,
+    steps: &mut Steps<L>,
 ) -> Result<(), Memory>
-    requires slots { All (IsSlotOf airport.now) slots.now }
+    requires airport { airport.now ≡ plan.now.plan.airport }
     requires first { 1 ≤ day }
     requires last { day ≤ MAX_DAYS }
-    ensures text { OnOk result (text.new.items ≡ text.old.items ++ alarm_lines airport.now slots.now day) }
+    ensures text { OnOk result (text.new.items
+        ≡ text.old.items ++ alarm_lines airport.now (slots_of airport.now plan.now.plan.visits) day) }
 {
     text.extend_from_slice(b"ALARMS\n")?;
-    let found = alarms(alloc, airport, slots, day)?;
+    let found = alarms(alloc, airport, plan, day, steps)?;
     for clash in &found {
         push_alarm_line(text, clash)?;
     }
@@ -46,90 +52,69 @@ fn push_alarm_line(text: &mut Vec<u8>, clash: &Clash) -> Result<(), Memory>
     Ok(())
 }
 
-fn alarms(alloc: Global, airport: &Airport, slots: &[Slot], day: u32) -> Result<Vec<Clash>, Memory>
-    requires slots { All (IsSlotOf airport.now) slots.now }
+// The actual slots come in order of the visits, and what clashes with each is looked for near it in the index.
+fn alarms<L: Ledger>(
+    alloc: Global,
+    airport: &Airport,
+    plan: &Plan,
+    day: u32,
+    steps: &mut Steps<L>,
+) -> Result<Vec<Clash>, Memory>
+    requires airport { airport.now ≡ plan.now.plan.airport }
     requires first { 1 ≤ day }
     requires last { day ≤ MAX_DAYS }
-    ensures are { IfOk result (λ found. found.items ≡ alarms airport.now day slots.now) }
+    ensures are { IfOk result (λ found. found.items ≡ alarms airport.now day (slots_of airport.now plan.now.plan.visits)) }
 {
+    let slots = actual_slots(alloc, airport, plan.visits(), day)?;
     let mut found = Vec::new(alloc);
-    for slot in slots {
-        push_alarms_with(&mut found, airport, day, slots, slot)?;
+    for slot in &slots {
+        push_alarms_with(alloc, &mut found, airport, plan, day, slot, steps)?;
     }
     found.sort_by_key(|clash| (clash.minute, clash.a, clash.b))?;
     Ok(found)
 }
 
-fn push_alarms_with(
+// Of two slots that clash the one of the smaller part tells it. None of them is planned, since the plan is sound.
+fn push_alarms_with<L: Ledger>(
+    alloc: Global,
     found: &mut Vec<Clash>,
     airport: &Airport,
+    plan: &Plan,
     day: u32,
-    slots: &[Slot],
     slot: &Slot,
+    steps: &mut Steps<L>,
 ) -> Result<(), Memory>
-    requires slots { All (IsSlotOf airport.now) slots.now }
-    requires slot { IsSlotOf airport.now slot.now }
+    requires airport { airport.now ≡ plan.now.plan.airport }
+    requires slot { Contains (slots_of airport.now plan.now.plan.visits) slot.now }
+    requires actual { slot.now.actual ≡ true }
     requires first { 1 ≤ day }
     requires last { day ≤ MAX_DAYS }
-    ensures ok { OnOk result (found.new.items ≡ found.old.items ++ alarms_with airport.now day slots.now slot.now) }
+    ensures ok { OnOk result (found.new.items
+        ≡ found.old.items ++ alarms_with airport.now day (slots_of airport.now plan.now.plan.visits) slot.now) }
 {
-    for other in slots {
-        push_some(found, alarm(airport, day, slot, other))?;
-    }
+    let own = of_day(day, slot);
+    let mut clashes = clashes_of(alloc, airport, plan.index(), &own, steps)?.into_vec();
+    clashes.retain(|clash| is_in_order(clash));
+    found.extend_from_slice(&clashes)?;
     Ok(())
 }
 
-fn push_some(found: &mut Vec<Clash>, clash: Option<Clash>) -> Result<(), Memory>
-    ensures ok { OnOk result (found.new.items ≡ found.old.items ++ option_to_list clash) }
+fn is_in_order(clash: &Clash) -> bool
+    ensures is { result ≡ is_in_order clash.now }
 {
-    if let Some(clash) = clash {
-        found.push(clash)?;
-    }
-    Ok(())
+    clash.a < clash.b
 }
 
-pub(crate) fn alarm(airport: &Airport, day: u32, slot: &Slot, other: &Slot) -> Option<Clash>
-    requires slot { IsSlotOf airport.now slot.now }
-    requires other { IsSlotOf airport.now other.now }
+// The slot for the minutes of the day alone.
+fn of_day(day: u32, slot: &Slot) -> Slot
     requires first { 1 ≤ day }
     requires last { day ≤ MAX_DAYS }
-    ensures is { result ≡ alarm airport.now day slot.now other.now }
+    ensures is { result ≡ of_day day slot.now }
 {
-    if are_actual(slot, other) {
-        clash_on(airport, day, slot, other)
-    } else {
-        None
-    }
-}
-
-fn are_actual(slot: &Slot, other: &Slot) -> bool
-    ensures is { result ≡ are_actual slot.now other.now }
-{
-    slot.actual && other.actual && slot.part < other.part
-}
-
-fn clash_on(airport: &Airport, day: u32, slot: &Slot, other: &Slot) -> Option<Clash>
-    requires slot { IsSlotOf airport.now slot.now }
-    requires other { IsSlotOf airport.now other.now }
-    requires first { 1 ≤ day }
-    requires last { day ≤ MAX_DAYS }
-    ensures is { result ≡ clash_on airport.now day slot.now other.now }
-{
-    if slot.part.visit == other.part.visit {
-        return None;
-    }
     let start = day_start(day);
-    let minute = start.max(slot.from.max(other.from));
-    if minute >= slot.end || minute >= other.end || minute >= start + DAY_LENGTH {
-        return None;
-    }
-    match airport.breaks(slot.stand, slot.kind, other.stand, other.kind) {
-        Some(rule) => Some(Clash {
-            minute,
-            a: slot.part,
-            b: other.part,
-            rule,
-        }),
-        None => None,
+    Slot {
+        from: slot.from.max(start),
+        end: slot.end.min(start + DAY_LENGTH),
+        ..*slot
     }
 }

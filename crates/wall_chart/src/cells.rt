@@ -1,18 +1,20 @@
 // The cells of stands: how each is held in each quarter of an hour of a day.
-ghost use Rattle.std.specs.Prelude.{◌≡◌, ◌≤◌, ◌<◌, ◌++◌, ◌+◌, ◌^◌, IfOk, OnOk, filter, length};
+ghost use Rattle.std.specs.Prelude.{◌≡◌, ◌≤◌, ◌<◌, ◌++◌, ◌+◌, ◌^◌, OnOk, length};
 ghost use Rattle.std.specs.List.{list_any};
 ghost use Rattle.apron_rules.specs.declared.limits.TheConstants.{MAX_DAYS, MAX_STANDS};
-ghost use Rattle.plan_core.specs.PlanState.{is_on};
+ghost use Rattle.visit_book.specs.Slots.{slots_of};
 ghost use Rattle.plan_lists.specs.Days.{minutes_from};
 ghost use Rattle.wall_chart.specs.Cells.{cell, cells, holds_by_plan, holds_in_fact, stand_line};
 ghost use Rattle.wall_chart.specs.Chart.{stand_lines};
 
 use crate::rows::push_stand;
 use crate::slots::is_held_at_some;
-use crate::times::day_start;
-use apron_base::{Memory, Minute, Slot, StandNo};
+use crate::times::{DAY_LENGTH, day_start};
+use apron_base::{Memory, Minute, Slot, StandNo, Steps};
 use apron_rules::AirportParts;
+use plan_core::Plan;
 use std::alloc::Global;
+use std::sync::ledger::Ledger;
 
 // The minutes of a cell.
 const CELL_LENGTH: u32 = 15;
@@ -20,27 +22,33 @@ const CELL_LENGTH: u32 = 15;
 // The cells of a day.
 const CELLS_OF_DAY: u32 = 96;
 
-/// Writes the lines of all stands at the end, with the cells that these slots make.
-pub(crate) fn push_stand_lines(
+/// Writes the lines of all stands at the end. Each stand is looked at once.
+pub(crate) fn push_stand_lines<L: Ledger>(
     alloc: Global,
     text: &mut Vec<u8>,
     airport: &AirportParts,
-    slots: &[Slot],
+    plan: &Plan,
     day: u32,
+    steps: &mut Steps<L>,
 ) -> Result<(), Memory>
+    requires airport { airport.now ≡ plan.now.plan.airport }
     requires stands { length airport.now.stands ≤ MAX_STANDS }
     requires first { 1 ≤ day }
     requires last { day ≤ MAX_DAYS }
-    ensures text { OnOk result (text.new.items ≡ text.old.items ++ stand_lines airport.now slots.now day) }
+    ensures text { OnOk result (text.new.items
+        ≡ text.old.items ++ stand_lines airport.now (slots_of airport.now plan.now.plan.visits) day) }
 {
+    let index = plan.index();
+    let start = day_start(day);
     for place in 0..airport.stands.len() {
-        push_stand_line(alloc, text, airport, slots, day, StandNo(place as u16))?;
+        let stand = StandNo(place as u16);
+        let slots = index.hits(alloc, stand, start, start + DAY_LENGTH, steps)?;
+        push_stand_line(text, airport, &slots, day, stand)?;
     }
     Ok(())
 }
 
 fn push_stand_line(
-    alloc: Global,
     text: &mut Vec<u8>,
     airport: &AirportParts,
     slots: &[Slot],
@@ -53,39 +61,12 @@ fn push_stand_line(
 {
     push_stand(text, airport, stand)?;
     text.push(b' ')?;
-    push_cells(alloc, text, slots, day, stand)?;
+    push_cells(text, slots, day, stand)?;
     text.push(b'\n')?;
     Ok(())
 }
 
-fn slots_on(alloc: Global, slots: &[Slot], stand: StandNo) -> Result<Vec<Slot>, Memory>
-    ensures are { IfOk result (λ own. own.items ≡ filter (is_on stand) slots.now) }
-{
-    let own = slots
-        .iter()
-        .filter(|slot| slot.stand.0 == stand.0)
-        .copied()
-        .collect(alloc)?;
-    Ok(own)
-}
-
 pub(crate) fn push_cells(
-    alloc: Global,
-    text: &mut Vec<u8>,
-    slots: &[Slot],
-    day: u32,
-    stand: StandNo,
-) -> Result<(), Memory>
-    requires first { 1 ≤ day }
-    requires last { day ≤ MAX_DAYS }
-    ensures text { OnOk result (text.new.items ≡ text.old.items ++ cells slots.now day stand) }
-{
-    let own = slots_on(alloc, slots, stand)?;
-    push_own_cells(text, own.as_slice(), day, stand)?;
-    Ok(())
-}
-
-fn push_own_cells(
     text: &mut Vec<u8>,
     slots: &[Slot],
     day: u32,

@@ -1,9 +1,10 @@
-// The slots that are held on a day.
+// The slots of a day, and which minutes they are held.
 ghost use Rattle.std.specs.Prelude.{◌≡◌, ◌≤◌, ◌<◌, ◌+◌, ◌^◌, ◌++◌, All, IfOk, OnOk, filter, option_to_list};
 ghost use Rattle.apron_rules.specs.declared.limits.TheConstants.{MAX_DAYS};
 ghost use Rattle.visit_book.specs.Slots.{slots_of, slots_of_visit};
 ghost use Rattle.visit_book.specs.WellFormed.{IsWellFormed};
 ghost use Rattle.plan_lists.specs.Days.{minutes_from, minutes_of_day};
+ghost use Rattle.wall_chart.specs.Alarms.{is_actual_on};
 ghost use Rattle.wall_chart.specs.Cells.{is_held_at_some};
 
 use crate::times::{DAY_LENGTH, day_start};
@@ -12,9 +13,9 @@ use apron_rules::Airport;
 use std::alloc::Global;
 use visit_book::{Visit, slot_of};
 
-/// The slots of the visits that are held at some minute of the day, in order of the visits and of their parts.
-/// The only error is want of memory.
-pub(crate) fn slots_of_day(
+/// The actual slots of the visits that are held at some minute of the day, in order of the visits and of their
+/// parts. The only error is want of memory.
+pub(crate) fn actual_slots(
     alloc: Global,
     airport: &Airport,
     visits: &[Visit],
@@ -23,14 +24,22 @@ pub(crate) fn slots_of_day(
     requires each { All (IsWellFormed airport.now) visits.now }
     requires first { 1 ≤ day }
     requires last { day ≤ MAX_DAYS }
-    ensures is { IfOk result (λ slots. slots.items ≡ filter (is_held_at_some (minutes_of_day day)) (slots_of airport.now visits.now)) }
+    ensures are { IfOk result (λ slots. slots.items ≡ filter (is_actual_on day) (slots_of airport.now visits.now)) }
 {
     let mut slots = Vec::new(alloc);
     for visit in visits {
         push_slots_of_visit(airport, &mut slots, visit)?;
     }
-    slots.retain(|slot| is_held_on(slot, day));
+    slots.retain(|slot| is_actual_on(day, slot));
     Ok(slots)
+}
+
+fn is_actual_on(day: u32, slot: &Slot) -> bool
+    requires first { 1 ≤ day }
+    requires last { day ≤ MAX_DAYS }
+    ensures is { result ≡ is_actual_on day slot.now }
+{
+    slot.actual && is_held_on(slot, day)
 }
 
 fn is_held_on(slot: &Slot, day: u32) -> bool

@@ -3,7 +3,6 @@ ghost use Rattle.std.specs.Prelude.{◌≡◌, ◌≤◌, ◌<◌, IfOk, IfSome,
 ghost use Rattle.visit_book.specs.NewVisits.{IsNewVisitOf, added_visit};
 ghost use Rattle.visit_book.specs.WellFormed.{IsWellFormed};
 
-use crate::alarms::alarm;
 use crate::cells::push_cells;
 use crate::chart;
 use crate::parts::push_part_line;
@@ -237,7 +236,7 @@ fn are_cells(
         slot(3, 1, 0, 9_999, true),
     ];
     let mut text = Vec::new(alloc);
-    if push_cells(alloc, &mut text, &slots, day, StandNo(0)).is_err() {
+    if push_cells(&mut text, &slots, day, StandNo(0)).is_err() {
         return false;
     }
     let cells = text.as_slice();
@@ -376,67 +375,6 @@ fn a_line_tells_a_part(rt: HostRuntime) -> Result<(), Fail> {
             is_line(rt.alloc(), &airport, &plan, &row, want),
             true,
             "{want}"
-        );
-    }
-    Ok(())
-}
-
-// The minute and the rule of the alarm of two slots on a day, the first of visit 1 on the first stand.
-fn alarm_of(
-    airport: &Airport,
-    day: u32,
-    first: (u32, u32, bool),
-    second: (u16, u32, u32, bool),
-) -> Option<(Minute, Rule)>
-    requires stands { length airport.now.stands ≡ STANDS }
-    requires types { length airport.now.types ≡ TYPES }
-{
-    if day == 0 || day > 14 || second.0 >= STANDS {
-        return None;
-    }
-    let one = slot(1, 1, first.0, first.1, first.2);
-    let other = slot(2, second.0, second.1, second.2, second.3);
-    let found = alarm(airport, day, &one, &other)?;
-    Some((found.minute, found.rule))
-}
-
-#[test]
-fn actual_parts_raise_alarms(rt: HostRuntime) -> Result<(), Fail> {
-    let airport = airport(rt.alloc())?;
-    for (first, second, day, want) in [
-        (
-            (600, 670, true),
-            (1, 650, 750, true),
-            1,
-            Some((650, Rule::Same)),
-        ),
-        (
-            (600, 670, true),
-            (2, 650, 750, true),
-            1,
-            Some((650, Rule::Clearance)),
-        ),
-        ((600, 670, true), (0, 650, 750, true), 1, None),
-        ((600, 670, false), (1, 650, 750, true), 1, None),
-        ((600, 650, true), (1, 650, 750, true), 1, None),
-        (
-            (1_400, 1_500, true),
-            (1, 1_430, 1_460, true),
-            1,
-            Some((1_430, Rule::Same)),
-        ),
-        (
-            (1_400, 1_500, true),
-            (1, 1_430, 1_460, true),
-            2,
-            Some((1_440, Rule::Same)),
-        ),
-        ((1_400, 1_500, true), (1, 1_430, 1_440, true), 2, None),
-    ] {
-        assert_eq!(rt;
-            alarm_of(&airport, day, first, second),
-            want,
-            "{first:?} {second:?} {day}"
         );
     }
     Ok(())

@@ -1,5 +1,5 @@
 // The wall chart of a day.
-ghost use Rattle.std.specs.Prelude.{◌≡◌, ◌≤◌, ◌++◌, IfOk, OnOk};
+ghost use Rattle.std.specs.Prelude.{◌≡◌, ◌≤◌, ◌<◌, ◌++◌, IfOk, OnOk};
 ghost use Rattle.apron_rules.specs.Rules.{IsAirport};
 ghost use Rattle.wall_chart.specs.Chart.{chart_text, first_line, title_text};
 
@@ -7,13 +7,14 @@ use crate::alarms::push_alarm_lines;
 use crate::cells::push_stand_lines;
 use crate::dates::push_date;
 use crate::parts::push_part_lines;
-use crate::slots::slots_of_day;
 use crate::times::push_number;
 use crate::unplaced::push_unplaced_lines;
-use apron_base::{Listed, Memory};
+use apron_base::{Listed, Memory, Steps};
 use apron_rules::{Airport, AirportParts};
 use plan_core::Plan;
 use std::alloc::Global;
+use std::marker::Brand;
+use std::sync::ledger::{Blank, Ledger};
 
 /// The chart of a day of the plan, counted from 1, as a text whose lines all end with a line feed: the first
 /// line, a line with 96 cells for each stand, the parts that hold a stand on the day, those that wait for
@@ -24,14 +25,33 @@ pub fn chart(alloc: Global, airport: &Airport, plan: &Plan, day: u32) -> Result<
     requires last { day ≤ airport.now.days }
     ensures text { IfOk result (λ text. text ≡ chart_text airport.now plan.now.plan day) }
 {
+    chart_from::<Brand>(alloc, airport, plan, day, Blank::new(1))
+}
+
+// The same, with a count of the steps of its looks into the plan's index. Nobody reads it.
+fn chart_from<L: Ledger>(
+    alloc: Global,
+    airport: &Airport,
+    plan: &Plan,
+    day: u32,
+    blank: Blank,
+) -> Result<Listed<u8>, Memory>
+    requires airport { airport.now ≡ plan.now.plan.airport }
+    requires first { 1 ≤ day }
+    requires last { day ≤ airport.now.days }
+    requires name { blank.name ≡ L.name }
+    requires parts { blank.parts ≡ L.parts }
+    requires open { 0 < L.parts }
+    ensures text { IfOk result (λ text. text ≡ chart_text airport.now plan.now.plan day) }
+{
     let parts = airport.parts();
-    let slots = slots_of_day(alloc, airport, plan.visits(), day)?;
+    let mut steps = Steps::<L>::new(blank);
     let mut text = Vec::new(alloc);
     push_first_line(&mut text, parts, plan.version(), day)?;
-    push_stand_lines(alloc, &mut text, parts, slots.as_slice(), day)?;
+    push_stand_lines(alloc, &mut text, parts, plan, day, &mut steps)?;
     push_part_lines(alloc, &mut text, airport, plan, day)?;
     push_unplaced_lines(alloc, &mut text, parts, plan, day)?;
-    push_alarm_lines(alloc, &mut text, airport, slots.as_slice(), day)?;
+    push_alarm_lines(alloc, &mut text, airport, plan, day, &mut steps)?;
     text.extend_from_slice(b"END\n")?;
     Ok(Listed::from_vec(text))
 }

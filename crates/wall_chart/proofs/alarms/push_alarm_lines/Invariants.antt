@@ -5,4 +5,4 @@ use Rattle.wall_chart.specs.Alarms.{alarm_line}
 use Rattle.wall_chart.proofs.alarms.push_alarm_lines.Given as goal
 
 abbrev pub invariant-loop-clash : goal.invariant-loop-clash
-invariant-loop-clash l = l.text.items ≡ (l.fn.text.items ++ codes "ALARMS\n") ++ flat_map alarm_line (take l.clash-index l.clash-items)
+invariant-loop-clash g l = l.text.items ≡ (l.fn.text.items ++ codes "ALARMS\n") ++ flat_map alarm_line (take l.clash-index l.clash-items)
