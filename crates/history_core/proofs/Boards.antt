@@ -1,5 +1,5 @@
 -- What is known of a legal history's plan, and of a board after an ask.
-use Rattle.std.proofs.Common.{◌≡◌, ◌∙◌, ◌<◌, ◌≤◌, ◌+◌, ◌∷◌, ◌++◌, [], ℕ, List, length, ap, sym, subst, arith}
+use Rattle.std.proofs.Common.{◌≡◌, ◌∙◌, ◌<◌, ◌≤◌, ◌+◌, ◌∷◌, ◌++◌, [], ℕ, List, Ok, length, ap, sym, subst, arith}
 use Rattle.apron_base.proofs.Rising.{rises_more, rises_push}
 use Rattle.apron_base.specs.Histories.{Rises}
 use Rattle.apron_base.specs.Keeper.{AddsEntry, FailsToAdd, KeeperState}
@@ -8,7 +8,7 @@ use Rattle.visit_book.specs.Numbers.{IsNumbered}
 use Rattle.plan_core.specs.PlanState.{PlanState, empty_plan}
 use Rattle.desk_words.specs.Commands.{IsCommandOf}
 use Rattle.desk_words.specs.declared.asks.Entry.{Entry}
-use Rattle.entry_bytes.specs.Entries.{entry_text}
+use Rattle.entry_bytes.specs.Entries.{decoded, entry_text}
 use Rattle.history_core.specs.Board.{BoardHeld, IsBoard}
 use Rattle.history_core.specs.History.{IsLegal, call_limit, call_of, replay}
 use Rattle.history_core.specs.Steps.{Steps, accepted, after_command}
@@ -75,15 +75,15 @@ board_pushed plan new first before after board keeper history entry h next ready
 
 -- a board after an ask whose append failed
 pub board_failed : {K : Type 0} (plan same : PlanState) (first before after : KeeperState) (board : BoardHeld K) (keeper : K) (history : List Entry) (entry : Entry)
-    → IsBoard plan first board → IsNext board entry → before ≡ record first { room = before.room } → FailsToAdd before after (entry_text entry)
-    → history ≡ board.history → same ≡ plan → IsBoard same after (record { keeper = keeper; airport = board.airport; history = history; next = board.next })
-board_failed plan same first before after board keeper history entry h next ready fails history_is plan_is =
+    → IsBoard plan first board → IsNext board entry → decoded board.airport (entry_text entry) ≡ Ok entry → before ≡ record first { room = before.room }
+    → FailsToAdd before after (entry_text entry) → history ≡ board.history → same ≡ plan → IsBoard same after (record { keeper = keeper; airport = board.airport; history = history; next = board.next })
+board_failed plan same first before after board keeper history entry h next read ready fails history_is plan_is =
     subst (λ (es : List Entry). IsBoard same after (record { keeper = keeper; airport = board.airport; history = es; next = board.next })) (sym history_is)
     (record {
       legal = h.legal;
       plan_is = plan_is ∙ h.plan_is;
       numbers = h.numbers;
       calls = h.calls;
-      kept = kept_failed board.airport board.history before after entry (kept_ready board.airport board.history first before h.kept ready)
+      kept = kept_failed board.airport board.history before after entry (kept_ready board.airport board.history first before h.kept ready) read
           (legal_pushed board.airport board.history board.next entry h.legal h.numbers next.valid next.steps next.up next.last) fails;
     })

@@ -1,12 +1,12 @@
 -- What a keeper keeps of a history over its calls.
-use Rattle.std.proofs.Common.{◌≡◌, ◌∙◌, ◌+◌, ◌⊎◌, ◌∷◌, [], ℕ, List, Option, None, Some, IfSome, true, length, refl, ap, sym, subst, ⊎_elim, arith, length-append}
+use Rattle.std.proofs.Common.{◌≡◌, ◌∙◌, ◌+◌, ◌⊎◌, ◌∷◌, [], ℕ, List, Option, None, Some, Ok, IfSome, true, length, refl, ap, sym, subst, ⊎_elim, arith, length-append}
 use Rattle.std.proofs.lemmas.List.{map-append}
 use Rattle.std.specs.Option.{option_map}
 use Rattle.apron_base.specs.Counts.{Counts}
 use Rattle.apron_base.specs.Keeper.{AddsEntry, FailsToAdd, IsRiskOf, KeeperState, with_last}
 use Rattle.apron_rules.specs.declared.parts.AirportParts.{AirportParts}
 use Rattle.desk_words.specs.declared.asks.Entry.{Entry}
-use Rattle.entry_bytes.specs.Entries.{entry_text}
+use Rattle.entry_bytes.specs.Entries.{decoded, entry_text}
 use Rattle.history_core.specs.Board.{IsKept, IsNextText, entry_texts}
 use Rattle.history_core.specs.History.{IsLegal}
 
@@ -29,22 +29,22 @@ kept_added airport history before after entry kept adds = record {
   safe = λ none. adds.at_risk;
 }
 
-at_risk : (airport : AirportParts) (history : List Entry) (before after : Option (List ℕ)) (entry : Entry) → IsLegal airport (with_last entry history)
-    → IfSome before (IsNextText airport history) → IsRiskOf after before (entry_text entry) → IfSome after (IsNextText airport history)
-at_risk airport history before after entry legal risk = ⊎_elim
+at_risk : (airport : AirportParts) (history : List Entry) (before after : Option (List ℕ)) (entry : Entry) → decoded airport (entry_text entry) ≡ Ok entry
+    → IsLegal airport (with_last entry history) → IfSome before (IsNextText airport history) → IsRiskOf after before (entry_text entry) → IfSome after (IsNextText airport history)
+at_risk airport history before after entry read legal risk = ⊎_elim
     (λ (none : after ≡ None). subst (λ o. IfSome o (IsNextText airport history)) (sym none) tt)
     (⊎_elim
     (λ (same : after ≡ before). subst (λ o. IfSome o (IsNextText airport history)) (sym same) risk)
     (λ (this : after ≡ Some (entry_text entry)).
-    subst (λ o. IfSome o (IsNextText airport history)) (sym this) (record { entry = entry; is = refl; legal = legal })))
+    subst (λ o. IfSome o (IsNextText airport history)) (sym this) (record { entry = entry; is = refl; read = read; legal = legal })))
 
 -- after an append that failed it keeps the history as it was, and the entry may be at risk
 pub kept_failed : (airport : AirportParts) (history : List Entry) (before after : KeeperState) (entry : Entry) → IsKept airport history before
-    → IsLegal airport (with_last entry history) → FailsToAdd before after (entry_text entry) → IsKept airport history after
-kept_failed airport history before after entry kept legal fails = record {
+    → decoded airport (entry_text entry) ≡ Ok entry → IsLegal airport (with_last entry history) → FailsToAdd before after (entry_text entry) → IsKept airport history after
+kept_failed airport history before after entry kept read legal fails = record {
   entries = subst (λ o. IfSome o (λ es. es ≡ entry_texts history)) (sym fails.entries) kept.entries;
   number = fails.number ∙ kept.number;
-  at_risk = at_risk airport history before.at_risk after.at_risk entry legal kept.at_risk fails.at_risk;
+  at_risk = at_risk airport history before.at_risk after.at_risk entry read legal kept.at_risk fails.at_risk;
   safe = λ none. let counts : Counts true before.faults after.faults = fails.faults in absurd (omega (arith, counts.1));
 }
 

@@ -1,12 +1,12 @@
 -- A board as contracts see it, and what its keeper tells.
-use Rattle.std.specs.Prelude.{◌≡◌, ◌≤◌, ℕ, List, map, length, IfSome, None}
+use Rattle.std.specs.Prelude.{◌≡◌, ◌≤◌, ℕ, List, map, length, IfSome, None, Ok}
 use Rattle.apron_base.specs.Histories.{Rises}
 use Rattle.apron_base.specs.Keeper.{KeeperState, with_last}
 use Rattle.apron_base.specs.Machine.{MachineState}
 use Rattle.apron_rules.specs.declared.parts.AirportParts.{AirportParts}
 use Rattle.plan_core.specs.PlanState.{PlanState}
 use Rattle.desk_words.specs.declared.asks.Entry.{Entry}
-use Rattle.entry_bytes.specs.Entries.{entry_text}
+use Rattle.entry_bytes.specs.Entries.{decoded, entry_text}
 use Rattle.history_core.specs.History.{IsLegal, call_limit, call_of, replay}
 
 -- its keeper, its airport, its history, and the least number of its next call
@@ -20,10 +20,11 @@ pub record BoardHeld (K : Type 0) : Type 0 where
 abbrev pub entry_texts : List Entry → List (List ℕ)
 entry_texts history = map entry_text history
 
--- the bytes of an entry with which the history is still legal
+-- the bytes of an entry with which the history is still legal, and which is read back from them
 pub record IsNextText (airport : AirportParts) (history : List Entry) (bytes : List ℕ) : Type 0 where
   pub entry : Entry
   pub is : bytes ≡ entry_text entry
+  pub read : decoded airport bytes ≡ Ok entry
   pub legal : IsLegal airport (with_last entry history)
 
 -- a keeper of the history: its entries, where it tells them, are the bytes of the history's, and it counts as many; an entry at risk can stand next, and

@@ -3,5 +3,6 @@ pub mod History
 pub mod Answer
 pub mod Taking
 pub mod Board
+pub mod AtRisk
 pub mod Opening
 pub mod Laws

@@ -9,6 +9,7 @@ ghost use Rattle.desk_words.specs.Replies.{IsTellable};
 ghost use Rattle.history_core.specs.Steps.{Steps, accepted, stepped_reply};
 ghost use Rattle.history_core.specs.History.{IsAskOf, IsLegal, call_limit, call_of, replay};
 ghost use Rattle.history_core.specs.Answer.{ActsAs, GivesText, acted_of, changes, is_keeper_fault, sought, told, visit_told};
+ghost use Rattle.history_core.specs.AtRisk.{LeavesAtRisk, standing};
 ghost use Rattle.history_core.specs.Board.{IsKept};
 ghost use Rattle.history_core.specs.Opening.{CannotOpen, Opens};
 ghost use Rattle.history_core.specs.Taking.{IsChangeOf};
@@ -143,6 +144,7 @@ impl<'a, K: Keeper> Board<'a, K> {
         ensures found { IsLegal self.old.airport self.old.history }
         ensures legal { IsLegal self.new.airport self.new.history }
         ensures faults { Counts (is_fault result) (K.state self.old.keeper).faults (K.state self.new.keeper).faults }
+        ensures at_risk { LeavesAtRisk (standing K.state self.old) call ask.now.what (is_fault result) (standing K.state self.new) }
     {
         let answered = self.answer(alloc, call, ask);
         self.next = call + 1;
@@ -159,6 +161,7 @@ impl<'a, K: Keeper> Board<'a, K> {
         ensures gives { let plan = replay self.old.airport self.old.history in
             GivesText plan self.old.history call (sought plan ask.now) result self.new.history }
         ensures faults { Counts (is_keeper_fault result) (K.state self.old.keeper).faults (K.state self.new.keeper).faults }
+        ensures at_risk { LeavesAtRisk (standing K.state self.old) call ask.now.what (is_keeper_fault result) (standing K.state self.new) }
     {
         if ask.seen > self.plan.version() {
             return self.tell(alloc, Told::Ahead);
@@ -203,6 +206,7 @@ impl<'a, K: Keeper> Board<'a, K> {
         ensures gives { let plan = replay self.old.airport self.old.history in
             GivesText plan self.old.history call (changes command.now) result self.new.history }
         ensures faults { Counts (is_keeper_fault result) (K.state self.old.keeper).faults (K.state self.new.keeper).faults }
+        ensures at_risk { LeavesAtRisk (standing K.state self.old) call (What.Change command.now) (is_keeper_fault result) (standing K.state self.new) }
     {
         let entries = self.history.as_slice().len();
         match take(alloc, self.airport, &self.plan, entries, command)? {
@@ -232,6 +236,7 @@ impl<'a, K: Keeper> Board<'a, K> {
         ensures gives { let plan = replay self.old.airport self.old.history in
             GivesText plan self.old.history call (changes command.now) result self.new.history }
         ensures faults { Counts (is_keeper_fault result) (K.state self.old.keeper).faults (K.state self.new.keeper).faults }
+        ensures at_risk { LeavesAtRisk (standing K.state self.old) call (What.Change command.now) (is_keeper_fault result) (standing K.state self.new) }
     {
         let entry = Entry {
             call,

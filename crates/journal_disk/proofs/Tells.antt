@@ -4,7 +4,8 @@ use Rattle.std.specs.Prelude.{Option, Some, None}
 use Rattle.std.specs.Result.{IsErrAnd}
 use Rattle.std.specs.Option.{option_map}
 use Rattle.apron_base.specs.Counts.{Counts}
-use Rattle.journal_disk.specs.Disk.{Between}
+use Rattle.journal_disk.specs.Disk.{Between, Continues, DiskState}
+use Rattle.journal_disk.proofs.Moments.{passes_both}
 
 -- related in any way
 abbrev pub Any : List ℕ → List ℕ → Type 0
@@ -38,6 +39,13 @@ between_any None (Some b) c one two = absurd one
 between_any (Some a) None c one two = absurd one
 between_any (Some a) (Some b) None one two = two
 between_any (Some a) (Some b) (Some c) one two = tt
+
+-- some calls, and then others
+pub continues_both : (a b c : DiskState) → Continues a b → Continues b c → Continues a c
+continues_both a b c one two = record {
+  tells = between_any a.contents b.contents c.contents one.tells two.tells;
+  clock = passes_both a b c one.clock two.clock;
+}
 
 -- what is made of the told bytes
 pub mapped : {B : Type 0} (f g : List ℕ → B) (old new : Option (List ℕ)) → Between Any old new → ((b after : List ℕ) → old ≡ Some b → new ≡ Some after → g after ≡ f b) → option_map g new ≡ option_map f old

@@ -2,7 +2,7 @@
 ghost use Rattle.std.specs.Prelude.{◌≡◌, ◌≤◌, ◌<◌, Ok, false, length, OnOk, OnErr, IfOk, IfErr, MatchResult};
 ghost use Rattle.apron_base.specs.Counts.{Counts};
 ghost use Rattle.apron_base.specs.Keeper.{AddsEntry, FailsToAdd};
-ghost use Rattle.journal_disk.specs.Disk.{Told, IsDurable, Stays};
+ghost use Rattle.journal_disk.specs.Disk.{Continues, Told, IsDurable, Stays};
 ghost use Rattle.journal_disk.specs.Extent.{AppendsSafely, HasOpened, IsCrashSafe, keeper_of};
 ghost use Rattle.journal_disk.specs.Faults.{OpenFails};
 ghost use Rattle.journal_disk.specs.Header.{opening_of};
@@ -117,6 +117,9 @@ impl<D: Disk> Keeper for Journal<D> {
             (keeper_of self.new.extent (D.state self.new.disk)) entry.now) }
         ensures err { OnErr result (FailsToAdd (keeper_of self.old.extent (D.state self.old.disk))
             (keeper_of self.new.extent (D.state self.new.disk)) entry.now) }
+
+        // The disk tells what it reads as where it told that before, and time goes on.
+        ensures continues { Continues (D.state self.old.disk) (D.state self.new.disk) }
 
         // A crash at any moment of the call leaves the entries from before it, or these and one
         // more.

@@ -1,13 +1,16 @@
-use Rattle.std.proofs.Common.{◌≡◌, ◌∙◌, ◌++◌, ◌∷◌, [], ap, refl, sym, subst}
+use Rattle.std.proofs.Common.{◌≡◌, ◌∙◌, ◌++◌, ◌∷◌, [], Ok, ap, refl, sym, subst}
 use Rattle.apron_base.specs.Keeper.{AddsEntry, FailsToAdd}
 use Rattle.plan_core.specs.PlanState.{PlanState, installed}
+use Rattle.desk_words.specs.Commands.{IsCommandOf}
 use Rattle.desk_words.specs.declared.asks.Command.{Command}
 use Rattle.desk_words.specs.declared.asks.Entry.{Entry}
-use Rattle.entry_bytes.specs.Entries.{entry_text}
+use Rattle.entry_bytes.specs.Entries.{decoded, entry_text}
+use Rattle.history_core.specs.Answer.{is_keeper_fault}
 use Rattle.history_core.specs.Board.{BoardHeld}
 use Rattle.history_core.specs.History.{replay}
 use Rattle.history_core.specs.Steps.{accepted, after_command, stepped_reply}
 use Rattle.history_core.proofs.Boards.{IsNext, board_failed, board_pushed}
+use Rattle.history_core.proofs.Risks.{added_at_risk, failed_at_risk, fault_told, read_as, readied_at_risk}
 use Rattle.history_core.proofs.Texts.{accepted_text}
 use Rattle.history_core.proofs.board.Board.accept.Goals as goal
 
@@ -21,8 +24,10 @@ invariant_of-self-in_err-append g c =
     let next = subst (λ (b : BoardHeld g.row.K.Denot). IsNext b entry) (sym c.self.view_is) asked in
     let text : c.as_slice.result.now ≡ entry_text entry =
     c.as_slice.ensures.items ∙ (c.in_ok-text.ensures.text ∙ ap (λ (command : Command). entry_text (record { call = c.args.call; command = command })) c.in_ok-copy.ensures.same) in
+    let read : decoded inside.airport.now (entry_text entry) ≡ Ok entry =
+    read_as inside.airport.now c.args.call c.args.command.now _ _ c.in_ok-copy.ensures.same c.in_ok-text.ensures.text c.in_ok-text.ensures.read_back next.valid in
     board_failed inside.plan.plan c.make_room.new.plan.plan (tells inside.keeper) (tells c.ready.new.self) (tells c.append.new.self) board c.append.new.self
-    c.make_room.new.history.items entry c.self.invariant next c.ready.ensures.kept
+    c.make_room.new.history.items entry c.self.invariant next read c.ready.ensures.kept
     (subst (FailsToAdd (tells c.ready.new.self) (tells c.append.new.self)) text c.in_err-append.ensures.err) c.make_room.ensures.entries c.make_room.ensures.plan
 
 pub invariant_of-self-2 : goal.invariant_of-self-2
@@ -58,3 +63,34 @@ returns-clause-gives g c =
     rw (← c.self.view_is)
     (accepted_text inside.airport.now inside.history.items c.push_reserved.new.self.items c.args.call c.args.command.now c.args.reply.now c.in_ok-bytes.bytes
     next.steps is c.in_ok-bytes.ensures.text items)
+
+pub returns-in_err-append-clause-at_risk : goal.returns-in_err-append-clause-at_risk
+returns-in_err-append-clause-at_risk g c =
+    let inside = c.self.inside in
+    let tells = g.K.Keeper.state in
+    let entry : Entry = record { call = c.args.call; command = c.args.command.now } in
+    let valid = subst (λ (b : BoardHeld g.row.K.Denot). IsCommandOf b.airport c.args.command.now) (sym c.self.view_is) c.requires.valid in
+    let read : decoded inside.airport.now (entry_text entry) ≡ Ok entry =
+    read_as inside.airport.now c.args.call c.args.command.now _ _ c.in_ok-copy.ensures.same c.in_ok-text.ensures.text c.in_ok-text.ensures.read_back valid in
+    let text : c.as_slice.result.now ≡ entry_text entry =
+    c.as_slice.ensures.items ∙ (c.in_ok-text.ensures.text ∙ ap (λ (command : Command). entry_text (record { call = c.args.call; command = command })) c.in_ok-copy.ensures.same) in
+    rw (← c.self.view_is)
+    (failed_at_risk inside.airport.now (tells inside.keeper) (tells c.ready.new.self) (tells c.append.new.self) inside.history.items c.make_room.new.history.items entry
+    (is_keeper_fault c.from_residual-in_err-append.result) (fault_told c.from_residual-in_err-append.result c.from_residual-in_err-append.ensures.1)
+    c.ready.ensures.kept read (subst (FailsToAdd (tells c.ready.new.self) (tells c.append.new.self)) text c.in_err-append.ensures.err) c.make_room.ensures.entries)
+
+pub returns-in_err-ready-clause-at_risk : goal.returns-in_err-ready-clause-at_risk
+returns-in_err-ready-clause-at_risk g c =
+    let inside = c.self.inside in
+    let tells = g.K.Keeper.state in
+    rw (← c.self.view_is)
+    (readied_at_risk inside.airport.now (tells inside.keeper) (tells c.ready.new.self) inside.history.items c.make_room.new.history.items c.args.call _ _
+    c.ready.ensures.kept c.make_room.ensures.entries)
+
+pub returns-clause-at_risk : goal.returns-clause-at_risk
+returns-clause-at_risk g c =
+    let inside = c.self.inside in
+    let tells = g.K.Keeper.state in
+    rw (← c.self.view_is)
+    (added_at_risk inside.airport.now (tells inside.keeper) (tells c.ready.new.self) (tells c.append.new.self) inside.history.items c.push_reserved.new.self.items
+    c.args.call _ _ _ c.in_ok-append.ensures.ok)

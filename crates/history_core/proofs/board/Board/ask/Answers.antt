@@ -1,6 +1,7 @@
-use Rattle.std.proofs.Common.{◌≡◌, ◌+◌, ◌≤◌, arith, sym, subst}
+use Rattle.std.proofs.Common.{◌≡◌, ◌+◌, ◌≤◌, Bool, arith, sym, subst}
 use Rattle.apron_base.proofs.Rising.{rises_more}
-use Rattle.history_core.specs.Answer.{GivesText, sought}
+use Rattle.history_core.specs.Answer.{GivesText, is_keeper_fault, sought}
+use Rattle.history_core.specs.AtRisk.{LeavesAtRisk, entry_at_risk, standing}
 use Rattle.history_core.specs.History.{IsLegal, call_of, replay}
 use Rattle.history_core.specs.Board.{BoardHeld}
 use Rattle.history_core.proofs.Boards.{board_called}
@@ -39,3 +40,12 @@ returns-clause-acts g c =
     (sym c.self.view_is) c.answer-answered.ensures.gives in
     rw c.acted_of.ensures.is
     (text_acts old.airport old.history c.args.call c.args.ask.now c.answer-answered.result c.self.inside.history.items gives)
+
+pub returns-clause-at_risk : goal.returns-clause-at_risk
+returns-clause-at_risk g c =
+    let tells = g.K.Keeper.state in
+    let leaves = subst (λ (b : BoardHeld g.row.K.Denot). LeavesAtRisk (standing tells c.args.self.now) c.args.call c.args.ask.now.what (is_keeper_fault c.answer-answered.result) (standing tells b))
+    (sym c.self.view_is) c.answer-answered.ensures.at_risk in
+    subst (λ (failed : Bool). LeavesAtRisk (standing tells c.args.self.now) c.args.call c.args.ask.now.what failed
+    (record { entries = c.self.inside.history.items; at_risk = entry_at_risk c.self.inside.airport.now (tells c.self.inside.keeper) }))
+    (sym c.acted_of.ensures.fault) leaves

@@ -5,7 +5,7 @@ use Rattle.journal_disk.specs.Entries.{IsEntry}
 use Rattle.journal_disk.specs.Extent.{extent_to, keeper_of}
 use Rattle.journal_disk.specs.Limits.{most_entries}
 use Rattle.journal_disk.proofs.Appending.{inside, mending_failed, stage_inside, staging_failed, set_inside, opening_failed, has_added, with_entry, with_gate}
-use Rattle.journal_disk.proofs.Tells.{counts_then, on_err}
+use Rattle.journal_disk.proofs.Tells.{continues_both, counts_then, on_err}
 use Rattle.journal_disk.proofs.journal.JournalKeeper.append.Goals as goal
 
 pub mend-requires : goal.mend-requires
@@ -37,6 +37,7 @@ returns-in_err-mend g c =
     record {
       ok = search rules;
       err = on_err c.from_residual.result (rw (← c.self.view_is) failed);
+      continues = rw (← c.self.view_is) c.mend.ensures.continues;
       crash = rw (← c.self.view_is) ended.crash;
       afterwards = ended.afterwards;
     }
@@ -72,6 +73,8 @@ returns-in_err-stage g c =
     record {
       ok = search rules;
       err = on_err c.from_residual-in_err-stage.result (rw (← c.self.view_is) failed);
+      continues = rw (← c.self.view_is)
+          (continues_both before (g.D.Disk.state c.mend.new.disk) (g.D.Disk.state c.stage.new.disk) c.mend.ensures.continues c.stage.ensures.continues);
       crash = rw (← c.self.view_is) ended.crash;
       afterwards = ended.afterwards;
     }
@@ -107,6 +110,10 @@ returns-in_err-set_gate g c =
     record {
       ok = search rules;
       err = on_err c.from_residual-in_err-set_gate.result (rw (← c.self.view_is) failed);
+      continues = rw (← c.self.view_is)
+          (continues_both before (g.D.Disk.state c.stage.new.disk) (g.D.Disk.state c.set_gate.new.disk)
+          (continues_both before (g.D.Disk.state c.mend.new.disk) (g.D.Disk.state c.stage.new.disk) c.mend.ensures.continues c.stage.ensures.continues)
+          c.set_gate.ensures.continues);
       crash = rw (← c.self.view_is) ended.crash;
       afterwards = ended.afterwards;
     }
@@ -138,6 +145,10 @@ returns g c =
     record {
       ok = rw (← c.self.view_is) added;
       err = tt;
+      continues = rw (← c.self.view_is)
+          (continues_both before (g.D.Disk.state c.stage.new.disk) (g.D.Disk.state c.set_gate.new.disk)
+          (continues_both before (g.D.Disk.state c.mend.new.disk) (g.D.Disk.state c.stage.new.disk) c.mend.ensures.continues c.stage.ensures.continues)
+          c.set_gate.ensures.continues);
       crash = rw (← c.self.view_is) ended.crash;
       afterwards = ended.afterwards;
     }
