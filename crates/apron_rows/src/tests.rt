@@ -1,6 +1,7 @@
 // What the program does with whole inputs. The expected texts are written by hand from the format of requests and replies.
 mod commits;
 mod crashes;
+mod hostile;
 mod journals;
 mod limits;
 mod lines;

@@ -66,7 +66,7 @@ Ends-unique bytes (malformed why) closed x y = absurd y
 Ends-unique bytes (malformed why) (malformed other) x y = inl (ap malformed (malformed_malformed bytes why other x y))
 
 -- a stream that ends holds no request
-request_ends : (bytes : List ℕ) (r : Request) (rest : List ℕ) (e : Ending) → HasRequest bytes r rest → Ends bytes e → ⊥
+pub request_ends : (bytes : List ℕ) (r : Request) (rest : List ℕ) (e : Ending) → HasRequest bytes r rest → Ends bytes e → ⊥
 request_ends bytes r rest ended x y = true≢false (sym y.0 ∙ HasHead-not_blank bytes r.head _ x.head)
 request_ends bytes r rest cut x y = on_partial y.0
   where

@@ -1,6 +1,6 @@
 // What a desk finds after a stop at any call of the disk.
 use super::lines::Session;
-use super::{DEMO, Ended, Run};
+use super::{DEMO, Ended, FIRST, Run};
 use journal_disk::{MemoryDisk, Unsynced};
 use std::alloc::Global;
 use std::process::Abort;
@@ -33,7 +33,23 @@ const EACH_DONE: [(u32, u32); 16] = [
     (3, 3),
 ];
 
-// The same where the call failed that opens the first gate: the next two close it again and make that safe.
+// The same of two entries.
+const TWO_DONE: [(u32, u32); 12] = [
+    (0, 0),
+    (0, 0),
+    (0, 0),
+    (0, 0),
+    (0, 0),
+    (0, 0),
+    (0, 1),
+    (1, 1),
+    (1, 1),
+    (1, 1),
+    (1, 2),
+    (2, 2),
+];
+
+// The same of three where the call failed that opens the first gate: the next two close it again and make that safe.
 const GATE_FAILED: [(u32, u32); 17] = [
     (0, 0),
     (0, 0),
@@ -110,11 +126,12 @@ fn is_within(
 fn all_within(
     rt: &impl Abort,
     alloc: Global,
+    input: &'static [u8],
     failing_calls: &'static [u64],
     bounds: &'static [(u32, u32)],
 ) -> Result<(), Fail> {
     let run = Run {
-        input: THREE,
+        input,
         failing_calls,
         ..DEMO
     };
@@ -137,7 +154,8 @@ fn all_within(
 #[test]
 fn each_acknowledged_entry_is_found_again(rt: HostRuntime) -> Result<(), Fail> {
     let alloc = rt.alloc();
-    all_within(&rt, alloc, &[], &EACH_DONE)?;
-    all_within(&rt, alloc, &[5], &GATE_FAILED)?;
-    all_within(&rt, alloc, &[6], &SYNC_FAILED)
+    all_within(&rt, alloc, FIRST, &[], &TWO_DONE)?;
+    all_within(&rt, alloc, THREE, &[], &EACH_DONE)?;
+    all_within(&rt, alloc, THREE, &[5], &GATE_FAILED)?;
+    all_within(&rt, alloc, THREE, &[6], &SYNC_FAILED)
 }

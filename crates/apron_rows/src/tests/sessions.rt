@@ -4,10 +4,10 @@ use super::{DEMO, FIRST, Run};
 use std::test::Fail;
 
 // The replies to the first request and to both.
-const ADDED: &[u8] =
+pub(super) const ADDED: &[u8] =
     b"HTTP/1.1 200 OK\r\nContent-Type: application/json\r\nContent-Length: 23\r\nX-Version: 1\r\n\r\n{\"version\":1,\"visit\":1}";
 
-const STANDS: &[u8] =
+pub(super) const STANDS: &[u8] =
     b"HTTP/1.1 200 OK\r\nContent-Type: application/json\r\nContent-Length: 23\r\nX-Version: 1\r\n\r\n{\"version\":1,\"visit\":1}HTTP/1.1 200 OK\r\nContent-Type: application/json\r\nContent-Length: 13\r\nX-Version: 2\r\n\r\n{\"version\":2}";
 
 // The two requests come in two pieces, cut at each byte.
@@ -63,7 +63,7 @@ fn how_input_ends(rt: HostRuntime) -> Result<(), Fail> {
     let version = "< 200 0 {\"version\":0}";
     let route = "< 404 - {\"error\":\"route\"}";
     let head = "< 400 close {\"error\":\"head\"}";
-    let rows: [(&[u8], &str, u8); 25] = [
+    let rows: [(&[u8], &str, u8); 28] = [
         (b"", "", 0),
         (b"\r\n\n\r", "", 0),
         (b"\r\r", head, 13),
@@ -104,6 +104,21 @@ fn how_input_ends(rt: HostRuntime) -> Result<(), Fail> {
             b"POST /commits HTTP/1.1\n\n",
             "< 411 close {\"error\":\"length\"}",
             13,
+        ),
+        (
+            b"POST /mvt HTTP/1.1\n\n",
+            "< 411 close {\"error\":\"length\"}",
+            13,
+        ),
+        (
+            b"PUT /mvt HTTP/1.1\n\n",
+            "< 405 POST {\"error\":\"method\"}",
+            0,
+        ),
+        (
+            FIRST,
+            "< 200 1 {\"version\":1,\"visit\":1}\n< 200 2 {\"version\":2}",
+            0,
         ),
         (
             b"POST /visits HTTP/1.1\nContent-Length: 65537\n\n",

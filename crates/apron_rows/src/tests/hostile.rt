@@ -1,0 +1,179 @@
+// Input that is cut, ends that fail, heads that don't end, and a history that takes no more.
+use super::journals::{STANDS as STANDING, V1, journal_of};
+use super::lines::Session;
+use super::sessions::{ADDED, STANDS};
+use super::{DEMO, FIRST, Run};
+use apron_base::Memory;
+use std::alloc::Global;
+use std::test::Fail;
+
+// What is written for the first so many bytes of the two requests, of 123 and 129 bytes, and the status.
+fn answer_to_front(length: usize) -> (&'static [u8], u8) {
+    if length == 0 {
+        (b"", 0)
+    } else if length < 123 {
+        (b"", 10)
+    } else if length == 123 {
+        (ADDED, 0)
+    } else if length < 252 {
+        (ADDED, 10)
+    } else {
+        (STANDS, 0)
+    }
+}
+
+#[test]
+fn two_requests_are_cut_after_each_byte(rt: HostRuntime) -> Result<(), Fail> {
+    for length in 0..253usize {
+        let (output, status) = answer_to_front(length);
+        let run = Run {
+            input: FIRST.get(..length).unwrap_or(FIRST),
+            ..DEMO
+        };
+        run.gives(&rt, rt.alloc(), &length, output, status)?;
+    }
+    Ok(())
+}
+
+// The replies where the visit was not kept, and the commit was made over a version that there is not; and where the commit was not
+// kept.
+const NOTHING_KEPT: &[u8] =
+    b"HTTP/1.1 503 Service Unavailable\r\nContent-Type: application/json\r\nContent-Length: 18\r\n\r\n{\"error\":\"keeper\"}HTTP/1.1 409 Conflict\r\nContent-Type: application/json\r\nContent-Length: 29\r\nX-Version: 0\r\n\r\n{\"error\":\"ahead\",\"version\":0}";
+
+const VISIT_KEPT: &[u8] =
+    b"HTTP/1.1 200 OK\r\nContent-Type: application/json\r\nContent-Length: 23\r\nX-Version: 1\r\n\r\n{\"version\":1,\"visit\":1}HTTP/1.1 503 Service Unavailable\r\nContent-Type: application/json\r\nContent-Length: 18\r\n\r\n{\"error\":\"keeper\"}";
+
+// What fails.
+#[derive(Clone, Copy, Debug)]
+enum Failing {
+    File,
+    Read,
+    Put,
+    Call,
+}
+
+// The two requests, where the call of this number fails: at the last number of each there is no such call any more.
+const FAILS: [(Failing, &[u64], &[u8], u8); 21] = [
+    (Failing::File, &[0], b"shelf fault\n", 4),
+    (Failing::File, &[1], b"shelf fault\n", 4),
+    (Failing::File, &[2], STANDS, 0),
+    (Failing::Read, &[0], b"", 5),
+    (Failing::Read, &[1], STANDS, 5),
+    (Failing::Read, &[2], STANDS, 0),
+    (Failing::Put, &[0], b"", 6),
+    (Failing::Put, &[1], ADDED, 6),
+    (Failing::Put, &[2], STANDS, 0),
+    (Failing::Call, &[0], b"disk fault\n", 7),
+    (Failing::Call, &[1], b"disk fault\n", 7),
+    (Failing::Call, &[2], b"disk fault\n", 7),
+    (Failing::Call, &[3], NOTHING_KEPT, 0),
+    (Failing::Call, &[4], NOTHING_KEPT, 0),
+    (Failing::Call, &[5], NOTHING_KEPT, 0),
+    (Failing::Call, &[6], NOTHING_KEPT, 0),
+    (Failing::Call, &[7], VISIT_KEPT, 0),
+    (Failing::Call, &[8], VISIT_KEPT, 0),
+    (Failing::Call, &[9], VISIT_KEPT, 0),
+    (Failing::Call, &[10], VISIT_KEPT, 0),
+    (Failing::Call, &[11], STANDS, 0),
+];
+
+// A run of the two requests in which that fails.
+fn run_failing(failing: Failing, numbers: &'static [u64]) -> Run<'static> {
+    let run = Run {
+        input: FIRST,
+        ..DEMO
+    };
+    match failing {
+        Failing::File => Run {
+            failing_files: numbers,
+            ..run
+        },
+        Failing::Read => Run {
+            failing_reads: numbers,
+            ..run
+        },
+        Failing::Put => Run {
+            failing_puts: numbers,
+            ..run
+        },
+        Failing::Call => Run {
+            failing_calls: numbers,
+            ..run
+        },
+    }
+}
+
+#[test]
+fn each_call_that_fails_has_its_status_or_reply(rt: HostRuntime) -> Result<(), Fail> {
+    for (failing, numbers, output, status) in FAILS {
+        run_failing(failing, numbers).gives(&rt, rt.alloc(), &(failing, numbers), output, status)?;
+    }
+    Ok(())
+}
+
+// As many bytes as a head may have at most, and one more, of a head that does not end; they come in one piece or in nine.
+#[test]
+fn a_head_without_an_end_is_refused(rt: HostRuntime) -> Result<(), Fail> {
+    let alloc = rt.alloc();
+    let refused = Session::of(alloc, "< 400 close {\"error\":\"head\"}")?;
+    for (length, output, status) in [
+        (8191, b"".as_slice(), 10),
+        (8192, refused.output.as_slice(), 13),
+        (8193, refused.output.as_slice(), 13),
+    ] {
+        let mut head = Vec::from_slice(alloc, b"GET /version HTTP/1.1\r\nX-Filled: ")?;
+        head.resize(length, b'x')?;
+        let run = Run {
+            input: head.as_slice(),
+            ..DEMO
+        };
+        run.gives(&rt, alloc, &length, output, status)?;
+        let run = Run {
+            pieces: &[1000; 9],
+            ..run
+        };
+        run.gives(&rt, alloc, &length, output, status)?;
+    }
+    Ok(())
+}
+
+// A message of a flight that no visit has, as an entry behind its call number: it is kept, and changes nothing.
+const UNKNOWN: &[u8] = b"\x03\x1eMVT\nLH999/27.DAIQA.APR\nAD1000\n";
+
+// A journal of as many entries as a history takes: the visit and the commit of the two requests, and then such messages.
+fn full_journal(alloc: Global) -> Result<Vec<u8>, Memory> {
+    let mut journal = journal_of(alloc, &[V1, STANDING])?;
+    let _ = journal.pop();
+    for call in 3..200_001u64 {
+        journal.extend_from_slice(&[1, 40, 0])?;
+        journal.extend_from_slice(&call.to_le_bytes())?;
+        journal.extend_from_slice(UNKNOWN)?;
+    }
+    journal.push(0)?;
+    Ok(journal)
+}
+
+// A message, the commit of the two requests again, and a new commit on a visit that there is not.
+const AT_FULL: &str = r#"
+> POST /mvt MVT|LH999/27.DAIQA.APR|AD1000|
+< 409 200000 {"error":"full","version":200000}
+> POST /commits {"desk":"D","draft":1,"base":1,"edits":[{"put":{"visit":1,"part":1,"stand":"N1"}}]}
+< 200 200000 {"version":2}
+> POST /commits {"desk":"D","draft":2,"base":200000,"edits":[{"put":{"visit":9,"part":1,"stand":"N1"}}]}
+< 422 200000 {"edit":1,"error":"unknown","version":200000}
+"#;
+
+#[test]
+fn a_full_history_takes_no_more(rt: HostRuntime) -> Result<(), Fail> {
+    let alloc = rt.alloc();
+    let session = Session::of(alloc, AT_FULL)?;
+    let journal = full_journal(alloc)?;
+    let run = Run {
+        input: session.input.as_slice(),
+        is_new: false,
+        stored: journal.as_slice(),
+        ..DEMO
+    };
+    run.gives(&rt, alloc, &"full", session.output.as_slice(), 0)?;
+    Ok(())
+}
