@@ -7,3 +7,4 @@ pub mod Rows
 pub mod Pieces
 pub mod SoFar
 pub mod Ending
+pub mod Complete

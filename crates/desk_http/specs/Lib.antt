@@ -16,3 +16,4 @@ pub mod Answers
 pub mod Session
 pub mod Replies
 pub mod Serving
+pub mod Complete

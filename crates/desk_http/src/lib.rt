@@ -4,6 +4,7 @@
 
 mod alone;
 mod answering;
+pub mod laws;
 mod names;
 mod numbers;
 mod port;

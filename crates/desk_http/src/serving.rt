@@ -2,6 +2,7 @@
 ghost use Rattle.std.specs.Prelude.{◌≡◌};
 ghost use Rattle.http_framing.specs.Fronts.{ArePartsOf};
 ghost use Rattle.http_framing.specs.Requests.{Request};
+ghost use Rattle.desk_http.specs.Complete.{IsComplete};
 ghost use Rattle.desk_http.specs.Session.{SessionBy, SessionOf, refusal_text as refusal_text_lem};
 ghost use Rattle.desk_http.specs.Serving.{IsServed, TakesTurn, outcome_of as outcome_of_lem};
 
@@ -27,6 +28,9 @@ pub fn session<P: DeskPort, S: Source, W: Sink>(
     sink: &mut W,
 ) -> Outcome
     ensures of { SessionOf P.asks (P.airport_of port.old)
+        (record { source = S.state source.old; sink = W.state sink.old; port = P.port port.old })
+        (record { source = S.state source.new; sink = W.state sink.new; port = P.port port.new }) result }
+    ensures complete { IsComplete P.asks (P.airport_of port.old)
         (record { source = S.state source.old; sink = W.state sink.old; port = P.port port.old })
         (record { source = S.state source.new; sink = W.state sink.new; port = P.port port.new }) result }
     ensures airport { P.airport_of port.new ≡ P.airport_of port.old }

@@ -1,0 +1,55 @@
+-- Completeness: a session that nothing hinders answers each request of its input, a million at most, and comes to the end of it.
+use Rattle.std.specs.Prelude.{◌≡◌, All, ℕ, false, List, [], ◌++◌, length, take, Some}
+use Rattle.apron_base.specs.Counts.{Rose}
+use Rattle.apron_base.specs.Ends.{Wrote}
+use Rattle.apron_base.specs.declared.outside.Outcome.{Outcome}
+use Rattle.apron_base.specs.declared.outside.Outcome.TheVariants.{Ended, Closed, Cut, Malformed, Limit, Spent, Memory}
+use Rattle.apron_rules.specs.declared.parts.AirportParts.{AirportParts}
+use Rattle.http_framing.specs.declared.bodies.Refusal.{Refusal}
+use Rattle.http_framing.specs.Requests.{Request}
+use Rattle.http_framing.specs.Streams.{Ending, ended, cut, closed, malformed, IsOpen, Requests}
+use Rattle.desk_words.specs.declared.asks.Ask.{Ask}
+use Rattle.history_core.specs.Answer.{Given}
+use Rattle.desk_http.specs.Answers.{Answers, Sent, sends}
+use Rattle.desk_http.specs.Ports.{PortState}
+use Rattle.desk_http.specs.Runs.{Runs}
+use Rattle.desk_http.specs.Session.{Moment, SessionOf, most_requests, refusal_text, texts_of}
+
+-- nothing hindered a session: no memory was wanting, its port had a number for each call, and neither its source's count of faults nor its sink's rose,
+-- nor stands at its last value
+pub record IsUnhindered (before after : Moment) (outcome : Outcome) : Type 0 where
+  pub memory : ¬ (outcome ≡ Memory)
+  pub numbers : ¬ (outcome ≡ Spent)
+  pub source : ¬ (Rose before.source.faults after.source.faults)
+  pub sink : ¬ (Rose before.sink.faults after.sink.faults)
+
+-- how a session ends that answered these requests of its input, and what it sent behind their replies: as the input does behind them, where a head that
+-- is refused has its own reply; or with as many as one session answers, of which none closes it
+abbrev pub ComesToEnd : Outcome → List ℕ → List Request → List ℕ → Type 0
+ComesToEnd Ended input requests last = Requests input requests ended × (last ≡ [])
+ComesToEnd Closed input requests last = Requests input requests closed × (last ≡ [])
+ComesToEnd Cut input requests last = Requests input requests cut × (last ≡ [])
+ComesToEnd Malformed input requests last = (why : Refusal) × Requests input requests (malformed why) × (last ≡ refusal_text why)
+ComesToEnd Limit input requests last = All IsOpen requests × (length requests ≡ most_requests) × (last ≡ [])
+ComesToEnd outcome input requests last = ⊥
+
+-- The requests of the input were answered one after another, each that has fewer than a million before it: by its early reply, or by what the port gave
+-- for it at its place. Their replies were written whole.
+pub record AnswersEach (asks : AirportParts → PortState → Ask → Given → PortState → Type 0) (airport : AirportParts) (before after : Moment) (outcome : Outcome) (input : List ℕ) : Type 0 where
+  pub requests : List Request
+  pub sents : List Sent
+  pub last : List ℕ
+  pub each : (listed : List Request) (ending : Ending) → Requests input listed ending → requests ≡ take most_requests listed
+  pub runs : Runs (λ old request sent new. Answers asks airport old request (sends sent) new) before.port requests sents after.port
+  pub ends : ComesToEnd outcome input requests last
+  pub wrote : Wrote false before.sink after.sink (texts_of airport sents ++ last)
+
+-- each session whose source tells its bytes, and which nothing hindered, answers each request of them
+abbrev pub IsComplete : (AirportParts → PortState → Ask → Given → PortState → Type 0) → AirportParts → Moment → Moment → Outcome → Type 0
+IsComplete asks airport before after outcome =
+    (input : List ℕ) → before.source.left ≡ Some input → IsUnhindered before after outcome → AnswersEach asks airport before after outcome input
+
+-- the same of every session over such ports
+abbrev pub SessionsAreComplete : (AirportParts → PortState → Ask → Given → PortState → Type 0) → Type 0
+SessionsAreComplete asks =
+    (airport : AirportParts) (before after : Moment) (outcome : Outcome) → SessionOf asks airport before after outcome → IsComplete asks airport before after outcome
