@@ -23,7 +23,7 @@ fn run_words(rt: &HostRuntime, words: &[Word]) -> u8 {
         Some((path, asked)) if asks_for(asked, "init") => {
             run_on(rt, asked, FileDisk::make(rt, path.text()))
         }
-        Some((path, asked)) if asks_for(asked, "desk") || asks_for_chart(asked) => {
+        Some((path, asked)) if works_on_files(asked) || works_on_more(asked) => {
             run_on(rt, asked, FileDisk::open(rt, path.text()))
         }
         Some((_, asked)) if takes_journal(words) => run_on_nothing(rt, asked),
@@ -39,10 +39,15 @@ fn asks_for(words: &[Word], text: &str) -> bool {
     }
 }
 
-// The words are `chart`, the names of two files and a day.
-fn asks_for_chart(words: &[Word]) -> bool {
+// The words are one that works on a journal, and the names of two files.
+fn works_on_files(words: &[Word]) -> bool {
+    asks_for(words, "desk") || asks_for(words, "export")
+}
+
+// The words are one that works on a journal, the names of two files, and a day or the name of a season file.
+fn works_on_more(words: &[Word]) -> bool {
     match words {
-        [word, _, _, _] => word.text() == "chart",
+        [word, _, _, _] => word.text() == "chart" || word.text() == "import",
         _ => false,
     }
 }
@@ -50,9 +55,13 @@ fn asks_for_chart(words: &[Word]) -> bool {
 // The first word is one that has a journal.
 fn takes_journal(words: &[Word]) -> bool {
     match words {
-        [word, ..] => { word.text() == "init" || word.text() == "desk" || word.text() == "chart" }
+        [word, ..] => has_journal(word.text()),
         [] => false,
     }
+}
+
+fn has_journal(word: &str) -> bool {
+    word == "init" || word == "desk" || word == "chart" || word == "import" || word == "export"
 }
 
 fn run_on_nothing(rt: &HostRuntime, words: &[Word]) -> u8 {

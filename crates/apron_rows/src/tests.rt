@@ -2,6 +2,7 @@
 mod commits;
 mod crashes;
 mod hostile;
+mod imports;
 mod journals;
 mod limits;
 mod lines;
@@ -70,13 +71,14 @@ X360,3600,40
 const FIRST: &[u8] =
     b"POST /visits HTTP/1.1\r\nContent-Length: 78\r\n\r\n{\"name\":\"V1\",\"type\":\"A320\",\"class\":3,\"on\":600,\"off\":660,\"arr\":null,\"dep\":null}POST /commits HTTP/1.1\r\nContent-Length: 83\r\n\r\n{\"desk\":\"D\",\"draft\":1,\"base\":1,\"edits\":[{\"put\":{\"visit\":1,\"part\":1,\"stand\":\"N1\"}}]}";
 
-// What the program is run on: its words, the texts of the files `A` and `T`, its input, how many bytes of it the source gives
+// What the program is run on: its words, the texts of the files `A`, `T` and `S`, its input, how many bytes of it the source gives
 // at a time, what the disk has in it, and which calls fail.
 #[derive(Clone, Copy)]
 struct Run<'a> {
     words: &'a str,
     airport: &'a str,
     types: &'a str,
+    season: &'a [u8],
     input: &'a [u8],
     pieces: &'a [usize],
     failing_files: &'a [u64],
@@ -93,6 +95,7 @@ const DEMO: Run = Run {
     words: "desk A T",
     airport: AIRPORT,
     types: TYPES,
+    season: &[],
     input: &[],
     pieces: &[],
     failing_files: &[],
@@ -132,8 +135,9 @@ impl Run<'_> {
         let files = Vec::from_array(
             alloc,
             [
-                kept(alloc, "A", self.airport)?,
-                kept(alloc, "T", self.types)?,
+                kept(alloc, "A", self.airport.as_bytes())?,
+                kept(alloc, "T", self.types.as_bytes())?,
+                kept(alloc, "S", self.season)?,
             ],
         )?;
         let mut shelf = MapShelf::new(files, self.failing_files.to_vec(alloc)?);
@@ -194,9 +198,9 @@ fn words(alloc: Global, texts: &str) -> Result<Vec<Word>, Memory> {
     Ok(words)
 }
 
-fn kept(alloc: Global, name: &str, text: &str) -> Result<Kept, Memory> {
+fn kept(alloc: Global, name: &str, bytes: &[u8]) -> Result<Kept, Memory> {
     Ok(Kept {
         name: Word::new(alloc, name)?,
-        bytes: Listed::from_vec(text.as_bytes().to_vec(alloc)?),
+        bytes: Listed::from_vec(bytes.to_vec(alloc)?),
     })
 }

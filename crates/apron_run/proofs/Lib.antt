@@ -1,7 +1,10 @@
 pub mod Calls
 pub mod Disks
+pub mod Asking
 pub mod Endings
 pub mod Serving
 pub mod Counting
 pub mod Charting
+pub mod Exporting
+pub mod Importing
 pub mod Headlines

@@ -9,6 +9,11 @@ pub mod Init
 pub mod Journal
 pub mod Desk
 pub mod Chart
+pub mod Asking
+pub mod Imported
+pub mod Import
+pub mod SecondImport
+pub mod Export
 pub mod Make
 pub mod Headline
 pub mod Run

@@ -1,13 +1,15 @@
 -- What the program does with its words, its files, its bytes and its disk.
 use Rattle.std.specs.Prelude.{◌≡◌, ◌≤◌, ℕ, Bool, true, false, MatchBool}
 use Rattle.apron_base.specs.Counts.{Counts}
-use Rattle.apron_run.specs.Words.{Asked, desk, init, check, chart, make, help, version, faulty}
+use Rattle.apron_run.specs.Words.{Asked, desk, init, check, chart, import, export, make, help, version, faulty}
 use Rattle.apron_run.specs.World.{World}
 use Rattle.apron_run.specs.Statuses.{code_of, is_disk_fault, is_read_fault, is_shelf_fault, is_told, is_write_fault}
 use Rattle.apron_run.specs.Desk.{RunsDesk, ServedCounts}
 use Rattle.apron_run.specs.Init.{InitsJournal}
 use Rattle.apron_run.specs.Chart.{ChartsFiles}
 use Rattle.apron_run.specs.Check.{ChecksFiles}
+use Rattle.apron_run.specs.Export.{ExportsFiles}
+use Rattle.apron_run.specs.Import.{ImportsFiles}
 use Rattle.apron_run.specs.Make.{TellsDay}
 use Rattle.apron_run.specs.Print.{Writes, help_text, usage_text, version_text}
 use Rattle.apron_run.specs.declared.status.Status.{Status}
@@ -19,6 +21,8 @@ Does (desk airport types) before after status = RunsDesk airport types before af
 Does (init airport types) before after status = InitsJournal airport types before after status
 Does (check airport types) before after status = ChecksFiles airport types before after status
 Does (chart airport types day) before after status = ChartsFiles airport types day before after status
+Does (import airport types season) before after status = ImportsFiles airport types season before after status
+Does (export airport types) before after status = ExportsFiles airport types before after status
 Does (make visits) before after status = TellsDay visits before.sink after.sink status
 Does help before after status = Writes help_text Done WriteFault before.sink after.sink status
 Does version before after status = Writes version_text Done WriteFault before.sink after.sink status

@@ -5,7 +5,7 @@ use Rattle.apron_base.specs.declared.outside.Outcome.TheVariants as outcome
 use Rattle.apron_check.specs.declared.faults.FilesFault.{FilesFault}
 use Rattle.apron_check.specs.declared.faults.FilesFault.TheVariants as files
 use Rattle.apron_run.specs.declared.status.Status.{Status}
-use Rattle.apron_run.specs.declared.status.Status.TheVariants.{Done, Usage, FileFault, ShelfFault, ReadFault, WriteFault, DiskFault, JournalFault, Cut, Memory, Malformed, NotEmpty, Limit, Spent}
+use Rattle.apron_run.specs.declared.status.Status.TheVariants.{Done, Usage, FileFault, ShelfFault, ReadFault, WriteFault, DiskFault, JournalFault, SeasonFault, Cut, Memory, Malformed, NotEmpty, Full, Limit, Spent}
 
 -- the number of a status
 abbrev pub code_of : Status → ℕ
@@ -17,10 +17,12 @@ code_of ReadFault = 5
 code_of WriteFault = 6
 code_of DiskFault = 7
 code_of JournalFault = 8
+code_of SeasonFault = 9
 code_of Cut = 10
 code_of Memory = 12
 code_of Malformed = 13
 code_of NotEmpty = 14
+code_of Full = 15
 code_of Limit = 16
 code_of Spent = 17
 
@@ -79,6 +81,8 @@ is_told FileFault = true
 is_told ShelfFault = true
 is_told DiskFault = true
 is_told JournalFault = true
+is_told SeasonFault = true
 is_told NotEmpty = true
+is_told Full = true
 is_told Memory = true
 is_told status = false

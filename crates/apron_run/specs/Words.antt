@@ -10,12 +10,15 @@ use Rattle.apron_run.specs.Statuses.{code_of}
 use Rattle.apron_run.specs.declared.status.Status.TheVariants.{Usage, FileFault, ShelfFault, DiskFault, JournalFault, Memory}
 
 -- what words ask for, with the names of an airport file and a type file where it has to do with an airport: a session of a desk on its journal, an empty
--- journal, a check of the two files, a chart of the day that these digits name; or a text, or nothing that there is
+-- journal, a check of the two files, a chart of the day that these digits name, the adding of the visits of a season file of this name, a season file of
+-- the plan's visits; or a text, or nothing that there is
 pub data Asked : Type 0 where
   desk : List ℕ → List ℕ → Asked
   init : List ℕ → List ℕ → Asked
   check : List ℕ → List ℕ → Asked
   chart : List ℕ → List ℕ → List ℕ → Asked
+  import : List ℕ → List ℕ → List ℕ → Asked
+  export : List ℕ → List ℕ → Asked
   make : ℕ → Asked
   help : Asked
   version : Asked
@@ -31,7 +34,8 @@ asked_of_files word airport types =
     if bytes_eq word (codes "desk") then desk airport types
     else (if bytes_eq word (codes "init") then init airport types
     else (if bytes_eq word (codes "check") then check airport types
-    else faulty))
+    else (if bytes_eq word (codes "export") then export airport types
+    else faulty)))
 
 -- a zero stands before others
 abbrev pub is_padded : List ℕ → Bool
@@ -45,6 +49,10 @@ is_plain_number text = nat_le 1 (length text) && list_all is_ascii_digit text &&
 abbrev pub asked_of_day : List ℕ → List ℕ → List ℕ → List ℕ → Asked
 asked_of_day word airport types day = if bytes_eq word (codes "chart") && is_plain_number day then chart airport types day else faulty
 
+-- what a word asks for that has the names of an airport file and a type file and then one word more behind it: the name of a season file, or a day
+abbrev pub asked_of_more : List ℕ → List ℕ → List ℕ → List ℕ → Asked
+asked_of_more word airport types more = if bytes_eq word (codes "import") then import airport types more else asked_of_day word airport types more
+
 -- what the word `make` asks for with this number: a generated day of 1 to 5,000 visits
 abbrev pub made_of : Option ℕ → Asked
 made_of None = faulty
@@ -54,13 +62,13 @@ made_of (Some visits) = if nat_le 1 visits && nat_le visits MAX_MADE then make v
 abbrev pub asked_with_number : List ℕ → List ℕ → Asked
 asked_with_number word number = if bytes_eq word (codes "make") && is_plain_number number then made_of (number_of number MAX_DIGITS) else faulty
 
--- what the words ask for: `desk`, `init` or `check` with the names of two files, `chart` with these and a number, `make` with a number, `--help` or
--- `--version`
+-- what the words ask for: `desk`, `init`, `check` or `export` with the names of two files, `chart` with these and a number, `import` with the names of
+-- three, `make` with a number, `--help` or `--version`
 abbrev pub asked_by : List (List ℕ) → Asked
 asked_by (word ∷ []) = asked_by_one word
 asked_by (word ∷ number ∷ []) = asked_with_number word number
 asked_by (word ∷ airport ∷ types ∷ []) = asked_of_files word airport types
-asked_by (word ∷ airport ∷ types ∷ day ∷ []) = asked_of_day word airport types day
+asked_by (word ∷ airport ∷ types ∷ more ∷ []) = asked_of_more word airport types more
 asked_by words = faulty
 
 -- the program ends with this number since two files give no airport, or the shelf none of them
@@ -79,6 +87,10 @@ ends_before_journal code = ends_at_files code || code == code_of Memory
 abbrev pub ends_before_chart : ℕ → Bool
 ends_before_chart code = ends_at_files code || code == code_of Usage
 
+-- the program ends with this number before it comes to an import's journal: the shelf may fail at its season file too
+abbrev pub ends_before_import : ℕ → Bool
+ends_before_import code = code == code_of FileFault
+
 -- the program may end with the number of faulty words: where they are, or where the plan has no such day
 abbrev pub may_be_usage : Asked → Bool
 may_be_usage faulty = true
@@ -95,6 +107,8 @@ abbrev pub uses_disk : Asked → ℕ → Bool
 uses_disk (desk airport types) code = not (ends_at_files code)
 uses_disk (init airport types) code = not (ends_before_journal code)
 uses_disk (chart airport types day) code = not (ends_before_chart code)
+uses_disk (import airport types season) code = not (ends_before_import code)
+uses_disk (export airport types) code = not (ends_at_files code)
 uses_disk asked code = false
 
 -- whether the shelf is read for it
@@ -103,4 +117,6 @@ uses_shelf (desk airport types) = true
 uses_shelf (init airport types) = true
 uses_shelf (check airport types) = true
 uses_shelf (chart airport types day) = true
+uses_shelf (import airport types season) = true
+uses_shelf (export airport types) = true
 uses_shelf asked = false

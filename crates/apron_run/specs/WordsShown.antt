@@ -3,7 +3,7 @@ use Rattle.std.specs.Prelude.{◌≤◌}
 use Rattle.generated_day.specs.declared.making_visits.TheConstants.{MAX_MADE}
 use Rattle.apron_run.specs.declared.words.Asked.{Asked as Read}
 use Rattle.apron_run.specs.declared.words.Asked.TheVariants as read
-use Rattle.apron_run.specs.Words.{Asked, desk, init, check, chart, make, help, version, faulty}
+use Rattle.apron_run.specs.Words.{Asked, desk, init, check, chart, import, export, make, help, version, faulty}
 
 -- the same, with the names in place of the words
 abbrev pub shown : Read → Asked
@@ -11,6 +11,8 @@ shown (read.Desk airport types) = desk airport.now types.now
 shown (read.Init airport types) = init airport.now types.now
 shown (read.Check airport types) = check airport.now types.now
 shown (read.Chart airport types day) = chart airport.now types.now day.now
+shown (read.Import airport types season) = import airport.now types.now season.now
+shown (read.Export airport types) = export airport.now types.now
 shown (read.Make visits) = make visits
 shown read.Help = help
 shown read.Version = version

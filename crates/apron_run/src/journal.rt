@@ -1,5 +1,6 @@
 // The board of an airport over its journal on a disk.
 ghost use Rattle.std.specs.Prelude.{◌≡◌, IfErr, IfOk};
+ghost use Rattle.history_core.specs.History.{IsLegal};
 ghost use Rattle.apron_run.specs.Journal.{IsOpened, KeepsHistory, NotOpened, journal_tells};
 ghost use Rattle.apron_run.specs.World.{seen_of};
 
@@ -35,6 +36,7 @@ pub(crate) fn open_board<'f, D: Disk>(
 pub(crate) fn close_board<D: Disk>(board: Board<'_, Journal<D>>) -> D
     ensures keeps { KeepsHistory board.entry.airport board.entry.history (seen_of (D.state result)) }
     ensures disk { result ≡ board.entry.keeper.disk }
+    ensures legal { IsLegal board.entry.airport board.entry.history }
 {
     board.into_keeper().into_disk()
 }

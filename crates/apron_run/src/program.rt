@@ -10,6 +10,8 @@ use crate::Status;
 use crate::chart::chart;
 use crate::check::check;
 use crate::desk::desk;
+use crate::export::export;
+use crate::import::import;
 use crate::init::init;
 use crate::make::make;
 use crate::print::{print_help, print_usage, print_version};
@@ -26,9 +28,11 @@ use std::alloc::Global;
 /// make and from the history that the journal has; where there is no airport or no journal of it, it prints
 /// the line that tells why. `init A T` reads both files and makes an empty journal of them on an empty disk.
 /// `check A T` reads both files, and prints the one line that tells what is in them. `chart A T DAY` opens
-/// the journal as `desk` does, and prints the wall chart of that day of the plan. `make N` prints the
-/// summary of a generated day of `N` visits, 1 to 5,000. `--help` and
-/// `--version` print their text. Other words print the line `usage`.
+/// the journal as `desk` does, and prints the wall chart of that day of the plan. `import A T SEASON` opens
+/// it and asks to add the visits of the season file, one after the other, and prints how many were added and
+/// how many were there; `export A T` opens it and prints the season file of the plan's visits. `make N`
+/// prints the summary of a generated day of `N` visits, 1 to 5,000. `--help` and `--version` print their
+/// text. Other words print the line `usage`.
 ///
 /// | Status | Comes where |
 /// |---|---|
@@ -36,12 +40,14 @@ use std::alloc::Global;
 /// | 2 | the words ask for nothing that there is, or for the chart of a day that the plan does not have |
 /// | 3 | a file has a fault, which is printed, or is over 1 MiB |
 /// | 4, 5, 6 | the shelf, the source, the sink failed |
-/// | 7 | the disk failed before there was a journal to work on, which is printed; later a reply says so |
+/// | 7 | the disk failed before there was a journal to work on, or at an entry of an import, which is printed; in a session a reply says so |
 /// | 8 | what the disk reads as is no journal of these files, or no history of their airport, which is printed |
+/// | 9 | a record of the season file is refused, or the file is over 16 MiB, which is printed |
 /// | 10 | the source ended inside a request |
 /// | 12 | memory is wanting, which is printed |
 /// | 13 | a request's head was refused |
 /// | 14 | a journal is to be made where there are bytes already, which is printed |
+/// | 15 | the history has no place for a visit of the season file, whose record is printed |
 /// | 16 | 1,000,000 requests were answered |
 /// | 17 | the call numbers are used up |
 pub fn run<F: Shelf, S: Source, W: Sink, D: Disk>(
@@ -94,6 +100,21 @@ pub fn run<F: Shelf, S: Source, W: Sink, D: Disk>(
                 disk,
             )
             .code()
+        }
+        Asked::Import(airport, types, season) => {
+            import(
+                alloc,
+                airport.text(),
+                types.text(),
+                season,
+                shelf,
+                sink,
+                disk,
+            )
+            .code()
+        }
+        Asked::Export(airport, types) => {
+            export(alloc, airport.text(), types.text(), shelf, sink, disk).code()
         }
         Asked::Make(visits) => make(alloc, visits, sink).code(),
         Asked::Help => print_help(sink).code(),

@@ -24,6 +24,8 @@ pub enum Status {
     DiskFault,
     /// What the disk reads as is no journal of the airport, or no history of it.
     JournalFault,
+    /// A record of the season file is refused, or the file is longer than 16 MiB.
+    SeasonFault,
     /// The input ended within a request.
     Cut,
     /// Memory was wanting.
@@ -32,6 +34,8 @@ pub enum Status {
     Malformed,
     /// A journal is made on an empty disk only.
     NotEmpty,
+    /// The history has no place for a visit of the season file.
+    Full,
     /// A session answered as many requests as it may.
     Limit,
     /// There were no more call numbers.
@@ -52,10 +56,12 @@ impl Status {
             Status::WriteFault => 6,
             Status::DiskFault => 7,
             Status::JournalFault => 8,
+            Status::SeasonFault => 9,
             Status::Cut => 10,
             Status::Memory => 12,
             Status::Malformed => 13,
             Status::NotEmpty => 14,
+            Status::Full => 15,
             Status::Limit => 16,
             Status::Spent => 17,
         }

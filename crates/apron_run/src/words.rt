@@ -4,7 +4,7 @@ ghost use Rattle.std.specs.Char.{is_ascii_digit};
 ghost use Rattle.std.specs.List.{list_all};
 ghost use Rattle.std.specs.Str.{bytes_eq};
 ghost use Rattle.apron_base.specs.Digits.{number_of};
-ghost use Rattle.apron_run.specs.Words.{asked_by, asked_by_one, asked_of_day, asked_of_files, asked_with_number, is_padded, is_plain_number, made_of};
+ghost use Rattle.apron_run.specs.Words.{asked_by, asked_by_one, asked_of_day, asked_of_files, asked_of_more, asked_with_number, is_padded, is_plain_number, made_of};
 ghost use Rattle.apron_run.specs.WordsShown.{IsFitting, shown};
 
 use apron_base::{MAX_DIGITS, Word, number_of};
@@ -21,6 +21,10 @@ pub(crate) enum Asked<'w> {
     Check(&'w Word, &'w Word),
     /// The wall chart of the day that these digits name, drawn from the journal of the two files.
     Chart(&'w Word, &'w Word, &'w Word),
+    /// The visits of the season file of the third name are added to the plan in the journal of the two files.
+    Import(&'w Word, &'w Word, &'w Word),
+    /// The season file of the visits of the plan in the journal of the two files.
+    Export(&'w Word, &'w Word),
     /// The summary of a generated day of so many visits, 1 to 5,000.
     Make(u32),
     Help,
@@ -38,7 +42,7 @@ pub(crate) fn asked_by(words: &[Word]) -> Asked<'_>
         [word] => asked_by_one(word),
         [word, number] => asked_with_number(word, number),
         [word, airport, types] => asked_of_files(word, airport, types),
-        [word, airport, types, day] => asked_of_day(word, airport, types, day),
+        [word, airport, types, more] => asked_of_more(word, airport, types, more),
         _ => Asked::Faulty,
     }
 }
@@ -66,8 +70,21 @@ fn asked_of_files<'w>(word: &Word, airport: &'w Word, types: &'w Word) -> Asked<
         Asked::Init(airport, types)
     } else if is(word, "check") {
         Asked::Check(airport, types)
+    } else if is(word, "export") {
+        Asked::Export(airport, types)
     } else {
         Asked::Faulty
+    }
+}
+
+fn asked_of_more<'w>(word: &Word, airport: &'w Word, types: &'w Word, more: &'w Word) -> Asked<'w>
+    ensures asked { shown result ≡ asked_of_more word.now airport.now types.now more.now }
+    ensures fits { IsFitting result }
+{
+    if is(word, "import") {
+        Asked::Import(airport, types, more)
+    } else {
+        asked_of_day(word, airport, types, more)
     }
 }
 

@@ -123,7 +123,10 @@ fn a_session_ends_at_its_limit(rt: HostRuntime) -> Result<(), Fail> {
     }
     let files = Vec::from_array(
         alloc,
-        [kept(alloc, "A", AIRPORT)?, kept(alloc, "T", TYPES)?],
+        [
+            kept(alloc, "A", AIRPORT.as_bytes())?,
+            kept(alloc, "T", TYPES.as_bytes())?,
+        ],
     )?;
     let words = words(alloc, DEMO.words)?;
     let mut disk = DEMO.disk(alloc)?;

@@ -3,7 +3,7 @@ use super::{AIRPORT, DEMO, FIRST, Run, TYPES};
 use std::test::Fail;
 
 const HELP: &[u8] =
-    b"apron: airport stand allocation\n\napron init AIRPORT TYPES JOURNAL   makes an empty journal for the airport of an airport file and a\n                                   type file\napron desk AIRPORT TYPES JOURNAL   answers HTTP requests from standard input on standard output at\n                                   that airport, and keeps in its journal what it accepts\napron chart AIRPORT TYPES DAY JOURNAL\n                                   prints the wall chart of a day of the plan in that journal\napron check AIRPORT TYPES          reads an airport file and a type file, and prints how much they\n                                   hold, or the first fault in them\napron make VISITS                  prints the summary of a generated day of 1 to 5,000 visits\napron --help                       prints this text\napron --version                    prints the version\n";
+    b"apron: airport stand allocation\n\napron init AIRPORT TYPES JOURNAL   makes an empty journal for the airport of an airport file and a\n                                   type file\napron desk AIRPORT TYPES JOURNAL   answers HTTP requests from standard input on standard output at\n                                   that airport, and keeps in its journal what it accepts\napron chart AIRPORT TYPES DAY JOURNAL\n                                   prints the wall chart of a day of the plan in that journal\napron import AIRPORT TYPES SEASON JOURNAL\n                                   adds the visits of a season file to the plan in that journal\napron export AIRPORT TYPES JOURNAL prints the season file of the visits in that journal\napron check AIRPORT TYPES          reads an airport file and a type file, and prints how much they\n                                   hold, or the first fault in them\napron make VISITS                  prints the summary of a generated day of 1 to 5,000 visits\napron --help                       prints this text\napron --version                    prints the version\n";
 
 // An airport whose one stand is on a frontage that there isn't.
 const UNKNOWN_FRONTAGE: &str = r#"frontage = [{ name = "N", objects = [] }]
@@ -22,7 +22,7 @@ tow = 20
 #[test]
 fn words_that_print(rt: HostRuntime) -> Result<(), Fail> {
     let usage = b"usage\n".as_slice();
-    let rows: [(&str, &[u8], u8, u8); 36] = [
+    let rows: [(&str, &[u8], u8, u8); 42] = [
         ("", usage, 2, 2),
         ("desk", usage, 2, 2),
         ("desk demo", usage, 2, 2),
@@ -37,6 +37,12 @@ fn words_that_print(rt: HostRuntime) -> Result<(), Fail> {
         ("init T A", b"airport file: not toml\n", 3, 3),
         ("init A missing", b"shelf fault\n", 4, 4),
         ("chart A T", usage, 2, 2),
+        ("import A T", usage, 2, 2),
+        ("import A T S S", usage, 2, 2),
+        ("import A missing S", b"shelf fault\n", 4, 4),
+        ("export A", usage, 2, 2),
+        ("export A T S", usage, 2, 2),
+        ("export T A", b"airport file: not toml\n", 3, 3),
         ("chart A T 0", usage, 2, 2),
         ("chart A T 4", usage, 2, 2),
         ("chart A T 01", usage, 2, 2),
@@ -98,7 +104,14 @@ fn faulty_files_are_told(rt: HostRuntime) -> Result<(), Fail> {
         (AIRPORT, TYPES, &[1], b"shelf fault\n", 4),
     ];
     for (airport, types, failing_files, line, status) in rows {
-        for words in ["desk A T", "init A T", "check A T", "chart A T 1"] {
+        for words in [
+            "desk A T",
+            "init A T",
+            "check A T",
+            "chart A T 1",
+            "import A T S",
+            "export A T",
+        ] {
             let run = Run {
                 words,
                 airport,

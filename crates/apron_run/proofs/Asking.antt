@@ -1,0 +1,339 @@
+-- What asking to add visits makes of a board, and what a second import of them comes to.
+use Rattle.std.proofs.Common.{◌≡◌, ◌∙◌, ◌≤◌, ◌<◌, ◌+◌, ℕ, true, false, List, [], ◌∷◌, ◌++◌, length, length-append, append-nil, append_assoc, nat_lt, refl, sym, ap, subst, arith, None, Some}
+use Rattle.std.proofs.lemmas.Bool.Decides.{nat_tests}
+use Rattle.apron_base.specs.declared.numbers.VisitNo.{VisitNo}
+use Rattle.apron_base.specs.Counts.{Counts}
+use Rattle.apron_base.specs.Histories.{Every}
+use Rattle.apron_base.specs.declared.outside.Acted.TheVariants.{Reply as Replied, Memory as NoMemory, Fault}
+use Rattle.apron_rules.specs.declared.parts.AirportParts.{AirportParts}
+use Rattle.visit_book.specs.NewVisits.{new_of}
+use Rattle.visit_book.specs.declared.visits.NewVisit.{NewVisit}
+use Rattle.visit_book.specs.declared.visits.Visit.{Visit}
+use Rattle.plan_core.specs.Names.{visit_named}
+use Rattle.plan_core.specs.PlanState.{PlanState}
+use Rattle.desk_words.specs.declared.asks.Ask.{Ask}
+use Rattle.desk_words.specs.declared.asks.Command.{Command}
+use Rattle.desk_words.specs.declared.asks.Command.TheVariants.{AddVisit}
+use Rattle.desk_words.specs.declared.asks.Entry.{Entry}
+use Rattle.desk_words.specs.declared.asks.What.TheVariants.{Change}
+use Rattle.desk_words.specs.declared.replies.Reply.{Reply}
+use Rattle.history_core.specs.Answer.{ActsAs, IsAccepted, Replies, Sought, added, changes, keeper_fault, no_memory, replied, sought}
+use Rattle.history_core.specs.History.{IsLegal, replay}
+use Rattle.history_core.specs.Laws.{HasAdded, HasEntry, HasVisit}
+use Rattle.history_core.specs.Steps.{IsSameName, Refusal, Stepped, Steps, accepted, ahead, denied, edit, full, name, refused, repeated}
+use Rattle.history_core.proofs.Added.{visits_added}
+use Rattle.history_core.proofs.Legal.{front_legal}
+use Rattle.apron_run.specs.Asking.{Asks, AsksSeason, IsMet, IsMissing, IsThere, Meets, MeetsAll, Reached, Stops, StopsAmong, record_behind}
+use Rattle.apron_run.specs.SecondImport.{AddsNothing, SecondAddsNothing}
+use Rattle.apron_run.specs.declared.imported.Imported.{Imported}
+use Rattle.apron_run.specs.declared.imported.Imported.TheVariants.{Whole, ShelfFault, TooLong, Refused, Full, DiskFault, Spent, Memory}
+
+-- the ask that adds a visit with this
+abbrev pub asking : NewVisit → Ask
+asking new = record { seen = 0; what = Change (AddVisit new) }
+
+-- it is a command at every plan
+pub seeks : (plan : PlanState) (new : NewVisit) → sought plan (asking new) ≡ changes (AddVisit new)
+seeks plan new = let none : nat_lt plan.version 0 ≡ false = grind (arith, nat_tests) in rw none refl
+
+-- an ask that was answered took a step, which made the history
+pub record TookStep (airport : AirportParts) (before : List Entry) (call : ℕ) (new : NewVisit) (after : List Entry) : Type 0 where
+  pub stepped : Stepped
+  pub steps : Steps (replay airport before) (length before) (AddVisit new) stepped
+  pub makes : after ≡ before ++ added call (AddVisit new) stepped
+
+replied_step : (airport : AirportParts) (before after : List Entry) (call : ℕ) (new : NewVisit) (asked : Sought) (reply : Reply) → asked ≡ changes (AddVisit new)
+    → Replies (replay airport before) before call asked reply after → TookStep airport before call new after
+replied_step airport before after call new asked reply is replies =
+    let (stepped, steps, told, makes) = subst (λ (s : Sought). Replies (replay airport before) before call s reply after) is replies in
+    record { stepped = stepped; steps = steps; makes = makes }
+
+pub answered_step : (airport : AirportParts) (before after : List Entry) (call : ℕ) (new : NewVisit) (bytes : List ℕ)
+    → ActsAs airport before call (asking new) (Replied bytes) after → TookStep airport before call new after
+answered_step airport before after call new bytes (replied reply, is, gives) =
+    replied_step airport before after call new (sought (replay airport before) (asking new)) reply (seeks (replay airport before) new) gives
+answered_step airport before after call new bytes (no_memory, is, gives) = absurd cc
+answered_step airport before after call new bytes (keeper_fault, is, gives) = absurd cc
+
+-- an append that failed was that of a visit which the plan accepts
+pub fault_stops : (airport : AirportParts) (number : ℕ) (before after : Reached) (new : NewVisit) → ActsAs airport before.history before.next (asking new) Fault after.history
+    → Counts true before.faults after.faults → Stops airport number before new after DiskFault
+fault_stops airport number before after new (keeper_fault, is, (took, same)) counts =
+    (subst (λ (s : Sought). IsAccepted (replay airport before.history) (length before.history) s) (seeks (replay airport before.history) new) took, same, counts)
+fault_stops airport number before after new (replied reply, is, gives) counts = absurd cc
+fault_stops airport number before after new (no_memory, is, gives) counts = absurd cc
+
+-- want of memory changed nothing
+pub memory_stops : (airport : AirportParts) (number : ℕ) (before after : Reached) (new : NewVisit) → ActsAs airport before.history before.next (asking new) NoMemory after.history
+    → after.faults ≡ before.faults → Stops airport number before new after Memory
+memory_stops airport number before after new (no_memory, is, same) counts = (same, counts)
+memory_stops airport number before after new (replied reply, is, gives) counts = absurd cc
+memory_stops airport number before after new (keeper_fault, is, gives) counts = absurd cc
+
+-- where entries came, the visit was added
+came_by : (before after : List Entry) (call : ℕ) (command : Command) (stepped : Stepped) → after ≡ before ++ added call command stepped → length before < length after
+    → stepped ≡ accepted
+came_by before after call command accepted makes more = refl
+came_by before after call command ahead makes more = let same : length after ≡ length before = ap length (makes ∙ append-nil before) in absurd (omega arith)
+came_by before after call command (repeated entry) makes more = let same : length after ≡ length before = ap length (makes ∙ append-nil before) in absurd (omega arith)
+came_by before after call command (refused why) makes more = let same : length after ≡ length before = ap length (makes ∙ append-nil before) in absurd (omega arith)
+came_by before after call command full makes more = let same : length after ≡ length before = ap length (makes ∙ append-nil before) in absurd (omega arith)
+
+-- where none came, the history is as it was
+stays_by : (before after : List Entry) (call : ℕ) (command : Command) (stepped : Stepped) → after ≡ before ++ added call command stepped → length after ≤ length before
+    → after ≡ before
+stays_by before after call command accepted makes few =
+    let more : length after ≡ length before + 1 = ap length makes ∙ length-append before _ in absurd (omega arith)
+stays_by before after call command ahead makes few = makes ∙ append-nil before
+stays_by before after call command (repeated entry) makes few = makes ∙ append-nil before
+stays_by before after call command (refused why) makes few = makes ∙ append-nil before
+stays_by before after call command full makes few = makes ∙ append-nil before
+
+-- where no visit has the name, a visit that was not added has no place
+missing_by : (plan : PlanState) (count : ℕ) (new : NewVisit) (stepped : Stepped) → Steps plan count (AddVisit new) stepped → visit_named plan.visits new.name ≡ None
+    → (stepped ≡ accepted → ⊥) → stepped ≡ full
+missing_by plan count new accepted steps none other = absurd (other refl)
+missing_by plan count new ahead steps none other = absurd steps
+missing_by plan count new (repeated entry) (visit, (found, same), is) none other = let both : None ≡ Some visit = sym none ∙ found in absurd cc
+missing_by plan count new (refused (name number)) (visit, (found, differs), is) none other = let both : None ≡ Some visit = sym none ∙ found in absurd cc
+missing_by plan count new (refused (edit fault)) steps none other = absurd steps
+missing_by plan count new (refused (denied why)) steps none other = absurd steps
+missing_by plan count new full steps none other = refl
+
+-- no entry came where the history is as it was
+not_accepted : (before after : List Entry) (call : ℕ) (command : Command) (stepped : Stepped) → after ≡ before ++ added call command stepped → length after ≤ length before
+    → stepped ≡ accepted → ⊥
+not_accepted before after call command stepped makes few is =
+    let with_it : after ≡ before ++ added call command accepted = subst (λ (s : Stepped). after ≡ before ++ added call command s) is makes in
+    let more : length after ≡ length before + 1 = ap length with_it ∙ length-append before _ in omega arith
+
+module _ (airport : AirportParts) (before after : Reached) (new : NewVisit) (bytes : List ℕ) (acts : ActsAs airport before.history before.next (asking new) (Replied bytes) after.history)
+    (next : after.next ≡ before.next + 1) (faults : after.faults ≡ before.faults) where
+  took : TookStep airport before.history before.next new after.history
+  took = answered_step airport before.history after.history before.next new bytes acts
+
+  -- a visit was met whose entry came
+  pub met_grown : length before.history < length after.history → Meets airport before new after
+  met_grown more =
+      let is : took.stepped ≡ accepted = came_by before.history after.history before.next (AddVisit new) took.stepped took.makes more in
+      record {
+        stepped = took.stepped;
+        met = subst IsMet (sym is) tt;
+        asks = record { takes = took.steps; history = took.makes; next = next; faults = faults };
+      }
+
+  unchanged : length after.history ≤ length before.history → after.history ≡ before.history
+  unchanged few = stays_by before.history after.history before.next (AddVisit new) took.stepped took.makes few
+
+  -- a visit was met that was there
+  pub met_there : length after.history ≤ length before.history → IsThere (replay airport after.history) new → Meets airport before new after
+  met_there few there =
+      let same : after.history ≡ before.history = unchanged few in
+      let (visit, known) = subst (λ (h : List Entry). IsThere (replay airport h) new) same there in
+      record {
+        stepped = repeated visit.added;
+        met = tt;
+        asks = record { takes = (visit, known, refl); history = same ∙ sym (append-nil before.history); next = next; faults = faults };
+      }
+
+  -- a visit was asked whose name another has, or for which there is no place
+  pub stops_missing : (number : ℕ) (imported : Imported) → length after.history ≤ length before.history → IsMissing (replay airport after.history) new number imported
+      → Stops airport number before new after imported
+  stops_missing number (Refused told) few missing =
+      let same : after.history ≡ before.history = unchanged few in
+      let (is, (visit, other)) = subst (λ (h : List Entry). IsMissing (replay airport h) new number (Refused told)) same missing in
+      (is, (visit.number, record { takes = (visit, other, refl); history = same ∙ sym (append-nil before.history); next = next; faults = faults }))
+  stops_missing number (Full told) few missing =
+      let same : after.history ≡ before.history = unchanged few in
+      let (is, none) = subst (λ (h : List Entry). IsMissing (replay airport h) new number (Full told)) same missing in
+      let full_is : took.stepped ≡ full = missing_by (replay airport before.history) (length before.history) new took.stepped took.steps none
+      (not_accepted before.history after.history before.next (AddVisit new) took.stepped took.makes few) in (
+        is,
+        record {
+          takes = subst (λ (s : Stepped). Steps (replay airport before.history) (length before.history) (AddVisit new) s) full_is took.steps;
+          history = same ∙ sym (append-nil before.history);
+          next = next;
+          faults = faults;
+        },
+      )
+  stops_missing number (Whole added present) few missing = absurd missing
+  stops_missing number ShelfFault few missing = absurd missing
+  stops_missing number TooLong few missing = absurd missing
+  stops_missing number DiskFault few missing = absurd missing
+  stops_missing number Spent few missing = absurd missing
+  stops_missing number Memory few missing = absurd missing
+
+module _ (airport : AirportParts) where
+  -- one visit more was met
+  pub meets_push : (visits : List NewVisit) (before mid after : Reached) (new : NewVisit) → MeetsAll airport visits before mid → Meets airport mid new after
+      → MeetsAll airport (visits ++ new ∷ []) before after
+  meets_push [] before mid after new same one = (after, subst (λ (r : Reached). Meets airport r new after) same one, refl)
+  meets_push (first ∷ visits) before mid after new (at, head, rest) one = (at, head, meets_push visits at mid after new rest one)
+
+  -- an entry came, or none
+  pub one_counts : (before after : Reached) (new : NewVisit) → Meets airport before new after
+      → (length before.history ≤ length after.history) × (length after.history ≤ length before.history + 1)
+  one_counts before after new one = counts one.stepped one.met one.asks.history
+    where
+      counts : (stepped : Stepped) → IsMet stepped → after.history ≡ before.history ++ added before.next (AddVisit new) stepped
+          → (length before.history ≤ length after.history) × (length after.history ≤ length before.history + 1)
+      counts accepted met is = let more : length after.history ≡ length before.history + 1 = ap length is ∙ length-append before.history _ in (omega arith, omega arith)
+      counts (repeated entry) met is = let same : length after.history ≡ length before.history = ap length (is ∙ append-nil before.history) in (omega arith, omega arith)
+      counts ahead met is = absurd met
+      counts (refused why) met is = absurd met
+      counts full met is = absurd met
+
+  -- the history has grown
+  one_grows : (before after : Reached) (new : NewVisit) → Meets airport before new after → (more : List Entry) × (after.history ≡ before.history ++ more)
+  one_grows before after new one = (added before.next (AddVisit new) one.stepped, one.asks.history)
+
+  all_grow : (visits : List NewVisit) (before after : Reached) → MeetsAll airport visits before after → (more : List Entry) × (after.history ≡ before.history ++ more)
+  all_grow [] before after same = ([], ap (λ (r : Reached). r.history) same ∙ sym (append-nil before.history))
+  all_grow (new ∷ visits) before after (mid, one, rest) =
+      let (first, first_is) = one_grows before mid new one in
+      let (more, more_is) = all_grow visits mid after rest in
+      (first ++ more, more_is ∙ (ap (λ (h : List Entry). h ++ more) first_is ∙ append_assoc before.history first more))
+
+  -- an entry that added a visit stays
+  still_added : (history more after : List Entry) (version : ℕ) (new : NewVisit) → after ≡ history ++ more → HasAdded history version new → HasAdded after version new
+  still_added history more after version new is (entry, has, adds) = (
+    entry,
+    record {
+      before = has.before;
+      after = has.after ++ more;
+      is = is ∙ (ap (λ (h : List Entry). h ++ more) has.is ∙ append_assoc has.before (entry ∷ has.after) more);
+      counted = has.counted;
+    },
+    adds,
+  )
+
+  -- a visit that was met has its entry
+  one_added : (before after : Reached) (new : NewVisit) → IsLegal airport before.history → Meets airport before new after → (version : ℕ) × HasAdded after.history version new
+  one_added before after new legal one = has one.stepped one.met one.asks.takes one.asks.history
+    where
+      has : (stepped : Stepped) → IsMet stepped → Steps (replay airport before.history) (length before.history) (AddVisit new) stepped
+          → after.history ≡ before.history ++ added before.next (AddVisit new) stepped → (version : ℕ) × HasAdded after.history version new
+      has accepted met steps is = (
+        length before.history + 1,
+        (
+          record { call = before.next; command = AddVisit new },
+          record { before = before.history; after = []; is = is; counted = refl },
+          refl,
+        ),
+      )
+      has (repeated entry) met (visit, (found, same), at) is =
+          let there : HasVisit (replay airport before.history).visits visit.added new = (visit, found, (same, refl)) in
+          (visit.added, still_added before.history [] after.history visit.added new is ((visits_added airport before.history visit.added new legal).0 there))
+      has ahead met steps is = absurd met
+      has (refused why) met steps is = absurd met
+      has full met steps is = absurd met
+
+  -- a visit whose entry is in a legal history is there
+  is_there : (history : List Entry) (version : ℕ) (new : NewVisit) → IsLegal airport history → HasAdded history version new → IsThere (replay airport history) new
+  is_there history version new legal has =
+      let (visit, found, (same, at)) = (visits_added airport history version new legal).1 has in (visit, (found, same))
+
+  -- after all visits were met all are there
+  pub all_there : (visits : List NewVisit) (before after : Reached) → IsLegal airport after.history → MeetsAll airport visits before after
+      → Every (IsThere (replay airport after.history)) visits
+  all_there [] before after legal met = tt
+  all_there (new ∷ visits) before after legal (mid, one, rest) =
+      let (first, first_is) = one_grows before mid new one in
+      let (more, more_is) = all_grow visits mid after rest in
+      let mid_legal : IsLegal airport mid.history = front_legal airport mid.history more (subst (IsLegal airport) more_is legal) in
+      let before_legal : IsLegal airport before.history = front_legal airport before.history first (subst (IsLegal airport) first_is mid_legal) in
+      let (version, has) = one_added before mid new before_legal one in
+      (is_there after.history version new legal (still_added mid.history more after.history version new more_is has), all_there visits mid after legal rest)
+
+  -- a visit that is there is answered with its entry
+  step_there : (plan : PlanState) (count : ℕ) (new : NewVisit) (stepped : Stepped) → IsThere plan new → Steps plan count (AddVisit new) stepped
+      → (entry : ℕ) × (stepped ≡ repeated entry)
+  step_there plan count new accepted (visit, (found, same)) (none, place) = let both : None ≡ Some visit = sym none ∙ found in absurd cc
+  step_there plan count new ahead there steps = absurd steps
+  step_there plan count new (repeated entry) there steps = (entry, refl)
+  step_there plan count new (refused (name number)) (visit, (found, same)) (other, (other_found, differs), is) =
+      let both : Some visit ≡ Some other = sym found ∙ other_found in
+      let one : visit ≡ other = cc in
+      absurd (differs (subst (λ (v : Visit). new_of v ≡ new) one same))
+  step_there plan count new (refused (edit fault)) there steps = absurd steps
+  step_there plan count new (refused (denied why)) there steps = absurd steps
+  step_there plan count new full (visit, (found, same)) (none, place) = let both : None ≡ Some visit = sym none ∙ found in absurd cc
+
+  -- a visit that is there adds nothing
+  met_same : (before after : Reached) (new : NewVisit) → IsThere (replay airport before.history) new → Meets airport before new after → after.history ≡ before.history
+  met_same before after new there one =
+      let (entry, is) = step_there (replay airport before.history) (length before.history) new one.stepped there one.asks.takes in
+      subst (λ (s : Stepped). after.history ≡ before.history ++ added before.next (AddVisit new) s) is one.asks.history ∙ append-nil before.history
+
+  all_same : (visits : List NewVisit) (before after : Reached) → Every (IsThere (replay airport before.history)) visits → MeetsAll airport visits before after
+      → after.history ≡ before.history
+  all_same [] before after there same = ap (λ (r : Reached). r.history) same
+  all_same (new ∷ visits) before after there (mid, one, rest) =
+      let first : mid.history ≡ before.history = met_same before mid new there.0 one in
+      all_same visits mid after (subst (λ (h : List Entry). Every (IsThere (replay airport h)) visits) (sym first) there.1) rest ∙ first
+
+  -- nor does one at which the asks stopped
+  stops_same : (number : ℕ) (at : Reached) (new : NewVisit) (after : Reached) (imported : Imported) (visits : ℕ) → IsThere (replay airport at.history) new
+      → Stops airport number at new after imported → (after.history ≡ at.history) × AddsNothing visits imported
+  stops_same number at new after (Refused told) visits there (is, (other, asks)) =
+      let (entry, same) = step_there (replay airport at.history) (length at.history) new (refused (name other)) there asks.takes in absurd cc
+  stops_same number at new after (Full told) visits there (is, asks) =
+      let (entry, same) = step_there (replay airport at.history) (length at.history) new full there asks.takes in absurd cc
+  stops_same number at new after DiskFault visits there (takes, history, faults) =
+      let (entry, same) = step_there (replay airport at.history) (length at.history) new accepted there takes in absurd cc
+  stops_same number at new after Spent visits there (next, same) = (ap (λ (r : Reached). r.history) same, tt)
+  stops_same number at new after Memory visits there (same, faults) = (same, tt)
+  stops_same number at new after (Whole added present) visits there stops = absurd stops
+  stops_same number at new after ShelfFault visits there stops = absurd stops
+  stops_same number at new after TooLong visits there stops = absurd stops
+
+  -- what holds of all holds of those in front, and of the one behind them
+  in_front : (P : NewVisit → Type 0) (front : List NewVisit) (new : NewVisit) (back : List NewVisit) → Every P (front ++ new ∷ back) → Every P front × P new
+  in_front P [] new back all = (tt, all.0)
+  in_front P (first ∷ front) new back all = let (more, last) = in_front P front new back all.1 in ((all.0, more), last)
+
+  among_same : (visits : List NewVisit) (again left : Reached) (imported : Imported) → Every (IsThere (replay airport again.history)) visits
+      → StopsAmong airport visits again left imported → (left.history ≡ again.history) × AddsNothing (length visits) imported
+  among_same visits again left imported there stops =
+      let (front, new) = in_front (IsThere (replay airport again.history)) stops.front stops.new stops.back (subst (Every (IsThere (replay airport again.history))) stops.are there) in
+      let before : stops.at.history ≡ again.history = all_same stops.front again stops.at front stops.met in
+      let (last, nothing) = stops_same (record_behind stops.front) stops.at stops.new left imported (length visits)
+      (subst (λ (h : List Entry). IsThere (replay airport h) stops.new) (sym before) new) stops.stops in
+      (last ∙ before, nothing)
+
+  -- asks that stopped at one visit
+  pub among_season : (visits : List NewVisit) (before after : Reached) (imported : Imported) → StopsAmong airport visits before after imported
+      → AsksSeason airport visits before after imported
+  among_season visits before after (Whole added present) stops = absurd stops.stops
+  among_season visits before after ShelfFault stops = stops
+  among_season visits before after TooLong stops = stops
+  among_season visits before after (Refused told) stops = stops
+  among_season visits before after (Full told) stops = stops
+  among_season visits before after DiskFault stops = stops
+  among_season visits before after Spent stops = stops
+  among_season visits before after Memory stops = stops
+
+  -- a second import of visits that are there
+  pub second_same : (visits : List NewVisit) (again left : Reached) (imported : Imported) → Every (IsThere (replay airport again.history)) visits
+      → AsksSeason airport visits again left imported → (left.history ≡ again.history) × AddsNothing (length visits) imported
+  second_same visits again left (Whole added present) there asks =
+      let same : left.history ≡ again.history = all_same visits again left there asks.met in
+      let as_many : length left.history ≡ length again.history = ap length same in
+      let came = asks.added_are in
+      let all = asks.present_are in
+      (same, (omega arith, omega arith))
+  second_same visits again left ShelfFault there asks = among_same visits again left ShelfFault there asks
+  second_same visits again left TooLong there asks = among_same visits again left TooLong there asks
+  second_same visits again left (Refused told) there asks = among_same visits again left (Refused told) there asks
+  second_same visits again left (Full told) there asks = among_same visits again left (Full told) there asks
+  second_same visits again left DiskFault there asks = among_same visits again left DiskFault there asks
+  second_same visits again left Spent there asks = among_same visits again left Spent there asks
+  second_same visits again left Memory there asks = among_same visits again left Memory there asks
+
+-- a second import adds nothing
+pub second_nothing : SecondAddsNothing
+second_nothing airport visits before after again left imported legal met same asks =
+    let there : Every (IsThere (replay airport again.history)) visits =
+    subst (λ (h : List Entry). Every (IsThere (replay airport h)) visits) (sym same) (all_there airport visits before after legal met) in
+    let (unchanged, nothing) = second_same airport visits again left imported there asks in
+    (unchanged ∙ same, nothing)

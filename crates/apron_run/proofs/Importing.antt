@@ -1,0 +1,238 @@
+-- What a run of the word `import` counts at each end.
+use Rattle.std.proofs.Common.{◌≡◌, ◌∙◌, ℕ, List, [], ◌∷◌, Bool, true, false, refl, sym, ap, subst, Result, Ok, Err}
+use Rattle.apron_base.specs.Counts.{Counts}
+use Rattle.apron_base.specs.Keeper.{KeeperState}
+use Rattle.apron_base.specs.Ends.{SinkState}
+use Rattle.apron_base.specs.Shelf.{ShelfState}
+use Rattle.apron_rules.specs.declared.parts.AirportParts.{AirportParts}
+use Rattle.visit_book.specs.declared.visits.NewVisit.{NewVisit}
+use Rattle.history_core.specs.Board.{BoardHeld}
+use Rattle.history_core.specs.History.{IsLegal}
+use Rattle.apron_check.specs.Files.{Finds, is_shelf_fault as is_shelf_found}
+use Rattle.apron_check.specs.declared.files.AirportFiles.{AirportFiles}
+use Rattle.apron_check.specs.declared.faults.FilesFault.{FilesFault}
+use Rattle.apron_run.specs.Asking.{AsksSeason, MeetsAll, Reached, Stops, StopsAmong, reached, record_behind}
+use Rattle.apron_run.specs.Import.{Around, AsksFound, FindsSeason, HasCause, ImportsFound, ImportsSeason, MeetsImport, Stores, TellsMet, around, begun, is_shelf_fault as is_shelf_read}
+use Rattle.apron_run.specs.Imported.{TellsImported, status_of_imported}
+use Rattle.apron_run.specs.Journal.{IsOpened, KeepsHistory}
+use Rattle.apron_run.specs.Run.{RunsAs, SinkCounts}
+use Rattle.apron_run.specs.Statuses.{code_of, is_disk_fault, is_read_fault, is_shelf_fault, status_of_fault}
+use Rattle.apron_run.specs.Unusable.{status_of_unusable, unusable_line}
+use Rattle.apron_run.specs.Words.{import as import_asked}
+use Rattle.apron_run.specs.World.{DiskSeen, World}
+use Rattle.apron_run.specs.declared.imported.Imported.{Imported}
+use Rattle.apron_run.specs.declared.imported.Imported.TheVariants.{Whole, ShelfFault, TooLong, Refused, Full, DiskFault, Spent, Memory}
+use Rattle.apron_run.specs.declared.status.Status.{Status}
+use Rattle.apron_run.specs.declared.status.Status.TheVariants as ending
+use Rattle.apron_run.specs.declared.unusable.Unusable.{Unusable}
+use Rattle.apron_run.proofs.Charting.{Printed, fault_disk, printed, why_disk}
+use Rattle.apron_run.proofs.Counting.{Lines, fault_read, fault_shelf, fault_told, lines_of, still, told_sink, unusable_read, unusable_shelf, unusable_told}
+
+-- how an import ended was told: its status says of the ends what that does
+record ToldSo (imported : Imported) (status : Status) (before after : SinkState) : Type 0 where
+  pub shelf : is_shelf_fault status ≡ is_shelf_fault (status_of_imported imported)
+  pub read : is_read_fault status ≡ false
+  pub disk : is_disk_fault status ≡ is_disk_fault (status_of_imported imported)
+  pub sink : SinkCounts status before.faults after.faults
+
+told_by : (imported : Imported) (of status : Status) (before after : SinkState) → of ≡ status_of_imported imported → Lines status of before after
+    → is_read_fault of ≡ false → SinkCounts status before.faults after.faults → ToldSo imported status before after
+told_by imported of status before after is lines read sink = record {
+  shelf = ap is_shelf_fault (lines.is ∙ is);
+  read = ap is_read_fault lines.is ∙ read;
+  disk = ap is_disk_fault (lines.is ∙ is);
+  sink = sink;
+}
+
+told_so : (imported : Imported) (before after : SinkState) (status : Status) → TellsImported imported before after status → ToldSo imported status before after
+told_so (Whole added present) before after status tells =
+    let print : Printed status before after = printed _ before after status tells in
+    record { shelf = print.shelf; read = print.read; disk = print.disk; sink = print.sink }
+told_so Spent before after status (same, is) = record {
+  shelf = ap is_shelf_fault is;
+  read = ap is_read_fault is;
+  disk = ap is_disk_fault is;
+  sink = subst (λ (s : Status). SinkCounts s before.faults after.faults) (sym is) (ap (λ (s : SinkState). s.faults) same);
+}
+told_so ShelfFault before after status tells =
+    let lines : Lines status ending.ShelfFault before after = lines_of _ ending.ShelfFault before after status tells in
+    told_by ShelfFault ending.ShelfFault status before after refl lines refl (told_sink status ending.ShelfFault before after refl lines)
+told_so TooLong before after status tells =
+    let lines : Lines status ending.SeasonFault before after = lines_of _ ending.SeasonFault before after status tells in
+    told_by TooLong ending.SeasonFault status before after refl lines refl (told_sink status ending.SeasonFault before after refl lines)
+told_so (Refused number) before after status tells =
+    let lines : Lines status ending.SeasonFault before after = lines_of _ ending.SeasonFault before after status tells in
+    told_by (Refused number) ending.SeasonFault status before after refl lines refl (told_sink status ending.SeasonFault before after refl lines)
+told_so (Full number) before after status tells =
+    let lines : Lines status ending.Full before after = lines_of _ ending.Full before after status tells in
+    told_by (Full number) ending.Full status before after refl lines refl (told_sink status ending.Full before after refl lines)
+told_so DiskFault before after status tells =
+    let lines : Lines status ending.DiskFault before after = lines_of _ ending.DiskFault before after status tells in
+    told_by DiskFault ending.DiskFault status before after refl lines refl (told_sink status ending.DiskFault before after refl lines)
+told_so Memory before after status tells =
+    let lines : Lines status ending.Memory before after = lines_of _ ending.Memory before after status tells in
+    told_by Memory ending.Memory status before after refl lines refl (told_sink status ending.Memory before after refl lines)
+
+-- the count of faults, while visits are met
+all_faults : (airport : AirportParts) (visits : List NewVisit) (before after : Reached) → MeetsAll airport visits before after → after.faults ≡ before.faults
+all_faults airport [] before after same = ap (λ (r : Reached). r.faults) same
+all_faults airport (new ∷ visits) before after (mid, one, rest) = all_faults airport visits mid after rest ∙ one.asks.faults
+
+-- and at the one at which the asks stopped
+stop_faults : (airport : AirportParts) (number : ℕ) (at : Reached) (new : NewVisit) (after : Reached) (imported : Imported) → Stops airport number at new after imported
+    → Counts (is_disk_fault (status_of_imported imported)) at.faults after.faults
+stop_faults airport number at new after (Refused told) (is, (other, asks)) = asks.faults
+stop_faults airport number at new after (Full told) (is, asks) = asks.faults
+stop_faults airport number at new after DiskFault (takes, history, faults) = faults
+stop_faults airport number at new after Spent (next, same) = ap (λ (r : Reached). r.faults) same
+stop_faults airport number at new after Memory (history, faults) = faults
+stop_faults airport number at new after (Whole added present) stops = absurd stops
+stop_faults airport number at new after ShelfFault stops = absurd stops
+stop_faults airport number at new after TooLong stops = absurd stops
+
+among_faults : (airport : AirportParts) (visits : List NewVisit) (before after : Reached) (imported : Imported) → StopsAmong airport visits before after imported
+    → Counts (is_disk_fault (status_of_imported imported)) before.faults after.faults
+among_faults airport visits before after imported stops =
+    subst (λ (n : ℕ). Counts (is_disk_fault (status_of_imported imported)) n after.faults) (all_faults airport stops.front before stops.at stops.met)
+    (stop_faults airport (record_behind stops.front) stops.at stops.new after imported stops.stops)
+
+-- the asks stopped at no fault of the shelf
+among_shelf : (airport : AirportParts) (visits : List NewVisit) (before after : Reached) (imported : Imported) → StopsAmong airport visits before after imported
+    → is_shelf_fault (status_of_imported imported) ≡ false
+among_shelf airport visits before after (Whole added present) stops = refl
+among_shelf airport visits before after ShelfFault stops = absurd stops.stops
+among_shelf airport visits before after TooLong stops = refl
+among_shelf airport visits before after (Refused number) stops = refl
+among_shelf airport visits before after (Full number) stops = refl
+among_shelf airport visits before after DiskFault stops = refl
+among_shelf airport visits before after Spent stops = refl
+among_shelf airport visits before after Memory stops = refl
+
+-- what the end of an import says of the shelf and the disk
+record SaysSo (found : Result (List NewVisit) Imported) (before after : ℕ) (imported : Imported) : Type 0 where
+  pub shelf : is_shelf_fault (status_of_imported imported) ≡ is_shelf_read found
+  pub disk : Counts (is_disk_fault (status_of_imported imported)) before after
+
+season_says : (airport : AirportParts) (visits : List NewVisit) (before after : Reached) (imported : Imported) → AsksSeason airport visits before after imported
+    → SaysSo (Ok visits) before.faults after.faults imported
+season_says airport visits before after (Whole added present) asks = record { shelf = refl; disk = all_faults airport visits before after asks.met }
+season_says airport visits before after ShelfFault asks =
+    record { shelf = among_shelf airport visits before after ShelfFault asks; disk = among_faults airport visits before after ShelfFault asks }
+season_says airport visits before after TooLong asks = record { shelf = refl; disk = among_faults airport visits before after TooLong asks }
+season_says airport visits before after (Refused number) asks = record { shelf = refl; disk = among_faults airport visits before after (Refused number) asks }
+season_says airport visits before after (Full number) asks = record { shelf = refl; disk = among_faults airport visits before after (Full number) asks }
+season_says airport visits before after DiskFault asks = record { shelf = refl; disk = among_faults airport visits before after DiskFault asks }
+season_says airport visits before after Spent asks = record { shelf = refl; disk = among_faults airport visits before after Spent asks }
+season_says airport visits before after Memory asks = record { shelf = refl; disk = among_faults airport visits before after Memory asks }
+
+-- nothing was asked
+unread_says : (airport : AirportParts) (season : List ℕ) (before after : ShelfState) (why : Imported) (faults now : ℕ) → HasCause airport season before after (Err why)
+    → now ≡ faults → SaysSo (Err why) faults now why
+unread_says airport season before after ShelfFault faults now cause same = record { shelf = refl; disk = same }
+unread_says airport season before after TooLong faults now cause same = record { shelf = refl; disk = same }
+unread_says airport season before after (Refused number) faults now cause same = record { shelf = refl; disk = same }
+unread_says airport season before after Memory faults now cause same = record { shelf = refl; disk = same }
+unread_says airport season before after (Whole added present) faults now cause same = absurd cause
+unread_says airport season before after (Full number) faults now cause same = absurd cause
+unread_says airport season before after DiskFault faults now cause same = absurd cause
+unread_says airport season before after Spent faults now cause same = absurd cause
+
+found_says : (airport : AirportParts) (season : List ℕ) (shelf now : ShelfState) (found : Result (List NewVisit) Imported) (before after : Reached) (imported : Imported)
+    → HasCause airport season shelf now found → AsksFound airport found before after imported → SaysSo found before.faults after.faults imported
+found_says airport season shelf now (Ok visits) before after imported cause asks = season_says airport visits before after imported asks
+found_says airport season shelf now (Err why) before after imported cause (same, is) =
+    subst (SaysSo (Err why) before.faults after.faults) (sym is)
+    (unread_says airport season shelf now why before.faults after.faults cause (ap (λ (r : Reached). r.faults) same))
+
+-- what is counted at each end
+record CountsImport (status : Status) (before after : Around) : Type 0 where
+  pub shelf : Counts (is_shelf_fault status) before.stores.shelf.faults after.stores.shelf.faults
+  pub read : is_read_fault status ≡ false
+  pub sink : SinkCounts status before.sink.faults after.sink.faults
+  pub disk : Counts (is_disk_fault status) before.stores.disk.faults after.stores.disk.faults
+
+imported_as : (files : AirportFiles) (season : List ℕ) (before after : Around) (imported : Imported) (status : Status)
+    → ImportsSeason files season before.stores after.stores imported → TellsImported imported before.sink after.sink status → CountsImport status before after
+imported_as files season before after imported status imports tells =
+    let told : ToldSo imported status before.sink after.sink = told_so imported before.sink after.sink status tells in
+    let says : SaysSo imports.found before.stores.disk.faults imports.left.faults imported =
+    found_says files.airport season before.stores.shelf after.stores.shelf imports.found (begun imports.opened before.stores.disk.faults) imports.left imported
+    imports.finds.cause imports.asks in
+    record {
+      shelf = subst (λ (b : Bool). Counts b before.stores.shelf.faults after.stores.shelf.faults) (sym (told.shelf ∙ says.shelf)) imports.finds.counts;
+      read = told.read;
+      sink = told.sink;
+      disk = subst (λ (b : Bool). Counts b before.stores.disk.faults after.stores.disk.faults) (sym told.disk)
+          (subst (Counts (is_disk_fault (status_of_imported imported)) before.stores.disk.faults) imports.faults says.disk);
+    }
+
+met_as : (files : AirportFiles) (season : List ℕ) (before after : Around) (met : Result Imported Unusable) (status : Status)
+    → MeetsImport files season before.stores after.stores met → TellsMet met before.sink after.sink status → CountsImport status before after
+met_as files season before after (Ok imported) status meets tells = imported_as files season before after imported status meets tells
+met_as files season before after (Err why) status meets tells =
+    let lines : Lines status (status_of_unusable why) before.sink after.sink = lines_of (unusable_line why) (status_of_unusable why) before.sink after.sink status tells in
+    record {
+      shelf = still (is_shelf_fault status) before.stores.shelf.faults after.stores.shelf.faults (ap is_shelf_fault lines.is ∙ unusable_shelf why)
+          (ap (λ (s : ShelfState). s.faults) meets.shelf);
+      read = ap is_read_fault lines.is ∙ unusable_read why;
+      sink = told_sink status (status_of_unusable why) before.sink after.sink (unusable_told why) lines;
+      disk = subst (λ (s : Status). Counts (is_disk_fault s) before.stores.disk.faults after.stores.disk.faults) (sym lines.is)
+          (why_disk files before.stores.disk after.stores.disk why meets.disk.cause);
+    }
+
+-- an import into a board that was opened
+pub season_imported : {K : Type 0} (tells : K → KeeperState) (files : AirportFiles) (season : List ℕ) (before after : Stores) (board left : BoardHeld K) (imported : Imported)
+    → IsOpened tells files before.disk board
+    → ((found : Result (List NewVisit) Imported) × FindsSeason board.airport season before.shelf after.shelf found
+    × AsksFound board.airport found (reached tells board) (reached tells left) imported)
+    → left.airport ≡ board.airport → IsLegal left.airport left.history → (tells left.keeper).faults ≡ after.disk.faults
+    → KeepsHistory left.airport left.history after.disk → ImportsSeason files season before after imported
+season_imported tells files season before after board left imported opened (found, finds, asks) same legal faults keeps =
+    let airport : board.airport ≡ files.airport = opened.airport_is in
+    let start : reached tells board ≡ begun board.history before.disk.faults = rw (opened.next, opened.faults) refl in
+    record {
+      opened = board.history;
+      opens = opened.opens;
+      found = found;
+      finds = subst (λ (a : AirportParts). FindsSeason a season before.shelf after.shelf found) airport finds;
+      left = reached tells left;
+      asks = subst (λ (r : Reached). AsksFound files.airport found r (reached tells left) imported) start
+          (subst (λ (a : AirportParts). AsksFound a found (reached tells board) (reached tells left) imported) airport asks);
+      legal = subst (λ (a : AirportParts). IsLegal a left.history) (same ∙ airport) legal;
+      faults = faults;
+      keeps = subst (λ (a : AirportParts). KeepsHistory a left.history after.disk) (same ∙ airport) keeps;
+    }
+
+-- a run of the word, from before the two files were read
+module _ (airport types season : List ℕ) (before after : World) (status : Status) (source : after.source ≡ before.source) where
+  found_as : (found : Result AirportFiles FilesFault) (mid : ShelfState) → Finds before.shelf mid airport types found
+      → ImportsFound found season (around mid before) (around after.shelf after) status → RunsAs (import_asked airport types season) before after (code_of status)
+  found_as (Ok files) mid finds imports =
+      let counts : CountsImport status (around mid before) (around after.shelf after) =
+      met_as files season (around mid before) (around after.shelf after) imports.met status imports.meets imports.tells in
+      record {
+        status = status;
+        code_is = refl;
+        does = record { found = Ok files; shelf = mid; finds = finds; imports = imports };
+        shelf = subst (λ (n : ℕ). Counts (is_shelf_fault status) n after.shelf.faults) finds.counts counts.shelf;
+        source = still (is_read_fault status) before.source.faults after.source.faults counts.read (ap (λ s. s.faults) source);
+        sink = counts.sink;
+        disk = counts.disk;
+      }
+  found_as (Err fault) mid finds (same, tells) =
+      let lines : Lines status (status_of_fault fault) before.sink after.sink = lines_of _ (status_of_fault fault) before.sink after.sink status tells in
+      record {
+        status = status;
+        code_is = refl;
+        does = record { found = Err fault; shelf = mid; finds = finds; imports = (same, tells) };
+        shelf = subst (λ (b : Bool). Counts b before.shelf.faults after.shelf.faults) (sym (ap is_shelf_fault lines.is ∙ fault_shelf fault))
+            (subst (λ (s : ShelfState). Counts (is_shelf_found (Err fault)) before.shelf.faults s.faults) (sym (ap (λ (s : Stores). s.shelf) same)) finds.counts);
+        source = still (is_read_fault status) before.source.faults after.source.faults (ap is_read_fault lines.is ∙ fault_read fault) (ap (λ s. s.faults) source);
+        sink = told_sink status (status_of_fault fault) before.sink after.sink (fault_told fault) lines;
+        disk = still (is_disk_fault status) before.disk.faults after.disk.faults (ap is_disk_fault lines.is ∙ fault_disk fault)
+            (ap (λ (s : Stores). s.disk.faults) same);
+      }
+
+  pub import_as : ((found : Result AirportFiles FilesFault) × (mid : ShelfState) × Finds before.shelf mid airport types found
+      × ImportsFound found season (around mid before) (around after.shelf after) status) → RunsAs (import_asked airport types season) before after (code_of status)
+  import_as (found, mid, finds, imports) = found_as found mid finds imports

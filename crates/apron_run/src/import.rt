@@ -1,0 +1,109 @@
+// The word `import`.
+ghost use Rattle.std.specs.Prelude.{◌≡◌, false, not, Result};
+ghost use Rattle.apron_base.specs.Shelf.{ShelfState};
+ghost use Rattle.apron_check.specs.Files.{Finds};
+ghost use Rattle.apron_check.specs.declared.faults.FilesFault.{FilesFault};
+ghost use Rattle.apron_check.specs.declared.files.AirportFiles.{AirportFiles};
+ghost use Rattle.apron_run.specs.Import.{Around, ImportsFound, ImportsOnJournal, MeetsImport, Stores};
+ghost use Rattle.apron_run.specs.Run.{KeptUnless};
+ghost use Rattle.apron_run.specs.Statuses.{code_of};
+ghost use Rattle.apron_run.specs.Words.{ends_before_import};
+ghost use Rattle.apron_run.specs.World.{seen_of};
+
+use crate::Status;
+use crate::check::tell_fault;
+use crate::imported::{Imported, tell_imported};
+use crate::journal::{close_board, open_board};
+use crate::same_disk::{Named, SameDisk};
+use crate::season::add_season;
+use crate::unusable::{Unusable, tell_unusable};
+use apron_base::{Shelf, Sink, Word};
+use apron_check::{AirportFiles, airport_of};
+use journal_disk::Disk;
+use std::alloc::Global;
+use std::marker::{Brand, PhantomData};
+
+/// Asks to add the visits of the season file to the plan in the journal of the two files on the disk, and prints how many were
+/// added; or prints why not all were asked. What was added stays.
+pub(crate) fn import<F: Shelf, W: Sink, D: Disk>(
+    alloc: Global,
+    airport: &str,
+    types: &str,
+    season: &Word,
+    shelf: &mut F,
+    sink: &mut W,
+    disk: &mut D,
+) -> Status
+    ensures imports { (found : Result AirportFiles FilesFault) × (mid : ShelfState) × Finds (F.state shelf.old) mid airport.now types.now found
+        × ImportsFound found season.now
+        (record { stores = record { shelf = mid; disk = seen_of (D.state disk.old) }; sink = W.state sink.old })
+        (record { stores = record { shelf = F.state shelf.new; disk = seen_of (D.state disk.new) }; sink = W.state sink.new }) result }
+    ensures kept { KeptUnless (not (ends_before_import (code_of result))) disk.old disk.new }
+{
+    match airport_of(alloc, airport, types, shelf) {
+        Ok(files) => import_season(alloc, &files, season, shelf, sink, disk),
+        Err(fault) => tell_fault(sink, &fault),
+    }
+}
+
+// The same into the journal of these files.
+fn import_season<F: Shelf, W: Sink, D: Disk>(
+    alloc: Global,
+    files: &AirportFiles,
+    season: &Word,
+    shelf: &mut F,
+    sink: &mut W,
+    disk: &mut D,
+) -> Status
+    ensures imports { ImportsOnJournal files.now season.now
+        (record { stores = record { shelf = F.state shelf.old; disk = seen_of (D.state disk.old) }; sink = W.state sink.old })
+        (record { stores = record { shelf = F.state shelf.new; disk = seen_of (D.state disk.new) }; sink = W.state sink.new }) result }
+    ensures comes { ends_before_import (code_of result) ≡ false }
+{
+    let (met, _disk) = import_on::<Brand, F, D>(alloc, files, season, shelf, disk);
+    match met {
+        Ok(imported) => tell_imported(sink, &imported),
+        Err(why) => tell_unusable(sink, &why),
+    }
+}
+
+// The import with the borrow of the disk given back, by its name.
+fn import_on<'d, N: Named, F: Shelf, D: Disk>(
+    alloc: Global,
+    files: &AirportFiles,
+    season: &Word,
+    shelf: &mut F,
+    disk: &'d mut D,
+) -> (Result<Imported, Unusable>, &'d mut D)
+    requires named { disk.ghost_name ≡ N.name }
+    ensures same { result.1.ghost_name ≡ disk.entry.ghost_name }
+    ensures meets { MeetsImport files.now season.now (record { shelf = F.state shelf.old; disk = seen_of (D.state disk.old) })
+        (record { shelf = F.state shelf.new; disk = seen_of (D.state result.1.now) }) result.0 }
+{
+    let same: SameDisk<'d, N, D> = SameDisk {
+        disk,
+        of: PhantomData,
+    };
+    let (met, back) = import_into(alloc, files, season, shelf, same);
+    let SameDisk { disk, .. } = back;
+    (met, disk)
+}
+
+// The import into the board of these files over their journal on the disk.
+fn import_into<F: Shelf, D: Disk>(
+    alloc: Global,
+    files: &AirportFiles,
+    season: &Word,
+    shelf: &mut F,
+    disk: D,
+) -> (Result<Imported, Unusable>, D)
+    ensures meets { MeetsImport files.now season.now (record { shelf = F.state shelf.old; disk = seen_of (D.state disk) })
+        (record { shelf = F.state shelf.new; disk = seen_of (D.state result.1) }) result.0 }
+{
+    let mut board = match open_board(alloc, files, disk) {
+        Ok(board) => board,
+        Err((why, disk)) => return (Err(why), disk),
+    };
+    let imported = add_season(alloc, &mut board, season.text(), shelf);
+    (Ok(imported), close_board(board))
+}

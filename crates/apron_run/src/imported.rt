@@ -1,0 +1,95 @@
+// How an import ended, and the line that tells it. Writing one takes no memory.
+ghost use Rattle.std.specs.Prelude.{◌≡◌, ◌++◌, codes, decimal, false};
+ghost use Rattle.apron_base.specs.Ends.{Puts};
+ghost use Rattle.apron_run.specs.Imported.{TellsImported, imported_line, imported_text, status_of_imported};
+ghost use Rattle.apron_run.specs.Statuses.{code_of};
+ghost use Rattle.apron_run.specs.Words.{ends_before_import};
+
+use crate::Status;
+use apron_base::{Failed, Sink};
+use apron_check::put_number;
+
+/// How an import ended. Records are counted from 1 with the header.
+#[derive(Clone, Copy, Debug, PartialEq, Eq)]
+pub(crate) enum Imported {
+    /// Each record was asked: so many visits were added, and so many were there already.
+    Whole { added: u64, present: u64 },
+    /// The shelf failed at the season file.
+    ShelfFault,
+    /// The season file is longer than 16 MiB.
+    TooLong,
+    /// The record of this number is refused: in the file, or since a visit with other data has its name.
+    Refused(u64),
+    /// The history has no place for the visit of the record of this number.
+    Full(u64),
+    /// The disk failed at an entry.
+    DiskFault,
+    /// There was no call number for a record.
+    Spent,
+    /// Memory was wanting.
+    Memory,
+}
+
+/// Prints the line that tells it, and gives its status, which stays where the sink fails at the line, unless all was done. It
+/// prints nothing where the call numbers are used up.
+pub(crate) fn tell_imported<W: Sink>(sink: &mut W, imported: &Imported) -> Status
+    ensures tells { TellsImported imported.now (W.state sink.old) (W.state sink.new) result }
+    ensures comes { ends_before_import (code_of result) ≡ false }
+{
+    match imported {
+        Imported::Spent => Status::Spent,
+        Imported::Whole { .. } => match put_imported(sink, imported) {
+            Ok(()) => Status::Done,
+            Err(Failed) => Status::WriteFault,
+        },
+        _ => {
+            let _ = put_imported(sink, imported);
+            status_of_imported(imported)
+        }
+    }
+}
+
+fn status_of_imported(imported: &Imported) -> Status
+    ensures value { result ≡ status_of_imported imported.now }
+{
+    match imported {
+        Imported::Whole { .. } => Status::Done,
+        Imported::ShelfFault => Status::ShelfFault,
+        Imported::TooLong | Imported::Refused(_) => Status::SeasonFault,
+        Imported::Full(_) => Status::Full,
+        Imported::DiskFault => Status::DiskFault,
+        Imported::Spent => Status::Spent,
+        Imported::Memory => Status::Memory,
+    }
+}
+
+fn put_imported<W: Sink>(sink: &mut W, imported: &Imported) -> Result<(), Failed>
+    ensures puts { Puts (W.state sink.old) (W.state sink.new) result (imported_line imported.now) }
+{
+    put_text(sink, imported)?;
+    sink.put(b"\n")
+}
+
+fn put_text<W: Sink>(sink: &mut W, imported: &Imported) -> Result<(), Failed>
+    ensures puts { Puts (W.state sink.old) (W.state sink.new) result (imported_text imported.now) }
+{
+    match imported {
+        Imported::Whole { added, present } => put_counts(sink, *added, *present),
+        Imported::ShelfFault => sink.put(b"shelf fault"),
+        Imported::TooLong => sink.put(b"season: too long"),
+        Imported::Refused(number) => put_number(sink, b"season: record ", *number),
+        Imported::Full(number) => put_number(sink, b"full at record ", *number),
+        Imported::DiskFault => sink.put(b"disk fault"),
+        Imported::Spent => sink.put(b""),
+        Imported::Memory => sink.put(b"memory"),
+    }
+}
+
+// How many visits were added, and how many were there.
+fn put_counts<W: Sink>(sink: &mut W, added: u64, present: u64) -> Result<(), Failed>
+    ensures puts { Puts (W.state sink.old) (W.state sink.new) result
+        ((codes "added " ++ decimal added) ++ (codes " present " ++ decimal present)) }
+{
+    put_number(sink, b"added ", added)?;
+    put_number(sink, b" present ", present)
+}
