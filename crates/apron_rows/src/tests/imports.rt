@@ -185,12 +185,12 @@ fn import_failing(alloc: Global, call: u64) -> Result<(u8, bool), Fail> {
 // An opening makes calls of its own, and each of the two entries four.
 #[test]
 fn an_import_whose_disk_fails_is_done_by_a_second_one(rt: HostRuntime) -> Result<(), Fail> {
-    let mut failed = 0;
+    let mut failed = 0u32;
     for call in 0..40 {
         let (status, holds) = import_failing(rt.alloc(), call)?;
         assert!(rt; holds && (status == 7 || status == 0), "{call}");
         if status == 7 {
-            failed += 1;
+            failed = failed.saturating_add(1);
         }
     }
     assert!(rt; failed >= 8 && failed < 40);
