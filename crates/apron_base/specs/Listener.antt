@@ -1,5 +1,5 @@
 -- What is known of a listener, and what calls change of it.
-use Rattle.std.specs.Prelude.{◌≡◌, ◌+◌, ◌<◌, ℕ, true, false, List, ◌∷◌, Option, Result, MatchResult}
+use Rattle.std.specs.Prelude.{◌≡◌, ◌+◌, ◌<◌, ◌≤◌, ℕ, true, false, List, ◌∷◌, Option, Result, MatchResult}
 use Rattle.std.specs.Option.{option_map}
 use Rattle.apron_base.specs.Counts.{Counts, last_count}
 use Rattle.apron_base.specs.Keeper.{with_last}
@@ -14,9 +14,10 @@ pub record ListenerState (In Out : Type 0) : Type 0 where
   pub ended : ℕ
   pub faults : ℕ
 
--- the first of the connections to come was accepted
+-- the first of the connections to come was accepted, where no more were finished than accepted
 pub record TakesFirst {In Out : Type 0} (before after : ListenerState In Out) (first : In × Out) : Type 0 where
   pub few : before.accepted < last_count
+  pub fewer : before.ended ≤ before.accepted
   pub to_come : before.to_come ≡ option_map (λ others. first ∷ others) after.to_come
   pub accepted : after.accepted ≡ before.accepted + 1
   pub finished : after.finished ≡ before.finished

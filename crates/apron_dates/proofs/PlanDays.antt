@@ -1,13 +1,11 @@
 -- A plan's days lie within the calendar.
-use Rattle.std.proofs.Common.{true, ◌↔◌, Result, Ok, Err, IfOk, IsOk, option_map, ◌≡◌, ℕ, ◌≤◌, pos, ◌+ℤ◌, ◌-ℤ◌, ◌≤ℤ◌, ◌<ℤ◌, inl, inr, refl, arith, rules}
+use Rattle.std.proofs.Common.{true, ◌≡◌, ℕ, ◌≤◌, pos, ◌+ℤ◌, ◌-ℤ◌, ◌≤ℤ◌, ◌<ℤ◌, inl, arith, rules}
 use Rattle.jiff_core.specs.declared.civil.date.Date.{Date}
-use Rattle.std.specs.Result.{result_ok}
-use Rattle.std.proofs.lemmas.Bool.{cases_Bool, false≢true, le-leb}
+use Rattle.std.proofs.lemmas.Bool.{le-leb}
 use Rattle.std.proofs.lemmas.Bool.Decides.{nat_tests}
-use Rattle.jiff_core.specs.declared.error.Error.{Error}
 use Rattle.apron_dates.specs.Dates.{is_date}
 use Rattle.jiff_core.specs.Calendar.{IsDate, days_in_month, IsBetween, IsEpochDay}
-use Rattle.jiff_core.specs.Date.{epoch_day, IsYmd}
+use Rattle.jiff_core.specs.Date.{epoch_day}
 use Rattle.jiff_core.proofs.SignedLemmas.{signed_arith}
 use Rattle.jiff_core.proofs.DateLemmas.{epoch_day-lt, days_from_civil-day, days_from_civil-max, min-lt-epoch_day}
 

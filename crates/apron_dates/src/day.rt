@@ -19,7 +19,16 @@ pub fn month_day(first: Date, day: u32) -> u32
     requires day { day ≤ 28 }
     ensures value { result ≡ (plan_ymd (ymd_of first) day).2 }
 {
-    month_day_of(day_of_plan(civil_of(first), day))
+    month_day_of(plan_date(first, day))
+}
+
+/// The date of a day of the plan, where day 1 is the first and day 0 the one before.
+pub fn plan_date(first: Date, day: u32) -> civil::Date
+    requires first { IsFirstDay first }
+    requires day { day ≤ 28 }
+    ensures date { civil_ymd result ≡ plan_ymd (ymd_of first) day }
+{
+    day_of_plan(civil_of(first), day)
 }
 
 fn month_day_of(date: civil::Date) -> u32

@@ -4,7 +4,7 @@
 mod day;
 mod text;
 
-pub use day::{Date, month_day};
+pub use day::{Date, month_day, plan_date};
 pub use text::date_in;
 
 #[cfg(test)]
