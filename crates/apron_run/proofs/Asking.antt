@@ -1,5 +1,6 @@
 -- What asking to add visits makes of a board, and what a second import of them comes to.
-use Rattle.std.proofs.Common.{◌≡◌, ◌∙◌, ◌≤◌, ◌<◌, ◌+◌, ℕ, true, false, List, [], ◌∷◌, ◌++◌, length, length-append, append-nil, append_assoc, nat_lt, refl, sym, ap, subst, arith, None, Some}
+use Rattle.std.proofs.Common.{◌≡◌, ◌∙◌, ◌≤◌, ◌<◌, ◌+◌, ℕ, true, false, List, [], ◌∷◌, ◌++◌, length, length-append, append-nil, append_assoc, nat_lt, refl, sym, ap, subst, arith, inl, inr, Option, None, Some}
+use Rattle.std.specs.Prelude.{IfSome}
 use Rattle.std.proofs.lemmas.Bool.Decides.{nat_tests}
 use Rattle.apron_base.specs.declared.numbers.VisitNo.{VisitNo}
 use Rattle.apron_base.specs.Counts.{Counts}
@@ -18,12 +19,13 @@ use Rattle.desk_words.specs.declared.asks.Entry.{Entry}
 use Rattle.desk_words.specs.declared.asks.What.TheVariants.{Change}
 use Rattle.desk_words.specs.declared.replies.Reply.{Reply}
 use Rattle.history_core.specs.Answer.{ActsAs, IsAccepted, Replies, Sought, added, changes, keeper_fault, no_memory, replied, sought}
+use Rattle.history_core.specs.AtRisk.{IsAskedFor, LeavesAtRisk, Standing}
 use Rattle.history_core.specs.History.{IsLegal, replay}
 use Rattle.history_core.specs.Laws.{HasAdded, HasEntry, HasVisit}
 use Rattle.history_core.specs.Steps.{IsSameName, Refusal, Stepped, Steps, accepted, ahead, denied, edit, full, name, refused, repeated}
 use Rattle.history_core.proofs.Added.{visits_added}
 use Rattle.history_core.proofs.Legal.{front_legal}
-use Rattle.apron_run.specs.Asking.{Asks, AsksSeason, IsMet, IsMissing, IsThere, Meets, MeetsAll, Reached, Stops, StopsAmong, record_behind}
+use Rattle.apron_run.specs.Asking.{Asks, AsksSeason, IsMet, IsMissing, IsThere, Meets, MeetsAll, NoMoreAtRisk, OnlyAtRisk, Reached, Stops, StopsAmong, record_behind}
 use Rattle.apron_run.specs.SecondImport.{AddsNothing, SecondAddsNothing}
 use Rattle.apron_run.specs.declared.imported.Imported.{Imported}
 use Rattle.apron_run.specs.declared.imported.Imported.TheVariants.{Whole, ShelfFault, TooLong, Refused, Full, DiskFault, Spent, Memory}
@@ -55,20 +57,44 @@ answered_step airport before after call new bytes (replied reply, is, gives) =
 answered_step airport before after call new bytes (no_memory, is, gives) = absurd cc
 answered_step airport before after call new bytes (keeper_fault, is, gives) = absurd cc
 
+-- how what was reached stands
+abbrev pub standing_at : Reached → Standing
+standing_at at = record { entries = at.history; at_risk = at.at_risk }
+
+-- an ask that did not fail leaves nothing more at risk
+pub no_more : (before after : Reached) (new : NewVisit) → LeavesAtRisk (standing_at before) before.next (asking new).what false (standing_at after) → NoMoreAtRisk before after
+no_more before after new (inl none) safe = none
+no_more before after new (inr (inl (same, entries))) safe = same ∙ safe
+no_more before after new (inr (inr (failed, left))) safe = absurd cc
+
+-- one that failed may leave its visit's entry
+only_at_risk : (before after : Reached) (new : NewVisit) → LeavesAtRisk (standing_at before) before.next (asking new).what true (standing_at after) → OnlyAtRisk before new after
+only_at_risk before after new (inl none) safe = subst (λ (risk : Option Entry). IfSome risk (IsAskedFor before.next (asking new).what)) (sym none) tt
+only_at_risk before after new (inr (inl (same, entries))) safe =
+    subst (λ (risk : Option Entry). IfSome risk (IsAskedFor before.next (asking new).what)) (sym (same ∙ safe)) tt
+only_at_risk before after new (inr (inr (failed, (entry, is, asked)))) safe =
+    subst (λ (risk : Option Entry). IfSome risk (IsAskedFor before.next (asking new).what)) (sym is) asked
+
 -- an append that failed was that of a visit which the plan accepts
 pub fault_stops : (airport : AirportParts) (number : ℕ) (before after : Reached) (new : NewVisit) → ActsAs airport before.history before.next (asking new) Fault after.history
-    → Counts true before.faults after.faults → Stops airport number before new after DiskFault
-fault_stops airport number before after new (keeper_fault, is, (took, same)) counts =
-    (subst (λ (s : Sought). IsAccepted (replay airport before.history) (length before.history) s) (seeks (replay airport before.history) new) took, same, counts)
-fault_stops airport number before after new (replied reply, is, gives) counts = absurd cc
-fault_stops airport number before after new (no_memory, is, gives) counts = absurd cc
+    → Counts true before.faults after.faults → LeavesAtRisk (standing_at before) before.next (asking new).what true (standing_at after)
+    → Stops airport number before new after DiskFault
+fault_stops airport number before after new (keeper_fault, is, (took, same)) counts risk = (
+  subst (λ (s : Sought). IsAccepted (replay airport before.history) (length before.history) s) (seeks (replay airport before.history) new) took,
+  same,
+  counts,
+  only_at_risk before after new risk,
+)
+fault_stops airport number before after new (replied reply, is, gives) counts risk = absurd cc
+fault_stops airport number before after new (no_memory, is, gives) counts risk = absurd cc
 
 -- want of memory changed nothing
 pub memory_stops : (airport : AirportParts) (number : ℕ) (before after : Reached) (new : NewVisit) → ActsAs airport before.history before.next (asking new) NoMemory after.history
-    → after.faults ≡ before.faults → Stops airport number before new after Memory
-memory_stops airport number before after new (no_memory, is, same) counts = (same, counts)
-memory_stops airport number before after new (replied reply, is, gives) counts = absurd cc
-memory_stops airport number before after new (keeper_fault, is, gives) counts = absurd cc
+    → after.faults ≡ before.faults → LeavesAtRisk (standing_at before) before.next (asking new).what false (standing_at after)
+    → Stops airport number before new after Memory
+memory_stops airport number before after new (no_memory, is, same) counts risk = (same, counts, no_more before after new risk)
+memory_stops airport number before after new (replied reply, is, gives) counts risk = absurd cc
+memory_stops airport number before after new (keeper_fault, is, gives) counts risk = absurd cc
 
 -- where entries came, the visit was added
 came_by : (before after : List Entry) (call : ℕ) (command : Command) (stepped : Stepped) → after ≡ before ++ added call command stepped → length before < length after
@@ -108,7 +134,8 @@ not_accepted before after call command stepped makes few is =
     let more : length after ≡ length before + 1 = ap length with_it ∙ length-append before _ in omega arith
 
 module _ (airport : AirportParts) (before after : Reached) (new : NewVisit) (bytes : List ℕ) (acts : ActsAs airport before.history before.next (asking new) (Replied bytes) after.history)
-    (next : after.next ≡ before.next + 1) (faults : after.faults ≡ before.faults) where
+    (next : after.next ≡ before.next + 1) (faults : after.faults ≡ before.faults)
+    (risk : LeavesAtRisk (standing_at before) before.next (asking new).what false (standing_at after)) where
   took : TookStep airport before.history before.next new after.history
   took = answered_step airport before.history after.history before.next new bytes acts
 
@@ -119,7 +146,7 @@ module _ (airport : AirportParts) (before after : Reached) (new : NewVisit) (byt
       record {
         stepped = took.stepped;
         met = subst IsMet (sym is) tt;
-        asks = record { takes = took.steps; history = took.makes; next = next; faults = faults };
+        asks = record { takes = took.steps; history = took.makes; next = next; faults = faults; at_risk = no_more before after new risk };
       }
 
   unchanged : length after.history ≤ length before.history → after.history ≡ before.history
@@ -133,7 +160,7 @@ module _ (airport : AirportParts) (before after : Reached) (new : NewVisit) (byt
       record {
         stepped = repeated visit.added;
         met = tt;
-        asks = record { takes = (visit, known, refl); history = same ∙ sym (append-nil before.history); next = next; faults = faults };
+        asks = record { takes = (visit, known, refl); history = same ∙ sym (append-nil before.history); next = next; faults = faults; at_risk = no_more before after new risk };
       }
 
   -- a visit was asked whose name another has, or for which there is no place
@@ -142,7 +169,7 @@ module _ (airport : AirportParts) (before after : Reached) (new : NewVisit) (byt
   stops_missing number (Refused told) few missing =
       let same : after.history ≡ before.history = unchanged few in
       let (is, (visit, other)) = subst (λ (h : List Entry). IsMissing (replay airport h) new number (Refused told)) same missing in
-      (is, (visit.number, record { takes = (visit, other, refl); history = same ∙ sym (append-nil before.history); next = next; faults = faults }))
+      (is, (visit.number, record { takes = (visit, other, refl); history = same ∙ sym (append-nil before.history); next = next; faults = faults; at_risk = no_more before after new risk }))
   stops_missing number (Full told) few missing =
       let same : after.history ≡ before.history = unchanged few in
       let (is, none) = subst (λ (h : List Entry). IsMissing (replay airport h) new number (Full told)) same missing in
@@ -154,6 +181,7 @@ module _ (airport : AirportParts) (before after : Reached) (new : NewVisit) (byt
           history = same ∙ sym (append-nil before.history);
           next = next;
           faults = faults;
+          at_risk = no_more before after new risk;
         },
       )
   stops_missing number (Whole added present) few missing = absurd missing
@@ -279,10 +307,10 @@ module _ (airport : AirportParts) where
       let (entry, same) = step_there (replay airport at.history) (length at.history) new (refused (name other)) there asks.takes in absurd cc
   stops_same number at new after (Full told) visits there (is, asks) =
       let (entry, same) = step_there (replay airport at.history) (length at.history) new full there asks.takes in absurd cc
-  stops_same number at new after DiskFault visits there (takes, history, faults) =
+  stops_same number at new after DiskFault visits there (takes, history, faults, risk) =
       let (entry, same) = step_there (replay airport at.history) (length at.history) new accepted there takes in absurd cc
   stops_same number at new after Spent visits there (next, same) = (ap (λ (r : Reached). r.history) same, tt)
-  stops_same number at new after Memory visits there (same, faults) = (same, tt)
+  stops_same number at new after Memory visits there (same, faults, risk) = (same, tt)
   stops_same number at new after (Whole added present) visits there stops = absurd stops
   stops_same number at new after ShelfFault visits there stops = absurd stops
   stops_same number at new after TooLong visits there stops = absurd stops

@@ -136,7 +136,7 @@ fault_as fault before after status disk tells =
       disk = still_disk status (status_of_fault fault) before.disk after.disk lines.is (fault_disk fault) (ap (λ (d : DiskSeen). d.faults) disk);
     }
 
-found_as : (found : Result AirportFiles FilesFault) (day : List ℕ) (before after : Outs) (status : Status) → ChartsFound found day before after status
+pub found_as : (found : Result AirportFiles FilesFault) (day : List ℕ) (before after : Outs) (status : Status) → ChartsFound found day before after status
     → CountsChart found status before after
 found_as (Ok files) day before after status charts = day_as files (day_named files.airport day) before after status charts
 found_as (Err fault) day before after status (disk, tells) = fault_as fault before after status disk tells

@@ -190,7 +190,7 @@ fault_shelf files.TypesTooLong = refl
 fault_shelf files.ShelfFault = refl
 fault_shelf files.Memory = refl
 
-fault_disk : (fault : FilesFault) (before now : ℕ) → now ≡ before → ServedCounts (status_of_fault fault) before now
+pub fault_disk : (fault : FilesFault) (before now : ℕ) → now ≡ before → ServedCounts (status_of_fault fault) before now
 fault_disk (files.Faulty fault) before now same = same
 fault_disk files.AirportTooLong before now same = same
 fault_disk files.TypesTooLong before now same = same

@@ -53,6 +53,7 @@ IsTail other tail = tail ≡ []
 pub record AreAlike (one other : PortState) : Type 0 where
   pub first : one.first ≡ other.first
   pub seen : one.seen ≡ other.seen
+  pub at_risk : one.at_risk ≡ other.at_risk
   pub calls : one.calls ≡ other.calls
   pub faults : one.faults ≡ other.faults
 
@@ -61,6 +62,7 @@ same_alike : (one other : PortState) → other ≡ one → AreAlike one other
 same_alike one other same = record {
   first = sym (ap (λ (port : PortState). port.first) same);
   seen = sym (ap (λ (port : PortState). port.seen) same);
+  at_risk = sym (ap (λ (port : PortState). port.at_risk) same);
   calls = sym (ap (λ (port : PortState). port.calls) same);
   faults = sym (ap (λ (port : PortState). port.faults) same);
 }
@@ -175,6 +177,7 @@ module _ (airport : AirportParts) (start : PortState) (input taken more : List �
       (record {
         first = sym (ap (λ (port : PortState). port.first) found.exhausted);
         seen = sym (ap (λ (port : PortState). port.seen) found.exhausted);
+        at_risk = sym (ap (λ (port : PortState). port.at_risk) found.exhausted);
         calls = sym (ap (λ (port : PortState). port.calls) found.exhausted);
         faults = sym (ap (λ (port : PortState). port.faults) found.exhausted);
       })

@@ -32,7 +32,7 @@ met_as : (files : AirportFiles) (before after : Outs) (met : Result (Result (Lis
 met_as files before after (Ok written) status meets tells = drawn_as files before after written status meets.counts tells
 met_as files before after (Err why) status meets tells = why_as files before after why status meets tells
 
-found_as : (found : Result AirportFiles FilesFault) (before after : Outs) (status : Status) → ExportsFound found before after status → CountsChart found status before after
+pub found_as : (found : Result AirportFiles FilesFault) (before after : Outs) (status : Status) → ExportsFound found before after status → CountsChart found status before after
 found_as (Ok files) before after status exports = met_as files before after exports.met status exports.meets exports.tells
 found_as (Err fault) before after status (disk, tells) = fault_as fault before after status disk tells
 

@@ -33,6 +33,7 @@ use Rattle.apron_run.specs.Words.{Asked, desk as desk_asked}
 use Rattle.apron_run.specs.World.{DiskSeen, Ends, World, ends_of}
 use Rattle.apron_run.specs.declared.unusable.Unusable.{Unusable}
 use Rattle.apron_run.specs.declared.status.Status.{Status}
+use Rattle.apron_run.proofs.AtRisk.{unkept_at_risk}
 use Rattle.apron_run.proofs.Calls.{Leaves, run_leaves}
 use Rattle.apron_run.proofs.Endings.{HasLeft, IsTail, Meets, has_left, session_meets}
 
@@ -80,18 +81,19 @@ module _ (airport : AirportParts) where
   all_of_their_entries : (history : List Entry) → IsLegal airport history → (version : ℕ) (added : NewVisit) → IsOfItsEntry airport history version added
   all_of_their_entries history legal version added = visits_added airport history version added legal
 
+module _ (files : AirportFiles) where
   -- what a session met is the headline
-  headline_of : (opened : List Entry) (before after : DiskSeen) (carried : Carried) (status : Status) (port : PortState) → IsLegal airport opened
-      → Meets airport (begun opened before.faults) carried status port → (port.spent ≡ true → port.first + length port.calls ≡ call_limit)
-      → port.faults ≡ after.faults → KeepsHistory airport port.seen after → Headline airport opened before after carried (code_of status)
+  headline_of : (opened : List Entry) (before after : DiskSeen) (carried : Carried) (status : Status) (port : PortState) → IsLegal files.airport opened
+      → Meets files.airport (begun opened before.faults) carried status port → (port.spent ≡ true → port.first + length port.calls ≡ call_limit)
+      → port.faults ≡ after.faults → KeepsHistory files port.seen port.at_risk after → Headline files opened before after carried (code_of status)
   headline_of opened before after carried status port legal_before met used counted kept =
       let exchange = met.exchange in
       let new = met.new in
       let alike = met.alike in
       let first : ℕ = next_after opened in
       let count : ℕ = count_by is_given exchange.sents in
-      let leaves : Leaves airport (begun opened before.faults) new count = run_leaves airport (begun opened before.faults) new exchange.requests exchange.sents met.runs in
-      let legal : IsLegal airport new.seen = leaves.legal legal_before in
+      let leaves : Leaves files.airport (begun opened before.faults) new count = run_leaves files.airport (begun opened before.faults) new exchange.requests exchange.sents met.runs in
+      let legal : IsLegal files.airport new.seen = leaves.legal legal_before in
       let calls : new.calls ≡ numbers_from first count = leaves.calls 0 refl ∙ ap (numbers_from first) (zero-add count) in
       record {
         status = status;
@@ -110,11 +112,13 @@ module _ (airport : AirportParts) where
             let all : port.first + length port.calls ≡ call_limit = used (met.spent is) in
             ap (λ n. first + n) (sym many) ∙ (ap (λ n. n + length port.calls) (sym begins) ∙ all);
         legal = legal;
-        sound = all_sound new.seen legal;
-        drafts = all_have_entries new.seen legal;
-        visits = all_of_their_entries new.seen legal;
+        sound = all_sound files.airport new.seen legal;
+        drafts = all_have_entries files.airport new.seen legal;
+        visits = all_of_their_entries files.airport new.seen legal;
         faults = alike.faults ∙ counted;
-        keeps = subst (λ history. KeepsHistory airport history after) (sym alike.seen) kept;
+        keeps = subst (λ (history : List Entry). KeepsHistory files history new.at_risk after) (sym alike.seen)
+            (subst (λ (risk : Option Entry). KeepsHistory files port.seen risk after) (sym alike.at_risk) kept);
+        at_risk = unkept_at_risk files.airport opened before.faults exchange new met.runs;
       }
 
 -- what holds of each value that there may be
@@ -125,7 +129,7 @@ if_some (Some value) P holds = holds value refl
 -- the headline of a session on a journal
 session_headline : (files : AirportFiles) (input : List ℕ) (before after : Ends) (sink : SinkState) (outcome : Outcome) (status : Status) → before.source.left ≡ Some input
     → (serves : ServesDesk files before after outcome) → Told outcome after.sink sink status
-    → TellsOf files.airport serves.opened input before (record { source = after.source; sink = sink; disk = after.disk }) (code_of status)
+    → TellsOf files serves.opened input before (record { source = after.source; sink = sink; disk = after.disk }) (code_of status)
 session_headline files input before after sink outcome status left serves told =
     let session = serves.session in
     let done = session.done in
@@ -143,8 +147,8 @@ session_headline files input before after sink outcome status left serves told =
       written ++ told.tail,
       more.is,
       all.told,
-      subst (λ (s : Status). Headline files.airport serves.opened before.disk after.disk carried (code_of s)) (sym told.status_is)
-          (headline_of files.airport serves.opened before.disk after.disk carried (status_of_outcome outcome) serves.port opens.legal met serves.spent serves.faults serves.keeps),
+      subst (λ (s : Status). Headline files serves.opened before.disk after.disk carried (code_of s)) (sym told.status_is)
+          (headline_of files serves.opened before.disk after.disk carried (status_of_outcome outcome) serves.port opens.legal met serves.spent serves.faults serves.keeps),
     )
 
 -- the headline where there is no journal to work on
@@ -174,7 +178,7 @@ met_tells : (files : AirportFiles) (before after : Ends) (sink : SinkState) (met
 met_tells files before after sink (Ok outcome) status serves tells = inl (record {
   opened = serves.opened;
   opens = serves.opens;
-  tells = if_some before.source.left (λ input. TellsOf files.airport serves.opened input before (record { source = after.source; sink = sink; disk = after.disk }) (code_of status))
+  tells = if_some before.source.left (λ input. TellsOf files serves.opened input before (record { source = after.source; sink = sink; disk = after.disk }) (code_of status))
       (λ input left. session_headline files input before after sink outcome status left serves (told outcome after.sink sink status tells));
 })
 met_tells files before after sink (Err why) status finds tells = inr (unopened_headline files before after sink why status finds tells)

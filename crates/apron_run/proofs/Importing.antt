@@ -6,6 +6,7 @@ use Rattle.apron_base.specs.Ends.{SinkState}
 use Rattle.apron_base.specs.Shelf.{ShelfState}
 use Rattle.apron_rules.specs.declared.parts.AirportParts.{AirportParts}
 use Rattle.visit_book.specs.declared.visits.NewVisit.{NewVisit}
+use Rattle.history_core.specs.AtRisk.{entry_at_risk}
 use Rattle.history_core.specs.Board.{BoardHeld}
 use Rattle.history_core.specs.History.{IsLegal}
 use Rattle.apron_check.specs.Files.{Finds, is_shelf_fault as is_shelf_found}
@@ -74,7 +75,7 @@ told_so Memory before after status tells =
     told_by Memory ending.Memory status before after refl lines refl (told_sink status ending.Memory before after refl lines)
 
 -- the count of faults, while visits are met
-all_faults : (airport : AirportParts) (visits : List NewVisit) (before after : Reached) → MeetsAll airport visits before after → after.faults ≡ before.faults
+pub all_faults : (airport : AirportParts) (visits : List NewVisit) (before after : Reached) → MeetsAll airport visits before after → after.faults ≡ before.faults
 all_faults airport [] before after same = ap (λ (r : Reached). r.faults) same
 all_faults airport (new ∷ visits) before after (mid, one, rest) = all_faults airport visits mid after rest ∙ one.asks.faults
 
@@ -83,9 +84,9 @@ stop_faults : (airport : AirportParts) (number : ℕ) (at : Reached) (new : NewV
     → Counts (is_disk_fault (status_of_imported imported)) at.faults after.faults
 stop_faults airport number at new after (Refused told) (is, (other, asks)) = asks.faults
 stop_faults airport number at new after (Full told) (is, asks) = asks.faults
-stop_faults airport number at new after DiskFault (takes, history, faults) = faults
+stop_faults airport number at new after DiskFault (takes, history, faults, risk) = faults
 stop_faults airport number at new after Spent (next, same) = ap (λ (r : Reached). r.faults) same
-stop_faults airport number at new after Memory (history, faults) = faults
+stop_faults airport number at new after Memory (history, faults, risk) = faults
 stop_faults airport number at new after (Whole added present) stops = absurd stops
 stop_faults airport number at new after ShelfFault stops = absurd stops
 stop_faults airport number at new after TooLong stops = absurd stops
@@ -145,7 +146,7 @@ found_says airport season shelf now (Err why) before after imported cause (same,
     (unread_says airport season shelf now why before.faults after.faults cause (ap (λ (r : Reached). r.faults) same))
 
 -- what is counted at each end
-record CountsImport (status : Status) (before after : Around) : Type 0 where
+pub record CountsImport (status : Status) (before after : Around) : Type 0 where
   pub shelf : Counts (is_shelf_fault status) before.stores.shelf.faults after.stores.shelf.faults
   pub read : is_read_fault status ≡ false
   pub sink : SinkCounts status before.sink.faults after.sink.faults
@@ -166,7 +167,7 @@ imported_as files season before after imported status imports tells =
           (subst (Counts (is_disk_fault (status_of_imported imported)) before.stores.disk.faults) imports.faults says.disk);
     }
 
-met_as : (files : AirportFiles) (season : List ℕ) (before after : Around) (met : Result Imported Unusable) (status : Status)
+pub met_as : (files : AirportFiles) (season : List ℕ) (before after : Around) (met : Result Imported Unusable) (status : Status)
     → MeetsImport files season before.stores after.stores met → TellsMet met before.sink after.sink status → CountsImport status before after
 met_as files season before after (Ok imported) status meets tells = imported_as files season before after imported status meets tells
 met_as files season before after (Err why) status meets tells =
@@ -186,10 +187,11 @@ pub season_imported : {K : Type 0} (tells : K → KeeperState) (files : AirportF
     → ((found : Result (List NewVisit) Imported) × FindsSeason board.airport season before.shelf after.shelf found
     × AsksFound board.airport found (reached tells board) (reached tells left) imported)
     → left.airport ≡ board.airport → IsLegal left.airport left.history → (tells left.keeper).faults ≡ after.disk.faults
-    → KeepsHistory left.airport left.history after.disk → ImportsSeason files season before after imported
+    → KeepsHistory (record { airport = left.airport; digests = files.digests }) left.history (entry_at_risk left.airport (tells left.keeper)) after.disk
+    → ImportsSeason files season before after imported
 season_imported tells files season before after board left imported opened (found, finds, asks) same legal faults keeps =
     let airport : board.airport ≡ files.airport = opened.airport_is in
-    let start : reached tells board ≡ begun board.history before.disk.faults = rw (opened.next, opened.faults) refl in
+    let start : reached tells board ≡ begun board.history before.disk.faults = rw (opened.next, opened.at_risk, opened.faults) refl in
     record {
       opened = board.history;
       opens = opened.opens;
@@ -200,7 +202,8 @@ season_imported tells files season before after board left imported opened (foun
           (subst (λ (a : AirportParts). AsksFound a found (reached tells board) (reached tells left) imported) airport asks);
       legal = subst (λ (a : AirportParts). IsLegal a left.history) (same ∙ airport) legal;
       faults = faults;
-      keeps = subst (λ (a : AirportParts). KeepsHistory a left.history after.disk) (same ∙ airport) keeps;
+      keeps = subst (λ (a : AirportParts). KeepsHistory (record { airport = a; digests = files.digests }) left.history (reached tells left).at_risk after.disk)
+          (same ∙ airport) keeps;
     }
 
 -- a run of the word, from before the two files were read

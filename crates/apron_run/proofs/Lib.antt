@@ -1,5 +1,6 @@
 pub mod Calls
 pub mod Disks
+pub mod Headers
 pub mod Asking
 pub mod Endings
 pub mod Serving
@@ -7,4 +8,11 @@ pub mod Counting
 pub mod Charting
 pub mod Exporting
 pub mod Importing
+pub mod AtRisk
 pub mod Headlines
+pub mod Valid
+pub mod Completing
+pub mod Sessions
+pub mod Complete
+pub mod Plain
+pub mod Causing

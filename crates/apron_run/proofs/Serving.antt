@@ -1,11 +1,15 @@
 -- A session on a journal: what it begins with, and what it leaves on the disk.
 use Rattle.std.proofs.Common.{◌≡◌, ◌≤◌, ◌+◌, ◌-◌, ◌∙◌, ℕ, true, List, [], ◌∷◌, length, inl, inr, refl, sym, ap, subst, arith, Option, None, Some, Result, Ok, Err}
 use Rattle.std.specs.Prelude.{IfSome}
-use Rattle.std.specs.Option.{option_map}
+use Rattle.std.specs.Option.{option_and_then, option_map}
+use Rattle.std.specs.Result.{result_ok}
+use Rattle.std.proofs.lemmas.List.{map-append}
 use Rattle.std.proofs.lemmas.Bool.{eqb-true}
 use Rattle.apron_base.specs.Keeper.{KeeperState, with_last}
 use Rattle.apron_rules.specs.declared.parts.AirportParts.{AirportParts}
 use Rattle.desk_words.specs.declared.asks.Entry.{Entry}
+use Rattle.entry_bytes.specs.Entries.{decoded, entry_text}
+use Rattle.history_core.specs.AtRisk.{entry_at_risk as entry_behind}
 use Rattle.history_core.specs.Board.{BoardHeld, IsKept, IsNextText, entry_texts}
 use Rattle.apron_base.specs.Histories.{Rises}
 use Rattle.history_core.specs.History.{IsLegal, call_limit, call_of}
@@ -25,11 +29,12 @@ use Rattle.desk_http.proofs.OneDesk.{length-numbers_from}
 use Rattle.journal_disk.specs.Disk.{DiskState, Told}
 use Rattle.journal_disk.specs.Extent.{Extent, IsCrashSafe, StandsFor, entries_within, entry_at_risk, keeper_of}
 use Rattle.journal_disk.specs.Faults.{OpenFails}
+use Rattle.journal_disk.specs.Header.{digests_in, opening_of}
 use Rattle.journal_disk.specs.declared.fault.JournalFault.{JournalFault}
 use Rattle.journal_disk.specs.declared.fault.JournalFault.TheVariants as journal
 use Rattle.apron_check.specs.declared.files.AirportFiles.{AirportFiles}
 use Rattle.apron_run.specs.Desk.{FindsNoJournal, ServedCounts, ServesDesk, begun, moment}
-use Rattle.apron_run.specs.Journal.{FailsToOpen, HasEntries, Holds, IsOpened, KeepsHistory, WhyUnusable}
+use Rattle.apron_run.specs.Journal.{FailsToOpen, Holds, IsOf, IsOpened, KeepsHistory, WhyUnusable}
 use Rattle.apron_run.specs.World.{DiskSeen, Ends, seen_of}
 use Rattle.apron_run.specs.Statuses.{may_serve, status_of_outcome}
 use Rattle.apron_run.specs.Unusable.{status_of_unusable}
@@ -39,46 +44,70 @@ use Rattle.apron_run.specs.declared.unusable.Unusable.TheVariants.{Journal, Entr
 use Rattle.apron_run.proofs.Calls.{run_leaves, sent_leaves}
 use Rattle.apron_run.proofs.Disks.{if_told, known}
 
--- bytes of which an image stands for a history that is kept hold that history
-holds_bytes : (airport : AirportParts) (history : List Entry) (extent : Extent) (contents : Option (List ℕ)) (bytes : List ℕ) → contents ≡ Some bytes
-    → StandsFor extent bytes (λ entry. entry_at_risk extent contents ≡ Some entry) bytes
-    → IfSome (option_map (entries_within extent) contents) (λ entries. entries ≡ entry_texts history)
-    → IfSome (entry_at_risk extent contents) (IsNextText airport history) → Holds airport history bytes
-holds_bytes airport history extent contents bytes is (header, inl opens) kept risk =
-    let are : entries_within extent bytes ≡ entry_texts history =
-    known (option_map (entries_within extent) contents) (λ entries. entries ≡ entry_texts history) (entries_within extent bytes) kept (ap (option_map (entries_within extent)) is) in
-    inl (opens ∙ ap Ok are)
-holds_bytes airport history extent contents bytes is (header, inr (entry, at, opens)) kept risk =
-    let are : entries_within extent bytes ≡ entry_texts history =
-    known (option_map (entries_within extent) contents) (λ entries. entries ≡ entry_texts history) (entries_within extent bytes) kept (ap (option_map (entries_within extent)) is) in
-    inr (entry, known (entry_at_risk extent contents) (IsNextText airport history) entry risk at, opens ∙ ap (λ entries. Ok (with_last entry entries)) are)
+-- the bytes of one entry more
+texts_with : (history : List Entry) (entry : Entry) → with_last (entry_text entry) (entry_texts history) ≡ entry_texts (with_last entry history)
+texts_with history entry = sym (map-append entry_text history (entry ∷ []))
 
--- and just that where no entry is at risk
-exact_bytes : (history : List Entry) (extent : Extent) (contents : Option (List ℕ)) (bytes : List ℕ) → contents ≡ Some bytes → entry_at_risk extent contents ≡ None
-    → StandsFor extent bytes (λ entry. entry_at_risk extent contents ≡ Some entry) bytes
-    → IfSome (option_map (entries_within extent) contents) (λ entries. entries ≡ entry_texts history) → HasEntries bytes (entry_texts history)
-exact_bytes history extent contents bytes is safe (header, inl opens) kept =
-    let are : entries_within extent bytes ≡ entry_texts history =
-    known (option_map (entries_within extent) contents) (λ entries. entries ≡ entry_texts history) (entries_within extent bytes) kept (ap (option_map (entries_within extent)) is) in
-    opens ∙ ap Ok are
-exact_bytes history extent contents bytes is safe (header, inr (entry, at, opens)) kept = let none : None ≡ Some entry = sym safe ∙ at in absurd cc
+-- what is told, or that it is not
+told_or : {A : Type 0} {P : Type 0} (option : Option A) → (option ≡ None → P) → ((value : A) → option ≡ Some value → P) → P
+told_or None none some = none refl
+told_or (Some value) none some = some value refl
 
--- the disk of a journal that keeps a history keeps it
-pub disk_keeps : (airport : AirportParts) (history : List Entry) (extent : Extent) (disk : DiskState) → Told disk (disk.images disk.moment)
-    → IsCrashSafe extent disk → IsKept airport history (keeper_of extent disk) → KeepsHistory airport history (seen_of disk)
-disk_keeps airport history extent disk reads safe kept = record {
-  holds = if_told disk.contents (Holds airport history)
-      (λ bytes is. holds_bytes airport history extent disk.contents bytes is (safe bytes is bytes (reads bytes is)) kept.entries kept.at_risk);
-  exact = λ none. if_told disk.contents (λ bytes. HasEntries bytes (entry_texts history))
-      (λ bytes is. exact_bytes history extent disk.contents bytes is (kept.safe none) (safe bytes is bytes (reads bytes is)) kept.entries);
-}
+module _ (files : AirportFiles) (history : List Entry) (extent : Extent) (disk : DiskState) (legal : IsLegal files.airport history)
+    (kept : IsKept files.airport history (keeper_of extent disk)) where
+  -- the entry at risk behind the history
+  abbrev behind : Option Entry
+  behind = entry_behind files.airport (keeper_of extent disk)
+
+  -- a disk that does not tell what it reads as may keep any history
+  keeps_untold : disk.contents ≡ None → KeepsHistory files history behind (seen_of disk)
+  keeps_untold untold =
+      let holds : Holds files (seen_of disk) history =
+      record { legal = legal; entries = subst (λ (c : Option (List ℕ)). IfSome c (λ bytes. opening_of files.digests bytes ≡ Ok (entry_texts history))) (sym untold) tt } in
+      record { holds = inl holds; exact = λ none. holds }
+
+  module _ (bytes : List ℕ) (is : disk.contents ≡ Some bytes) (of : IsOf files.digests bytes) where
+    -- the disk holds a history whose entries its bytes have
+    holds_just : (others : List Entry) → IsLegal files.airport others → opening_of (digests_in bytes) bytes ≡ Ok (entry_texts others) → Holds files (seen_of disk) others
+    holds_just others legal opening = record {
+      legal = legal;
+      entries = subst (λ (c : Option (List ℕ)). IfSome c (λ bytes. opening_of files.digests bytes ≡ Ok (entry_texts others))) (sym is)
+          (subst (λ (digests : List ℕ). opening_of digests bytes ≡ Ok (entry_texts others)) of opening);
+    }
+
+    are : entries_within extent bytes ≡ entry_texts history
+    are = known (option_map (entries_within extent) disk.contents) (λ entries. entries ≡ entry_texts history) (entries_within extent bytes) kept.entries
+        (ap (option_map (entries_within extent)) is)
+
+    -- a disk whose bytes stand for the journal keeps its history
+    keeps_told : StandsFor extent bytes (λ entry. entry_at_risk extent disk.contents ≡ Some entry) bytes → KeepsHistory files history behind (seen_of disk)
+    keeps_told (front, inl opening) =
+        let holds : Holds files (seen_of disk) history = holds_just history legal (opening ∙ ap Ok are) in
+        record { holds = inl holds; exact = λ none. holds }
+    keeps_told (front, inr (risk, at, opening)) =
+        let next : IsNextText files.airport history risk = known (entry_at_risk extent disk.contents) (IsNextText files.airport history) risk kept.at_risk at in
+        let entry : Entry = next.entry in
+        let read : decoded files.airport risk ≡ Ok entry = next.read in
+        let texts : with_last risk (entries_within extent bytes) ≡ entry_texts (with_last entry history) =
+        ap (λ text. with_last text (entries_within extent bytes)) next.is ∙ (ap (with_last (entry_text entry)) are ∙ texts_with history entry) in
+        let seen : behind ≡ Some entry = ap (option_and_then (λ text. result_ok (decoded files.airport text))) at ∙ ap result_ok read in
+        record {
+          holds = inr (entry, seen, holds_just (with_last entry history) next.legal (opening ∙ ap Ok texts));
+          exact = λ none. let both : None ≡ Some risk = sym (kept.safe none) ∙ at in absurd cc;
+        }
+
+  -- the disk of a journal that keeps a history keeps it
+  pub disk_keeps : Told disk (disk.images disk.moment) → IsCrashSafe extent disk → IfSome disk.contents (IsOf files.digests) → KeepsHistory files history behind (seen_of disk)
+  disk_keeps reads safe of = told_or disk.contents keeps_untold
+      (λ bytes is. keeps_told bytes is (known disk.contents (IsOf files.digests) bytes of is) (safe bytes is bytes (reads bytes is)))
 
 -- a desk alone that has just begun, over a board that was opened
 alone_begun : {K : Type 0} (tells : K → KeeperState) (alone : AloneHeld K) (opened : List Entry) (faults : ℕ) → alone.board.history ≡ opened
-    → alone.board.next ≡ next_after opened → alone.first ≡ next_after opened → (tells alone.board.keeper).faults ≡ faults → alone_port tells alone ≡ begun opened faults
-alone_begun tells alone opened faults history next first count =
+    → alone.board.next ≡ next_after opened → alone.first ≡ next_after opened → (tells alone.board.keeper).at_risk ≡ None
+    → (tells alone.board.keeper).faults ≡ faults → alone_port tells alone ≡ begun opened faults
+alone_begun tells alone opened faults history next first safe count =
     let none : next_after opened - next_after opened ≡ 0 = omega arith in
-    rw (history, next, first, count, none) refl
+    rw (history, next, first, safe, count, none) refl
 
 -- the numbers of a desk alone whose next one is the last that there may be are used up
 alone_spent : {K : Type 0} (tells : K → KeeperState) (alone : AloneHeld K) → alone.first ≤ call_limit → (alone_port tells alone).spent ≡ true
@@ -165,15 +194,18 @@ serves_count files before after outcome serves =
 pub desk_serves : {K : Type 0} (tells : K → KeeperState) (files : AirportFiles) (before after : Ends) (board : BoardHeld K) (start done : AloneHeld K) (outcome : Outcome)
     → IsOpened tells files before.disk board → start.board ≡ board → start.first ≡ board.next
     → SessionOf AloneAsks start.board.airport (moment before (alone_port tells start)) (moment after (alone_port tells done)) outcome
-    → done.board.airport ≡ start.board.airport → after.disk.faults ≡ (tells done.board.keeper).faults → KeepsHistory done.board.airport done.board.history after.disk
+    → done.board.airport ≡ start.board.airport → after.disk.faults ≡ (tells done.board.keeper).faults
+    → KeepsHistory (record { airport = done.board.airport; digests = files.digests }) done.board.history
+    (entry_behind done.board.airport (tells done.board.keeper)) after.disk
     → ServesDesk files before after outcome
 desk_serves {K} tells files before after board start done outcome opened begins first session airport counted keeps =
     let is : start.board.airport ≡ files.airport = ap (λ (b : BoardHeld K). b.airport) begins ∙ opened.airport_is in
     let number : start.first ≡ next_after board.history = first ∙ opened.next in
     let next : start.board.next ≡ next_after board.history = ap (λ (b : BoardHeld K). b.next) begins ∙ opened.next in
     let count : (tells start.board.keeper).faults ≡ before.disk.faults = ap (λ (b : BoardHeld K). (tells b.keeper).faults) begins ∙ opened.faults in
+    let safe : (tells start.board.keeper).at_risk ≡ None = ap (λ (b : BoardHeld K). (tells b.keeper).at_risk) begins ∙ opened.at_risk in
     let fresh : alone_port tells start ≡ begun board.history before.disk.faults =
-    alone_begun tells start board.history before.disk.faults (ap (λ (b : BoardHeld K). b.history) begins) next number count in
+    alone_begun tells start board.history before.disk.faults (ap (λ (b : BoardHeld K). b.history) begins) next number safe count in
     let here : SessionOf AloneAsks files.airport (moment before (alone_port tells start)) (moment after (alone_port tells done)) outcome =
     subst (λ (a : AirportParts). SessionOf AloneAsks a (moment before (alone_port tells start)) (moment after (alone_port tells done)) outcome) is session in
     let whole : SessionOf AloneAsks files.airport (moment before (begun board.history before.disk.faults)) (moment after (alone_port tells done)) outcome =
@@ -191,7 +223,8 @@ desk_serves {K} tells files before after board start done outcome opened begins 
       session = whole;
       spent = alone_spent tells done (omega arith);
       faults = sym counted;
-      keeps = subst (λ (a : AirportParts). KeepsHistory a done.board.history after.disk) (airport ∙ is) keeps;
+      keeps = subst (λ (a : AirportParts).
+          KeepsHistory (record { airport = a; digests = files.digests }) done.board.history (alone_port tells done).at_risk after.disk) (airport ∙ is) keeps;
     }
 
 -- what a session is told with
@@ -217,7 +250,7 @@ session_counts files before after outcome status serves is =
     may_tell status before.disk.faults after.disk.faults (ap may_serve is ∙ outcomes_may outcome) (serves_count files before after outcome serves)
 
 -- the counts where there was no journal to work on
-why_counts : (files : AirportFiles) (before after : DiskSeen) (why : Unusable) → WhyUnusable files before after why
+pub why_counts : (files : AirportFiles) (before after : DiskSeen) (why : Unusable) → WhyUnusable files before after why
     → ServedCounts (status_of_unusable why) before.faults after.faults
 why_counts files before after (Journal journal.DiskFault) cause = cause
 why_counts files before after (Journal journal.NotEmpty) cause = absurd cause

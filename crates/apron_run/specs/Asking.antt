@@ -1,5 +1,5 @@
 -- What comes of asking to add the visits of a season, one after the other.
-use Rattle.std.specs.Prelude.{◌≡◌, ◌+◌, ℕ, true, None, List, [], ◌∷◌, ◌++◌, length}
+use Rattle.std.specs.Prelude.{◌≡◌, ◌+◌, ℕ, true, Option, None, IfSome, List, [], ◌∷◌, ◌++◌, length}
 use Rattle.apron_base.specs.Counts.{Counts}
 use Rattle.apron_base.specs.Keeper.{KeeperState}
 use Rattle.apron_base.specs.declared.numbers.VisitNo.{VisitNo}
@@ -10,22 +10,38 @@ use Rattle.plan_core.specs.Names.{visit_named}
 use Rattle.plan_core.specs.PlanState.{PlanState}
 use Rattle.desk_words.specs.declared.asks.Command.TheVariants.{AddVisit}
 use Rattle.desk_words.specs.declared.asks.Entry.{Entry}
+use Rattle.desk_words.specs.declared.asks.What.TheVariants.{Change}
 use Rattle.history_core.specs.Answer.{added}
+use Rattle.history_core.specs.AtRisk.{IsAskedFor, entry_at_risk}
 use Rattle.history_core.specs.Board.{BoardHeld}
 use Rattle.history_core.specs.History.{call_limit, replay}
 use Rattle.history_core.specs.Steps.{IsOtherName, IsSameName, Stepped, Steps, accepted, full, name, refused, repeated}
 use Rattle.apron_run.specs.declared.imported.Imported.{Imported}
 use Rattle.apron_run.specs.declared.imported.Imported.TheVariants.{Whole, Refused, Full, DiskFault, Spent, Memory}
 
--- what a board has come to: its history, the number of its next call, and how often its keeper has failed
+-- what a board has come to: its history, the entry at risk behind it, the number of its next call, and how often its keeper has failed
 pub record Reached : Type 0 where
   pub history : List Entry
+  pub at_risk : Option Entry
   pub next : ℕ
   pub faults : ℕ
 
 -- that of a board, by what its keeper tells
 abbrev pub reached : {K : Type 0} → (K → KeeperState) → BoardHeld K → Reached
-reached tells board = record { history = board.history; next = board.next; faults = (tells board.keeper).faults }
+reached tells board = record {
+  history = board.history;
+  at_risk = entry_at_risk board.airport (tells board.keeper);
+  next = board.next;
+  faults = (tells board.keeper).faults;
+}
+
+-- an entry is at risk only where one was
+abbrev pub NoMoreAtRisk : Reached → Reached → Type 0
+NoMoreAtRisk before after = before.at_risk ≡ None → after.at_risk ≡ None
+
+-- where no entry was at risk, none is but that of the visit, as it was asked with the next call number
+abbrev pub OnlyAtRisk : Reached → NewVisit → Reached → Type 0
+OnlyAtRisk at new after = at.at_risk ≡ None → IfSome after.at_risk (IsAskedFor at.next (Change (AddVisit new)))
 
 -- a visit of the plan has the name, and was added with the same
 abbrev pub IsThere : PlanState → NewVisit → Type 0
@@ -58,6 +74,7 @@ module _ (airport : AirportParts) where
     pub history : after.history ≡ before.history ++ added before.next (AddVisit new) stepped
     pub next : after.next ≡ before.next + 1
     pub faults : after.faults ≡ before.faults
+    pub at_risk : NoMoreAtRisk before after
 
   -- the visit was asked to be added once, and was added or was there already
   pub record Meets (before : Reached) (new : NewVisit) (after : Reached) : Type 0 where
@@ -71,13 +88,14 @@ module _ (airport : AirportParts) where
   MeetsAll (new ∷ visits) before after = (mid : Reached) × Meets before new mid × MeetsAll visits mid after
 
   -- why the asks stopped at the visit of the record of this number: another visit has its name; it is new and there is no place for it; the keeper failed at
-  -- its entry; there was no call number for it; or memory is wanting. Only the first two are asks that were answered, and none changed the history.
+  -- its entry, which may be at risk then; there was no call number for it; or memory is wanting. Only the first two are asks that were answered, and none
+  -- changed the history.
   abbrev pub Stops : ℕ → Reached → NewVisit → Reached → Imported → Type 0
   Stops number at new after (Refused told) = (told ≡ number) × ((other : VisitNo) × Asks at new (refused (name other)) after)
   Stops number at new after (Full told) = (told ≡ number) × Asks at new full after
-  Stops number at new after DiskFault = TakesAs at new accepted × (after.history ≡ at.history) × Counts true at.faults after.faults
+  Stops number at new after DiskFault = TakesAs at new accepted × (after.history ≡ at.history) × Counts true at.faults after.faults × OnlyAtRisk at new after
   Stops number at new after Spent = (at.next ≡ call_limit) × (after ≡ at)
-  Stops number at new after Memory = (after.history ≡ at.history) × (after.faults ≡ at.faults)
+  Stops number at new after Memory = (after.history ≡ at.history) × (after.faults ≡ at.faults) × NoMoreAtRisk at after
   Stops number at new after imported = ⊥
 
   -- the visits before one of these were asked and met, and then the asks stopped: those behind it were not asked

@@ -1,5 +1,5 @@
 -- What the word `desk` does: one session of a desk alone at the airport of two files, on the journal of it that is on the disk.
-use Rattle.std.specs.Prelude.{◌≡◌, ◌==◌, ◌+◌, ◌≤◌, ℕ, List, [], length, true, MatchBool, Result, Ok, Err}
+use Rattle.std.specs.Prelude.{◌≡◌, ◌==◌, ◌+◌, ◌≤◌, ℕ, List, [], length, true, MatchBool, None, Result, Ok, Err}
 use Rattle.apron_base.specs.Counts.{Counts}
 use Rattle.apron_base.specs.Ends.{SinkState}
 use Rattle.apron_base.specs.declared.outside.Outcome.{Outcome}
@@ -26,9 +26,10 @@ use Rattle.apron_run.specs.declared.unusable.Unusable.{Unusable}
 abbrev pub moment : Ends → PortState → Moment
 moment ends port = record { source = ends.source; sink = ends.sink; port = port }
 
--- a desk that has made no call yet: it has seen the history that was opened, its calls go on from the last entry's number, and the disk has failed so often
+-- a desk that has made no call yet: it has seen the history that was opened, no entry is at risk, its calls go on from the last entry's number, and the disk
+-- has failed so often
 abbrev pub begun : List Entry → ℕ → PortState
-begun opened faults = record { first = next_after opened; seen = opened; calls = []; spent = next_after opened == call_limit; faults = faults }
+begun opened faults = record { first = next_after opened; seen = opened; at_risk = None; calls = []; spent = next_after opened == call_limit; faults = faults }
 
 -- One session of a desk alone: it began with the history that the disk opened to, and left the disk with the history as it then was. Where the desk's call
 -- numbers were exhausted, all of them have been used.
@@ -39,7 +40,7 @@ pub record ServesDesk (files : AirportFiles) (before after : Ends) (outcome : Ou
   pub session : SessionOf AloneAsks files.airport (moment before (begun opened before.disk.faults)) (moment after port) outcome
   pub spent : port.spent ≡ true → port.first + length port.calls ≡ call_limit
   pub faults : port.faults ≡ after.disk.faults
-  pub keeps : KeepsHistory files.airport port.seen after.disk
+  pub keeps : KeepsHistory files port.seen port.at_risk after.disk
 
 -- there is no journal to work on: nothing was taken and nothing written, and the disk reads as before
 pub record FindsNoJournal (files : AirportFiles) (before after : Ends) (why : Unusable) : Type 0 where

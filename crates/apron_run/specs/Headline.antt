@@ -4,12 +4,15 @@ use Rattle.std.specs.Io.KnownBytes.{Appends}
 use Rattle.http_framing.specs.declared.bodies.Refusal.{Refusal}
 use Rattle.http_framing.specs.Requests.{Request, HasRequest, IsMalformed, IsPartial}
 use Rattle.http_framing.specs.Streams.{ended, cut, closed, malformed, IsOpen, Requests, Splits}
+use Rattle.apron_base.specs.Histories.{Rises}
 use Rattle.apron_rules.specs.declared.parts.AirportParts.{AirportParts}
 use Rattle.visit_book.specs.declared.visits.NewVisit.{NewVisit}
 use Rattle.plan_core.specs.Drafts.{draft_version}
 use Rattle.desk_words.specs.declared.asks.Ask.{Ask}
 use Rattle.desk_words.specs.declared.asks.Entry.{Entry}
-use Rattle.history_core.specs.History.{IsLegal, IsSoundPlan, call_limit, replay}
+use Rattle.history_core.specs.Answer.{keeper_fault}
+use Rattle.history_core.specs.AtRisk.{IsAskedFor}
+use Rattle.history_core.specs.History.{IsLegal, IsSoundPlan, call_limit, call_of, replay}
 use Rattle.history_core.specs.Laws.{HasAdded, HasCommit, HasVisit}
 use Rattle.history_core.specs.Opening.{next_after}
 use Rattle.desk_http.specs.Answers.{Answers, Sent, TakesMemory, at_once, given, sends, sent_text}
@@ -79,6 +82,14 @@ abbrev pub is_given : Sent → Bool
 is_given (at_once reply) = false
 is_given (given answer) = true
 
+-- one place of an exchange: what was sent there for a request, and the requests and what was sent before it
+pub record IsPlace (exchange : Exchange) (front : List Request) (told : List Sent) (request : Request) (sent : Sent) : Type 0 where
+  pub back : List Request
+  pub later : List Sent
+  pub requests_are : exchange.requests ≡ front ++ request ∷ back
+  pub sents_are : exchange.sents ≡ told ++ sent ∷ later
+  pub place : length told ≡ length front
+
 module _ (airport : AirportParts) where
   -- the bytes of all that was sent
   abbrev pub replies_text : Exchange → List ℕ
@@ -127,6 +138,18 @@ module _ (airport : AirportParts) where
   abbrev pub Sends : PortState → Request → Sent → PortState → Type 0
   Sends before request sent after = Answers AloneAsks airport before request (sends sent) after
 
+  -- An entry that could not be kept, where the calls of the exchange have the numbers from `first` on: the request at one place of it asked this command as
+  -- the call of this number, and was told so; and all entries of the history are of calls before that, so that none was added since.
+  pub record IsUnkept (first : ℕ) (exchange : Exchange) (history : List Entry) (entry : Entry) : Type 0 where
+    pub front : List Request
+    pub told : List Sent
+    pub request : Request
+    pub at : IsPlace exchange front told request (given keeper_fault)
+    pub ask : Ask
+    pub asks : routed airport request ≡ Ok ask
+    pub asked : IsAskedFor (first + count_by is_given told) ask.what entry
+    pub since : Rises call_of 1 entry.call history
+
   -- the plan is sound after each entry of the history
   abbrev pub AllSound : List Entry → Type 0
   AllSound history = (front back : List Entry) → history ≡ front ++ back → IsSoundPlan (replay airport front)
@@ -140,6 +163,7 @@ module _ (airport : AirportParts) where
   abbrev pub IsOfItsEntry : List Entry → ℕ → NewVisit → Type 0
   IsOfItsEntry history version added = HasVisit (replay airport history).visits version added ↔ HasAdded history version added
 
+module _ (files : AirportFiles) where
   -- The headline: the requests at the front of the input, a million at most, were answered in order, and the output is the replies, as far as the status
   -- says, of one legal history that begins with the entries that the journal had. A request that asks nothing of the plan has its fixed reply. Each other
   -- one reached the board with the next call number, from the one above the last of those entries on, or from 1 on where there was none; at the end of
@@ -153,8 +177,9 @@ module _ (airport : AirportParts) where
   -- a report change the one visit that they are of, and then settle the plan: planned parts that can't stay lose their stands, and the reply names them.
   -- A cancelled visit stands nowhere. A question is told what the plan then is. In the place of each of these replies there may be the one that memory is
   -- wanting, and in the place of the reply to a command that the plan accepts the one that its entry could not be kept, where the disk's count of faults
-  -- rose at it; and then nothing has changed. After each entry the plan is sound. At the end the disk is a journal of the history, or, where it has failed,
-  -- of this and perhaps one entry more that was not acknowledged, with which it is still legal.
+  -- rose at it; and then nothing has changed. After each entry the plan is sound. At the end the disk is a journal of the same two files with the history, or,
+  -- where it has failed, with this and perhaps one entry more, with which it is still legal: that of a request which was told that its entry could not be
+  -- kept, and after which none was added.
   pub record Headline (opened : List Entry) (before after : DiskSeen) (carried : Carried) (code : ℕ) : Type 0 where
     pub status : Status
     pub code_is : code ≡ code_of status
@@ -162,17 +187,18 @@ module _ (airport : AirportParts) where
     pub new : PortState
     pub splits : Splits carried.input exchange.requests exchange.rest
     pub few : length exchange.requests ≤ most_requests
-    pub runs : Runs Sends (begun opened before.faults) exchange.requests exchange.sents new
-    pub stops : StopsWith status carried exchange
+    pub runs : Runs (Sends files.airport) (begun opened before.faults) exchange.requests exchange.sents new
+    pub stops : StopsWith files.airport status carried exchange
     pub begins : GoesOnFrom opened new.seen
     pub calls : new.calls ≡ numbers_from (next_after opened) (count_by is_given exchange.sents)
     pub spent : status ≡ Spent → next_after opened + count_by is_given exchange.sents ≡ call_limit
-    pub legal : IsLegal airport new.seen
-    pub sound : AllSound new.seen
-    pub drafts : (desk : List ℕ) (number version : ℕ) → HasItsEntry new.seen desk number version
-    pub visits : (version : ℕ) (added : NewVisit) → IsOfItsEntry new.seen version added
+    pub legal : IsLegal files.airport new.seen
+    pub sound : AllSound files.airport new.seen
+    pub drafts : (desk : List ℕ) (number version : ℕ) → HasItsEntry files.airport new.seen desk number version
+    pub visits : (version : ℕ) (added : NewVisit) → IsOfItsEntry files.airport new.seen version added
     pub faults : new.faults ≡ after.faults
-    pub keeps : KeepsHistory airport new.seen after
+    pub keeps : KeepsHistory files new.seen new.at_risk after
+    pub at_risk : IfSome new.at_risk (IsUnkept files.airport (next_after opened) exchange new.seen)
 
   -- the headline of this input, with what the source and the sink tell afterwards; what the sink told before it tells then too
   abbrev pub TellsOf : List Entry → List ℕ → Ends → Ends → ℕ → Type 0
@@ -183,7 +209,7 @@ module _ (airport : AirportParts) where
 pub record TellsOpened (files : AirportFiles) (before after : Ends) (code : ℕ) : Type 0 where
   pub opened : List Entry
   pub opens : OpensTo files before.disk opened
-  pub tells : IfSome before.source.left (λ input. TellsOf files.airport opened input before after code)
+  pub tells : IfSome before.source.left (λ input. TellsOf files opened input before after code)
 
 -- there is no journal of the files to work on: the line that tells why was written, or a front of it, and nothing else; the source is as it was, and the
 -- disk reads as before

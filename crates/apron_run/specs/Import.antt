@@ -1,5 +1,5 @@
 -- What the word `import` does: the visits of a season file are added, one after the other, to the plan in the journal of the airport of two files.
-use Rattle.std.specs.Prelude.{◌≡◌, ◌<◌, ◌≤◌, ◌+◌, ℕ, Bool, true, false, List, length, Option, IfSome, MatchOption, Result, Ok, Err}
+use Rattle.std.specs.Prelude.{◌≡◌, ◌<◌, ◌≤◌, ◌+◌, ℕ, Bool, true, false, List, length, Option, None, IfSome, MatchOption, Result, Ok, Err}
 use Rattle.apron_base.specs.Counts.{Counts, RoseBy}
 use Rattle.apron_base.specs.Ends.{SinkState}
 use Rattle.apron_base.specs.Shelf.{ShelfState}
@@ -76,9 +76,9 @@ abbrev pub AsksFound : AirportParts → Result (List NewVisit) Imported → Reac
 AsksFound airport (Ok visits) before after imported = AsksSeason airport visits before after imported
 AsksFound airport (Err why) before after imported = (after ≡ before) × (imported ≡ why)
 
--- an import that has asked nothing yet: its calls go on from the last entry's number, and the disk has failed so often
+-- an import that has asked nothing yet: no entry is at risk, its calls go on from the last entry's number, and the disk has failed so often
 abbrev pub begun : List Entry → ℕ → Reached
-begun opened faults = record { history = opened; next = next_after opened; faults = faults }
+begun opened faults = record { history = opened; at_risk = None; next = next_after opened; faults = faults }
 
 -- One import: it began with the history that the disk opened to, asked what it found in the season file, and left the disk with the history as it then
 -- was.
@@ -91,7 +91,7 @@ pub record ImportsSeason (files : AirportFiles) (season : List ℕ) (before afte
   pub asks : AsksFound files.airport found (begun opened before.disk.faults) left imported
   pub legal : IsLegal files.airport left.history
   pub faults : left.faults ≡ after.disk.faults
-  pub keeps : KeepsHistory files.airport left.history after.disk
+  pub keeps : KeepsHistory files left.history left.at_risk after.disk
 
 -- there is no journal to work on: no more was read of the shelf, and the disk reads as before
 pub record FindsNoJournal (files : AirportFiles) (before after : Stores) (why : Unusable) : Type 0 where

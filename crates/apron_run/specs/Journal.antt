@@ -1,12 +1,11 @@
 -- The journal of an airport on a disk: what it opens to, why it doesn't, and what a disk keeps of a history.
-use Rattle.std.specs.Prelude.{◌≡◌, ◌⊎◌, ℕ, List, true, false, IfSome, Ok}
+use Rattle.std.specs.Prelude.{◌≡◌, ◌⊎◌, ℕ, List, true, false, Option, None, Some, IfSome, Ok}
 use Rattle.apron_base.specs.Counts.{Counts}
 use Rattle.apron_base.specs.Keeper.{KeeperState, with_last}
-use Rattle.apron_rules.specs.declared.parts.AirportParts.{AirportParts}
 use Rattle.desk_words.specs.declared.asks.Entry.{Entry}
-use Rattle.history_core.specs.Board.{BoardHeld, IsNextText, entry_texts}
+use Rattle.history_core.specs.Board.{BoardHeld, entry_texts}
 use Rattle.history_core.specs.History.{IsLegal}
-use Rattle.history_core.specs.Opening.{CannotOpen, next_after}
+use Rattle.history_core.specs.Opening.{CannotOpen, Spells, next_after}
 use Rattle.journal_disk.specs.Disk.{DiskState}
 use Rattle.journal_disk.specs.Extent.{JournalHeld, keeper_of}
 use Rattle.journal_disk.specs.Faults.{TextFails}
@@ -22,16 +21,18 @@ use Rattle.apron_run.specs.declared.unusable.Unusable.TheVariants.{Journal, Entr
 abbrev pub journal_tells : {D : Type 0} → (D → DiskState) → JournalHeld D → KeeperState
 journal_tells state held = keeper_of held.extent (state held.disk)
 
--- the disk opens as the journal of these files, and its entries are those of this legal history
+-- the disk opens as the journal of these files, and its entries are those of this legal history, which is what they are read as
 pub record OpensTo (files : AirportFiles) (disk : DiskSeen) (opened : List Entry) : Type 0 where
   pub legal : IsLegal files.airport opened
   pub entries : IfSome disk.contents (λ bytes. opening_of files.digests bytes ≡ Ok (entry_texts opened))
+  pub spells : Spells files.airport (entry_texts opened) opened
 
--- a board was opened over the journal of these files that is on the disk, and so far no call of the disk has failed
+-- a board was opened over the journal of these files that is on the disk; no entry is at risk, and so far no call of the disk has failed
 pub record IsOpened {K : Type 0} (tells : K → KeeperState) (files : AirportFiles) (disk : DiskSeen) (board : BoardHeld K) : Type 0 where
   pub airport_is : board.airport ≡ files.airport
   pub opens : OpensTo files disk board.history
   pub next : board.next ≡ next_after board.history
+  pub at_risk : (tells board.keeper).at_risk ≡ None
   pub faults : (tells board.keeper).faults ≡ disk.faults
 
 -- why the disk is not opened as the journal of the files of these digests: it failed, or memory is wanting, or it is what the disk reads as
@@ -55,16 +56,17 @@ pub record NotOpened (files : AirportFiles) (before after : DiskSeen) (why : Unu
   pub reads : after.contents ≡ before.contents
   pub cause : WhyUnusable files before after why
 
--- the bytes are a journal with these entries
-abbrev pub HasEntries : List ℕ → List (List ℕ) → Type 0
-HasEntries bytes entries = opening_of (digests_in bytes) bytes ≡ Ok entries
+-- the bytes have these two digests in their header
+abbrev pub IsOf : List ℕ → List ℕ → Type 0
+IsOf digests bytes = digests_in bytes ≡ digests
 
--- the bytes are a journal of the history, or of this and one entry more that was not acknowledged, with which the history is still legal
-abbrev pub Holds : AirportParts → List Entry → List ℕ → Type 0
-Holds airport history bytes =
-    HasEntries bytes (entry_texts history) ⊎ ((risk : List ℕ) × IsNextText airport history risk × HasEntries bytes (with_last risk (entry_texts history)))
+-- the disk, where it tells what it reads as, is the journal of these files, with both their digests in its header, and its entries are just those of this
+-- legal history
+pub record Holds (files : AirportFiles) (disk : DiskSeen) (history : List Entry) : Type 0 where
+  pub legal : IsLegal files.airport history
+  pub entries : IfSome disk.contents (λ bytes. opening_of files.digests bytes ≡ Ok (entry_texts history))
 
--- the disk, where it tells what it reads as, holds the history, and as long as it never failed, just that
-pub record KeepsHistory (airport : AirportParts) (history : List Entry) (disk : DiskSeen) : Type 0 where
-  pub holds : IfSome disk.contents (Holds airport history)
-  pub exact : disk.faults ≡ 0 → IfSome disk.contents (λ bytes. HasEntries bytes (entry_texts history))
+-- the disk holds this history, or this and the entry at risk behind it; and as long as no call of it has failed, just the history
+pub record KeepsHistory (files : AirportFiles) (history : List Entry) (at_risk : Option Entry) (disk : DiskSeen) : Type 0 where
+  pub holds : Holds files disk history ⊎ ((entry : Entry) × (at_risk ≡ Some entry) × Holds files disk (with_last entry history))
+  pub exact : disk.faults ≡ 0 → Holds files disk history

@@ -17,3 +17,5 @@ pub mod Export
 pub mod Make
 pub mod Headline
 pub mod Run
+pub mod Complete
+pub mod Causes

@@ -5,7 +5,7 @@ use Rattle.apron_base.specs.declared.outside.Outcome.TheVariants as outcome
 use Rattle.apron_check.specs.declared.faults.FilesFault.{FilesFault}
 use Rattle.apron_check.specs.declared.faults.FilesFault.TheVariants as files
 use Rattle.apron_run.specs.declared.status.Status.{Status}
-use Rattle.apron_run.specs.declared.status.Status.TheVariants.{Done, Usage, FileFault, ShelfFault, ReadFault, WriteFault, DiskFault, JournalFault, SeasonFault, Cut, Memory, Malformed, NotEmpty, Full, Limit, Spent}
+use Rattle.apron_run.specs.declared.status.Status.TheVariants.{Done, Usage, FileFault, ShelfFault, ReadFault, WriteFault, DiskFault, JournalFault, SeasonFault, Cut, ListenerFault, Memory, Malformed, NotEmpty, Full, Limit, Spent}
 
 -- the number of a status
 abbrev pub code_of : Status → ℕ
@@ -19,6 +19,7 @@ code_of DiskFault = 7
 code_of JournalFault = 8
 code_of SeasonFault = 9
 code_of Cut = 10
+code_of ListenerFault = 11
 code_of Memory = 12
 code_of Malformed = 13
 code_of NotEmpty = 14
@@ -84,5 +85,6 @@ is_told JournalFault = true
 is_told SeasonFault = true
 is_told NotEmpty = true
 is_told Full = true
+is_told ListenerFault = true
 is_told Memory = true
 is_told status = false

@@ -11,6 +11,7 @@ ghost use Rattle.apron_run.specs.World.{seen_of};
 
 use crate::Status;
 use crate::check::tell_fault;
+use crate::files_journal::OfFiles;
 use crate::journal::{close_board, open_board};
 use crate::print::{print, print_usage};
 use crate::same_disk::{Named, SameDisk};
@@ -107,13 +108,14 @@ fn chart_on_journal<W: Sink, D: Disk>(
 }
 
 // The chart with the borrow of the disk given back, by its name.
-fn draw_on<'d, N: Named, D: Disk>(
+fn draw_on<'d, N: Named + OfFiles, D: Disk>(
     alloc: Global,
     files: &AirportFiles,
     day: u32,
     disk: &'d mut D,
 ) -> (Result<Result<Listed<u8>, Memory>, Unusable>, &'d mut D)
     requires named { disk.ghost_name ≡ N.name }
+    requires digests { files.now.digests ≡ N.digests }
     requires first { 1 ≤ day }
     requires last { day ≤ files.now.airport.days }
     ensures same { result.1.ghost_name ≡ disk.entry.ghost_name }
@@ -123,23 +125,24 @@ fn draw_on<'d, N: Named, D: Disk>(
         disk,
         of: PhantomData,
     };
-    let (met, back) = draw(alloc, files, day, same);
+    let (met, back) = draw::<N, SameDisk<'d, N, D>>(alloc, files, day, same);
     let SameDisk { disk, .. } = back;
     (met, disk)
 }
 
 // The chart of the board of these files over their journal on the disk.
-fn draw<D: Disk>(
+fn draw<N: OfFiles, D: Disk>(
     alloc: Global,
     files: &AirportFiles,
     day: u32,
     disk: D,
 ) -> (Result<Result<Listed<u8>, Memory>, Unusable>, D)
+    requires digests { files.now.digests ≡ N.digests }
     requires first { 1 ≤ day }
     requires last { day ≤ files.now.airport.days }
     ensures meets { MeetsChart files.now day (seen_of (D.state disk)) (seen_of (D.state result.1)) result.0 }
 {
-    let board = match open_board(alloc, files, disk) {
+    let board = match open_board::<N, D>(alloc, files, disk) {
         Ok(board) => board,
         Err((why, disk)) => return (Err(why), disk),
     };

@@ -32,7 +32,7 @@ pub(crate) fn check<F: Shelf, W: Sink>(
 }
 
 /// Prints the line that tells a fault, and gives its status, which stays where the sink fails at the line.
-pub(crate) fn tell_fault<W: Sink>(sink: &mut W, fault: &FilesFault) -> Status
+pub fn tell_fault<W: Sink>(sink: &mut W, fault: &FilesFault) -> Status
     ensures tells { TellsFault fault.now (W.state sink.old) (W.state sink.new) result }
 {
     let _ = put_fault(sink, fault);

@@ -8,6 +8,7 @@ ghost use Rattle.apron_run.specs.World.{seen_of};
 
 use crate::Status;
 use crate::check::tell_fault;
+use crate::files_journal::OfFiles;
 use crate::journal::{close_board, open_board};
 use crate::same_disk::{Named, SameDisk};
 use crate::status::status_of_outcome;
@@ -66,7 +67,7 @@ fn run_on_journal<S: Source, W: Sink, D: Disk>(
 }
 
 // The same with the borrow of the disk given back, by its name.
-fn serve_on<'d, N: Named, S: Source, W: Sink, D: Disk>(
+fn serve_on<'d, N: Named + OfFiles, S: Source, W: Sink, D: Disk>(
     alloc: Global,
     files: &AirportFiles,
     source: &mut S,
@@ -74,6 +75,7 @@ fn serve_on<'d, N: Named, S: Source, W: Sink, D: Disk>(
     disk: &'d mut D,
 ) -> (Result<Outcome, Unusable>, &'d mut D)
     requires named { disk.ghost_name ≡ N.name }
+    requires digests { files.now.digests ≡ N.digests }
     ensures same { result.1.ghost_name ≡ disk.entry.ghost_name }
     ensures meets { MeetsDesk files.now
         (record { source = S.state source.old; sink = W.state sink.old; disk = seen_of (D.state disk.old) })
@@ -84,25 +86,26 @@ fn serve_on<'d, N: Named, S: Source, W: Sink, D: Disk>(
         disk,
         of: PhantomData,
     };
-    let (met, back) = serve(alloc, files, source, sink, same);
+    let (met, back) = serve::<N, S, W, SameDisk<'d, N, D>>(alloc, files, source, sink, same);
     let SameDisk { disk, .. } = back;
     (met, disk)
 }
 
 // One session at the board of these files over their journal on the disk.
-fn serve<S: Source, W: Sink, D: Disk>(
+fn serve<N: OfFiles, S: Source, W: Sink, D: Disk>(
     alloc: Global,
     files: &AirportFiles,
     source: &mut S,
     sink: &mut W,
     disk: D,
 ) -> (Result<Outcome, Unusable>, D)
+    requires digests { files.now.digests ≡ N.digests }
     ensures meets { MeetsDesk files.now
         (record { source = S.state source.old; sink = W.state sink.old; disk = seen_of (D.state disk) })
         (record { source = S.state source.new; sink = W.state sink.new; disk = seen_of (D.state result.1) }) result.0 }
     ensures untaken { OnErr result.0 (source.new ≡ source.old) }
 {
-    let board = match open_board(alloc, files, disk) {
+    let board = match open_board::<N, D>(alloc, files, disk) {
         Ok(board) => board,
         Err((why, disk)) => return (Err(why), disk),
     };

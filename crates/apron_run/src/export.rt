@@ -11,6 +11,7 @@ ghost use Rattle.apron_run.specs.World.{seen_of};
 
 use crate::Status;
 use crate::check::tell_fault;
+use crate::files_journal::OfFiles;
 use crate::journal::{close_board, open_board};
 use crate::print::print;
 use crate::same_disk::{Named, SameDisk};
@@ -63,12 +64,13 @@ fn export_season<W: Sink, D: Disk>(
 }
 
 // The season file with the borrow of the disk given back, by its name.
-fn write_on<'d, N: Named, D: Disk>(
+fn write_on<'d, N: Named + OfFiles, D: Disk>(
     alloc: Global,
     files: &AirportFiles,
     disk: &'d mut D,
 ) -> (Result<Result<Listed<u8>, Memory>, Unusable>, &'d mut D)
     requires named { disk.ghost_name ≡ N.name }
+    requires digests { files.now.digests ≡ N.digests }
     ensures same { result.1.ghost_name ≡ disk.entry.ghost_name }
     ensures meets { MeetsExport files.now (seen_of (D.state disk.old)) (seen_of (D.state result.1.now)) result.0 }
 {
@@ -76,20 +78,21 @@ fn write_on<'d, N: Named, D: Disk>(
         disk,
         of: PhantomData,
     };
-    let (met, back) = write(alloc, files, same);
+    let (met, back) = write::<N, SameDisk<'d, N, D>>(alloc, files, same);
     let SameDisk { disk, .. } = back;
     (met, disk)
 }
 
 // The season file of the board of these files over their journal on the disk.
-fn write<D: Disk>(
+fn write<N: OfFiles, D: Disk>(
     alloc: Global,
     files: &AirportFiles,
     disk: D,
 ) -> (Result<Result<Listed<u8>, Memory>, Unusable>, D)
+    requires digests { files.now.digests ≡ N.digests }
     ensures meets { MeetsExport files.now (seen_of (D.state disk)) (seen_of (D.state result.1)) result.0 }
 {
-    let board = match open_board(alloc, files, disk) {
+    let board = match open_board::<N, D>(alloc, files, disk) {
         Ok(board) => board,
         Err((why, disk)) => return (Err(why), disk),
     };

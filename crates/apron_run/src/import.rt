@@ -12,6 +12,7 @@ ghost use Rattle.apron_run.specs.World.{seen_of};
 
 use crate::Status;
 use crate::check::tell_fault;
+use crate::files_journal::OfFiles;
 use crate::imported::{Imported, tell_imported};
 use crate::journal::{close_board, open_board};
 use crate::same_disk::{Named, SameDisk};
@@ -68,7 +69,7 @@ fn import_season<F: Shelf, W: Sink, D: Disk>(
 }
 
 // The import with the borrow of the disk given back, by its name.
-fn import_on<'d, N: Named, F: Shelf, D: Disk>(
+fn import_on<'d, N: Named + OfFiles, F: Shelf, D: Disk>(
     alloc: Global,
     files: &AirportFiles,
     season: &Word,
@@ -76,6 +77,7 @@ fn import_on<'d, N: Named, F: Shelf, D: Disk>(
     disk: &'d mut D,
 ) -> (Result<Imported, Unusable>, &'d mut D)
     requires named { disk.ghost_name ≡ N.name }
+    requires digests { files.now.digests ≡ N.digests }
     ensures same { result.1.ghost_name ≡ disk.entry.ghost_name }
     ensures meets { MeetsImport files.now season.now (record { shelf = F.state shelf.old; disk = seen_of (D.state disk.old) })
         (record { shelf = F.state shelf.new; disk = seen_of (D.state result.1.now) }) result.0 }
@@ -84,23 +86,24 @@ fn import_on<'d, N: Named, F: Shelf, D: Disk>(
         disk,
         of: PhantomData,
     };
-    let (met, back) = import_into(alloc, files, season, shelf, same);
+    let (met, back) = import_into::<N, F, SameDisk<'d, N, D>>(alloc, files, season, shelf, same);
     let SameDisk { disk, .. } = back;
     (met, disk)
 }
 
 // The import into the board of these files over their journal on the disk.
-fn import_into<F: Shelf, D: Disk>(
+fn import_into<N: OfFiles, F: Shelf, D: Disk>(
     alloc: Global,
     files: &AirportFiles,
     season: &Word,
     shelf: &mut F,
     disk: D,
 ) -> (Result<Imported, Unusable>, D)
+    requires digests { files.now.digests ≡ N.digests }
     ensures meets { MeetsImport files.now season.now (record { shelf = F.state shelf.old; disk = seen_of (D.state disk) })
         (record { shelf = F.state shelf.new; disk = seen_of (D.state result.1) }) result.0 }
 {
-    let mut board = match open_board(alloc, files, disk) {
+    let mut board = match open_board::<N, D>(alloc, files, disk) {
         Ok(board) => board,
         Err((why, disk)) => return (Err(why), disk),
     };

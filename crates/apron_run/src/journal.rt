@@ -1,9 +1,11 @@
 // The board of an airport over its journal on a disk.
 ghost use Rattle.std.specs.Prelude.{◌≡◌, IfErr, IfOk};
 ghost use Rattle.history_core.specs.History.{IsLegal};
+ghost use Rattle.history_core.specs.AtRisk.{entry_at_risk};
 ghost use Rattle.apron_run.specs.Journal.{IsOpened, KeepsHistory, NotOpened, journal_tells};
 ghost use Rattle.apron_run.specs.World.{seen_of};
 
+use crate::files_journal::{FilesJournal, OfFiles};
 use crate::unusable::Unusable;
 use apron_check::AirportFiles;
 use history_core::Board;
@@ -12,11 +14,12 @@ use std::alloc::Global;
 
 /// Opens the journal of these files on the disk, and the board of its entries. At `Err` it is told why there is none to work on,
 /// and the disk is handed back, which reads as before.
-pub(crate) fn open_board<'f, D: Disk>(
+pub fn open_board<'f, N: OfFiles, D: Disk>(
     alloc: Global,
     files: &'f AirportFiles,
     disk: D,
-) -> Result<Board<'f, Journal<D>>, (Unusable, D)>
+) -> Result<Board<'f, FilesJournal<N, D>>, (Unusable, D)>
+    requires digests { files.now.digests ≡ N.digests }
     ensures opened { IfOk result (IsOpened (journal_tells D.state) files.entry.now (seen_of (D.state disk))) }
     ensures stays { IfOk result (λ board. (D.state board.keeper.disk).contents ≡ (D.state disk).contents) }
     ensures refused { IfErr result (λ refusal.
@@ -26,15 +29,18 @@ pub(crate) fn open_board<'f, D: Disk>(
         Ok(opened) => opened,
         Err((fault, disk)) => return Err((Unusable::Journal(fault), disk)),
     };
+    let journal = FilesJournal::new(journal);
     match Board::open(alloc, &files.airport, journal, entries) {
         Ok(board) => Ok(board),
         Err((fault, journal)) => Err((Unusable::Entries(fault), journal.into_disk())),
     }
 }
 
-/// Gives back the disk of a board that is not needed any more. It keeps the board's history.
-pub(crate) fn close_board<D: Disk>(board: Board<'_, Journal<D>>) -> D
-    ensures keeps { KeepsHistory board.entry.airport board.entry.history (seen_of (D.state result)) }
+/// Gives back the disk of a board that is not needed any more. It keeps the board's history, or this and the entry at risk
+/// behind it, as the journal of these files.
+pub fn close_board<N: OfFiles, D: Disk>(board: Board<'_, FilesJournal<N, D>>) -> D
+    ensures keeps { KeepsHistory (record { airport = board.entry.airport; digests = N.digests }) board.entry.history
+        (entry_at_risk board.entry.airport (journal_tells D.state board.entry.keeper)) (seen_of (D.state result)) }
     ensures disk { result ≡ board.entry.keeper.disk }
     ensures legal { IsLegal board.entry.airport board.entry.history }
 {

@@ -1,5 +1,7 @@
 // The program's one call.
 ghost use Rattle.std.specs.Prelude.{◌≡◌, ℕ, List, true};
+ghost use Rattle.apron_run.specs.Causes.{FaultsHaveCause};
+ghost use Rattle.apron_run.specs.Complete.{IsComplete};
 ghost use Rattle.apron_run.specs.Headline.{TellsHeadline};
 ghost use Rattle.apron_run.specs.Run.{KeptUnless, RunsAs};
 ghost use Rattle.apron_run.specs.Statuses.{code_of};
@@ -64,6 +66,12 @@ pub fn run<F: Shelf, S: Source, W: Sink, D: Disk>(
     ensures runs { let before : World = record { shelf = F.state shelf.old; source = S.state source.old; sink = W.state sink.old; disk = seen_of (D.state disk.old) } in
         let after : World = record { shelf = F.state shelf.new; source = S.state source.new; sink = W.state sink.new; disk = seen_of (D.state disk.new) } in
         RunsAs (asked_by words.now) before after result }
+    ensures complete { let before : World = record { shelf = F.state shelf.old; source = S.state source.old; sink = W.state sink.old; disk = seen_of (D.state disk.old) } in
+        let after : World = record { shelf = F.state shelf.new; source = S.state source.new; sink = W.state sink.new; disk = seen_of (D.state disk.new) } in
+        IsComplete (asked_by words.now) before after result }
+    ensures faults { let before : World = record { shelf = F.state shelf.old; source = S.state source.old; sink = W.state sink.old; disk = seen_of (D.state disk.old) } in
+        let after : World = record { shelf = F.state shelf.new; source = S.state source.new; sink = W.state sink.new; disk = seen_of (D.state disk.new) } in
+        FaultsHaveCause (asked_by words.now) before after result }
     ensures usage { asked_by words.now ≡ faulty → result ≡ code_of Status.Usage }
     ensures usage_alone { result ≡ code_of Status.Usage → may_be_usage (asked_by words.now) ≡ true }
     ensures shelf_kept { KeptUnless (uses_shelf (asked_by words.now)) shelf.old shelf.new }

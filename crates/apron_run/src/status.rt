@@ -28,6 +28,8 @@ pub enum Status {
     SeasonFault,
     /// The input ended within a request.
     Cut,
+    /// A listener failed.
+    ListenerFault,
     /// Memory was wanting.
     Memory,
     /// A request's head was refused.
@@ -58,6 +60,7 @@ impl Status {
             Status::JournalFault => 8,
             Status::SeasonFault => 9,
             Status::Cut => 10,
+            Status::ListenerFault => 11,
             Status::Memory => 12,
             Status::Malformed => 13,
             Status::NotEmpty => 14,

@@ -12,7 +12,7 @@ use journal_disk::JournalFault;
 
 /// Why there is no journal to work on.
 #[derive(Clone, Copy, Debug, PartialEq, Eq)]
-pub(crate) enum Unusable {
+pub enum Unusable {
     /// The journal isn't made or opened.
     Journal(JournalFault),
     /// Its entries are no history of the airport.
@@ -20,7 +20,7 @@ pub(crate) enum Unusable {
 }
 
 /// Prints the line that tells it, and gives its status, which stays where the sink fails at the line.
-pub(crate) fn tell_unusable<W: Sink>(sink: &mut W, why: &Unusable) -> Status
+pub fn tell_unusable<W: Sink>(sink: &mut W, why: &Unusable) -> Status
     ensures tells { TellsUnusable why.now (W.state sink.old) (W.state sink.new) result }
     ensures status { result ≡ status_of_unusable why.now }
 {

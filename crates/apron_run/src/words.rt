@@ -120,8 +120,8 @@ fn made_of<'w>(text: &[u8]) -> Asked<'w>
     }
 }
 
-// Whether it is decimal digits, of which the first is no zero unless it is alone.
-fn is_plain_number(text: &[u8]) -> bool
+/// Whether it is decimal digits, of which the first is no zero unless it is alone.
+pub fn is_plain_number(text: &[u8]) -> bool
     ensures is { result ≡ is_plain_number text.now }
 {
     text.len() >= 1 && are_digits(text) && !is_padded(text)

@@ -10,9 +10,10 @@ use Rattle.apron_base.specs.declared.outside.Acted.{Acted}
 use Rattle.apron_base.specs.declared.outside.Acted.TheVariants.{Reply as Replied, Memory as NoMemory, Fault, Spent}
 use Rattle.desk_words.specs.declared.asks.Ask.{Ask}
 use Rattle.history_core.specs.Answer.{ActsAs, Given, Gives, replied, no_memory, keeper_fault}
+use Rattle.history_core.specs.AtRisk.{LeavesAtRisk, standing}
 use Rattle.history_core.specs.Board.{BoardHeld}
 use Rattle.history_core.specs.History.{IsLegal, call_limit}
-use Rattle.desk_http.specs.Alone.{AloneAsks, IsAlone, alone_port, numbers_from}
+use Rattle.desk_http.specs.Alone.{AloneAsks, IsAlone, alone_port, is_unkept, numbers_from}
 use Rattle.desk_http.specs.Ports.{CountsGiven, ShowsAsk}
 
 every_one : {E : Type 0} (P : E → Type 0) (xs : List E) → ((x : E) → P x) → Every P xs
@@ -46,8 +47,9 @@ calls_push first next h =
 turn : {K : Type 0} (tells : K → KeeperState) (before after : BoardHeld K) (first : ℕ) (ask : Ask) (given : Given)
     → IsAlone before first → IsLegal before.airport after.history → before.next < call_limit → Gives before.airport before.history before.next ask given after.history
     → after.next ≡ before.next + 1 → CountsGiven given (tells before.keeper).faults (tells after.keeper).faults
+    → LeavesAtRisk (standing tells before) before.next ask.what (is_unkept given) (standing tells after)
     → AloneAsks before.airport (alone_port tells (record { board = before; first = first })) ask given (alone_port tells (record { board = after; first = first }))
-turn tells before after first ask given h still last gives next cause = (
+turn tells before after first ask given h still last gives next cause risk = (
   record {
     history = before.history;
     call = before.next;
@@ -67,25 +69,27 @@ turn tells before after first ask given h still last gives next cause = (
   },
   refl,
   let begun = h.begun in let size : length (numbers_from first (before.next - first)) ≡ before.next - first = length-numbers_from first (before.next - first) in omega arith,
+  risk,
 )
 
 -- what a desk alone shows of an ask
 pub alone_shows : {K : Type 0} (tells : K → KeeperState) (before after : BoardHeld K) (first : ℕ) (ask : Ask) (acted : Acted)
     → IsAlone before first → IsLegal before.airport after.history → before.next < call_limit → ActsAs before.airport before.history before.next ask acted after.history
     → after.next ≡ before.next + 1 → Counts (is_fault acted) (tells before.keeper).faults (tells after.keeper).faults
+    → LeavesAtRisk (standing tells before) before.next ask.what (is_fault acted) (standing tells after)
     → ShowsAsk AloneAsks before.airport (alone_port tells (record { board = before; first = first })) ask acted (alone_port tells (record { board = after; first = first }))
-alone_shows tells before after first ask (Replied bytes) h still last (replied reply, shows, gives) next counts =
-    (replied reply, shows, turn tells before after first ask (replied reply) h still last gives next (omega (arith, counts)))
-alone_shows tells before after first ask (Replied bytes) h still last (no_memory, shows, gives) next counts = absurd (cc)
-alone_shows tells before after first ask (Replied bytes) h still last (keeper_fault, shows, gives) next counts = absurd (cc)
-alone_shows tells before after first ask NoMemory h still last (replied reply, shows, gives) next counts = absurd (cc)
-alone_shows tells before after first ask NoMemory h still last (no_memory, shows, gives) next counts =
-    (no_memory, shows, turn tells before after first ask no_memory h still last gives next (omega (arith, counts)))
-alone_shows tells before after first ask NoMemory h still last (keeper_fault, shows, gives) next counts = absurd (cc)
-alone_shows tells before after first ask Fault h still last (replied reply, shows, gives) next counts = absurd (cc)
-alone_shows tells before after first ask Fault h still last (no_memory, shows, gives) next counts = absurd (cc)
-alone_shows tells before after first ask Fault h still last (keeper_fault, shows, gives) next counts =
-    (keeper_fault, shows, turn tells before after first ask keeper_fault h still last gives next counts)
-alone_shows tells before after first ask Spent h still last (replied reply, shows, gives) next counts = absurd (cc)
-alone_shows tells before after first ask Spent h still last (no_memory, shows, gives) next counts = absurd (cc)
-alone_shows tells before after first ask Spent h still last (keeper_fault, shows, gives) next counts = absurd (cc)
+alone_shows tells before after first ask (Replied bytes) h still last (replied reply, shows, gives) next counts risk =
+    (replied reply, shows, turn tells before after first ask (replied reply) h still last gives next (omega (arith, counts)) risk)
+alone_shows tells before after first ask (Replied bytes) h still last (no_memory, shows, gives) next counts risk = absurd (cc)
+alone_shows tells before after first ask (Replied bytes) h still last (keeper_fault, shows, gives) next counts risk = absurd (cc)
+alone_shows tells before after first ask NoMemory h still last (replied reply, shows, gives) next counts risk = absurd (cc)
+alone_shows tells before after first ask NoMemory h still last (no_memory, shows, gives) next counts risk =
+    (no_memory, shows, turn tells before after first ask no_memory h still last gives next (omega (arith, counts)) risk)
+alone_shows tells before after first ask NoMemory h still last (keeper_fault, shows, gives) next counts risk = absurd (cc)
+alone_shows tells before after first ask Fault h still last (replied reply, shows, gives) next counts risk = absurd (cc)
+alone_shows tells before after first ask Fault h still last (no_memory, shows, gives) next counts risk = absurd (cc)
+alone_shows tells before after first ask Fault h still last (keeper_fault, shows, gives) next counts risk =
+    (keeper_fault, shows, turn tells before after first ask keeper_fault h still last gives next counts risk)
+alone_shows tells before after first ask Spent h still last (replied reply, shows, gives) next counts risk = absurd (cc)
+alone_shows tells before after first ask Spent h still last (no_memory, shows, gives) next counts risk = absurd (cc)
+alone_shows tells before after first ask Spent h still last (keeper_fault, shows, gives) next counts risk = absurd (cc)

@@ -1,10 +1,11 @@
 -- One desk alone over a board.
-use Rattle.std.specs.Prelude.{◌≡◌, ◌==◌, ◌+◌, ◌-◌, ◌≤◌, ℕ, zero, suc, List, [], ◌∷◌, length}
+use Rattle.std.specs.Prelude.{◌≡◌, ◌==◌, ◌+◌, ◌-◌, ◌≤◌, ℕ, Bool, true, false, zero, suc, List, [], ◌∷◌, length}
 use Rattle.apron_rules.specs.declared.parts.AirportParts.{AirportParts}
 use Rattle.desk_words.specs.declared.asks.Ask.{Ask}
 use Rattle.apron_base.specs.Histories.{Rises}
 use Rattle.apron_base.specs.Keeper.{KeeperState}
-use Rattle.history_core.specs.Answer.{Given}
+use Rattle.history_core.specs.Answer.{Given, keeper_fault}
+use Rattle.history_core.specs.AtRisk.{LeavesAtRisk, Standing, entry_at_risk}
 use Rattle.history_core.specs.History.{call_limit, call_of, IsLegal}
 use Rattle.history_core.specs.Board.{BoardHeld}
 use Rattle.desk_http.specs.Ports.{PortState, Turn}
@@ -25,18 +26,30 @@ abbrev pub numbers_from : ℕ → ℕ → List ℕ
 numbers_from first zero = []
 numbers_from first (suc count) = first ∷ numbers_from (first + 1) count
 
--- what a desk alone tells, by what its board's keeper tells: it has seen the board's history, its calls are the numbers from the first up to the board's
--- next, and its count of faults is the keeper's
+-- what a desk alone tells, by what its board's keeper tells: it has seen the board's history, the entry at risk is the keeper's, its calls are the numbers
+-- from the first up to the board's next, and its count of faults is the keeper's
 abbrev pub alone_port : {K : Type 0} → (K → KeeperState) → AloneHeld K → PortState
 alone_port tells alone = record {
   first = alone.first;
   seen = alone.board.history;
+  at_risk = entry_at_risk alone.board.airport (tells alone.board.keeper);
   calls = numbers_from alone.first (alone.board.next - alone.first);
   spent = alone.board.next == call_limit;
   faults = (tells alone.board.keeper).faults;
 }
 
--- an ask of a desk alone gets its turn at the history that it has seen, and with the next number
+-- how a port stands: what it has seen, and the entry at risk behind it
+abbrev pub standing_of : PortState → Standing
+standing_of port = record { entries = port.seen; at_risk = port.at_risk }
+
+-- whether it was given that the entry could not be kept
+abbrev pub is_unkept : Given → Bool
+is_unkept keeper_fault = true
+is_unkept given = false
+
+-- an ask of a desk alone gets its turn at the history that it has seen, and with the next number; an entry comes to be at risk only where it is the one
+-- that was asked for and could not be kept, and is at risk no more once another is added
 abbrev pub AloneAsks : AirportParts → PortState → Ask → Given → PortState → Type 0
 AloneAsks airport before ask given after =
     (turn : Turn airport before ask given after) × (turn.history ≡ before.seen) × (turn.call ≡ before.first + length before.calls)
+    × LeavesAtRisk (standing_of before) turn.call ask.what (is_unkept given) (standing_of after)

@@ -1,5 +1,5 @@
 -- What a port tells, and what one ask does to it.
-use Rattle.std.specs.Prelude.{◌≡◌, ◌+◌, ◌<◌, ◌≤◌, ℕ, Bool, true, false, List, [], ◌∷◌, ◌++◌}
+use Rattle.std.specs.Prelude.{◌≡◌, ◌+◌, ◌<◌, ◌≤◌, ℕ, Bool, true, false, List, [], ◌∷◌, ◌++◌, Option}
 use Rattle.apron_base.specs.Counts.{Rose}
 use Rattle.apron_base.specs.Histories.{Every, Rises}
 use Rattle.apron_base.specs.declared.outside.Acted.{Acted}
@@ -10,11 +10,12 @@ use Rattle.desk_words.specs.declared.asks.Ask.{Ask}
 use Rattle.history_core.specs.History.{call_limit, call_of, IsLegal}
 use Rattle.history_core.specs.Answer.{Given, keeper_fault, shown, Gives}
 
--- a port: the least number that a call of it can have, the history that it has seen, the numbers of its own calls,
--- whether its numbers are exhausted, and its count of faults
+-- a port: the least number that a call of it can have, the history that it has seen, the entry at risk behind that where it tells one, the numbers of its
+-- own calls, whether its numbers are exhausted, and its count of faults
 pub record PortState : Type 0 where
   pub first : ℕ
   pub seen : List Entry
+  pub at_risk : Option Entry
   pub calls : List ℕ
   pub spent : Bool
   pub faults : ℕ

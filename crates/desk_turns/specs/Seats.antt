@@ -1,5 +1,5 @@
 -- A seat of a board as a port.
-use Rattle.std.specs.Prelude.{ℕ, Bool, map, count_by, nat_le}
+use Rattle.std.specs.Prelude.{ℕ, Bool, None, map, count_by, nat_le}
 use Rattle.apron_base.specs.Counts.{one_more}
 use Rattle.apron_rules.specs.declared.parts.AirportParts.{AirportParts}
 use Rattle.desk_words.specs.declared.asks.Entry.{Entry}
@@ -24,11 +24,13 @@ number_of call = call.number
 abbrev pub is_risen : Call → Bool
 is_risen call = nat_le (one_more call.found) call.left
 
--- what a seat tells: its calls have numbers from 1 on, and its count of faults is the number of its own calls over which the machine's count rose
+-- what a seat tells: its calls have numbers from 1 on, it tells no entry at risk, and its count of faults is the number of its own calls over which the
+-- machine's count rose
 abbrev pub port_of : ServedState → PortState
 port_of served = record {
   first = 1;
   seen = served.seat.seen;
+  at_risk = None;
   calls = map number_of served.seat.calls;
   spent = served.seat.exhausted;
   faults = count_by is_risen served.seat.calls;

@@ -1,4 +1,7 @@
 use Rattle.apron_run.proofs.chart.chart_on_journal.Given as goal
 
-abbrev pub ghosts-draw_on : goal.ghosts-draw_on
-ghosts-draw_on g a = record { name = a.disk.ghost_name }
+abbrev pub ghosts-draw_on-N-Named : goal.ghosts-draw_on-N-Named
+ghosts-draw_on-N-Named g a = record { name = a.disk.ghost_name }
+
+abbrev pub ghosts-draw_on-N-OfFiles : goal.ghosts-draw_on-N-OfFiles
+ghosts-draw_on-N-OfFiles g a = record { digests = a.files.now.digests }

@@ -1,4 +1,7 @@
 use Rattle.apron_run.proofs.desk.run_on_journal.Given as goal
 
-abbrev pub ghosts-serve_on : goal.ghosts-serve_on
-ghosts-serve_on g a = record { name = a.disk.ghost_name }
+abbrev pub ghosts-serve_on-N-Named : goal.ghosts-serve_on-N-Named
+ghosts-serve_on-N-Named g a = record { name = a.disk.ghost_name }
+
+abbrev pub ghosts-serve_on-N-OfFiles : goal.ghosts-serve_on-N-OfFiles
+ghosts-serve_on-N-OfFiles g a = record { digests = a.files.now.digests }

@@ -1,4 +1,5 @@
-use Rattle.std.proofs.Common.{◌∙◌, ap, subst}
+use Rattle.std.proofs.Common.{◌∙◌, ℕ, List, ap, subst, sym}
+use Rattle.history_core.specs.AtRisk.{entry_at_risk}
 use Rattle.apron_run.specs.Journal.{KeepsHistory, journal_tells}
 use Rattle.apron_run.specs.World.{Ends, seen_of}
 use Rattle.apron_run.proofs.Serving.{desk_serves}
@@ -12,7 +13,11 @@ returns-clause-meets g c =
       sink = g.W.Sink.state c.session-outcome.new.sink;
       disk = seen_of (g.D.Disk.state c.close_board.result);
     } in
+    let done = c.session-outcome.new.port.board in
     desk_serves (journal_tells g.D.Disk.state) c.args.files.now before after c.in-Ok.board c.new-desk.result c.session-outcome.new.port c.session-outcome.result
     c.in-Ok.ensures.opened c.new-desk.ensures.board c.new-desk.ensures.first c.session-outcome.ensures.of c.session-outcome.ensures.airport
     (ap (λ d. (seen_of (g.D.Disk.state d)).faults) (c.close_board.ensures.disk ∙ ap (λ b. b.keeper.disk) c.into_board.ensures.board))
-    (subst (λ b. KeepsHistory b.airport b.history after.disk) c.into_board.ensures.board c.close_board.ensures.keeps)
+    (subst (λ (digests : List ℕ). KeepsHistory (record { airport = done.airport; digests = digests }) done.history
+    (entry_at_risk done.airport (journal_tells g.D.Disk.state done.keeper)) after.disk) (sym c.requires.digests)
+    (subst (λ b. KeepsHistory (record { airport = b.airport; digests = g.N.OfFiles.digests }) b.history (entry_at_risk b.airport (journal_tells g.D.Disk.state b.keeper)) after.disk)
+    c.into_board.ensures.board c.close_board.ensures.keeps))

@@ -1,12 +1,25 @@
-use Rattle.std.proofs.Common.{sym, subst}
+use Rattle.std.proofs.Common.{◌≡◌, ◌∙◌, ap, sym, subst}
+use Rattle.apron_base.specs.Keeper.{KeeperState}
+use Rattle.history_core.specs.AtRisk.{entry_at_risk}
 use Rattle.history_core.specs.Board.{IsKept}
 use Rattle.journal_disk.specs.Extent.{keeper_of}
+use Rattle.apron_check.specs.declared.files.AirportFiles.{AirportFiles}
+use Rattle.apron_run.specs.Journal.{KeepsHistory, journal_tells}
+use Rattle.apron_run.specs.World.{seen_of}
 use Rattle.apron_run.proofs.Serving.{disk_keeps}
 use Rattle.apron_run.proofs.journal.close_board.Goals as goal
 
 pub returns-clause-keeps : goal.returns-clause-keeps
 returns-clause-keeps g c =
     let board = c.args.board in
+    let disk = c.into_disk.result in
     let extent = c.into_keeper.result.extent in
-    disk_keeps board.airport board.history extent (g.D.Disk.state c.into_disk.result) (g.met.D.Disk.reads c.into_disk.result) c.into_disk.ensures.entries
-    (subst (λ d. IsKept board.airport board.history (keeper_of extent (g.D.Disk.state d))) (sym c.into_disk.ensures.disk) c.into_keeper.ensures.kept)
+    let state = g.D.Disk.state in
+    let files : AirportFiles = record { airport = board.airport; digests = g.N.OfFiles.digests } in
+    let kept : IsKept board.airport board.history (keeper_of extent (state disk)) =
+    subst (λ d. IsKept board.airport board.history (keeper_of extent (state d))) (sym c.into_disk.ensures.disk) c.into_keeper.ensures.kept in
+    let same : keeper_of extent (state disk) ≡ journal_tells state board.keeper =
+    ap (λ d. keeper_of extent (state d)) c.into_disk.ensures.disk ∙ ap (journal_tells state) c.into_keeper.ensures.keeper in
+    subst (λ (keeper : KeeperState). KeepsHistory files board.history (entry_at_risk board.airport keeper) (seen_of (state disk))) same
+    (disk_keeps files board.history extent (state disk) c.into_keeper.ensures.legal kept (g.met.D.Disk.reads disk) c.into_disk.ensures.entries
+    c.into_disk.ensures.digests)

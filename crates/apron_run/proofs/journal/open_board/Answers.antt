@@ -1,3 +1,4 @@
+use Rattle.apron_run.proofs.Headers.{opened_of}
 use Rattle.apron_run.proofs.Serving.{seen_fails}
 use Rattle.apron_run.proofs.journal.open_board.Goals as goal
 
@@ -5,4 +6,11 @@ pub returns-in-Err-clause-refused : goal.returns-in-Err-clause-refused
 returns-in-Err-clause-refused g c = record {
   reads = let stays = c.in-Err.ensures.stays in stays.contents;
   cause = seen_fails c.args.files.now.digests (g.D.Disk.state c.args.disk) (g.D.Disk.state c.in-Err.disk) c.in-Err.fault c.in-Err.ensures.refused;
+}
+
+pub new-journal-requires : goal.new-journal-requires
+new-journal-requires g c = record {
+  digests = let stays = c.in-Ok.ensures.stays in
+      opened_of g.N.OfFiles.digests c.args.files.now.digests (g.D.Disk.state c.args.disk) (g.D.Disk.state c.in-Ok.opened.0.disk) c.in-Ok.opened.1.items c.requires.digests
+      c.in-Ok.ensures.opened stays.contents;
 }

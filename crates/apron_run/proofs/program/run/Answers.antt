@@ -1,14 +1,17 @@
 use Rattle.std.proofs.Common.{◌≡◌, ℕ, refl, sym, subst}
 use Rattle.apron_run.specs.Statuses.{code_of}
 use Rattle.apron_run.specs.Run.{RunsAs}
-use Rattle.apron_run.specs.Words.{Asked, asked_by, chart as chart_asked, desk as desk_asked, export as export_asked, import as import_asked}
+use Rattle.apron_run.specs.Words.{Asked, asked_by, chart as chart_asked, check as check_asked, desk as desk_asked, export as export_asked, faulty as faulty_asked, help as help_asked, import as import_asked, init as init_asked, make as make_asked, version as version_asked}
 use Rattle.apron_run.specs.World.{World, seen_of}
 use Rattle.apron_run.specs.Headline.{TellsHeadline}
+use Rattle.apron_run.proofs.Causing.{faults_have_cause}
 use Rattle.apron_run.proofs.Charting.{chart_as}
+use Rattle.apron_run.proofs.Complete.{run_complete}
 use Rattle.apron_run.proofs.Counting.{desk_as}
 use Rattle.apron_run.proofs.Exporting.{export_as}
 use Rattle.apron_run.proofs.Headlines.{asked_headline, run_headline}
 use Rattle.apron_run.proofs.Importing.{import_as}
+use Rattle.apron_run.proofs.Plain.{check_as, help_as, init_as, make_as, usage_as, version_as}
 use Rattle.apron_run.proofs.program.run.Goals as goal
 
 pub returns-in-Desk-clause-headline : goal.returns-in-Desk-clause-headline
@@ -63,3 +66,121 @@ returns-in-Export-clause-runs g c =
     subst (λ (code : ℕ). RunsAs (asked_by c.args.words.now) before after code) (sym c.code-in-Export.ensures.value)
     (subst (λ (a : Asked). RunsAs a before after (code_of c.export.result)) asked
     (export_as airport types before after c.export.result refl c.export.ensures.exports))
+
+pub returns-in-Init-clause-runs : goal.returns-in-Init-clause-runs
+returns-in-Init-clause-runs g c =
+    let before : World = record { shelf = g.F.Shelf.state c.args.shelf.now; source = g.S.Source.state c.args.source.now; sink = g.W.Sink.state c.args.sink.now; disk = seen_of (g.D.Disk.state c.args.disk.now) } in
+    let after : World = record { shelf = g.F.Shelf.state c.init.new.shelf; source = g.S.Source.state c.args.source.now; sink = g.W.Sink.state c.init.new.sink; disk = seen_of (g.D.Disk.state c.init.new.disk) } in
+    let airport = c.text-in-Init.result.now in
+    let types = c.text-in-Init-2.result.now in
+    let asked : init_asked airport types ≡ asked_by c.args.words.now = rw (c.text-in-Init.ensures.text, c.text-in-Init-2.ensures.text) c.in-Init.ensures.asked in
+    subst (λ (code : ℕ). RunsAs (asked_by c.args.words.now) before after code) (sym c.code-in-Init.ensures.value)
+    (subst (λ (a : Asked). RunsAs a before after (code_of c.init.result)) asked
+    (init_as airport types before after c.init.result refl c.init.ensures.inits))
+
+pub returns-in-Check-clause-runs : goal.returns-in-Check-clause-runs
+returns-in-Check-clause-runs g c =
+    let before : World = record { shelf = g.F.Shelf.state c.args.shelf.now; source = g.S.Source.state c.args.source.now; sink = g.W.Sink.state c.args.sink.now; disk = seen_of (g.D.Disk.state c.args.disk.now) } in
+    let after : World = record { shelf = g.F.Shelf.state c.check.new.shelf; source = g.S.Source.state c.args.source.now; sink = g.W.Sink.state c.check.new.sink; disk = seen_of (g.D.Disk.state c.args.disk.now) } in
+    let airport = c.text-in-Check.result.now in
+    let types = c.text-in-Check-2.result.now in
+    let asked : check_asked airport types ≡ asked_by c.args.words.now = rw (c.text-in-Check.ensures.text, c.text-in-Check-2.ensures.text) c.in-Check.ensures.asked in
+    subst (λ (code : ℕ). RunsAs (asked_by c.args.words.now) before after code) (sym c.code-in-Check.ensures.value)
+    (subst (λ (a : Asked). RunsAs a before after (code_of c.check.result)) asked
+    (check_as airport types before after c.check.result refl refl c.check.ensures.checks))
+
+pub returns-in-Make-clause-runs : goal.returns-in-Make-clause-runs
+returns-in-Make-clause-runs g c =
+    let before : World = record { shelf = g.F.Shelf.state c.args.shelf.now; source = g.S.Source.state c.args.source.now; sink = g.W.Sink.state c.args.sink.now; disk = seen_of (g.D.Disk.state c.args.disk.now) } in
+    let after : World = record { shelf = g.F.Shelf.state c.args.shelf.now; source = g.S.Source.state c.args.source.now; sink = g.W.Sink.state c.make.new.sink; disk = seen_of (g.D.Disk.state c.args.disk.now) } in
+    let asked : make_asked c.in-Make.visits ≡ asked_by c.args.words.now = c.in-Make.ensures.asked in
+    subst (λ (code : ℕ). RunsAs (asked_by c.args.words.now) before after code) (sym c.code-in-Make.ensures.value)
+    (subst (λ (a : Asked). RunsAs a before after (code_of c.make.result)) asked
+    (make_as before after c.make.result refl refl refl c.in-Make.visits c.make.ensures.tells))
+
+pub returns-in-Help-clause-runs : goal.returns-in-Help-clause-runs
+returns-in-Help-clause-runs g c =
+    let before : World = record { shelf = g.F.Shelf.state c.args.shelf.now; source = g.S.Source.state c.args.source.now; sink = g.W.Sink.state c.args.sink.now; disk = seen_of (g.D.Disk.state c.args.disk.now) } in
+    let after : World = record { shelf = g.F.Shelf.state c.args.shelf.now; source = g.S.Source.state c.args.source.now; sink = g.W.Sink.state c.print_help.new.sink; disk = seen_of (g.D.Disk.state c.args.disk.now) } in
+    let asked : help_asked ≡ asked_by c.args.words.now = c.in-Help.ensures.asked in
+    subst (λ (code : ℕ). RunsAs (asked_by c.args.words.now) before after code) (sym c.code-in-Help.ensures.value)
+    (subst (λ (a : Asked). RunsAs a before after (code_of c.print_help.result)) asked
+    (help_as before after c.print_help.result refl refl refl c.print_help.ensures.writes))
+
+pub returns-in-Version-clause-runs : goal.returns-in-Version-clause-runs
+returns-in-Version-clause-runs g c =
+    let before : World = record { shelf = g.F.Shelf.state c.args.shelf.now; source = g.S.Source.state c.args.source.now; sink = g.W.Sink.state c.args.sink.now; disk = seen_of (g.D.Disk.state c.args.disk.now) } in
+    let after : World = record { shelf = g.F.Shelf.state c.args.shelf.now; source = g.S.Source.state c.args.source.now; sink = g.W.Sink.state c.print_version.new.sink; disk = seen_of (g.D.Disk.state c.args.disk.now) } in
+    let asked : version_asked ≡ asked_by c.args.words.now = c.in-Version.ensures.asked in
+    subst (λ (code : ℕ). RunsAs (asked_by c.args.words.now) before after code) (sym c.code-in-Version.ensures.value)
+    (subst (λ (a : Asked). RunsAs a before after (code_of c.print_version.result)) asked
+    (version_as before after c.print_version.result refl refl refl c.print_version.ensures.writes))
+
+pub returns-in-Faulty-clause-runs : goal.returns-in-Faulty-clause-runs
+returns-in-Faulty-clause-runs g c =
+    let before : World = record { shelf = g.F.Shelf.state c.args.shelf.now; source = g.S.Source.state c.args.source.now; sink = g.W.Sink.state c.args.sink.now; disk = seen_of (g.D.Disk.state c.args.disk.now) } in
+    let after : World = record { shelf = g.F.Shelf.state c.args.shelf.now; source = g.S.Source.state c.args.source.now; sink = g.W.Sink.state c.print_usage.new.sink; disk = seen_of (g.D.Disk.state c.args.disk.now) } in
+    let asked : faulty_asked ≡ asked_by c.args.words.now = c.in-Faulty.ensures.asked in
+    subst (λ (code : ℕ). RunsAs (asked_by c.args.words.now) before after code) (sym c.code-in-Faulty.ensures.value)
+    (subst (λ (a : Asked). RunsAs a before after (code_of c.print_usage.result)) asked
+    (usage_as before after c.print_usage.result refl refl refl c.print_usage.ensures.writes))
+
+pub returns-in-Desk-clause-complete : goal.returns-in-Desk-clause-complete
+returns-in-Desk-clause-complete g c = run_complete _ _ _ _ (returns-in-Desk-clause-runs g c)
+
+pub returns-in-Desk-clause-faults : goal.returns-in-Desk-clause-faults
+returns-in-Desk-clause-faults g c = faults_have_cause _ _ _ _ (returns-in-Desk-clause-runs g c)
+
+pub returns-in-Init-clause-complete : goal.returns-in-Init-clause-complete
+returns-in-Init-clause-complete g c = run_complete _ _ _ _ (returns-in-Init-clause-runs g c)
+
+pub returns-in-Init-clause-faults : goal.returns-in-Init-clause-faults
+returns-in-Init-clause-faults g c = faults_have_cause _ _ _ _ (returns-in-Init-clause-runs g c)
+
+pub returns-in-Check-clause-complete : goal.returns-in-Check-clause-complete
+returns-in-Check-clause-complete g c = run_complete _ _ _ _ (returns-in-Check-clause-runs g c)
+
+pub returns-in-Check-clause-faults : goal.returns-in-Check-clause-faults
+returns-in-Check-clause-faults g c = faults_have_cause _ _ _ _ (returns-in-Check-clause-runs g c)
+
+pub returns-in-Chart-clause-complete : goal.returns-in-Chart-clause-complete
+returns-in-Chart-clause-complete g c = run_complete _ _ _ _ (returns-in-Chart-clause-runs g c)
+
+pub returns-in-Chart-clause-faults : goal.returns-in-Chart-clause-faults
+returns-in-Chart-clause-faults g c = faults_have_cause _ _ _ _ (returns-in-Chart-clause-runs g c)
+
+pub returns-in-Import-clause-complete : goal.returns-in-Import-clause-complete
+returns-in-Import-clause-complete g c = run_complete _ _ _ _ (returns-in-Import-clause-runs g c)
+
+pub returns-in-Import-clause-faults : goal.returns-in-Import-clause-faults
+returns-in-Import-clause-faults g c = faults_have_cause _ _ _ _ (returns-in-Import-clause-runs g c)
+
+pub returns-in-Export-clause-complete : goal.returns-in-Export-clause-complete
+returns-in-Export-clause-complete g c = run_complete _ _ _ _ (returns-in-Export-clause-runs g c)
+
+pub returns-in-Export-clause-faults : goal.returns-in-Export-clause-faults
+returns-in-Export-clause-faults g c = faults_have_cause _ _ _ _ (returns-in-Export-clause-runs g c)
+
+pub returns-in-Make-clause-complete : goal.returns-in-Make-clause-complete
+returns-in-Make-clause-complete g c = run_complete _ _ _ _ (returns-in-Make-clause-runs g c)
+
+pub returns-in-Make-clause-faults : goal.returns-in-Make-clause-faults
+returns-in-Make-clause-faults g c = faults_have_cause _ _ _ _ (returns-in-Make-clause-runs g c)
+
+pub returns-in-Help-clause-complete : goal.returns-in-Help-clause-complete
+returns-in-Help-clause-complete g c = run_complete _ _ _ _ (returns-in-Help-clause-runs g c)
+
+pub returns-in-Help-clause-faults : goal.returns-in-Help-clause-faults
+returns-in-Help-clause-faults g c = faults_have_cause _ _ _ _ (returns-in-Help-clause-runs g c)
+
+pub returns-in-Version-clause-complete : goal.returns-in-Version-clause-complete
+returns-in-Version-clause-complete g c = run_complete _ _ _ _ (returns-in-Version-clause-runs g c)
+
+pub returns-in-Version-clause-faults : goal.returns-in-Version-clause-faults
+returns-in-Version-clause-faults g c = faults_have_cause _ _ _ _ (returns-in-Version-clause-runs g c)
+
+pub returns-in-Faulty-clause-complete : goal.returns-in-Faulty-clause-complete
+returns-in-Faulty-clause-complete g c = run_complete _ _ _ _ (returns-in-Faulty-clause-runs g c)
+
+pub returns-in-Faulty-clause-faults : goal.returns-in-Faulty-clause-faults
+returns-in-Faulty-clause-faults g c = faults_have_cause _ _ _ _ (returns-in-Faulty-clause-runs g c)

@@ -1,11 +1,12 @@
-use Rattle.std.proofs.Common.{◌≡◌, ◌∙◌, ◌≤◌, ◌+◌, ℕ, Result, Ok, Err, IfErr, length, arith, ap, subst}
+use Rattle.std.proofs.Common.{◌≡◌, ◌∙◌, ◌≤◌, ◌+◌, ℕ, false, Result, Ok, Err, IfErr, length, arith, ap, subst}
 use Rattle.apron_base.specs.declared.outside.Acted.TheVariants.{Reply as Replied}
 use Rattle.apron_rules.specs.declared.parts.AirportParts.{AirportParts}
 use Rattle.plan_core.specs.PlanState.{PlanState}
 use Rattle.history_core.specs.Answer.{ActsAs}
+use Rattle.history_core.specs.AtRisk.{LeavesAtRisk}
 use Rattle.history_core.specs.History.{replay}
 use Rattle.apron_run.specs.Asking.{IsMissing, Reached, reached}
-use Rattle.apron_run.proofs.Asking.{asking, stops_missing}
+use Rattle.apron_run.proofs.Asking.{asking, standing_at, stops_missing}
 use Rattle.apron_run.proofs.season.ask_visit.Goals as goal
 
 -- what follows from a cause follows where there is one
@@ -30,7 +31,9 @@ returns-in-Reply-2-clause-stops g c =
     let few : length after.history ≤ length before.history = omega (arith, c.if-before-history.false, now, was) in
     let plan : c.plan.result.now.plan ≡ replay airport after.history =
     c.plan.ensures.replay ∙ ap (λ (a : AirportParts). replay a after.history) c.in-Reply-2.ensures.airport in
+    let risk : LeavesAtRisk (standing_at before) before.next (asking new).what false (standing_at after) =
+    subst (λ (n : ℕ). LeavesAtRisk (standing_at before) n (asking new).what false (standing_at after)) call c.in-Reply-2.ensures.at_risk in
     err_by c.find_visit.result
-    (λ imported missing. stops_missing airport before after new bytes acts next c.in-Reply-2.ensures.faults number imported few
+    (λ imported missing. stops_missing airport before after new bytes acts next c.in-Reply-2.ensures.faults risk number imported few
     (subst (λ (p : PlanState). IsMissing p new number imported) plan missing))
     c.find_visit.ensures.missing

@@ -1,5 +1,7 @@
 use Rattle.std.proofs.Common.{◌≡◌, ◌<◌, ◌≤◌, ◌+◌, ◌∙◌, ap, arith, subst}
+use Rattle.apron_base.specs.Machine.{is_fault}
 use Rattle.history_core.specs.Answer.{ActsAs}
+use Rattle.history_core.specs.AtRisk.{LeavesAtRisk, standing}
 use Rattle.history_core.specs.History.{IsLegal, call_limit}
 use Rattle.desk_http.specs.Alone.{AloneAsks, AloneHeld, alone_port}
 use Rattle.desk_http.specs.Ports.{ShowsAsk}
@@ -16,8 +18,10 @@ returns-clause-shows g c =
     let acts : ActsAs before.airport before.history before.next c.args.ask.now c.ask.result after.history =
     subst (λ n. ActsAs before.airport before.history n c.args.ask.now c.ask.result after.history) call c.ask.ensures.acts in
     let tells = g.K.Keeper.state in
+    let risk : LeavesAtRisk (standing tells before) before.next c.args.ask.now.what (is_fault c.ask.result) (standing tells after) =
+    subst (λ n. LeavesAtRisk (standing tells before) n c.args.ask.now.what (is_fault c.ask.result) (standing tells after)) call c.ask.ensures.at_risk in
     subst (λ (a : AloneHeld g.row.K.Denot). ShowsAsk AloneAsks a.board.airport (alone_port tells a) c.args.ask.now c.ask.result
     (alone_port tells (record { board = after; first = c.self.inside.first })))
     c.self.view_is
     (alone_shows tells before after c.self.inside.first c.args.ask.now c.ask.result c.self.invariant
-    (subst (λ airport. IsLegal airport after.history) c.ask.ensures.airport c.ask.ensures.legal) last acts (c.ask.ensures.next ∙ ap (λ n. n + 1) call) c.ask.ensures.faults)
+    (subst (λ airport. IsLegal airport after.history) c.ask.ensures.airport c.ask.ensures.legal) last acts (c.ask.ensures.next ∙ ap (λ n. n + 1) call) c.ask.ensures.faults risk)

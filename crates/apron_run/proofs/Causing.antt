@@ -1,0 +1,178 @@
+-- What a run ends with where one of its ends failed.
+use Rattle.std.proofs.Common.{◌≡◌, ◌≢◌, ◌≤◌, ◌∙◌, ◌+◌, ℕ, Bool, true, false, List, Option, None, Some, Result, Ok, Err, inl, inr, min, refl, sym, ap, subst, arith}
+use Rattle.apron_base.specs.Counts.{Counts, Rose, last_count}
+use Rattle.apron_base.specs.Ends.{SinkState}
+use Rattle.apron_check.specs.declared.files.AirportFiles.{AirportFiles}
+use Rattle.apron_check.specs.declared.faults.FilesFault.{FilesFault}
+use Rattle.apron_run.specs.Causes.{FaultsHaveCause, NoFaultIsTold}
+use Rattle.apron_run.specs.Check.{TellsFound}
+use Rattle.apron_run.specs.Import.{ImportsFound, around}
+use Rattle.apron_base.specs.Shelf.{ShelfState}
+use Rattle.apron_run.specs.Make.{TellsDay}
+use Rattle.apron_run.specs.Print.{Writes, usage_text}
+use Rattle.apron_run.specs.Run.{DiskCounts, Does, RunsAs, SinkCounts}
+use Rattle.apron_run.specs.Statuses.{code_of, is_disk_fault, is_read_fault, is_shelf_fault, is_write_fault, status_of_fault}
+use Rattle.apron_run.specs.Words.{Asked, desk, init, check, chart, import, export, make, help, version, faulty, uses_disk, uses_shelf, uses_source}
+use Rattle.apron_run.specs.World.{World, outs_of}
+use Rattle.apron_run.specs.declared.status.Status.{Status}
+use Rattle.apron_run.specs.declared.status.Status.TheVariants.{Done, Usage, ShelfFault, ReadFault, WriteFault, DiskFault, Memory}
+use Rattle.apron_run.proofs.Charting.{CountsChart, Printed, fault_disk, found_as as chart_found, printed}
+use Rattle.apron_run.proofs.Counting.{Lines, fault_read, lines_of}
+use Rattle.apron_run.proofs.Exporting.{found_as as export_found}
+use Rattle.apron_run.proofs.Importing.{CountsImport, met_as as import_met}
+use Rattle.apron_run.proofs.Plain.{CountsAs, inits_as}
+
+-- the status of a number
+shelf_code : (status : Status) → code_of status ≡ code_of ShelfFault → is_shelf_fault status ≡ true
+shelf_code ShelfFault is = refl
+shelf_code other is = absurd (omega arith)
+
+read_code : (status : Status) → code_of status ≡ code_of ReadFault → is_read_fault status ≡ true
+read_code ReadFault is = refl
+read_code other is = absurd (omega arith)
+
+write_code : (status : Status) → code_of status ≡ code_of WriteFault → is_write_fault status ≡ true
+write_code WriteFault is = refl
+write_code other is = absurd (omega arith)
+
+disk_code : (status : Status) → code_of status ≡ code_of DiskFault → is_disk_fault status ≡ true
+disk_code DiskFault is = refl
+disk_code other is = absurd (omega arith)
+
+-- a count that rose where the status says so
+rose_by : (failed : Bool) (before now : ℕ) → failed ≡ true → Counts failed before now → Rose before now
+rose_by failed before now is counts = let fails : Counts true before now = subst (λ (b : Bool). Counts b before now) is counts in fails.1
+
+sink_rose : (status : Status) (before now : ℕ) → is_write_fault status ≡ true → SinkCounts status before now → Rose before now
+sink_rose WriteFault before now is counts = counts.1
+sink_rose other before now is counts = absurd cc
+
+disk_rose : (asked : Asked) (status : Status) (before now : ℕ) → is_disk_fault status ≡ true → DiskCounts asked status before now → Rose before now
+disk_rose (desk airport types) DiskFault before now is counts = counts.1
+disk_rose (desk airport types) other before now is counts = absurd cc
+disk_rose asked status before now is counts = rose_by (is_disk_fault status) before now is counts
+
+not_both : (flag : Bool) → flag ≡ false → flag ≡ true → ⊥
+not_both flag off on = cc
+
+-- what a text that was written, or the line of a fault of the two files, says of the source and of the disk
+found_read : (found : Result AirportFiles FilesFault) (before after : SinkState) (status : Status) → TellsFound found before after status → is_read_fault status ≡ false
+found_read (Ok files) before after status tells = let print : Printed status before after = printed _ before after status tells in print.read
+found_read (Err fault) before after status tells =
+    let lines : Lines status (status_of_fault fault) before after = lines_of _ (status_of_fault fault) before after status tells in ap is_read_fault lines.is ∙ fault_read fault
+
+found_disk : (found : Result AirportFiles FilesFault) (before after : SinkState) (status : Status) → TellsFound found before after status → is_disk_fault status ≡ false
+found_disk (Ok files) before after status tells = let print : Printed status before after = printed _ before after status tells in print.disk
+found_disk (Err fault) before after status tells =
+    let lines : Lines status (status_of_fault fault) before after = lines_of _ (status_of_fault fault) before after status tells in ap is_disk_fault lines.is ∙ fault_disk fault
+
+import_read : (found : Result AirportFiles FilesFault) (season : List ℕ) (shelf : ShelfState) (before after : World) (status : Status)
+    → ImportsFound found season (around shelf before) (around after.shelf after) status → is_read_fault status ≡ false
+import_read (Ok files) season shelf before after status imports =
+    let counts : CountsImport status (around shelf before) (around after.shelf after) =
+    import_met files season (around shelf before) (around after.shelf after) imports.met status imports.meets imports.tells in counts.read
+import_read (Err fault) season shelf before after status (same, tells) = found_read (Err fault) before.sink after.sink status tells
+
+-- what a word that needs no file ends with
+record SpeaksOfSink (status : Status) : Type 0 where
+  pub shelf : is_shelf_fault status ≡ false
+  pub read : is_read_fault status ≡ false
+  pub disk : is_disk_fault status ≡ false
+
+print_speaks : (text : List ℕ) (before after : SinkState) (status : Status) → Writes text Done WriteFault before after status → SpeaksOfSink status
+print_speaks text before after status tells =
+    let print : Printed status before after = printed text before after status tells in record { shelf = print.shelf; read = print.read; disk = print.disk }
+
+line_speaks : (text : List ℕ) (of : Status) (before after : SinkState) (status : Status) → SpeaksOfSink of → Writes text of of before after status → SpeaksOfSink status
+line_speaks text of before after status speaks tells =
+    let lines : Lines status of before after = lines_of text of before after status tells in
+    record { shelf = ap is_shelf_fault lines.is ∙ speaks.shelf; read = ap is_read_fault lines.is ∙ speaks.read; disk = ap is_disk_fault lines.is ∙ speaks.disk }
+
+day_speaks : (visits : ℕ) (before after : SinkState) (status : Status) → TellsDay visits before after status → SpeaksOfSink status
+day_speaks visits before after status (inl day) = print_speaks _ before after status day.writes
+day_speaks visits before after status (inr tells) = line_speaks _ Memory before after status (record { shelf = refl; read = refl; disk = refl }) tells
+
+usage_speaks : (before after : SinkState) (status : Status) → Writes usage_text Usage Usage before after status → SpeaksOfSink status
+usage_speaks before after status tells = line_speaks usage_text Usage before after status (record { shelf = refl; read = refl; disk = refl }) tells
+
+module _ (before after : World) (status : Status) where
+  -- the word uses the shelf where that fails
+  shelf_used : (asked : Asked) → Does asked before after status → is_shelf_fault status ≡ true → uses_shelf asked ≡ true
+  shelf_used (desk airport types) does is = refl
+  shelf_used (init airport types) does is = refl
+  shelf_used (check airport types) does is = refl
+  shelf_used (chart airport types day) does is = refl
+  shelf_used (import airport types season) does is = refl
+  shelf_used (export airport types) does is = refl
+  shelf_used (make visits) does is = let speaks = day_speaks visits before.sink after.sink status does in absurd (not_both (is_shelf_fault status) speaks.shelf is)
+  shelf_used help does is = let speaks = print_speaks _ before.sink after.sink status does in absurd (not_both (is_shelf_fault status) speaks.shelf is)
+  shelf_used version does is = let speaks = print_speaks _ before.sink after.sink status does in absurd (not_both (is_shelf_fault status) speaks.shelf is)
+  shelf_used faulty does is = let speaks = usage_speaks before.sink after.sink status does in absurd (not_both (is_shelf_fault status) speaks.shelf is)
+
+  -- and the source where that does
+  source_used : (asked : Asked) → Does asked before after status → is_read_fault status ≡ true → uses_source asked (code_of ReadFault) ≡ true
+  source_used (desk airport types) does is = refl
+  source_used (init airport types) does is =
+      let counts : CountsAs does.found status (outs_of before) (outs_of after) = inits_as does.found (outs_of before) (outs_of after) status does.inits in
+      absurd (not_both (is_read_fault status) counts.read is)
+  source_used (check airport types) does is = absurd (not_both (is_read_fault status) (found_read does.found before.sink after.sink status does.tells) is)
+  source_used (chart airport types day) does is =
+      let counts : CountsChart does.found status (outs_of before) (outs_of after) = chart_found does.found day (outs_of before) (outs_of after) status does.charts in
+      absurd (not_both (is_read_fault status) counts.read is)
+  source_used (import airport types season) does is =
+      absurd (not_both (is_read_fault status) (import_read does.found season does.shelf before after status does.imports) is)
+  source_used (export airport types) does is =
+      let counts : CountsChart does.found status (outs_of before) (outs_of after) = export_found does.found (outs_of before) (outs_of after) status does.exports in
+      absurd (not_both (is_read_fault status) counts.read is)
+  source_used (make visits) does is = let speaks = day_speaks visits before.sink after.sink status does in absurd (not_both (is_read_fault status) speaks.read is)
+  source_used help does is = let speaks = print_speaks _ before.sink after.sink status does in absurd (not_both (is_read_fault status) speaks.read is)
+  source_used version does is = let speaks = print_speaks _ before.sink after.sink status does in absurd (not_both (is_read_fault status) speaks.read is)
+  source_used faulty does is = let speaks = usage_speaks before.sink after.sink status does in absurd (not_both (is_read_fault status) speaks.read is)
+
+  -- and the disk
+  disk_used : (asked : Asked) → Does asked before after status → is_disk_fault status ≡ true → uses_disk asked (code_of DiskFault) ≡ true
+  disk_used (desk airport types) does is = refl
+  disk_used (init airport types) does is = refl
+  disk_used (check airport types) does is = absurd (not_both (is_disk_fault status) (found_disk does.found before.sink after.sink status does.tells) is)
+  disk_used (chart airport types day) does is = refl
+  disk_used (import airport types season) does is = refl
+  disk_used (export airport types) does is = refl
+  disk_used (make visits) does is = let speaks = day_speaks visits before.sink after.sink status does in absurd (not_both (is_disk_fault status) speaks.disk is)
+  disk_used help does is = let speaks = print_speaks _ before.sink after.sink status does in absurd (not_both (is_disk_fault status) speaks.disk is)
+  disk_used version does is = let speaks = print_speaks _ before.sink after.sink status does in absurd (not_both (is_disk_fault status) speaks.disk is)
+  disk_used faulty does is = let speaks = usage_speaks before.sink after.sink status does in absurd (not_both (is_disk_fault status) speaks.disk is)
+
+-- the faults that a run tells have their causes
+pub faults_have_cause : (asked : Asked) (before after : World) (code : ℕ) → RunsAs asked before after code → FaultsHaveCause asked before after code
+faults_have_cause asked before after code runs =
+    let status : Status = runs.status in
+    record {
+      shelf = λ is.
+          let told : is_shelf_fault status ≡ true = shelf_code status (sym runs.code_is ∙ is) in (
+            shelf_used before after status asked runs.does told,
+            rose_by (is_shelf_fault status) before.shelf.faults after.shelf.faults told runs.shelf,
+          );
+      source = λ is.
+          let told : is_read_fault status ≡ true = read_code status (sym runs.code_is ∙ is) in (
+            subst (λ (n : ℕ). uses_source asked n ≡ true) (sym is) (source_used before after status asked runs.does told),
+            rose_by (is_read_fault status) before.source.faults after.source.faults told runs.source,
+          );
+      sink = λ is. sink_rose status before.sink.faults after.sink.faults (write_code status (sym runs.code_is ∙ is)) runs.sink;
+      disk = λ is.
+          let told : is_disk_fault status ≡ true = disk_code status (sym runs.code_is ∙ is) in (
+            subst (λ (n : ℕ). uses_disk asked n ≡ true) (sym is) (disk_used before after status asked runs.does told),
+            disk_rose asked status before.disk.faults after.disk.faults told runs.disk,
+          );
+    }
+
+-- no count rose to 0
+never_zero : (before now : ℕ) → now ≡ 0 → Rose before now → ⊥
+never_zero before now none rose = let least : min (before + 1) last_count ≤ now = rose in absurd (omega arith)
+
+pub no_fault_told : NoFaultIsTold
+no_fault_told asked before after code runs shelf source sink =
+    let causes : FaultsHaveCause asked before after code = faults_have_cause asked before after code runs in (
+      λ is. let fails = causes.shelf is in never_zero before.shelf.faults after.shelf.faults shelf fails.1,
+      λ is. let fails = causes.source is in never_zero before.source.faults after.source.faults source fails.1,
+      λ is. never_zero before.sink.faults after.sink.faults sink (causes.sink is),
+    )

@@ -1,0 +1,36 @@
+-- Every run is complete.
+use Rattle.std.proofs.Common.{◌≡◌, ◌∙◌, ◌⊎◌, ℕ, inl, inr, ap}
+use Rattle.apron_run.specs.Complete.{EndsWell, IsComplete, IsValid, NoneFails}
+use Rattle.apron_run.specs.Run.{Does, RunsAs}
+use Rattle.apron_run.specs.Statuses.{code_of}
+use Rattle.apron_run.specs.Words.{Asked, desk, init, check, chart, import, export, make, help, version, faulty}
+use Rattle.apron_run.specs.World.{World}
+use Rattle.apron_run.specs.declared.status.Status.{Status}
+use Rattle.apron_run.proofs.Completing.{Well, chart_well, check_well, export_well, import_well, init_well, make_well, print_well}
+use Rattle.apron_run.proofs.Sessions.{desk_well}
+
+-- each word
+does_well : (asked : Asked) (before after : World) (status : Status) → IsValid asked before → NoneFails before after → Does asked before after status → Well status
+does_well (desk airport types) before after status (made, has, (history, journal, input)) free does =
+    desk_well made history airport types before after status has journal input free does
+does_well (init airport types) before after status (made, has, empty) free does =
+    init_well made airport types before after status has empty free.shelf free.sink free.disk does
+does_well (check airport types) before after status (made, has, rest) free does = check_well made airport types before after status has free.shelf free.sink does
+does_well (chart airport types day) before after status (made, has, (history, journal, named)) free does =
+    chart_well made history airport types day before after status has journal named free.shelf free.sink free.disk does
+does_well (import airport types season) before after status (made, has, (history, journal, valid)) free does =
+    import_well made history airport types season before after status has journal valid free.shelf free.sink free.disk does
+does_well (export airport types) before after status (made, has, (history, journal, rest)) free does =
+    export_well made history airport types before after status has journal free.shelf free.sink free.disk does
+does_well (make visits) before after status valid free does = make_well visits before.sink after.sink status free.sink does
+does_well help before after status valid free does = print_well _ before.sink after.sink status free.sink does
+does_well version before after status valid free does = print_well _ before.sink after.sink status free.sink does
+does_well faulty before after status valid free does = absurd valid
+
+ends_well : (status : Status) (code : ℕ) → code ≡ code_of status → Well status → EndsWell code
+ends_well status code is (inl done) = inl (is ∙ ap code_of done)
+ends_well status code is (inr wanting) = inr (is ∙ ap code_of wanting)
+
+pub run_complete : (asked : Asked) (before after : World) (code : ℕ) → RunsAs asked before after code → IsComplete asked before after code
+run_complete asked before after code runs =
+    record { well = λ valid free. ends_well runs.status code runs.code_is (does_well asked before after runs.status valid free runs.does) }

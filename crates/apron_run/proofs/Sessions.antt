@@ -1,0 +1,222 @@
+-- How a session of the word `desk` ends that is valid and at whose ends nothing fails.
+use Rattle.std.proofs.Common.{◌≡◌, ◌≢◌, ◌∙◌, ◌<◌, ◌≤◌, ◌+◌, ◌⊎◌, ℕ, true, false, List, [], ◌∷◌, ◌++◌, length, take, Option, Some, Result, Ok, Err, inl, inr, refl, sym, ap, ap₂, subst, arith}
+use Rattle.std.specs.Prelude.{All, cond, count_by, is_ok}
+use Rattle.std.specs.Io.KnownBytes.{Consumes}
+use Rattle.std.proofs.lemmas.List.{take_all}
+use Rattle.std.proofs.lemmas.List.Elements.{All-head, All-tail}
+use Rattle.std.proofs.lemmas.List.Sums.{sum_by-append, sum_by-cons}
+use Rattle.apron_base.specs.Counts.{Rose}
+use Rattle.apron_base.specs.Ends.{SinkState}
+use Rattle.apron_base.specs.declared.outside.Outcome.{Outcome}
+use Rattle.apron_base.specs.declared.outside.Outcome.TheVariants as came
+use Rattle.apron_rules.specs.declared.parts.AirportParts.{AirportParts}
+use Rattle.http_framing.specs.Laws.{IsChoice}
+use Rattle.http_framing.specs.declared.bodies.Refusal.{Refusal}
+use Rattle.http_framing.specs.Requests.{HasRequest, Request}
+use Rattle.http_framing.specs.Streams.{Ending, ended, cut, closed, malformed, IsOpen, Requests, Splits}
+use Rattle.http_framing.proofs.OneReading.{HasRequest-unique, one_reading, request_ends}
+use Rattle.http_framing.proofs.StreamLaws.{splits_more, whole_more}
+use Rattle.desk_words.specs.declared.asks.Ask.{Ask}
+use Rattle.desk_words.specs.declared.asks.Entry.{Entry}
+use Rattle.desk_words.specs.declared.early.Early.{Early}
+use Rattle.history_core.specs.History.{call_limit}
+use Rattle.history_core.specs.Opening.{next_after}
+use Rattle.desk_http.specs.Alone.{AloneAsks, numbers_from}
+use Rattle.desk_http.specs.Answers.{Answers, FindsExhausted, SendsFor, Sent, at_once, given}
+use Rattle.desk_http.specs.Complete.{AnswersEach, ComesToEnd, IsUnhindered}
+use Rattle.desk_http.specs.Ports.{PortState}
+use Rattle.desk_http.specs.Routes.{routed}
+use Rattle.desk_http.specs.Runs.{Runs}
+use Rattle.desk_http.specs.Session.{EndsAfter, Last, Moment, SessionOf, most_requests, nothing, refusal, reply}
+use Rattle.desk_http.proofs.Complete.{GoesOnBehind, listed_behind, sessions_complete}
+use Rattle.desk_http.proofs.OneDesk.{length-numbers_from}
+use Rattle.apron_check.specs.declared.files.AirportFiles.{AirportFiles}
+use Rattle.apron_check.specs.declared.faults.FilesFault.TheVariants as files
+use Rattle.apron_run.specs.Complete.{EndsInTime, HasFiles, HasInput, HasJournal, NoneFails, count_of_asks}
+use Rattle.apron_run.specs.Desk.{MeetsDesk, RunsDesk, RunsFound, ServesDesk, TellsMet, TellsOutcome, begun, moment}
+use Rattle.apron_run.specs.Headline.{Sends, is_given}
+use Rattle.apron_run.specs.Statuses.{status_of_outcome}
+use Rattle.apron_run.specs.Unusable.{status_of_unusable}
+use Rattle.apron_run.specs.World.{Ends, World, ends_of}
+use Rattle.apron_run.specs.declared.status.Status.{Status}
+use Rattle.apron_run.specs.declared.status.Status.TheVariants.{Done, Memory}
+use Rattle.apron_run.specs.declared.unusable.Unusable.{Unusable}
+use Rattle.apron_run.proofs.Calls.{Leaves, run_leaves}
+use Rattle.apron_run.proofs.Completing.{Well, goes_well, memory_well, unopened_well}
+use Rattle.apron_run.proofs.Endings.{HasLeft, has_left}
+use Rattle.apron_run.proofs.Valid.{opened_once, unopened_wants}
+
+module _ (airport : AirportParts) where
+  -- a reply was given by the board exactly where the request asks something of the plan
+  sent_asks : (before after : PortState) (asked : Result Ask Early) (sent : Sent) → SendsFor AloneAsks airport before asked sent after → is_given sent ≡ is_ok asked
+  sent_asks before after (Err early) (at_once sent) h = refl
+  sent_asks before after (Err early) (given answer) h = absurd h
+  sent_asks before after (Ok ask) (at_once sent) h = absurd h
+  sent_asks before after (Ok ask) (given answer) h = refl
+
+  runs_ask : (before after : PortState) (requests : List Request) (sents : List Sent) → Runs (Sends airport) before requests sents after
+      → count_by is_given sents ≡ count_of_asks airport requests
+  runs_ask before after [] [] same = refl
+  runs_ask before after (request ∷ requests) (sent ∷ sents) (mid, one, rest) =
+      let first : is_given sent ≡ is_ok (routed airport request) = sent_asks before mid (routed airport request) sent one in
+      let more : count_by is_given sents ≡ count_of_asks airport requests = runs_ask mid after requests sents rest in
+      sum_by-cons (λ (x : Sent). cond (is_given x) 1 0) sent sents
+      ∙ (ap₂ (λ m n. m + n) (ap (λ b. cond b 1 0) first) more ∙ sym (sum_by-cons (λ (x : Request). cond (is_ok (routed airport x)) 1 0) request requests))
+  runs_ask before after [] (sent ∷ sents) h = absurd h
+  runs_ask before after (request ∷ requests) [] h = absurd h
+
+  -- requests of which one asks something
+  asks_with : (front : List Request) (request : Request) (back : List Request) → is_ok (routed airport request) ≡ true
+      → count_of_asks airport front < count_of_asks airport (front ++ request ∷ back)
+  asks_with front request back asks =
+      let all : count_of_asks airport (front ++ request ∷ back) ≡ count_of_asks airport front + count_of_asks airport (request ∷ back) =
+      sum_by-append (λ (x : Request). cond (is_ok (routed airport x)) 1 0) front (request ∷ back) in
+      let rest : count_of_asks airport (request ∷ back) ≡ cond {A = ℕ} (is_ok (routed airport request)) 1 0 + count_of_asks airport back =
+      sum_by-cons (λ (x : Request). cond (is_ok (routed airport x)) 1 0) request back in
+      let one : cond {A = ℕ} (is_ok (routed airport request)) 1 0 ≡ 1 = ap (λ b. cond {A = ℕ} b 1 0) asks in
+      omega arith
+
+  -- an ask found the port exhausted
+  record FoundSpent (before after : PortState) (asked : Result Ask Early) : Type 0 where
+    pub asks : is_ok asked ≡ true
+    pub left : after ≡ record before { spent = true }
+
+  found_spent : (before after : PortState) (asked : Result Ask Early) → FindsExhausted AloneAsks airport before asked after → FoundSpent before after asked
+  found_spent before after (Err early) h = absurd h
+  found_spent before after (Ok ask) h = record { asks = refl; left = h }
+
+-- the request at the front of some bytes is the first that is listed of them
+first_listed : (bytes : List ℕ) (request : Request) (behind : List ℕ) (listed : List Request) (ending : Ending) → HasRequest bytes request behind → Requests bytes listed ending
+    → (more : List Request) × (listed ≡ request ∷ more)
+first_listed bytes request behind [] ending whole reads = absurd (request_ends bytes request behind ending whole reads)
+first_listed bytes request behind (first ∷ more) ending whole reads =
+    let same = HasRequest-unique bytes request first behind reads.0 whole reads.1 in (more, ap (λ (r : Request). r ∷ more) (sym same.0))
+
+-- no session finds its call numbers used up that has enough of them for its input
+module _ (airport : AirportParts) (before after : Moment) (input : List ℕ) (told : before.source.left ≡ Some input) (listed : List Request) (ending : Ending)
+    (reads : Requests input listed ending) (session : SessionOf AloneAsks airport before after came.Spent) (none : before.port.calls ≡ [])
+    (used : after.port.spent ≡ true → after.port.first + length after.port.calls ≡ call_limit)
+    (numbers : before.port.first + count_of_asks airport listed ≤ call_limit) where
+  at_last : (last : Last) → EndsAfter (Answers AloneAsks airport) came.Spent session.done last session.served after.port → ⊥
+  at_last nothing (request, first) =
+      let done = session.done in
+      let served : PortState = session.served in
+      let took = session.took in
+      let more : HasLeft input session.taken after.source.left =
+      has_left input session.taken after.source.left (subst (λ l. Consumes l after.source.left session.taken) told took.left) in
+      let splits : Splits input done.requests (done.rest ++ more.rest) =
+      subst (λ i. Splits i done.requests (done.rest ++ more.rest)) (sym more.front) (splits_more session.taken more.rest done.rest done.requests session.splits) in
+      let behind : GoesOnBehind done.requests listed (done.rest ++ more.rest) ending =
+      listed_behind input (done.rest ++ more.rest) done.requests listed ending splits session.stay reads in
+      let (others, next) = first_listed (done.rest ++ more.rest) request (first.behind ++ more.rest) behind.more ending
+      (whole_more done.rest more.rest request first.behind first.first) behind.reads in
+      let found : FoundSpent airport served after.port (routed airport request) = found_spent airport served after.port (routed airport request) first.comes in
+      let are : listed ≡ done.requests ++ request ∷ others = behind.are ∙ ap (λ (rs : List Request). done.requests ++ rs) next in
+      let count : ℕ = count_by is_given done.sents in
+      let leaves : Leaves airport before.port served count = run_leaves airport before.port served done.requests done.sents session.runs in
+      let calls : served.calls ≡ numbers_from before.port.first (0 + count) = leaves.calls 0 none in
+      let made : length served.calls ≡ 0 + count = ap length calls ∙ length-numbers_from before.port.first (0 + count) in
+      let same_calls : length after.port.calls ≡ length served.calls = ap (λ (p : PortState). length p.calls) found.left in
+      let same_first : after.port.first ≡ before.port.first = ap (λ (p : PortState). p.first) found.left ∙ leaves.first in
+      let all : after.port.first + length after.port.calls ≡ call_limit = used (ap (λ (p : PortState). p.spent) found.left) in
+      let asked : count ≡ count_of_asks airport done.requests = runs_ask airport before.port served done.requests done.sents session.runs in
+      let fewer : count_of_asks airport done.requests < count_of_asks airport (done.requests ++ request ∷ others) = asks_with airport done.requests request others found.asks in
+      let most : count_of_asks airport listed ≡ count_of_asks airport (done.requests ++ request ∷ others) = ap (count_of_asks airport) are in
+      absurd (omega arith)
+  at_last (reply request sent) ends = absurd ends.0
+  at_last (refusal why) ends = absurd ends.0
+
+  spent_never : ⊥
+  spent_never = at_last session.last session.ends
+
+-- an input of requests that leave the session open doesn't end with one that closes it
+open_not_closed : (bytes : List ℕ) (requests : List Request) → Requests bytes requests closed → All IsOpen requests → ⊥
+open_not_closed bytes [] reads stay = reads
+open_not_closed bytes (request ∷ requests) reads stay =
+    open_not_closed reads.0 requests (reads.3 (All-head IsOpen request requests stay)) (All-tail IsOpen request requests stay)
+
+not_cut : (ending : Ending) (count : ℕ) → EndsInTime ending count → (cut ≡ ending) ⊎ IsChoice cut ending → ⊥
+not_cut ended count ends (inl is) = cc
+not_cut ended count ends (inr choice) = choice
+not_cut closed count ends (inl is) = cc
+not_cut closed count ends (inr choice) = choice
+not_cut other count ends same = ends
+
+not_malformed : (ending : Ending) (count : ℕ) (why : Refusal) → EndsInTime ending count → (malformed why ≡ ending) ⊎ IsChoice (malformed why) ending → ⊥
+not_malformed ended count why ends (inl is) = cc
+not_malformed ended count why ends (inr choice) = choice
+not_malformed closed count why ends (inl is) = cc
+not_malformed closed count why ends (inr choice) = choice
+not_malformed other count why ends same = ends
+
+-- a session whose input ends in time comes to that end
+module _ (input : List ℕ) (listed : List Request) where
+  not_limit : (ending : Ending) (requests : List Request) → Requests input listed ending → EndsInTime ending (length listed) → requests ≡ take most_requests listed
+      → All IsOpen requests → length requests ≡ most_requests → ⊥
+  not_limit ended requests reads ends are stay most =
+      let all : take most_requests listed ≡ listed = take_all most_requests listed (omega arith) in
+      let same : length requests ≡ length listed = ap length (are ∙ all) in
+      absurd (omega arith)
+  not_limit closed requests reads ends are stay most =
+      let all : take most_requests listed ≡ listed = take_all most_requests listed ends in
+      open_not_closed input listed reads (subst (All IsOpen) (are ∙ all) stay)
+  not_limit other requests reads ends are stay most = ends
+
+  comes_to_done : (outcome : Outcome) (ending : Ending) (requests : List Request) (last : List ℕ) → Requests input listed ending → EndsInTime ending (length listed)
+      → requests ≡ take most_requests listed → ComesToEnd outcome input requests last → status_of_outcome outcome ≡ Done
+  comes_to_done came.Ended ending requests last reads ends are to = refl
+  comes_to_done came.Closed ending requests last reads ends are to = refl
+  comes_to_done came.Cut ending requests last reads ends are to =
+      absurd (not_cut ending (length listed) ends (one_reading input requests listed cut ending to.0 reads).1)
+  comes_to_done came.Malformed ending requests last reads ends are (why, bad, is) =
+      absurd (not_malformed ending (length listed) why ends (one_reading input requests listed (malformed why) ending bad reads).1)
+  comes_to_done came.Limit ending requests last reads ends are (stay, most, none) = absurd (not_limit ending requests reads ends are stay most)
+  comes_to_done other ending requests last reads ends are to = absurd to
+
+-- a session on a journal
+module _ (made : AirportFiles) (history : List Entry) (before after : Ends) (mid : SinkState) (status : Status) (has : HasJournal made before.disk history)
+    (valid : HasInput made.airport before.source history) (source : ¬ (Rose before.source.faults after.source.faults)) (sink : ¬ (Rose before.sink.faults after.sink.faults))
+    (disk : ¬ (Rose before.disk.faults after.disk.faults)) where
+  -- that wanted neither memory nor a call number
+  other_well : (outcome : Outcome) → outcome ≢ came.Memory → outcome ≢ came.Spent
+      → ServesDesk made before (record { source = after.source; sink = mid; disk = after.disk }) outcome
+      → (after.sink ≡ mid) × (status ≡ status_of_outcome outcome) → Well status
+  other_well outcome memory spent serves (same, is) =
+      let start : Moment = moment before (begun serves.opened before.disk.faults) in
+      let end : Moment = moment (record { source = after.source; sink = mid; disk = after.disk }) serves.port in
+      let free : IsUnhindered start end outcome = record {
+        memory = memory;
+        numbers = spent;
+        source = source;
+        sink = subst (λ (s : SinkState). ¬ (Rose before.sink.faults s.faults)) same sink;
+      } in
+      let each : AnswersEach AloneAsks made.airport start end outcome valid.input =
+      sessions_complete AloneAsks made.airport start end outcome serves.session valid.input valid.told free in
+      inl (is ∙ comes_to_done valid.input valid.requests outcome valid.ending each.requests each.last valid.reads valid.ends
+      (each.each valid.requests valid.ending valid.reads) each.ends)
+
+  numbers_last : ServesDesk made before (record { source = after.source; sink = mid; disk = after.disk }) came.Spent → ⊥
+  numbers_last serves =
+      let same : serves.opened ≡ history = opened_once made before.disk after.disk history has serves.opened serves.opens in
+      spent_never made.airport (moment before (begun serves.opened before.disk.faults))
+      (moment (record { source = after.source; sink = mid; disk = after.disk }) serves.port) valid.input valid.told valid.requests valid.ending valid.reads serves.session refl serves.spent
+      (subst (λ (es : List Entry). next_after es + count_of_asks made.airport valid.requests ≤ call_limit) (sym same) valid.numbers)
+
+  session_well : (outcome : Outcome) → ServesDesk made before (record { source = after.source; sink = mid; disk = after.disk }) outcome
+      → TellsOutcome outcome mid after.sink status → Well status
+  session_well came.Memory serves tells = memory_well mid after.sink status tells
+  session_well came.Spent serves tells = absurd (numbers_last serves)
+  session_well other serves tells = other_well other (λ is. cc) (λ is. cc) serves tells
+
+  pub met_well : (met : Result Outcome Unusable) → MeetsDesk made before (record { source = after.source; sink = mid; disk = after.disk }) met
+      → TellsMet met mid after.sink status → Well status
+  met_well (Ok outcome) meets tells = session_well outcome meets tells
+  met_well (Err why) meets tells = unopened_well why mid after.sink status (unopened_wants made before.disk after.disk history has why meets.disk disk) tells
+
+-- a run of the word `desk`
+pub desk_well : (made : AirportFiles) (history : List Entry) (airport types : List ℕ) (before after : World) (status : Status) → HasFiles before.shelf airport types made
+    → HasJournal made before.disk history → HasInput made.airport before.source history → NoneFails before after → RunsDesk airport types before after status → Well status
+desk_well made history airport types before after status has journal valid free runs =
+    goes_well made before.shelf after.shelf airport types has free.shelf (λ found. RunsFound found (ends_of before) (ends_of after) status) status
+    (λ does. met_well made history (ends_of before) (ends_of after) does.sink status journal valid free.source free.sink free.disk does.met does.meets does.tells)
+    (λ does. memory_well before.sink after.sink status does.2) runs.found runs.finds runs.runs

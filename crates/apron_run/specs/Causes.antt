@@ -1,0 +1,26 @@
+-- Why a run ends with the status of an end that failed.
+use Rattle.std.specs.Prelude.{◌≡◌, ◌≢◌, ℕ, Bool, true}
+use Rattle.apron_base.specs.Counts.{Rose}
+use Rattle.apron_run.specs.Run.{RunsAs}
+use Rattle.apron_run.specs.Statuses.{code_of}
+use Rattle.apron_run.specs.Words.{Asked, uses_disk, uses_shelf, uses_source}
+use Rattle.apron_run.specs.World.{World}
+use Rattle.apron_run.specs.declared.status.Status.TheVariants.{ShelfFault, ReadFault, WriteFault, DiskFault}
+
+-- an end is used, and its count of faults rose
+abbrev pub FailsInUse : Bool → ℕ → ℕ → Type 0
+FailsInUse used before after = (used ≡ true) × Rose before after
+
+-- A run ends with the status of the shelf, the source, the sink or the disk only where its count of faults rose in the run, which uses it for what is asked:
+-- every run uses the sink.
+pub record FaultsHaveCause (asked : Asked) (before after : World) (code : ℕ) : Type 0 where
+  pub shelf : code ≡ code_of ShelfFault → FailsInUse (uses_shelf asked) before.shelf.faults after.shelf.faults
+  pub source : code ≡ code_of ReadFault → FailsInUse (uses_source asked code) before.source.faults after.source.faults
+  pub sink : code ≡ code_of WriteFault → Rose before.sink.faults after.sink.faults
+  pub disk : code ≡ code_of DiskFault → FailsInUse (uses_disk asked code) before.disk.faults after.disk.faults
+
+-- a run whose shelf, source and sink count no fault ends with none of their statuses
+abbrev pub NoFaultIsTold : Type 0
+NoFaultIsTold = (asked : Asked) (before after : World) (code : ℕ) → RunsAs asked before after code
+    → after.shelf.faults ≡ 0 → after.source.faults ≡ 0 → after.sink.faults ≡ 0
+    → (code ≢ code_of ShelfFault) × (code ≢ code_of ReadFault) × (code ≢ code_of WriteFault)

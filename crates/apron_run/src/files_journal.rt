@@ -1,0 +1,78 @@
+// The journal of two files.
+//
+// A board knows its keeper by what every keeper tells, and that is no header. So the digests of the files stand in the type:
+// whatever a board does with such a journal, it stays the journal of these files.
+ghost use Rattle.std.specs.Prelude.{◌≡◌, ℕ, List, [], IfSome};
+ghost use Rattle.journal_disk.specs.Extent.{IsCrashSafe};
+ghost use Rattle.apron_run.specs.Journal.{IsOf};
+
+use apron_base::{Failed, Keeper, Memory};
+use journal_disk::{Disk, Journal};
+use std::alloc::Global;
+use std::marker::{Brand, Model, PhantomData};
+
+/// The two files that a journal is of.
+pub trait OfFiles {
+    /// The digest of the airport file, and then that of the type file, 32 bytes each.
+    ghost digests: { List ℕ };
+}
+
+impl OfFiles for Brand {
+    ghost digests = { [] };
+}
+
+/// A journal whose disk, where it tells what it reads as, has the digests of these files in its header. Contracts see the
+/// journal.
+#[derive(Drop)]
+pub struct FilesJournal<N: OfFiles, D: Disk> {
+    journal: Journal<D>,
+    of: PhantomData<N>,
+}
+
+impl<N: OfFiles, D: Disk> Model for FilesJournal<N, D> {
+    ghost use Rattle.std.specs.Prelude.{IfSome};
+    ghost use Rattle.journal_disk.specs.Extent.{JournalHeld};
+    ghost use Rattle.apron_run.specs.Journal.{IsOf};
+
+    ghost Value = { JournalHeld D };
+
+    ghost view = { λ f. f.journal };
+
+    ghost invariant = { λ f. IfSome (D.state f.journal.disk).contents (IsOf N.digests) };
+}
+
+impl<N: OfFiles, D: Disk> FilesJournal<N, D> {
+    /// The journal of these files, as it was opened.
+    pub(crate) fn new(journal: Journal<D>) -> FilesJournal<N, D>
+        requires digests { IfSome (D.state journal.disk).contents (IsOf N.digests) }
+        ensures journal { result ≡ journal }
+    {
+        FilesJournal {
+            journal,
+            of: PhantomData,
+        }
+    }
+
+    /// The disk as it is: the journal's entries are on it, or these and the one at risk, behind the header of these files.
+    pub(crate) fn into_disk(self) -> D
+        ensures disk { result ≡ self.disk }
+        ensures entries { IsCrashSafe self.extent (D.state result) }
+        ensures digests { IfSome (D.state result).contents (IsOf N.digests) }
+    {
+        self.journal.into_disk()
+    }
+}
+
+impl<N: OfFiles, D: Disk> Keeper for FilesJournal<N, D> {
+    ghost use Rattle.journal_disk.specs.Extent.{keeper_of};
+
+    ghost state = { λ f. keeper_of f.extent (D.state f.disk) };
+
+    fn ready(&mut self, alloc: Global, length: usize) -> Result<(), Memory> {
+        self.journal.ready(alloc, length)
+    }
+
+    fn append(&mut self, entry: &[u8]) -> Result<(), Failed> {
+        self.journal.append(entry)
+    }
+}
