@@ -1,5 +1,8 @@
-//! apron: airport stand allocation, from the words of the command line, files, standard input and standard output.
+//! apron: airport stand allocation, from the words of the command line, files, standard input and standard output, and
+//! connections over TCP.
 #![tactic(auto)]
+
+mod desks;
 
 use apron_base::{FileShelf, Memory, Reading, Word, Writing};
 use apron_run::{Status, run};
@@ -11,6 +14,9 @@ use std::{env, io};
 
 fn main(rt: HostRuntime) -> ExitCode {
     let status = match words(&rt) {
+        Ok(words) if desks::are_asked(words.as_slice()) => {
+            desks::serve_words(&rt, words.as_slice(), &mut Writing::new(rt.stdout()))
+        }
         Ok(words) => run_words(&rt, words.as_slice()),
         Err(Memory) => Status::Memory.code(),
     };

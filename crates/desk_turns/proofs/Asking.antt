@@ -20,7 +20,7 @@ use Rattle.turn_board.specs.declared.view.Call.{Call}
 use Rattle.desk_http.specs.Ports.{CountsGiven, ShowsAsk, Turn}
 use Rattle.desk_turns.specs.Seats.{is_risen, number_of, port_of}
 
-every_map : (P : ℕ → Type 0) (calls : List Call) → Every (λ (call : Call). P call.number) calls → Every P (map number_of calls)
+pub every_map : (P : ℕ → Type 0) (calls : List Call) → Every (λ (call : Call). P call.number) calls → Every P (map number_of calls)
 every_map P [] h = tt
 every_map P (call ∷ calls) h = (h.0, every_map P calls h.1)
 

@@ -1,3 +1,4 @@
 mod Asking
+mod Together
 mod Working
 pub mod Crosses

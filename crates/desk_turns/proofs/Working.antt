@@ -1,8 +1,8 @@
 -- One connection more, and the failure of a listener behind them.
-use Rattle.std.proofs.Common.{◌≡◌, ◌∙◌, ◌+◌, ◌<◌, ◌≤◌, ℕ, Bool, true, false, append-nil, List, [], ◌∷◌, ◌++◌, length, map, Option, None, Some, refl, sym, ap, subst, append_assoc, arith, length-append}
+use Rattle.std.proofs.Common.{◌≡◌, ◌∙◌, ◌+◌, ◌<◌, ℕ, Bool, true, false, append-nil, List, [], ◌∷◌, ◌++◌, length, map, Option, None, Some, refl, sym, ap, subst, append_assoc, arith, length-append}
 use Rattle.std.specs.Option.{option_map}
 use Rattle.std.proofs.lemmas.List.{map-append}
-use Rattle.apron_base.specs.Counts.{Counts}
+use Rattle.apron_base.specs.Counts.{Counts, Rose}
 use Rattle.apron_base.specs.Keeper.{with_last}
 use Rattle.apron_base.specs.Listener.{ListenerState, TakesFirst, TakesNone, Finishes as IsFinished}
 use Rattle.apron_base.specs.declared.listener.Finished.{Finished}
@@ -11,8 +11,9 @@ use Rattle.desk_words.specs.declared.asks.Ask.{Ask}
 use Rattle.history_core.specs.Answer.{Given}
 use Rattle.desk_http.specs.Ports.{PortState}
 use Rattle.desk_http.specs.Session.{SessionOf}
+use Rattle.desk_turns.specs.declared.worker.WorkEnd.{WorkEnd}
 use Rattle.desk_turns.specs.declared.worker.WorkEnd.TheVariants.{Done, ListenerFault}
-use Rattle.desk_turns.specs.Work.{AreServed, Connection, EndStates, Finishes, Serves, WorkState, Works, come_of, finished_of}
+use Rattle.desk_turns.specs.Work.{AreServed, Connection, EndStates, Serves, TakesAndFinishes, WorkState, Works, come_of, finished_of}
 
 module _ {In Out : Type 0} where
   -- the connections to come, before both parts were accepted
@@ -37,7 +38,7 @@ module _ {In Out : Type 0} where
 
   -- connections and then others
   finishes_more : (failed : Bool) (before between after : ListenerState In Out) (xs ys : List (Connection In Out))
-      → Finishes false before between xs → Finishes failed between after ys → Finishes failed before after (xs ++ ys)
+      → TakesAndFinishes false before between xs → TakesAndFinishes failed between after ys → TakesAndFinishes failed before after (xs ++ ys)
   finishes_more failed before between after xs ys first second =
       let count = length-append xs ys in record {
         to_come = come_more xs ys _ _ _ first.to_come second.to_come;
@@ -56,7 +57,7 @@ module _ {In Out : Type 0} where
   none_behind (Some others) = ap Some (sym (append-nil others))
 
   -- nothing was finished yet
-  none_finished : (state : ListenerState In Out) → Finishes false state state []
+  none_finished : (state : ListenerState In Out) → TakesAndFinishes false state state []
   none_finished state = record {
     to_come = none_to_come state.to_come;
     finished = none_behind state.finished;
@@ -66,7 +67,7 @@ module _ {In Out : Type 0} where
   }
 
   -- a listener that failed
-  failed_finishing : (before after : ListenerState In Out) → TakesNone before after → Finishes true before after []
+  failed_finishing : (before after : ListenerState In Out) → TakesNone before after → TakesAndFinishes true before after []
   failed_finishing before after none = record {
     to_come = sym none.to_come ∙ none_to_come after.to_come;
     finished = none.finished ∙ none_behind before.finished;
@@ -126,13 +127,11 @@ module _ {In Out : Type 0} (states : EndStates In Out) (asks : AirportParts → 
   pub is_done : (count asked : ℕ) (before after : WorkState In Out) → SoFar count before after → count ≡ asked → Works states asks airport asked before after Done
   is_done count asked before after so all = record { connections = so.0; serves = so.1; count = so.2 ∙ all }
 
-  -- no more were finished than accepted
-  pub still_accepted : (count : ℕ) (before after : WorkState In Out) → SoFar count before after
-      → before.listener.ended ≤ before.listener.accepted → after.listener.ended ≤ after.listener.accepted
-  still_accepted count before after so few =
-      let accepted = so.1.finishes.accepted in
-      let ended = so.1.finishes.ended in
-      omega arith
+  -- a worker whose listener's count of faults didn't rise served all
+  pub done_unless : (asked : ℕ) (before after : WorkState In Out) (end : WorkEnd) → Works states asks airport asked before after end
+      → ¬ (Rose before.listener.faults after.listener.faults) → end ≡ Done
+  done_unless asked before after Done works none = refl
+  done_unless asked before after ListenerFault works none = absurd (none works.serves.finishes.faults.1)
 
   -- a connection was accepted, had its session and was finished
   pub one_served : (before taken after : ListenerState In Out) (port ported : PortState) (source : In) (sink : Out) (last : Finished In Out)

@@ -1,2 +1,4 @@
+pub mod Crew
 pub mod Seats
+pub mod Together
 pub mod Work

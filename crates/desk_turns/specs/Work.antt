@@ -49,7 +49,7 @@ module _ {In Out : Type 0} where
   finished_of connection = connection.finished
 
   -- these connections were accepted and finished, each in order, and another accept failed or none
-  pub record Finishes (failed : Bool) (before after : ListenerState In Out) (connections : List (Connection In Out)) : Type 0 where
+  pub record TakesAndFinishes (failed : Bool) (before after : ListenerState In Out) (connections : List (Connection In Out)) : Type 0 where
     pub to_come : before.to_come ≡ option_map (λ others. map come_of connections ++ others) after.to_come
     pub finished : after.finished ≡ option_map (λ others. others ++ map finished_of connections) before.finished
     pub accepted : after.accepted ≡ before.accepted + length connections
@@ -59,8 +59,8 @@ module _ {In Out : Type 0} where
 -- `asks` says what a port of the airport gives for an ask and what it becomes
 module _ {In Out : Type 0} (states : EndStates In Out) (asks : AirportParts → PortState → Ask → Given → PortState → Type 0) (airport : AirportParts) where
   -- the connection had a session of its own, and was finished with its outcome
-  abbrev pub IsServed : PortState → Connection In Out → PortState → Type 0
-  IsServed before connection after = SessionOf asks airport
+  abbrev pub HasSession : PortState → Connection In Out → PortState → Type 0
+  HasSession before connection after = SessionOf asks airport
       (record { source = states.source connection.source; sink = states.sink connection.sink; port = before })
       (record { source = states.source connection.finished.source; sink = states.sink connection.finished.sink; port = after })
       connection.finished.outcome
@@ -69,12 +69,12 @@ module _ {In Out : Type 0} (states : EndStates In Out) (asks : AirportParts → 
   abbrev pub AreServed : PortState → List (Connection In Out) → PortState → Type 0
   AreServed before [] after = after ≡ before
   AreServed before (connection ∷ connections) after =
-      (between : PortState) × IsServed before connection between × AreServed between connections after
+      (between : PortState) × HasSession before connection between × AreServed between connections after
 
   -- these connections were accepted, served one after the other and finished, and another accept failed or none
   pub record Serves (failed : Bool) (before after : WorkState In Out) (connections : List (Connection In Out)) : Type 0 where
     pub served : AreServed before.port connections after.port
-    pub finishes : Finishes failed before.listener after.listener connections
+    pub finishes : TakesAndFinishes failed before.listener after.listener connections
 
   -- one connection was served and finished, or the listener failed
   abbrev pub ServesNext : {T E : Type 0} → WorkState In Out → WorkState In Out → Result T E → Type 0

@@ -1,5 +1,6 @@
 // A worker: it serves the connections of its listener one after the other.
-ghost use Rattle.std.specs.Prelude.{◌≡◌, ◌≤◌};
+ghost use Rattle.std.specs.Prelude.{◌≡◌};
+ghost use Rattle.apron_base.specs.Counts.{Rose};
 ghost use Rattle.desk_turns.specs.Work.{ServesNext, Works};
 
 use apron_base::{Failed, Listener};
@@ -17,7 +18,8 @@ pub enum WorkEnd {
 }
 
 /// Accepts so many connections one after the other, serves a session on each over the port, and finishes it with the
-/// session's outcome, whatever that is. It ends before its time only where the listener fails.
+/// session's outcome, whatever that is. It ends before its time only where the listener fails, and its count of faults
+/// rises.
 pub fn work<P: DeskPort, L: Listener, R: Wait>(
     rt: &R,
     alloc: Global,
@@ -25,10 +27,10 @@ pub fn work<P: DeskPort, L: Listener, R: Wait>(
     listener: &mut L,
     connections: u32,
 ) -> WorkEnd
-    requires accepted { (L.state listener.old).ended ≤ (L.state listener.old).accepted }
     ensures works { Works (record { source = L.In.state; sink = L.Out.state }) P.asks (P.airport_of port.old) connections
         (record { listener = L.state listener.old; port = P.port port.old })
         (record { listener = L.state listener.new; port = P.port port.new }) result }
+    ensures done { ¬ (Rose (L.state listener.old).faults (L.state listener.new).faults) → result ≡ WorkEnd.Done }
     ensures airport { P.airport_of port.new ≡ P.airport_of port.old }
     ensures place { P.place port.new ≡ P.place port.old }
 {
@@ -47,7 +49,6 @@ fn serve_next<P: DeskPort, L: Listener, R: Wait>(
     port: &mut P,
     listener: &mut L,
 ) -> Result<(), Failed>
-    requires accepted { (L.state listener.old).ended ≤ (L.state listener.old).accepted }
     ensures serves { ServesNext (record { source = L.In.state; sink = L.Out.state }) P.asks (P.airport_of port.old)
         (record { listener = L.state listener.old; port = P.port port.old })
         (record { listener = L.state listener.new; port = P.port port.new }) result }

@@ -1,22 +1,22 @@
 // The system's TCP listener.
-ghost use Rattle.std.specs.Prelude.{◌≡◌};
+ghost use Rattle.std.specs.Prelude.{◌≡◌, IfOk};
 ghost use Rattle.tcp_desks.specs.Desks.{unused};
 
 use apron_base::{Failed, Listener, Outcome, Reading, Writing};
 use std::io;
 use std::io::ErrorKind;
 use std::marker::Model;
-use std::net::{Net, TcpListener, TcpStream};
+use std::net::{Net, SocketAddr, TcpListener, TcpStream};
 use std::sync::Wait;
 
 /// How often a connection that its peer gave up before it was accepted is passed over, before that counts as a fault.
 const MOST_RETRIES: u32 = 1_000;
 
-/// Connections over TCP, of which each reply is sent at once. It counts each error. Contracts see how many connections
-/// were accepted and finished, and how often an accept has failed; it tells no connection.
+/// Connections over TCP, of which each reply is sent at once. It counts each accept that failed. Contracts see that count and
+/// how many connections were accepted and finished; it tells no connection.
 #[derive(Drop)]
 pub struct TcpDesks {
-    // none where the address could not be bound
+    // none where it listens nowhere
     listener: Option<TcpListener>,
     accepted: u64,
     ended: u64,
@@ -35,15 +35,27 @@ impl Model for TcpDesks {
 }
 
 impl TcpDesks {
-    /// Listens at the address, as it is written: a host or an IP address, a colon and a port. Where it can't be bound
-    /// each accept fails.
+    /// Listens at the address, as it is written: an IPv4 address, an IPv6 address in brackets or a host's name, a colon
+    /// and a port. An address that a server had a moment ago can be bound again. At `Err` it is told why it can't be bound.
     pub fn bind<N: Net<Listener = TcpListener, Stream = TcpStream>>(
         net: &N,
         address: &str,
-    ) -> TcpDesks
+    ) -> io::Result<TcpDesks>
+        ensures unused { IfOk result (λ desks. desks ≡ unused) }
+    {
+        Ok(TcpDesks::over(Some(TcpListener::bind(net, address)?)))
+    }
+
+    /// Listens nowhere: each accept fails.
+    pub fn nowhere() -> TcpDesks
         ensures unused { result ≡ unused }
     {
-        TcpDesks::over(TcpListener::bind(net, address).ok())
+        TcpDesks::over(None)
+    }
+
+    /// The address that it listens at, with the port that the system chose where none was asked for.
+    pub fn address(&self) -> Option<SocketAddr> {
+        self.listener.as_ref()?.local_addr().ok()
     }
 
     /// Another one that accepts at the same address, for another worker. Where the system gives none each of its
@@ -148,11 +160,11 @@ mod tests {
 
     #[test]
     fn a_connection_is_read_written_and_closed(rt: HostRuntime) -> Result<(), Fail> {
-        let mut first = TcpDesks::bind(&rt, "127.0.0.1:0");
-        let Some(listener) = &first.listener else {
-            return Err(Fail::new("a listener"));
+        let first = TcpDesks::bind(&rt, "127.0.0.1:0")?;
+        let Some(address) = first.address() else {
+            return Err(Fail::new("an address"));
         };
-        let mut peer = TcpStream::connect(&rt, listener.local_addr()?)?;
+        let mut peer = TcpStream::connect(&rt, address)?;
         peer.write_all(b"ask.")?;
         let mut desks = first.beside();
         let Ok((mut source, mut sink)) = desks.accept(&rt) else {
@@ -173,11 +185,59 @@ mod tests {
 
     #[test]
     fn where_no_address_is_bound_each_accept_fails(rt: HostRuntime) -> Result<(), Fail> {
-        let mut desks = TcpDesks::bind(&rt, "no address");
+        let mut desks = TcpDesks::nowhere().beside();
         for faults in 1..4 {
             assert!(rt; desks.accept(&rt).is_err());
             assert_eq!(rt; (desks.accepted, desks.faults), (0, faults));
         }
+        Ok(())
+    }
+
+    // Whether the address is refused for this reason.
+    fn is_refused<N: Net<Listener = TcpListener, Stream = TcpStream>>(
+        net: &N,
+        address: &str,
+        why: ErrorKind,
+    ) -> bool {
+        match TcpDesks::bind(net, address) {
+            Ok(_) => false,
+            Err(error) => error.kind() == why,
+        }
+    }
+
+    #[test]
+    fn an_address_that_is_none_or_is_taken_is_refused(rt: HostRuntime) -> Result<(), Fail> {
+        let first = TcpDesks::bind(&rt, "127.0.0.1:0")?;
+        let Some(address) = first.address() else {
+            return Err(Fail::new("an address"));
+        };
+        let taken = format!(in rt.alloc(); "{address}")?;
+        assert!(rt; is_refused(&rt, taken.as_str(), ErrorKind::AddrInUse));
+        assert!(rt; is_refused(&rt, "no address", ErrorKind::InvalidInput));
+        Ok(())
+    }
+
+    // A server that closed a connection first leaves the address in use for a while, which hinders none that listens there
+    // next.
+    #[test]
+    fn the_address_can_be_bound_again_at_once(rt: HostRuntime) -> Result<(), Fail> {
+        let mut first = TcpDesks::bind(&rt, "127.0.0.1:0")?;
+        let Some(address) = first.address() else {
+            return Err(Fail::new("an address"));
+        };
+        let mut peer = TcpStream::connect(&rt, address)?;
+        let Ok((source, sink)) = first.accept(&rt) else {
+            return Err(Fail::new("a connection"));
+        };
+        first.finish(source, sink, Outcome::Closed);
+        drop(first);
+        assert_eq!(rt; peer.read(&mut [0])?, 0);
+        drop(peer);
+        let again = format!(in rt.alloc(); "{address}")?;
+        assert_eq!(rt;
+            TcpDesks::bind(&rt, again.as_str())?.address(),
+            Some(address)
+        );
         Ok(())
     }
 }

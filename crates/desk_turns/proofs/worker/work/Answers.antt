@@ -1,22 +1,24 @@
 use Rattle.std.proofs.Common.{◌∙◌, refl, arith}
-use Rattle.desk_turns.proofs.Working.{begins, goes_on, is_done, still_accepted, stops}
+use Rattle.desk_turns.proofs.Working.{begins, done_unless, goes_on, is_done, stops}
 use Rattle.desk_turns.proofs.worker.work.Goals as goal
 
 pub loop-served-init : goal.loop-served-init
 loop-served-init g c = record {
   served = begins (record { source = g.L.In.Source.state; sink = g.L.Out.Sink.state }) g.P.DeskPort.asks (g.P.DeskPort.airport_of c.args.port.now) _;
-  accepted = c.requires.accepted;
   airport = refl;
   place = refl;
 }
-
-pub serve_next-requires : goal.serve_next-requires
-serve_next-requires g c = record { accepted = c.loop-served.invariant.accepted }
 
 pub returns-in-Err-clause-works : goal.returns-in-Err-clause-works
 returns-in-Err-clause-works g c =
     stops (record { source = g.L.In.Source.state; sink = g.L.Out.Sink.state }) g.P.DeskPort.asks (g.P.DeskPort.airport_of c.args.port.now) _ c.loop-served._served c.args.connections _ _ _
     c.loop-served.invariant.airport c.loop-served.invariant.served c.loop-served-test.true c.in-Err.ensures.serves
+
+pub returns-in-Err-clause-done : goal.returns-in-Err-clause-done
+returns-in-Err-clause-done g c =
+    done_unless (record { source = g.L.In.Source.state; sink = g.L.Out.Sink.state }) g.P.DeskPort.asks (g.P.DeskPort.airport_of c.args.port.now) _ _ _ _
+    (stops (record { source = g.L.In.Source.state; sink = g.L.Out.Sink.state }) g.P.DeskPort.asks (g.P.DeskPort.airport_of c.args.port.now) _ c.loop-served._served c.args.connections _ _ _
+    c.loop-served.invariant.airport c.loop-served.invariant.served c.loop-served-test.true c.in-Err.ensures.serves)
 
 pub returns-in-Err-clause-airport : goal.returns-in-Err-clause-airport
 returns-in-Err-clause-airport g c = c.serve_next.ensures.airport ∙ c.loop-served.invariant.airport
@@ -29,7 +31,6 @@ loop-served-preserved g c =
     let served = goes_on (record { source = g.L.In.Source.state; sink = g.L.Out.Sink.state }) g.P.DeskPort.asks (g.P.DeskPort.airport_of c.args.port.now) _ c.loop-served._served _ _ _
     c.loop-served.invariant.airport c.loop-served.invariant.served c.in_default.ensures.serves in record {
       served = served;
-      accepted = still_accepted (record { source = g.L.In.Source.state; sink = g.L.Out.Sink.state }) g.P.DeskPort.asks (g.P.DeskPort.airport_of c.args.port.now) _ _ _ served c.requires.accepted;
       airport = c.serve_next.ensures.airport ∙ c.loop-served.invariant.airport;
       place = c.serve_next.ensures.place ∙ c.loop-served.invariant.place;
     }
@@ -38,6 +39,9 @@ pub returns-clause-works : goal.returns-clause-works
 returns-clause-works g c =
     is_done (record { source = g.L.In.Source.state; sink = g.L.Out.Sink.state }) g.P.DeskPort.asks (g.P.DeskPort.airport_of c.args.port.now) c.loop-served._served c.args.connections _ _
     c.loop-served.invariant.served (omega arith)
+
+pub returns-clause-done : goal.returns-clause-done
+returns-clause-done g c = λ none. refl
 
 pub returns-clause-airport : goal.returns-clause-airport
 returns-clause-airport g c = c.loop-served.invariant.airport

@@ -1,4 +1,4 @@
-use Rattle.std.proofs.Common.{◌≡◌, ◌≤◌}
+use Rattle.std.proofs.Common.{◌≡◌}
 use Rattle.desk_turns.proofs.Working.{SoFar}
 use Rattle.desk_turns.proofs.worker.work.Given as goal
 
@@ -8,7 +8,6 @@ invariant-loop-served g l = record {
   served : SoFar (record { source = g.L.In.Source.state; sink = g.L.Out.Sink.state }) g.P.DeskPort.asks (g.P.DeskPort.airport_of l.fn.port) l._served
       (record { listener = g.L.Listener.state l.fn.listener; port = g.P.DeskPort.port l.fn.port })
       (record { listener = g.L.Listener.state l.listener; port = g.P.DeskPort.port l.port });
-  accepted : (g.L.Listener.state l.listener).ended ≤ (g.L.Listener.state l.listener).accepted;
   airport : g.P.DeskPort.airport_of l.port ≡ g.P.DeskPort.airport_of l.fn.port;
   place : g.P.DeskPort.place l.port ≡ g.P.DeskPort.place l.fn.port;
 }

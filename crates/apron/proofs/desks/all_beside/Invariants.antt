@@ -1,0 +1,6 @@
+use Rattle.std.specs.Prelude.{◌≡◌, length}
+use Rattle.apron.proofs.desks.all_beside.Given as goal
+
+-- so many were pushed
+abbrev pub invariant-loop-made : goal.invariant-loop-made
+invariant-loop-made l = length l.desks.items ≡ l._made

@@ -1,0 +1,76 @@
+-- Desks that are served at a journal: what they begin with, and what they leave on the disk.
+use Rattle.std.proofs.Common.{◌≡◌, ◌∙◌, ℕ, List, Result, Ok, Err, refl, subst}
+use Rattle.std.specs.Prelude.{IfErr, IfOk}
+use Rattle.apron_base.specs.Keeper.{KeeperState}
+use Rattle.apron_base.specs.Machine.{MachineState}
+use Rattle.apron_rules.specs.declared.parts.AirportParts.{AirportParts}
+use Rattle.desk_words.specs.declared.asks.Entry.{Entry}
+use Rattle.history_core.specs.AtRisk.{entry_at_risk}
+use Rattle.history_core.specs.Board.{BoardHeld, entry_texts, machine_state}
+use Rattle.history_core.specs.History.{IsLegal}
+use Rattle.history_core.specs.declared.opening.OpenFault.TheVariants as entries
+use Rattle.history_core.proofs.Added.{visits_added}
+use Rattle.history_core.proofs.Drafts.{drafts_made}
+use Rattle.history_core.proofs.Legal.{front_legal, legal_sound}
+use Rattle.desk_turns.specs.Crew.{ServesBoard}
+use Rattle.desk_turns.specs.Work.{EndStates}
+use Rattle.desk_turns.specs.declared.worker.WorkEnd.{WorkEnd}
+use Rattle.apron_check.specs.declared.files.AirportFiles.{AirportFiles}
+use Rattle.apron_run.specs.Headline.{AllSound}
+use Rattle.apron_run.specs.Journal.{IsOpened, KeepsHistory}
+use Rattle.apron_run.specs.declared.unusable.Unusable.TheVariants.{Entries}
+use Rattle.apron_serve.specs.Board.{FindsNoJournal, ServesDesks, begun}
+use Rattle.apron_serve.specs.World.{Ends}
+
+-- the plan is sound after each entry of a legal history
+all_sound : (airport : AirportParts) (history : List Entry) → IsLegal airport history → AllSound airport history
+all_sound airport history legal = λ front back is. legal_sound airport front (front_legal airport front back (subst (IsLegal airport) is legal))
+
+-- a board that was opened, as a machine
+opened_begun : {K : Type 0} (tells : K → KeeperState) (airport : AirportParts) (faults next : ℕ) (board : BoardHeld K) → board.airport ≡ airport → board.next ≡ next
+    → (tells board.keeper).faults ≡ faults → machine_state tells board ≡ record { fixed = airport; history = board.history; next = next; faults = faults }
+opened_begun tells airport faults next board airport_is next_is count = rw (airport_is, next_is, count) refl
+
+-- what is told of a fault, at that fault
+pub of_err : {A E P : Type 0} (met : Result A E) (why : E) → met ≡ Err why → IfErr met (λ _. P) → P
+of_err {A} {E} {P} met why is holds = subst (λ (r : Result A E). IfErr r (λ _. P)) is holds
+
+-- desks that were served at a board that was opened, with the disk that was closed behind them
+pub desks_serve : {In Out K R : Type 0} (states : EndStates In Out) (tells : K → KeeperState) (files : AirportFiles) (connections : ℕ) (before after : Ends In Out) (board left : BoardHeld K) (met : Result WorkEnd R) (end : WorkEnd)
+    → IsOpened tells files before.disk board
+    → met ≡ Ok end
+    → IfOk met (ServesBoard states connections (record { listeners = before.listeners; board = machine_state tells board }) (record { listeners = after.listeners; board = machine_state tells left }))
+    → after.disk.faults ≡ (tells left.keeper).faults → KeepsHistory (record { airport = left.airport; digests = files.digests }) left.history (entry_at_risk left.airport (tells left.keeper)) after.disk
+    → ServesDesks states files connections before after end
+desks_serve {R = R} states tells files connections before after board left met end opened is serve counted keeps =
+    let serves : ServesBoard states connections (record { listeners = before.listeners; board = machine_state tells board }) (record { listeners = after.listeners; board = machine_state tells left }) end =
+    subst (λ (r : Result WorkEnd R).
+    IfOk r (ServesBoard states connections (record { listeners = before.listeners; board = machine_state tells board }) (record { listeners = after.listeners; board = machine_state tells left }))) is serve in
+    let fresh : machine_state tells board ≡ begun files.airport board.history before.disk.faults =
+    opened_begun tells files.airport before.disk.faults _ board opened.airport_is opened.next opened.faults in
+    let same : left.airport ≡ files.airport = serves.fixed ∙ opened.airport_is in
+    let legal : IsLegal files.airport left.history = subst (λ (a : AirportParts). IsLegal a left.history) same serves.legal in
+    record {
+      opened = board.history;
+      opens = opened.opens;
+      board = machine_state tells left;
+      serves = subst (λ (m : MachineState Entry AirportParts).
+          ServesBoard states connections (record { listeners = before.listeners; board = m }) (record { listeners = after.listeners; board = machine_state tells left }) end) fresh serves;
+      faults = counted;
+      at_risk = entry_at_risk left.airport (tells left.keeper);
+      keeps = subst (λ (a : AirportParts).
+          KeepsHistory (record { airport = a; digests = files.digests }) left.history (entry_at_risk left.airport (tells left.keeper)) after.disk) same keeps;
+      sound = all_sound files.airport left.history legal;
+      drafts = λ desk number version. drafts_made files.airport left.history desk number version legal;
+      visits = λ version added. visits_added files.airport left.history version added legal;
+    }
+
+-- there is no memory for the turns at a board that was opened, and the disk reads as before
+pub turns_want_memory : {In Out K : Type 0} (tells : K → KeeperState) (files : AirportFiles) (before after : Ends In Out) (board : BoardHeld K)
+    → IsOpened tells files before.disk board → after.listeners ≡ before.listeners → after.disk.contents ≡ before.disk.contents
+    → after.disk.faults ≡ (tells board.keeper).faults → FindsNoJournal files before after (Entries entries.Memory)
+turns_want_memory tells files before after board opened listeners reads counted =
+    let opens = opened.opens in record {
+      listeners = listeners;
+      disk = record { reads = reads; cause = (entry_texts board.history, record { opening = opens.entries; counts = counted ∙ opened.faults }, tt) };
+    }

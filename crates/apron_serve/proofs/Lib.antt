@@ -1,0 +1,5 @@
+pub mod Desks
+pub mod Finished
+pub mod Endings
+pub mod Keeping
+pub mod Completing

@@ -1,0 +1,52 @@
+use Rattle.std.proofs.Common.{◌≡◌, ◌≤◌, ◌∙◌, ℕ, Option, length, map, refl, sym, ap, subst}
+use Rattle.std.specs.Prelude.{not}
+use Rattle.std.proofs.lemmas.List.{length-map}
+use Rattle.apron_run.specs.Run.{KeptUnless}
+use Rattle.apron_run.specs.Statuses.{code_of}
+use Rattle.apron_run.specs.World.{seen_of}
+use Rattle.apron_serve.specs.Orders.{Order, order_of}
+use Rattle.apron_serve.specs.OrdersShown.{shown}
+use Rattle.apron_serve.specs.Serve.{ends_before_journal, has_served, is_order}
+use Rattle.apron_serve.proofs.Completing.{complete}
+use Rattle.apron_serve.proofs.Endings.{carried, refused}
+use Rattle.apron_serve.proofs.program.serve.Goals as goal
+
+pub returns-in-Some : goal.returns-in-Some
+returns-in-Some g c =
+    let all = carried g.L.Workplace.states (shown c.in-Some.order) (order_of c.args.words.now (length c.args.listeners.now))
+    (record { shelf = g.F.Shelf.state c.args.shelf.now; listeners = map g.L.Workplace.state c.args.listeners.now; sink = g.W.Sink.state c.args.sink.now; disk = seen_of (g.D.Disk.state c.args.disk) })
+    (record {
+      shelf = g.F.Shelf.state c.serve_files-status.new.shelf;
+      listeners = map g.L.Workplace.state c.serve_files-status.new.listeners;
+      sink = g.W.Sink.state c.serve_files-status.new.sink;
+      disk = seen_of (g.D.Disk.state c.serve_files-status.result.1);
+    })
+    c.serve_files-status.result.0 c.code.result c.in-Some.ensures.some (subst (λ (n : ℕ). 1 ≤ n) (sym (length-map c.args.listeners.now g.L.Workplace.state)) c.in-Some.ensures.few.0) c.in-Some.ensures.order c.code.ensures.value c.serve_files-status.ensures.serves in
+    record {
+      headline = all.serves;
+      done = all.done;
+      failed = all.failed;
+      usage = all.usage;
+      complete = complete g.L.Workplace.states _ _ _ _ all.serves all.failed;
+      shelf_kept = subst (λ (asked : Option Order). KeptUnless (is_order asked) c.args.shelf.now c.serve_files-status.new.shelf) c.in-Some.ensures.order tt;
+      listeners_kept = subst (λ (code : ℕ). KeptUnless (has_served code) c.args.listeners.now c.serve_files-status.new.listeners) (sym c.code.ensures.value) c.serve_files-status.ensures.listeners_kept;
+      disk_kept = subst (λ (code : ℕ). KeptUnless (not (ends_before_journal code)) c.args.disk c.serve_files-status.result.1) (sym c.code.ensures.value) c.serve_files-status.ensures.disk_kept;
+    }
+
+pub returns-in-None : goal.returns-in-None
+returns-in-None g c =
+    let is_usage : c.code-in-None.result ≡ 2 = c.code-in-None.ensures.value ∙ ap code_of c.print_usage.ensures.usage in
+    let all = refused g.L.Workplace.states (order_of c.args.words.now (length c.args.listeners.now))
+    (record { shelf = g.F.Shelf.state c.args.shelf.now; listeners = map g.L.Workplace.state c.args.listeners.now; sink = g.W.Sink.state c.args.sink.now; disk = seen_of (g.D.Disk.state c.args.disk) })
+    (record { shelf = g.F.Shelf.state c.args.shelf.now; listeners = map g.L.Workplace.state c.args.listeners.now; sink = g.W.Sink.state c.print_usage.new.sink; disk = seen_of (g.D.Disk.state c.args.disk) })
+    c.print_usage.result c.code-in-None.result refl c.in-None.ensures.order c.print_usage.ensures.usage c.code-in-None.ensures.value c.print_usage.ensures.writes in
+    record {
+      headline = all.serves;
+      done = all.done;
+      failed = all.failed;
+      usage = all.usage;
+      complete = complete g.L.Workplace.states _ _ _ _ all.serves all.failed;
+      shelf_kept = subst (λ (asked : Option Order). KeptUnless (is_order asked) c.args.shelf.now c.args.shelf.now) c.in-None.ensures.order refl;
+      listeners_kept = subst (λ (code : ℕ). KeptUnless (has_served code) c.args.listeners.now c.args.listeners.now) (sym is_usage) refl;
+      disk_kept = subst (λ (code : ℕ). KeptUnless (not (ends_before_journal code)) c.args.disk c.args.disk) (sym is_usage) refl;
+    }

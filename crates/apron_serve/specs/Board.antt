@@ -1,0 +1,52 @@
+-- What desks that are served at one journal do to it, and to their listeners.
+use Rattle.std.specs.Prelude.{◌≡◌, ℕ, List, Option, Result, Ok, Err}
+use Rattle.apron_base.specs.Machine.{MachineState}
+use Rattle.apron_rules.specs.declared.parts.AirportParts.{AirportParts}
+use Rattle.visit_book.specs.declared.visits.NewVisit.{NewVisit}
+use Rattle.desk_words.specs.declared.asks.Entry.{Entry}
+use Rattle.history_core.specs.Opening.{next_after}
+use Rattle.desk_turns.specs.Crew.{ServesBoard}
+use Rattle.desk_turns.specs.Work.{EndStates}
+use Rattle.desk_turns.specs.declared.worker.WorkEnd.{WorkEnd}
+use Rattle.apron_check.specs.declared.files.AirportFiles.{AirportFiles}
+use Rattle.apron_run.specs.Headline.{AllSound, HasItsEntry, IsOfItsEntry}
+use Rattle.apron_run.specs.Journal.{KeepsHistory, NotOpened, OpensTo}
+use Rattle.apron_run.specs.declared.unusable.Unusable.{Unusable}
+use Rattle.apron_serve.specs.World.{Ends}
+
+-- a board that was opened with this history, over a disk that had failed so often
+abbrev pub begun : AirportParts → List Entry → ℕ → MachineState Entry AirportParts
+begun airport opened faults = record { fixed = airport; history = opened; next = next_after opened; faults = faults }
+
+-- there is no journal to work on, or no memory for the turns at it: no listener was called, and the disk reads as before
+pub record FindsNoJournal {In Out : Type 0} (files : AirportFiles) (before after : Ends In Out) (why : Unusable) : Type 0 where
+  pub listeners : after.listeners ≡ before.listeners
+  pub disk : NotOpened files before.disk after.disk why
+
+module _ {In Out : Type 0} (states : EndStates In Out) (files : AirportFiles) (connections : ℕ) where
+  -- The headline for many desks. The journal of the files opened to a legal history. Each listener's connections were served one after the other by a
+  -- worker of its own, whose port had seen that history: each request was answered as for a desk alone, at the whole history that its turn found. At
+  -- the end the history is legal, begins with the one that was opened, and is the longest that a worker has seen; each worker has seen a front of it.
+  -- The calls of all workers are, each once and without a gap, the numbers from the one above the last entry's on, or from 1 on where there was none;
+  -- and where a worker found them exhausted, all that there are. A worker was told that an entry could not be kept only where the disk's count rose.
+  -- After each entry the plan is sound; a draft made a version exactly where the entry of that number is its commit, and a visit is of the entry that
+  -- added it. The disk at the end is the journal of the same files with the history, or, where it has failed, with this and perhaps one entry more that was
+  -- not acknowledged, with which it is still legal.
+  pub record ServesDesks (before after : Ends In Out) (end : WorkEnd) : Type 0 where
+    pub opened : List Entry
+    pub opens : OpensTo files before.disk opened
+    pub board : MachineState Entry AirportParts
+    pub serves : ServesBoard states connections
+        (record { listeners = before.listeners; board = begun files.airport opened before.disk.faults })
+        (record { listeners = after.listeners; board = board }) end
+    pub faults : after.disk.faults ≡ board.faults
+    pub at_risk : Option Entry
+    pub keeps : KeepsHistory files board.history at_risk after.disk
+    pub sound : AllSound files.airport board.history
+    pub drafts : (desk : List ℕ) (number version : ℕ) → HasItsEntry files.airport board.history desk number version
+    pub visits : (version : ℕ) (added : NewVisit) → IsOfItsEntry files.airport board.history version added
+
+  -- desks served at the journal of these files, or why there is none to work on
+  abbrev pub MeetsDesks : Ends In Out → Ends In Out → Result WorkEnd Unusable → Type 0
+  MeetsDesks before after (Ok end) = ServesDesks before after end
+  MeetsDesks before after (Err why) = FindsNoJournal files before after why

@@ -1,0 +1,7 @@
+pub mod World
+pub mod Orders
+pub mod OrdersShown
+pub mod Board
+pub mod Files
+pub mod Serve
+pub mod Complete

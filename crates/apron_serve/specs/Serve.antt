@@ -1,0 +1,69 @@
+-- What the program does with the words `serve A T N`, its files, its listeners and its disk.
+use Rattle.std.specs.Prelude.{◌≡◌, ◌⊎◌, ◌+◌, ◌≤◌, ◌==◌, ◌||◌, ℕ, Bool, true, false, List, ◌∷◌, map, Option, Some, None}
+use Rattle.apron_base.specs.Counts.{Counts, Rose}
+use Rattle.apron_base.specs.Listener.{ListenerState}
+use Rattle.desk_turns.specs.Work.{EndStates}
+use Rattle.apron_run.specs.Desk.{ServedCounts}
+use Rattle.apron_run.specs.Print.{Writes, usage_text}
+use Rattle.apron_run.specs.Statuses.{code_of, is_shelf_fault}
+use Rattle.apron_run.specs.declared.status.Status.{Status}
+use Rattle.apron_run.specs.declared.status.Status.TheVariants.{Done, Usage, FileFault, ShelfFault, DiskFault, JournalFault, ListenerFault, Memory}
+use Rattle.apron_serve.specs.Files.{ServesFiles}
+use Rattle.apron_serve.specs.Orders.{Order}
+use Rattle.apron_serve.specs.World.{World}
+
+-- whether `serve` may end with this status
+abbrev pub may_end_serve : Status → Bool
+may_end_serve Done = true
+may_end_serve Usage = true
+may_end_serve FileFault = true
+may_end_serve ShelfFault = true
+may_end_serve DiskFault = true
+may_end_serve JournalFault = true
+may_end_serve ListenerFault = true
+may_end_serve Memory = true
+may_end_serve status = false
+
+-- `serve` ends with this number after desks were served
+abbrev pub has_served : ℕ → Bool
+has_served code = code == code_of Done || code == code_of ListenerFault
+
+-- `serve` ends with this number before it comes to the journal
+abbrev pub ends_before_journal : ℕ → Bool
+ends_before_journal code = code == code_of Usage || code == code_of FileFault || code == code_of ShelfFault
+
+-- there is an order
+abbrev pub is_order : Option Order → Bool
+is_order None = false
+is_order (Some order) = true
+
+module _ {In Out : Type 0} where
+  -- how many connections a listener has finished
+  abbrev pub ended_of : ListenerState In Out → ℕ
+  ended_of listener = listener.ended
+
+  -- each listener has finished so many connections more
+  abbrev pub HaveFinished : ℕ → List (ListenerState In Out) → List (ListenerState In Out) → Type 0
+  HaveFinished connections before after = map ended_of after ≡ map (λ (listener : ListenerState In Out). listener.ended + connections) before
+
+  -- the count of faults of one of the listeners rose
+  abbrev pub SomeFailed : List (ListenerState In Out) → List (ListenerState In Out) → Type 0
+  SomeFailed (before ∷ befores) (after ∷ afters) = Rose before.faults after.faults ⊎ SomeFailed befores afters
+  SomeFailed befores afters = ⊥
+
+module _ {In Out : Type 0} (states : EndStates In Out) where
+  -- what is done where there is an order; where there is none the line `usage` is written, and nothing else is touched
+  abbrev pub Does : Option Order → World In Out → World In Out → Status → Type 0
+  Does None before after status = (after ≡ record before { sink = after.sink }) × Writes usage_text Usage Usage before.sink after.sink status
+  Does (Some order) before after status = ServesFiles states order before after status
+
+  -- What `serve` does for what is ordered, and the status that its number stands for. The shelf fails only where the status says so, the sink only at the
+  -- line that tells a status, and the disk where the status says so or desks were served.
+  pub record ServesAs (order : Option Order) (before after : World In Out) (code : ℕ) : Type 0 where
+    pub status : Status
+    pub code_is : code ≡ code_of status
+    pub may : may_end_serve status ≡ true
+    pub does : Does order before after status
+    pub shelf : Counts (is_shelf_fault status) before.shelf.faults after.shelf.faults
+    pub sink : before.sink.faults ≤ after.sink.faults
+    pub disk : ServedCounts status before.disk.faults after.disk.faults

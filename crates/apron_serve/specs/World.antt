@@ -1,0 +1,33 @@
+-- The outside of many desks at one moment.
+use Rattle.std.specs.Prelude.{List}
+use Rattle.apron_base.specs.Ends.{SinkState}
+use Rattle.apron_base.specs.Listener.{ListenerState}
+use Rattle.apron_base.specs.Shelf.{ShelfState}
+use Rattle.apron_run.specs.World.{DiskSeen}
+
+-- the shelf of files, the listeners in order, the sink of the line that tells a fault, and the disk
+pub record World (In Out : Type 0) : Type 0 where
+  pub shelf : ShelfState
+  pub listeners : List (ListenerState In Out)
+  pub sink : SinkState
+  pub disk : DiskSeen
+
+-- the same without the shelf
+pub record Outs (In Out : Type 0) : Type 0 where
+  pub listeners : List (ListenerState In Out)
+  pub sink : SinkState
+  pub disk : DiskSeen
+
+-- the listeners and the disk alone
+pub record Ends (In Out : Type 0) : Type 0 where
+  pub listeners : List (ListenerState In Out)
+  pub disk : DiskSeen
+
+module _ {In Out : Type 0} where
+  -- those of the outside
+  abbrev pub outs_of : World In Out → Outs In Out
+  outs_of world = record { listeners = world.listeners; sink = world.sink; disk = world.disk }
+
+  -- those of the outside
+  abbrev pub ends_of : Outs In Out → Ends In Out
+  ends_of outs = record { listeners = outs.listeners; disk = outs.disk }

@@ -1,0 +1,255 @@
+-- Workers whose seats were cut from one seat and met it again, one more at a time; and what the closed board then tells of them.
+use Rattle.std.proofs.Common.{◌≡◌, ◌⊎◌, ◌∙◌, ◌<◌, ◌≤◌, ◌+◌, ◌-◌, ◌==◌, ◌&&◌, ◌||◌, nat_le, nat_lt, ℕ, suc, Bool, true, false, cond, List, [], ◌∷◌, ◌++◌, map, length, refl, sym, ap, subst, inl, inr, ⊎_elim, arith, append_assoc}
+use Rattle.std.specs.List.{AllZip, Any, count_by}
+use Rattle.std.proofs.lemmas.Bool.Decides.{nat_tests}
+use Rattle.std.proofs.lemmas.List.{append-nil, map-append}
+use Rattle.std.proofs.lemmas.List.Sums.{sum_by-append}
+use Rattle.apron_base.specs.Counts.{Rose}
+use Rattle.apron_base.specs.Histories.{Every}
+use Rattle.apron_base.specs.Listener.{ListenerState}
+use Rattle.apron_base.specs.Machine.{MachineState}
+use Rattle.apron_rules.specs.declared.parts.AirportParts.{AirportParts}
+use Rattle.desk_words.specs.declared.asks.Entry.{Entry}
+use Rattle.history_core.specs.History.{IsLegal, call_of}
+use Rattle.turn_board.specs.Board.{Closes, Meets, Opens, SeatState, TurnBoardState}
+use Rattle.turn_board.specs.Totals.{below, times}
+use Rattle.turn_board.specs.declared.view.Call.{Call}
+use Rattle.turn_board.proofs.Totals.{every_append, every_both, every_front, every_more, every_rest, times_append}
+use Rattle.desk_http.specs.Ports.{IsLater, Turn}
+use Rattle.desk_turns.specs.declared.worker.WorkEnd.{WorkEnd}
+use Rattle.desk_turns.specs.declared.worker.WorkEnd.TheVariants.{Done, ListenerFault}
+use Rattle.desk_turns.specs.Crew.{HasSeen, ServesBoard, Worker, WorksAt, calls_of, end_of}
+use Rattle.desk_turns.specs.Seats.{ServedState, is_risen, number_of, port_of}
+use Rattle.desk_turns.specs.Together.{AreLater, WorkTogether, WorksBeside}
+use Rattle.desk_turns.specs.Work.{EndStates, Works}
+use Rattle.desk_turns.proofs.Asking.{every_map}
+
+abbrev Held : Type 0
+Held = SeatState Entry AirportParts
+
+any_here : {X : Type 0} (P : X → Type 0) (x : X) (xs : List X) → P x → Any P (x ∷ xs)
+any_here P x xs p = (0, x, omega arith, refl, p)
+
+any_there : {X : Type 0} (P : X → Type 0) (x : X) (xs : List X) → Any P xs → Any P (x ∷ xs)
+any_there P x xs any = (suc any.0, any.1, (let few = any.2 in omega arith), any.3, any.4)
+
+either_true : (one other : Bool) → other ≡ true → (one || other) ≡ true
+either_true true other h = refl
+either_true false other h = h
+
+count_append : (test : ℕ → Bool) (xs ys : List ℕ) → count_by test (xs ++ ys) ≡ count_by test xs + count_by test ys
+count_append test xs ys = sum_by-append (λ (call : ℕ). cond (test call) 1 0) xs ys
+
+risen_append : (xs ys : List Call) → count_by is_risen (xs ++ ys) ≡ count_by is_risen xs + count_by is_risen ys
+risen_append xs ys = sum_by-append (λ (call : Call). cond (is_risen call) 1 0) xs ys
+
+-- how often a number was called, by the calls' numbers alone
+times_count : (number : ℕ) (calls : List Call) → times number calls ≡ count_by (λ call. number == call) (map number_of calls)
+times_count number [] = refl
+times_count number (call ∷ calls) =
+    let more = count_append (λ (own : ℕ). number == own) (call.number ∷ []) (map number_of calls) in
+    let rest = times_count number calls in
+    omega (arith, more, rest)
+
+-- the end of a worker and the others
+one_end : (end : WorkEnd) → end_of (end ∷ []) ≡ end
+one_end Done = refl
+one_end ListenerFault = refl
+
+ends : (one others : WorkEnd) (more : List WorkEnd) → others ≡ end_of more → end_of (one ∷ others ∷ []) ≡ end_of (one ∷ more)
+ends Done others more same = one_end others ∙ same
+ends ListenerFault others more same = refl
+
+module _ {In Out : Type 0} (states : EndStates In Out) (airport : AirportParts) (asked : ℕ) where
+  -- what holds of a worker at a seat holds when that seat has met another
+  beside : (before less mid other after : Held) → less.seen ≡ before.seen → Meets call_of mid other after → (worker : Worker In Out)
+      → WorksBeside states airport asked less mid worker → WorksBeside states airport asked before after worker
+  beside before less mid other after same meets worker work =
+      let numbers : map number_of after.calls ≡ map number_of mid.calls ++ map number_of other.calls = ap (map number_of) meets.calls ∙ map-append number_of mid.calls other.calls in
+      let risen : count_by is_risen after.calls ≡ count_by is_risen mid.calls + count_by is_risen other.calls = ap (count_by is_risen) meets.calls ∙ risen_append mid.calls other.calls in
+      let more : List Entry = meets.mine.rest in record {
+        fresh = record { seen = work.fresh.seen ∙ same; calls = work.fresh.calls; spent = work.fresh.spent; faults = work.fresh.faults };
+        works = work.works;
+        seen = record {
+          new = work.seen.new ++ more;
+          is = meets.mine.is ∙ (ap (λ (seen : List Entry). seen ++ more) work.seen.is ∙ append_assoc worker.after.port.seen work.seen.new more);
+          above = every_both (λ (call : ℕ). Every (λ (entry : Entry). call < call_of entry) work.seen.new) (λ (call : ℕ). Every (λ (entry : Entry). call < call_of entry) more)
+              (λ (call : ℕ). Every (λ (entry : Entry). call < call_of entry) (work.seen.new ++ more)) (λ call a b. every_append (λ (entry : Entry). call < call_of entry) work.seen.new more a b)
+              worker.after.port.calls work.seen.above (work.own more (every_map (λ (call : ℕ). Every (λ (entry : Entry). call < call_of entry) more) mid.calls meets.mine.later));
+        };
+        own = λ entries later. work.own entries (every_front (λ (call : ℕ). Every (λ (entry : Entry). call < call_of entry) entries) (map number_of mid.calls) (map number_of other.calls)
+            (subst (λ (calls : List ℕ). AreLater calls entries) numbers later));
+        exhausted = λ spent. meets.note ∙ ap (λ (note : Bool). note || other.exhausted) (work.exhausted spent);
+        faults = let few = work.faults in omega (arith, risen, few);
+      }
+
+  -- a worker whose seat met that of the others
+  itself : (before mid after : Held) (started ended : ServedState) (a b : ListenerState In Out) (one : WorkEnd)
+      → started.seat ≡ record before { calls = []; exhausted = false; share = 1 }
+      → Works states Turn airport asked (record { listener = a; port = port_of started }) (record { listener = b; port = port_of ended }) one
+      → Meets call_of mid ended.seat after
+      → WorksBeside states airport asked before after (record { before = record { listener = a; port = port_of started }; after = record { listener = b; port = port_of ended }; end = one })
+  itself before mid after started ended a b one mine works meets =
+      let own : List Call = ended.seat.calls in
+      let numbers : map number_of after.calls ≡ map number_of mid.calls ++ map number_of own = ap (map number_of) meets.calls ∙ map-append number_of mid.calls own in
+      let risen : count_by is_risen after.calls ≡ count_by is_risen mid.calls + count_by is_risen own = ap (count_by is_risen) meets.calls ∙ risen_append mid.calls own in record {
+        fresh = record {
+          seen = ap (λ (seat : Held). seat.seen) mine;
+          calls = ap (λ (seat : Held). map number_of seat.calls) mine;
+          spent = ap (λ (seat : Held). seat.exhausted) mine;
+          faults = ap (λ (seat : Held). count_by is_risen seat.calls) mine;
+        };
+        works = works;
+        seen = record {
+          new = meets.theirs.rest;
+          is = meets.theirs.is;
+          above = every_map (λ (call : ℕ). Every (λ (entry : Entry). call < call_of entry) meets.theirs.rest) own meets.theirs.later;
+        };
+        own = λ entries later. every_rest (λ (call : ℕ). Every (λ (entry : Entry). call < call_of entry) entries) (map number_of mid.calls) (map number_of own)
+            (subst (λ (calls : List ℕ). AreLater calls entries) numbers later);
+        exhausted = λ spent. meets.note ∙ either_true mid.exhausted ended.seat.exhausted spent;
+        faults = omega (arith, risen);
+      }
+
+  longest_of : (before less mid other after : Held) (worker : Worker In Out) (workers : List (Worker In Out)) → less.seen ≡ before.seen → Meets call_of mid other after
+      → other.seen ≡ worker.after.port.seen → (mid.seen ≡ less.seen) ⊎ Any (HasSeen mid.seen) workers → (after.seen ≡ before.seen) ⊎ Any (HasSeen after.seen) (worker ∷ workers)
+  longest_of before less mid other after worker workers same meets its longest = ⊎_elim
+      (λ (mine : after.seen ≡ mid.seen). ⊎_elim
+      (λ (none : mid.seen ≡ less.seen). inl (mine ∙ (none ∙ same)))
+      (λ (one : Any (HasSeen mid.seen) workers). inr (any_there (HasSeen after.seen) worker workers (subst (λ (seen : List Entry). Any (HasSeen {In = In} {Out = Out} seen) workers) (sym mine) one)))
+      longest)
+      (λ (theirs : after.seen ≡ other.seen). inr (any_here (HasSeen after.seen) worker workers (sym (theirs ∙ its))))
+      meets.one
+
+  -- a worker, and the others beside it
+  one_more : (before less mid after : Held) (started ended : ServedState) (a b : ListenerState In Out) (olds news : List (ListenerState In Out)) (one others : WorkEnd)
+      → less ≡ record before { share = before.share - 1 } → started.seat ≡ record before { calls = []; exhausted = false; share = 1 }
+      → Works states Turn airport asked (record { listener = a; port = port_of started }) (record { listener = b; port = port_of ended }) one
+      → WorkTogether states airport asked (record { listeners = olds; seat = less }) (record { listeners = news; seat = mid }) others
+      → Meets call_of mid ended.seat after
+      → WorkTogether states airport asked (record { listeners = a ∷ olds; seat = before }) (record { listeners = b ∷ news; seat = after }) (end_of (one ∷ others ∷ []))
+  one_more before less mid after started ended a b olds news one others less_is mine works rest meets =
+      let worker : Worker In Out = record { before = record { listener = a; port = port_of started }; after = record { listener = b; port = port_of ended }; end = one } in
+      let same : less.seen ≡ before.seen = ap (λ (seat : Held). seat.seen) less_is in
+      let more : List Entry = meets.mine.rest in record {
+        workers = worker ∷ rest.workers;
+        begun = ap (λ (listeners : List (ListenerState In Out)). a ∷ listeners) rest.begun;
+        ended = ap (λ (listeners : List (ListenerState In Out)). b ∷ listeners) rest.ended;
+        end_is = ends one others (map (λ (w : Worker In Out). w.end) rest.workers) rest.end_is;
+        work = (
+          itself before mid after started ended a b one mine works meets,
+          every_more (WorksBeside states airport asked less mid) (WorksBeside states airport asked before after) (beside before less mid ended.seat after same meets) rest.workers rest.work,
+        );
+        begins = record {
+          new = rest.begins.new ++ more;
+          is = meets.mine.is ∙ (ap (λ (seen : List Entry). seen ++ more) (rest.begins.is ∙ ap (λ (seen : List Entry). seen ++ rest.begins.new) same) ∙ append_assoc before.seen rest.begins.new more);
+          above = tt;
+        };
+        longest = longest_of before less mid ended.seat after worker rest.workers same meets refl rest.longest;
+        calls = λ number.
+            let all = ap (times number) meets.calls ∙ times_append number mid.calls ended.seat.calls in
+            let own = times_count number ended.seat.calls in
+            let theirs = rest.calls number in
+            let less_calls = ap (λ (seat : Held). times number seat.calls) less_is in
+            let counts = count_append (λ (call : ℕ). number == call) (map number_of ended.seat.calls) (calls_of rest.workers) in
+            omega (arith, all, own, theirs, less_calls, counts);
+      }
+
+  -- no worker
+  none_works : (seat : Held) → WorkTogether states airport asked (record { listeners = []; seat = seat }) (record { listeners = []; seat = seat }) Done
+  none_works seat = record {
+    workers = [];
+    begun = refl;
+    ended = refl;
+    end_is = refl;
+    work = tt;
+    begins = record { new = []; is = sym (append-nil seat.seen); above = tt };
+    longest = inl refl;
+    calls = λ number. omega arith;
+  }
+
+  pub of_none : {L : Type 0} (state : L → ListenerState In Out) (listeners : List L) (seat : Held) → length listeners ≡ 0
+      → WorkTogether states airport asked (record { listeners = map state listeners; seat = seat }) (record { listeners = map state listeners; seat = seat }) Done
+  of_none state [] seat none = none_works seat
+  of_none state (x ∷ xs) seat none = absurd (omega arith)
+
+  -- the worker of the one listener of the front, and those of the others
+  pub of_first : {L : Type 0} (state : L → ListenerState In Out) (before less mid after : Held) (started ended : ServedState) (xs ys us bs : List L) (one others end : WorkEnd)
+      → length xs ≡ 1
+      → AllZip (λ x y. Works states Turn airport asked (record { listener = state x; port = port_of started }) (record { listener = state y; port = port_of ended }) one) xs ys
+      → less ≡ record before { share = before.share - 1 } → started.seat ≡ record before { calls = []; exhausted = false; share = 1 }
+      → WorkTogether states airport asked (record { listeners = map state us; seat = less }) (record { listeners = map state bs; seat = mid }) others
+      → Meets call_of mid ended.seat after → end ≡ end_of (one ∷ others ∷ [])
+      → WorkTogether states airport asked (record { listeners = map state (xs ++ us); seat = before }) (record { listeners = map state (ys ++ bs); seat = after }) end
+  of_first state before less mid after started ended [] ys us bs one others end single works less_is mine rest meets end_is = absurd (omega arith)
+  of_first state before less mid after started ended (x ∷ xs) [] us bs one others end single works less_is mine rest meets end_is = absurd works
+  of_first state before less mid after started ended (x ∷ []) (y ∷ []) us bs one others end single works less_is mine rest meets end_is =
+      subst (λ (e : WorkEnd). WorkTogether states airport asked (record { listeners = state x ∷ map state us; seat = before }) (record { listeners = state y ∷ map state bs; seat = after }) e) (sym end_is)
+      (one_more before less mid after started ended (state x) (state y) (map state us) (map state bs) one others less_is mine works.0 rest meets)
+  of_first state before less mid after started ended (x ∷ []) (y ∷ (z ∷ ys)) us bs one others end single works less_is mine rest meets end_is = absurd works.1
+  of_first state before less mid after started ended (x ∷ (z ∷ xs)) (y ∷ ys) us bs one others end single works less_is mine rest meets end_is = absurd (omega arith)
+
+-- one of these calls left a greater count than it found
+rose : (least now : ℕ) (calls : List Call) → 0 < count_by is_risen calls → Every (λ (call : Call). (least ≤ call.found) × (call.left ≤ now)) calls → Rose least now
+rose least now [] some within = absurd (omega arith)
+rose least now (call ∷ calls) some within = ⊎_elim
+    (λ (here : is_risen call ≡ true). let a = within.0.0 in let b = within.0.1 in grind (arith, nat_tests))
+    (λ (no : is_risen call ≡ false).
+    let more = risen_append (call ∷ []) calls in
+    let zero : cond {A = ℕ} (is_risen call) 1 0 ≡ 0 = ap (λ (b : Bool). cond {A = ℕ} b 1 0) no in
+    rose least now calls (omega (arith, more, zero)) within.1)
+    (true_or (is_risen call))
+  where
+    true_or : (b : Bool) → (b ≡ true) ⊎ (b ≡ false)
+    true_or true = inl refl
+    true_or false = inr refl
+
+-- the calls of a closed board are the numbers from the first one up to the end
+once : (first end number count : ℕ) → first ≤ end → count + below number first ≡ below number end → count ≡ cond (nat_le first number && nat_lt number end) 1 0
+once first end number count order counts = grind (arith, nat_tests)
+
+module _ {In Out : Type 0} (states : EndStates In Out) (asked : ℕ) where
+  pub serves : (machine left : MachineState Entry AirportParts) (board : TurnBoardState AirportParts) (first last : Held) (olds news : List (ListenerState In Out)) (end : WorkEnd)
+      → Opens machine board first
+      → WorkTogether states board.start.fixed asked (record { listeners = olds; seat = first }) (record { listeners = news; seat = last }) end
+      → Closes board last left → IsLegal left.fixed left.history
+      → ServesBoard states asked (record { listeners = olds; board = machine }) (record { listeners = news; board = left }) end
+  serves machine left board first last olds news end opens together closes legal =
+      let fixed : board.start.fixed ≡ machine.fixed = ap (λ s. s.fixed) opens.start in
+      let next : board.start.first ≡ machine.next = ap (λ s. s.first) opens.start in
+      let faults : board.start.faults ≡ machine.faults = ap (λ s. s.faults) opens.start in
+      let seen : first.seen ≡ machine.history = ap (λ (seat : Held). seat.seen) opens.first in
+      let none : (number : ℕ) → times number first.calls ≡ 0 = λ number. ap (λ (seat : Held). times number seat.calls) opens.first in record {
+        workers = together.workers;
+        begun = together.begun;
+        ended = together.ended;
+        end_is = together.end_is;
+        work = every_more (WorksBeside states board.start.fixed asked first last) (WorksAt states asked machine left) (λ worker work. record {
+          fresh = record { seen = work.fresh.seen ∙ seen; calls = work.fresh.calls; spent = work.fresh.spent; faults = work.fresh.faults };
+          works = subst (λ (at : AirportParts). Works states Turn at asked worker.before worker.after worker.end) fixed work.works;
+          seen = subst (λ (history : List Entry). IsLater worker.after.port.seen worker.after.port.calls history) (sym closes.history) work.seen;
+          faults = λ some. subst (λ (least : ℕ). Rose least left.faults) faults (rose board.start.faults left.faults last.calls (let few = work.faults in omega arith) closes.faults);
+        }) together.workers together.work;
+        fixed = closes.fixed ∙ fixed;
+        legal = legal;
+        begins = record {
+          new = together.begins.new;
+          is = closes.history ∙ (together.begins.is ∙ ap (λ (history : List Entry). history ++ together.begins.new) seen);
+          above = tt;
+        };
+        longest = ⊎_elim
+            (λ (same : last.seen ≡ first.seen). inl (closes.history ∙ (same ∙ seen)))
+            (λ (one : Any (HasSeen last.seen) together.workers). inr (subst (λ (history : List Entry). Any (HasSeen {In = In} {Out = Out} history) together.workers) (sym closes.history) one))
+            together.longest;
+        last = closes.end;
+        order = (let low = closes.order.0 in omega arith, closes.order.1);
+        calls = λ number.
+            let all = closes.calls number in
+            let own = together.calls number in
+            let start = none number in
+            subst (λ (least : ℕ). count_by (λ call. number == call) (calls_of together.workers) ≡ cond (nat_le least number && nat_lt number closes.end) 1 0) next
+            (once board.start.first closes.end number (count_by (λ call. number == call) (calls_of together.workers)) closes.order.0 (omega arith));
+        exhausted = every_more (WorksBeside states board.start.fixed asked first last) (λ (worker : Worker In Out). worker.after.port.spent ≡ true → closes.end ≡ _)
+            (λ worker work spent. closes.exhausted (work.exhausted spent)) together.workers together.work;
+        faults = let least = closes.since in omega arith;
+      }

@@ -1,0 +1,79 @@
+-- What several workers at one board do, each with a listener and a port of its own.
+use Rattle.std.specs.Prelude.{◌≡◌, ◌⊎◌, ◌<◌, ◌≤◌, ◌==◌, ◌&&◌, nat_le, nat_lt, cond, ℕ, true, false, List, [], ◌∷◌, map}
+use Rattle.std.specs.List.{Any, count_by, flat_map}
+use Rattle.apron_base.specs.Counts.{Rose}
+use Rattle.apron_base.specs.Histories.{Every}
+use Rattle.apron_base.specs.Listener.{ListenerState}
+use Rattle.apron_base.specs.Machine.{MachineState}
+use Rattle.apron_rules.specs.declared.parts.AirportParts.{AirportParts}
+use Rattle.desk_words.specs.declared.asks.Entry.{Entry}
+use Rattle.history_core.specs.History.{IsLegal, call_limit}
+use Rattle.desk_http.specs.Ports.{IsLater, PortState, Turn}
+use Rattle.desk_turns.specs.declared.worker.WorkEnd.{WorkEnd}
+use Rattle.desk_turns.specs.declared.worker.WorkEnd.TheVariants.{Done, ListenerFault}
+use Rattle.desk_turns.specs.Work.{EndStates, WorkState, Works}
+
+-- the listeners of the workers in order, and the board
+pub record CrewState (In Out : Type 0) : Type 0 where
+  pub listeners : List (ListenerState In Out)
+  pub board : MachineState Entry AirportParts
+
+-- a worker: its listener and its port before and after, and how it ended
+pub record Worker (In Out : Type 0) : Type 0 where
+  pub before : WorkState In Out
+  pub after : WorkState In Out
+  pub end : WorkEnd
+
+-- a port that has seen this history, and has made no call
+pub record IsFresh (history : List Entry) (port : PortState) : Type 0 where
+  pub seen : port.seen ≡ history
+  pub calls : port.calls ≡ []
+  pub spent : port.spent ≡ false
+  pub faults : port.faults ≡ 0
+
+-- how workers ended together: as the first one that did not finish all its connections, where there is one
+abbrev pub end_of : List WorkEnd → WorkEnd
+end_of [] = Done
+end_of (Done ∷ ends) = end_of ends
+end_of (ListenerFault ∷ ends) = ListenerFault
+
+-- these calls are the numbers from the first one up to the end, each once
+abbrev pub AreAllOnce : ℕ → ℕ → List ℕ → Type 0
+AreAllOnce first end calls = (number : ℕ) → count_by (λ call. number == call) calls ≡ cond (nat_le first number && nat_lt number end) 1 0
+
+module _ {In Out : Type 0} where
+  -- the calls of all workers
+  abbrev pub calls_of : List (Worker In Out) → List ℕ
+  calls_of workers = flat_map (λ (worker : Worker In Out). worker.after.port.calls) workers
+
+  -- the worker has seen this history at its end
+  abbrev pub HasSeen : List Entry → Worker In Out → Type 0
+  HasSeen history worker = worker.after.port.seen ≡ history
+
+module _ {In Out : Type 0} (states : EndStates In Out) (asked : ℕ) (before after : MachineState Entry AirportParts) where
+  -- A worker at the board: its port had seen the board's history, and it served the connections of its listener over it. What it has seen at its end begins
+  -- the history at the end, where all else has greater numbers than its calls; and its port counts a fault only where the board's count rose.
+  pub record WorksAt (worker : Worker In Out) : Type 0 where
+    pub fresh : IsFresh before.history worker.before.port
+    pub works : Works states Turn before.fixed asked worker.before worker.after worker.end
+    pub seen : IsLater worker.after.port.seen worker.after.port.calls after.history
+    pub faults : 0 < worker.after.port.faults → Rose before.faults after.faults
+
+-- Workers that were asked for so many connections each, one for each listener: how they ended together, and what they left of the board. Its history is legal, begins
+-- with the history before, and is the longest that one of them has seen. Their calls together are, without a gap and each once, the numbers from the board's next
+-- one up to an end, which is the end of all numbers where a port found them exhausted.
+pub record ServesBoard {In Out : Type 0} (states : EndStates In Out) (asked : ℕ) (before after : CrewState In Out) (end : WorkEnd) : Type 0 where
+  pub workers : List (Worker In Out)
+  pub begun : before.listeners ≡ map (λ (worker : Worker In Out). worker.before.listener) workers
+  pub ended : after.listeners ≡ map (λ (worker : Worker In Out). worker.after.listener) workers
+  pub end_is : end ≡ end_of (map (λ (worker : Worker In Out). worker.end) workers)
+  pub work : Every (WorksAt states asked before.board after.board) workers
+  pub fixed : after.board.fixed ≡ before.board.fixed
+  pub legal : IsLegal after.board.fixed after.board.history
+  pub begins : IsLater before.board.history [] after.board.history
+  pub longest : (after.board.history ≡ before.board.history) ⊎ Any (HasSeen after.board.history) workers
+  pub last : ℕ
+  pub order : (before.board.next ≤ last) × (last ≤ call_limit)
+  pub calls : AreAllOnce before.board.next last (calls_of workers)
+  pub exhausted : Every (λ (worker : Worker In Out). worker.after.port.spent ≡ true → last ≡ call_limit) workers
+  pub faults : before.board.faults ≤ after.board.faults

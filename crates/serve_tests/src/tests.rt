@@ -1,0 +1,214 @@
+// Many desks at once at a small airport, over a journal in memory.
+mod beside;
+mod over_tcp;
+mod statuses;
+
+use apron_base::{Kept, ListListener, ListSink, ListSource, Listed, MapShelf, Memory, Word};
+use apron_run::run;
+use apron_serve::serve;
+use journal_disk::{Disk, MemoryDisk, Room};
+use std::alloc::Global;
+use std::sync::Wait;
+use std::test::Fail;
+use std::thread::Threads;
+
+// The airport file: one stand.
+const AIRPORT: &str = r#"frontage = [ { name = "N", objects = [] } ]
+stand = [ { name = "N1", frontage = "N", centre = 4000, letter = "C", buffer = 10 } ]
+pair = []
+
+[airport]
+station = "APR"
+first_day = "2026-03-27"
+days = 3
+taxi_in = 5
+tow = 20
+"#;
+
+// The type file: one type.
+const TYPES: &str = "type,span,least\nA320,3580,40\n";
+
+// A visit is added, and put on the stand.
+const FIRST: &[u8] =
+    b"POST /visits HTTP/1.1\r\nContent-Length: 78\r\n\r\n{\"name\":\"V1\",\"type\":\"A320\",\"class\":3,\"on\":600,\"off\":660,\"arr\":null,\"dep\":null}POST /commits HTTP/1.1\r\nContent-Length: 83\r\n\r\n{\"desk\":\"D\",\"draft\":1,\"base\":1,\"edits\":[{\"put\":{\"visit\":1,\"part\":1,\"stand\":\"N1\"}}]}";
+
+// What the desk is told of it.
+const FIRST_TOLD: &[u8] =
+    b"HTTP/1.1 200 OK\r\nContent-Type: application/json\r\nContent-Length: 23\r\nX-Version: 1\r\n\r\n{\"version\":1,\"visit\":1}HTTP/1.1 200 OK\r\nContent-Type: application/json\r\nContent-Length: 13\r\nX-Version: 2\r\n\r\n{\"version\":2}";
+
+const VERSION: &[u8] = b"GET /version HTTP/1.1\r\nX-Seen: 0\r\n\r\n";
+
+const AT_0: &[u8] =
+    b"HTTP/1.1 200 OK\r\nContent-Type: application/json\r\nContent-Length: 13\r\nX-Version: 0\r\n\r\n{\"version\":0}";
+
+const AT_1: &[u8] =
+    b"HTTP/1.1 200 OK\r\nContent-Type: application/json\r\nContent-Length: 13\r\nX-Version: 1\r\n\r\n{\"version\":1}";
+
+const AT_2: &[u8] =
+    b"HTTP/1.1 200 OK\r\nContent-Type: application/json\r\nContent-Length: 13\r\nX-Version: 2\r\n\r\n{\"version\":2}";
+
+const AT_3: &[u8] =
+    b"HTTP/1.1 200 OK\r\nContent-Type: application/json\r\nContent-Length: 13\r\nX-Version: 3\r\n\r\n{\"version\":3}";
+
+// Two visits at the same minutes are added.
+const BOTH: &[u8] =
+    b"POST /visits HTTP/1.1\r\nContent-Length: 78\r\n\r\n{\"name\":\"V1\",\"type\":\"A320\",\"class\":3,\"on\":600,\"off\":660,\"arr\":null,\"dep\":null}POST /visits HTTP/1.1\r\nContent-Length: 78\r\n\r\n{\"name\":\"V2\",\"type\":\"A320\",\"class\":3,\"on\":600,\"off\":660,\"arr\":null,\"dep\":null}";
+
+// The first of them is put on the stand by desk A, and the second by desk B.
+const BY_A: &[u8] =
+    b"POST /commits HTTP/1.1\r\nContent-Length: 83\r\n\r\n{\"desk\":\"A\",\"draft\":1,\"base\":2,\"edits\":[{\"put\":{\"visit\":1,\"part\":1,\"stand\":\"N1\"}}]}";
+
+const BY_B: &[u8] =
+    b"POST /commits HTTP/1.1\r\nContent-Length: 83\r\n\r\n{\"desk\":\"B\",\"draft\":1,\"base\":2,\"edits\":[{\"put\":{\"visit\":2,\"part\":1,\"stand\":\"N1\"}}]}";
+
+const CLASH: &[u8] =
+    b"HTTP/1.1 422 Unprocessable Entity\r\nContent-Type: application/json\r\nContent-Length: 106\r\nX-Version: 3\r\n\r\n{\"a\":{\"part\":1,\"visit\":1},\"b\":{\"part\":1,\"visit\":2},\"error\":\"clash\",\"minute\":600,\"rule\":\"same\",\"version\":3}";
+
+const ROOM: Room = Room {
+    bytes: 200_000,
+    written: 200_000,
+    calls: 20_000,
+};
+
+fn words(alloc: Global, texts: &str) -> Result<Vec<Word>, Memory> {
+    let mut words = Vec::new(alloc);
+    for text in texts.split_ascii_whitespace() {
+        words.push(Word::new(alloc, text)?)?;
+    }
+    Ok(words)
+}
+
+fn kept(alloc: Global, name: &str, text: &str) -> Result<Kept, Memory> {
+    Ok(Kept {
+        name: Word::new(alloc, name)?,
+        bytes: Listed::from_vec(text.as_bytes().to_vec(alloc)?),
+    })
+}
+
+// The two files, by the names `A` and `T`.
+fn shelf(alloc: Global, failing: &[u64]) -> Result<MapShelf, Memory> {
+    let files = Vec::from_array(
+        alloc,
+        [kept(alloc, "A", AIRPORT)?, kept(alloc, "T", TYPES)?],
+    )?;
+    Ok(MapShelf::new(files, failing.to_vec(alloc)?))
+}
+
+// What the program prints for these words and this input, on this disk.
+fn printed<D: Disk>(
+    alloc: Global,
+    texts: &str,
+    input: &[u8],
+    disk: &mut D,
+) -> Result<Vec<u8>, Memory> {
+    let mut shelf = shelf(alloc, &[])?;
+    let mut source = ListSource::new(input.to_vec(alloc)?, Vec::new(alloc), Vec::new(alloc));
+    let mut sink = ListSink::new(alloc, 200_000, Vec::new(alloc))?;
+    let words = words(alloc, texts)?;
+    let _status = run(
+        alloc,
+        words.as_slice(),
+        &mut shelf,
+        &mut source,
+        &mut sink,
+        disk,
+    );
+    Ok(sink.bytes().to_vec(alloc)?)
+}
+
+// A disk that has a journal of the two files with no entry.
+fn journal(alloc: Global) -> Result<MemoryDisk, Memory> {
+    let mut disk = MemoryDisk::new(alloc, Vec::new(alloc), ROOM, Vec::new(alloc))?;
+    printed(alloc, "init A T", b"", &mut disk)?;
+    Ok(disk)
+}
+
+// A listener of one connection that sends this.
+fn listener(alloc: Global, input: &[u8]) -> Result<ListListener<ListSource, ListSink>, Memory> {
+    let source = ListSource::new(input.to_vec(alloc)?, Vec::new(alloc), Vec::new(alloc));
+    let sink = ListSink::new(alloc, 10_000, Vec::new(alloc))?;
+    let to_come = Vec::from_array(alloc, [(source, sink)])?;
+    Ok(ListListener::new(alloc, to_come, Vec::new(alloc))?)
+}
+
+// What the first connection of a listener was told.
+fn told(listener: &ListListener<ListSource, ListSink>) -> &[u8] {
+    match listener.finished() {
+        [first, ..] => first.sink.bytes(),
+        [] => &[],
+    }
+}
+
+// What came of two desks at once: their status, what each was told, and the version afterwards.
+#[derive(Drop)]
+struct Both {
+    status: u8,
+    first: Vec<u8>,
+    second: Vec<u8>,
+    version: Vec<u8>,
+}
+
+// Two desks at once, each over a connection of its own.
+fn serve_both<R: Wait + Threads + Sync>(
+    rt: &R,
+    alloc: Global,
+    inputs: (&[u8], &[u8]),
+    disk: MemoryDisk,
+) -> Result<Both, Memory> {
+    let one = listener(alloc, inputs.0)?;
+    let two = listener(alloc, inputs.1)?;
+    let mut listeners = Vec::from_array(alloc, [one, two])?;
+    let mut shelf = shelf(alloc, &[])?;
+    let mut sink = ListSink::new(alloc, 1_000, Vec::new(alloc))?;
+    let words = words(alloc, "serve A T 1")?;
+    let (status, mut disk) = serve(
+        rt,
+        alloc,
+        words.as_slice(),
+        &mut shelf,
+        listeners.as_mut_slice(),
+        &mut sink,
+        disk,
+    );
+    let version = printed(alloc, "desk A T", VERSION, &mut disk)?;
+    let (first, second) = match listeners.as_slice() {
+        [one, two] => (told(one).to_vec(alloc)?, told(two).to_vec(alloc)?),
+        _ => (Vec::new(alloc), Vec::new(alloc)),
+    };
+    Ok(Both {
+        status,
+        first,
+        second,
+        version,
+    })
+}
+
+#[test]
+fn a_desk_that_asks_the_version_is_told_one_that_there_was(rt: HostRuntime) -> Result<(), Fail> {
+    let alloc = rt.alloc();
+    let both = serve_both(&rt, alloc, (FIRST, VERSION), journal(alloc)?)?;
+    assert_eq!(rt; both.status, 0);
+    assert_eq!(rt; both.first.as_slice(), FIRST_TOLD);
+    assert!(rt; [AT_0, AT_1, AT_2].contains(&both.second.as_slice()));
+    assert_eq!(rt; both.version.as_slice(), AT_2);
+    Ok(())
+}
+
+// Whether of two desks that want the one stand at once one is accepted, and the other told of the clash.
+fn one_gets_the_stand<R: Wait + Threads + Sync>(rt: &R, alloc: Global) -> Result<bool, Memory> {
+    let mut disk = journal(alloc)?;
+    printed(alloc, "desk A T", BOTH, &mut disk)?;
+    let both = serve_both(rt, alloc, (BY_A, BY_B), disk)?;
+    let replies = (both.first.as_slice(), both.second.as_slice());
+    let is_one = replies == (AT_3, CLASH) || replies == (CLASH, AT_3);
+    Ok(both.status == 0 && is_one && both.version.as_slice() == AT_3)
+}
+
+#[test]
+fn of_two_desks_at_once_one_gets_the_stand(rt: HostRuntime) -> Result<(), Fail> {
+    for round in 0..20 {
+        let is = one_gets_the_stand(&rt, rt.alloc())?;
+        assert!(rt; is, "round {round}");
+    }
+    Ok(())
+}
