@@ -1,0 +1,357 @@
+"""The answers of a plan, worked out anew and apart from the program: visits, commits, cancels and reads of an airport, as docs/HTTP.md
+tells them, and the history in a journal's bytes. There are no messages and reports here, so that no part is ever on block or bumped."""
+
+import csv
+import json
+import struct
+import tomllib
+
+DAY = 1440
+MOST = 2 ** 32 - 1
+MOST_PARTS = 3
+LETTERS = [(1500, "A", 300), (2400, "B", 300), (3600, "C", 450), (5200, "D", 750), (6500, "E", 750), (8000, "F", 750)]
+
+
+def compact(value):
+    """A value as it stands in the body of a reply."""
+    return json.dumps(value, sort_keys=True, separators=(",", ":")).encode()
+
+
+class Airport:
+    """The airport of two files."""
+
+    def __init__(self, airport, types):
+        with open(airport, "rb") as file:
+            described = tomllib.load(file)
+        with open(types, newline="") as file:
+            self.types = [(name, int(span), int(least)) for name, span, least in list(csv.reader(file))[1:]]
+        self.days, self.tow = described["airport"]["days"], described["airport"]["tow"]
+        self.minutes = self.days * DAY
+        self.objects = {it["name"]: it["objects"] for it in described["frontage"]}
+        self.stands, self.pairs = described["stand"], described.get("pair", [])
+        self.stand_of = {it["name"]: place for place, it in enumerate(self.stands)}
+        self.type_of = {name: place for place, (name, _, _) in enumerate(self.types)}
+        self.rules = {}
+        count = range(len(self.types))
+        self.near = [
+            [other for other in range(len(self.stands)) if any(self.breaks(stand, a, other, b) for a in count for b in count)]
+            for stand in range(len(self.stands))]
+
+    def letter(self, type):
+        """The code letter of a type and its clearance."""
+        return next((letter, clearance) for below, letter, clearance in LETTERS if self.types[type][1] < below)
+
+    def breaks(self, stand, type, other, other_type):
+        """The first rule by which two stands exclude each other with aircraft of these types on them, or None."""
+        key = stand, type, other, other_type
+        if key not in self.rules:
+            self.rules[key] = self.first_rule(*key)
+        return self.rules[key]
+
+    def first_rule(self, stand, type, other, other_type):
+        one, two = self.stands[stand], self.stands[other]
+        if stand == other:
+            return "same"
+        if one.get("half_of") == two["name"] or two.get("half_of") == one["name"]:
+            return "split"
+        (letter, clearance), (other_letter, other_clearance) = self.letter(type), self.letter(other_type)
+        wide = self.types[type][1] + self.types[other_type][1] + 2 * max(clearance, other_clearance)
+        if one["frontage"] == two["frontage"] and 2 * abs(one["centre"] - two["centre"]) < wide:
+            return "clearance"
+        on = {one["name"]: letter, two["name"]: other_letter}
+        if any(on.get(it["a"], "") >= it["la"] and on.get(it["b"], "") >= it["lb"] for it in self.pairs):
+            return "pair"
+        return None
+
+    def unfit(self, stand, type):
+        """Why the type does not fit the stand, or None."""
+        it, span, (letter, clearance) = self.stands[stand], self.types[type][1], self.letter(type)
+        if letter > it["letter"]:
+            return "letter"
+        for number, place in enumerate(self.objects[it["frontage"]], 1):
+            if 2 * abs(it["centre"] - place) < span + 2 * clearance:
+                return {"object": number}
+        return None
+
+
+class Visit:
+    def __init__(self, asked, type, version):
+        self.asked, self.type, self.version = asked, type, version
+        self.edited, self.cancelled = 0, False
+        # from, to and the stand, or None, of each part
+        self.parts = [(asked["on"], asked["off"], None)]
+
+
+class Accepted:
+    """A command that the plan takes, and what it then makes of the plan."""
+
+    def __init__(self, body, install):
+        self.code, self.body, self.install = 200, body, install
+
+
+class Answered:
+    """A reply that leaves the plan as it is."""
+
+    def __init__(self, code, **body):
+        self.code, self.body = code, body
+
+
+class Plan:
+    """A plan, and the answer that it owes each ask. An ask is a triple: its kind, what it says, and the version that was seen."""
+
+    def __init__(self, airport):
+        self.airport = airport
+        self.version, self.visits, self.names, self.drafts = 0, [], {}, {}
+        # the slots on each stand by visit: from, end and part
+        self.held = [{} for _ in airport.stands]
+
+    def answer(self, ask):
+        kind, said, seen = ask
+        if seen > self.version:
+            return self.refused(409, "ahead")
+        return getattr(self, kind)(said)
+
+    def told(self, code=200, **body):
+        return Answered(code, version=self.version, **body)
+
+    def refused(self, code, error, **body):
+        return self.told(code, error=error, **body)
+
+    def visit_of(self, number):
+        return self.visits[number - 1] if 1 <= number <= len(self.visits) else None
+
+    def add(self, said):
+        """Of a visit that lies in the plan, and has a type of the airport and no flights."""
+        number = self.names.get(said["name"])
+        if number is not None:
+            it = self.visits[number - 1]
+            if it.asked == said:
+                return Answered(200, version=it.version, visit=number)
+            return self.refused(409, "name", visit=number)
+
+        def install():
+            self.names[said["name"]] = len(self.visits) + 1
+            self.visits.append(Visit(said, self.airport.type_of[said["type"]], self.version))
+        return Accepted({"version": self.version + 1, "visit": len(self.visits) + 1}, install)
+
+    def cancel(self, said):
+        it = self.visit_of(said["visit"])
+        if it is None:
+            return self.refused(422, "unknown")
+        if it.cancelled:
+            return self.refused(422, "gone")
+
+        def install():
+            self.place(said["visit"], [(begin, end, None) for begin, end, _ in it.parts])
+            it.cancelled = True
+        return Accepted({"version": self.version + 1}, install)
+
+    def commit(self, said):
+        if said["base"] > self.version:
+            return self.refused(409, "ahead")
+        draft = said["desk"], said["draft"]
+        if draft in self.drafts:
+            return Answered(200, version=self.drafts[draft])
+        changed = {}
+        for number, edit in enumerate(said["edits"], 1):
+            refusal = self.edit(changed, said["base"], edit)
+            if refusal is not None:
+                refusal.body["edit"] = number
+                return refusal
+        clash = self.first_clash(changed)
+        if clash is not None:
+            minute, a, b, rule = clash
+            a, b = ({"part": part, "visit": visit} for visit, part in (a, b))
+            return self.refused(422, "clash", a=a, b=b, minute=minute, rule=rule)
+
+        def install():
+            self.drafts[draft] = self.version
+            for visit, parts in changed.items():
+                self.place(visit, parts)
+                self.visits[visit - 1].edited = self.version
+        return Accepted({"version": self.version + 1}, install)
+
+    def edit(self, changed, base, edit):
+        """Has the edit change the parts of its visit, or gives why not."""
+        (kind, said), = edit.items()
+        it = self.visit_of(said["visit"])
+        if it is None:
+            return self.refused(422, "unknown")
+        if it.edited > base:
+            return self.refused(409, "overtaken", edited=it.edited, visit=said["visit"])
+        if it.cancelled:
+            return self.refused(422, "gone")
+        parts, k = list(changed.get(said["visit"], it.parts)), said["part"] - 1
+        if not 0 <= k < len(parts):
+            return self.refused(422, "part")
+        (begin, end, stand), least = parts[k], self.airport.types[it.type][2]
+        if kind == "put":
+            stand = self.airport.stand_of[said["stand"]]
+            by = self.airport.unfit(stand, it.type)
+            if by is not None:
+                return self.refused(422, "unfit", by=by)
+            parts[k] = begin, end, stand
+        elif kind == "lift":
+            parts[k] = begin, end, None
+        elif kind == "cut":
+            at, tow = said["at"], self.airport.tow
+            if len(parts) == MOST_PARTS or at < begin + least or end < at + tow + least:
+                return self.refused(422, "cut")
+            parts[k:k + 1] = [(begin, at, stand), (at + tow, end, None)]
+        elif k + 1 == len(parts):
+            return self.refused(422, "join")
+        else:
+            parts[k:k + 2] = [(begin, parts[k + 1][1], stand)]
+        changed[said["visit"]] = parts
+        return None
+
+    def slots(self, parts):
+        """The slots of the parts that are on a stand: the stand, from, end and part."""
+        return [
+            (stand, begin, end + self.airport.stands[stand]["buffer"], part)
+            for part, (begin, end, stand) in enumerate(parts, 1) if stand is not None]
+
+    def first_clash(self, changed):
+        """The first clash with these parts, of a plan that has none without them."""
+        first = None
+        for visit, parts in changed.items():
+            type = self.visits[visit - 1].type
+            for stand, begin, end, part in self.slots(parts):
+                for other_visit, other, other_begin, other_end, other_part in self.others(stand, changed, visit):
+                    minute = max(begin, other_begin)
+                    if minute < min(end, other_end):
+                        rule = self.airport.breaks(stand, type, other, self.visits[other_visit - 1].type)
+                        if rule is not None:
+                            a, b = sorted([(visit, part), (other_visit, other_part)])
+                            if first is None or (minute, a, b) < first[:3]:
+                                first = minute, a, b, rule
+        return first
+
+    def others(self, stand, changed, visit):
+        """The slots of other visits on the stands near this one."""
+        for other in self.airport.near[stand]:
+            for other_visit, slots in self.held[other].items():
+                if other_visit not in changed:
+                    for begin, end, part in slots:
+                        yield other_visit, other, begin, end, part
+        for other_visit, parts in changed.items():
+            if other_visit != visit:
+                for other, begin, end, part in self.slots(parts):
+                    yield other_visit, other, begin, end, part
+
+    def place(self, visit, parts):
+        """Has the visit have these parts."""
+        for stand, *_ in self.slots(self.visits[visit - 1].parts):
+            self.held[stand].pop(visit, None)
+        self.visits[visit - 1].parts = parts
+        for stand, begin, end, part in self.slots(parts):
+            self.held[stand].setdefault(visit, []).append((begin, end, part))
+
+    def version_of(self, _):
+        return self.told()
+
+    def read(self, said):
+        number = said["visit"]
+        it = self.visit_of(number)
+        if it is None:
+            return self.refused(404, "visit")
+        parts = [
+            {"actual": False, "bump": None, "from": begin, "stand": self.stand_name(stand), "to": end} for begin, end, stand in it.parts]
+        state = "cancelled" if it.cancelled else "expected"
+        return self.told(**it.asked, edited=it.edited, parts=parts, state=state, visit=number)
+
+    def stand_name(self, stand):
+        return None if stand is None else self.airport.stands[stand]["name"]
+
+    def day(self, said):
+        begins, ends = (said["day"] - 1) * DAY, said["day"] * DAY
+        parts = []
+        for visit, it in enumerate(self.visits, 1):
+            for stand, begin, end, part in self.slots(it.parts):
+                if begin < ends and end > begins:
+                    to = it.parts[part - 1][1]
+                    parts.append({"actual": False, "from": begin, "part": part, "stand": self.stand_name(stand), "to": to, "visit": visit})
+        return self.told(parts=parts)
+
+    def unplaced(self, _):
+        parts = []
+        for visit, it in enumerate(self.visits, 1):
+            for part, (begin, end, stand) in enumerate(it.parts, 1):
+                if stand is None and not it.cancelled:
+                    rank = it.asked["class"], it.asked["on"], visit, part
+                    parts.append((rank, {"bump": None, "from": begin, "part": part, "to": end, "visit": visit}))
+        return self.told(parts=[part for _, part in sorted(parts, key=lambda it: it[0])])
+
+    def take(self, ask):
+        """Takes an accepted command in."""
+        answer = self.answer(ask)
+        assert isinstance(answer, Accepted), f"version {self.version + 1} is of a command that the plan refuses: {ask[:2]}"
+        self.version += 1
+        answer.install()
+
+
+TARGETS = {
+    "add": ("POST", "/visits"), "commit": ("POST", "/commits"), "cancel": ("POST", "/cancels"), "version_of": ("GET", "/version"),
+    "read": ("GET", "/visits/{visit}"), "day": ("GET", "/plan/{day}"), "unplaced": ("GET", "/unplaced")}
+COMMANDS = {"add", "commit", "cancel"}
+
+
+def request_of(ask):
+    """The method, the target and the body of an ask."""
+    kind, said, _ = ask
+    method, target = TARGETS[kind]
+    return method, target.format(**said), compact(said) if method == "POST" else b""
+
+
+class Reader:
+    """Reads fields from the bytes of an entry."""
+
+    def __init__(self, text):
+        self.text, self.at = text, 0
+
+    def number(self, form):
+        number, = struct.unpack_from("<" + form, self.text, self.at)
+        self.at += struct.calcsize("<" + form)
+        return number
+
+    def name(self):
+        length = self.number("B")
+        self.at += length
+        return self.text[self.at - length:self.at].decode()
+
+
+def entries_of(airport, journal):
+    """The entries of a journal: the call number, and the command as an ask that has seen nothing."""
+    entries, at = [], 72
+    while journal[at] == 1:
+        length, = struct.unpack_from("<H", journal, at + 1)
+        entries.append(entry_of(airport, Reader(journal[at + 3:at + 3 + length]), length))
+        at += 3 + length
+    return entries
+
+
+def entry_of(airport, text, length):
+    call, kind = text.number("Q"), text.number("B")
+    if kind == 1:
+        name, type, of_class = text.name(), text.number("H"), text.number("B")
+        on, off, arr, dep = text.number("I"), text.number("I"), text.number("B"), text.number("B")
+        assert (arr, dep) == (0, 0), "an entry has a flight"
+        said = {"name": name, "type": airport.types[type][0], "class": of_class, "on": on, "off": off, "arr": None, "dep": None}
+        entry = "add", said, 0
+    elif kind == 2:
+        desk, draft, base, count = text.name(), text.number("I"), text.number("I"), text.number("B")
+        entry = "commit", {"desk": desk, "draft": draft, "base": base, "edits": [edit_of(airport, text) for _ in range(count)]}, 0
+    else:
+        assert kind == 5, f"an entry is of kind {kind}"
+        entry = "cancel", {"visit": text.number("I")}, 0
+    assert text.at == length, "an entry has bytes left over"
+    return call, entry
+
+
+def edit_of(airport, text):
+    kind, said = text.number("B"), {"visit": text.number("I"), "part": text.number("B")}
+    if kind == 1:
+        said["stand"] = airport.stands[text.number("H")]["name"]
+    elif kind == 3:
+        said["at"] = text.number("I")
+    return {("put", "lift", "cut", "join")[kind - 1]: said}
