@@ -1,7 +1,10 @@
-// Input that is cut, ends that fail, and heads that don't end.
+// Input that is cut, ends that fail, heads that don't end, and a history that takes no more.
+use super::journals::{STANDS as STANDING, V1, journal_of};
 use super::lines::Session;
 use super::sessions::{ADDED, STANDS};
 use super::{DEMO, FIRST, Run};
+use apron_base::Memory;
+use std::alloc::Global;
 use std::test::Fail;
 
 // What is written for the first so many bytes of the two requests, of 123 and 129 bytes, and the status.
@@ -131,5 +134,52 @@ fn a_head_without_an_end_is_refused(rt: HostRuntime) -> Result<(), Fail> {
         };
         run.gives(&rt, alloc, &length, output, status)?;
     }
+    Ok(())
+}
+
+// A message of a flight that no visit has, as an entry behind its call number: it is kept, and changes nothing.
+const UNKNOWN: &[u8] = b"\x03\x1eMVT\nLH999/27.DAIQA.APR\nAD1000\n";
+
+// A journal of as many entries as a history takes: the visit and the commit of the two requests, and then such messages.
+fn full_journal(alloc: Global) -> Result<Vec<u8>, Memory> {
+    let mut journal = journal_of(alloc, &[V1, STANDING])?;
+    let _ = journal.pop();
+    for call in 3..200_001u64 {
+        journal.extend_from_slice(&[1, 40, 0])?;
+        journal.extend_from_slice(&call.to_le_bytes())?;
+        journal.extend_from_slice(UNKNOWN)?;
+    }
+    journal.push(0)?;
+    Ok(journal)
+}
+
+// A message, the commit of the two requests again, and a new commit on a visit that there is not.
+const AT_FULL: &[u8] =
+    b"POST /mvt HTTP/1.1\r\nContent-Length: 30\r\n\r\nMVT\nLH999/27.DAIQA.APR\nAD1000\nPOST /commits HTTP/1.1\r\nContent-Length: 83\r\n\r\n{\"desk\":\"D\",\"draft\":1,\"base\":1,\"edits\":[{\"put\":{\"visit\":1,\"part\":1,\"stand\":\"N1\"}}]}POST /commits HTTP/1.1\r\nContent-Length: 88\r\n\r\n{\"desk\":\"D\",\"draft\":2,\"base\":200000,\"edits\":[{\"put\":{\"visit\":9,\"part\":1,\"stand\":\"N1\"}}]}";
+
+// A desk on the full journal takes no more entries, and goes on.
+fn goes_on_at_full(alloc: Global) -> Result<bool, Fail> {
+    let mut session = Session::of(alloc, "")?;
+    session.tell(alloc, "409 200000 {\"error\":\"full\",\"version\":200000}")?;
+    session.tell(alloc, "200 200000 {\"version\":2}")?;
+    session.tell(
+        alloc,
+        "422 200000 {\"edit\":1,\"error\":\"unknown\",\"version\":200000}",
+    )?;
+    let journal = full_journal(alloc)?;
+    let run = Run {
+        input: AT_FULL,
+        is_new: false,
+        stored: journal.as_slice(),
+        ..DEMO
+    };
+    let ended = run.ends(alloc)?;
+    Ok(ended.status == 0 && ended.output.as_slice() == session.output.as_slice())
+}
+
+#[test]
+fn a_full_history_takes_no_more(rt: HostRuntime) -> Result<(), Fail> {
+    let goes_on = goes_on_at_full(rt.alloc())?;
+    assert!(rt; goes_on);
     Ok(())
 }

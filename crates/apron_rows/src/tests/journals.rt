@@ -11,7 +11,7 @@ const OTHER: &str =
     "journal: other airport f4322cbd517c34ea64e3618053a31d3cebd8158e78f41df924c9cd7d7eebee27dd66539480850f9e7014ae931bdde5384de9e0a0808582f966878f70cca179ff f4322cbd517c34ea64e3618053a31d3cebd8158e78f41df924c9cd7d7eebee27dd66539480850f9e7014ae931bdde5384de9e0a0808582f966878f70cca17942\n";
 
 // Visit V1 of type A320 and class 3 from 600 to 660, by call 1.
-const V1: &[u8] = b"\x01\0\0\0\0\0\0\0\x01\x02V1\0\0\x03\x58\x02\0\0\x94\x02\0\0\0\0";
+pub(super) const V1: &[u8] = b"\x01\0\0\0\0\0\0\0\x01\x02V1\0\0\x03\x58\x02\0\0\x94\x02\0\0\0\0";
 
 // The same with the call number 0, which no call has.
 const V0: &[u8] = b"\0\0\0\0\0\0\0\0\x01\x02V1\0\0\x03\x58\x02\0\0\x94\x02\0\0\0\0";
@@ -20,7 +20,8 @@ const V0: &[u8] = b"\0\0\0\0\0\0\0\0\x01\x02V1\0\0\x03\x58\x02\0\0\x94\x02\0\0\0
 const V2: &[u8] = b"\x02\0\0\0\0\0\0\0\x01\x02V2\0\0\x03\x58\x02\0\0\x94\x02\0\0\0\0";
 
 // Draft 1 of desk D over version 1, by call 2: visit 1 is put on the first stand.
-const STANDS: &[u8] = b"\x02\0\0\0\0\0\0\0\x02\x01D\x01\0\0\0\x01\0\0\0\x01\x01\x01\0\0\0\x01\0\0";
+pub(super) const STANDS: &[u8] =
+    b"\x02\0\0\0\0\0\0\0\x02\x01D\x01\0\0\0\x01\0\0\0\x01\x01\x01\0\0\0\x01\0\0";
 
 // The requests that add three visits, and one for the version.
 const THREE: &[u8] =
@@ -31,7 +32,7 @@ const AGAIN: &[u8] =
     b"GET /version HTTP/1.1\r\n\r\nPOST /commits HTTP/1.1\r\nContent-Length: 83\r\n\r\n{\"desk\":\"D\",\"draft\":1,\"base\":1,\"edits\":[{\"put\":{\"visit\":1,\"part\":1,\"stand\":\"N1\"}}]}POST /visits HTTP/1.1\r\nContent-Length: 56\r\n\r\n{\"name\":\"V2\",\"type\":\"A320\",\"class\":3,\"on\":600,\"off\":660}";
 
 // A journal of the two files with these entries.
-fn journal_of(alloc: Global, entries: &[&[u8]]) -> Result<Vec<u8>, Memory> {
+pub(super) fn journal_of(alloc: Global, entries: &[&[u8]]) -> Result<Vec<u8>, Memory> {
     let mut journal = empty_journal(alloc, AIRPORT, TYPES)?;
     for entry in entries {
         let _ = journal.pop();
