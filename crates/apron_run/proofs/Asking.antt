@@ -5,6 +5,7 @@ use Rattle.std.proofs.lemmas.Bool.Decides.{nat_tests}
 use Rattle.apron_base.specs.declared.numbers.VisitNo.{VisitNo}
 use Rattle.apron_base.specs.Counts.{Counts}
 use Rattle.apron_base.specs.Histories.{Every}
+use Rattle.apron_base.specs.Machine.{Standing}
 use Rattle.apron_base.specs.declared.outside.Acted.TheVariants.{Reply as Replied, Memory as NoMemory, Fault}
 use Rattle.apron_rules.specs.declared.parts.AirportParts.{AirportParts}
 use Rattle.visit_book.specs.NewVisits.{new_of}
@@ -19,7 +20,7 @@ use Rattle.desk_words.specs.declared.asks.Entry.{Entry}
 use Rattle.desk_words.specs.declared.asks.What.TheVariants.{Change}
 use Rattle.desk_words.specs.declared.replies.Reply.{Reply}
 use Rattle.history_core.specs.Answer.{ActsAs, IsAccepted, Replies, Sought, added, changes, keeper_fault, no_memory, replied, sought}
-use Rattle.history_core.specs.AtRisk.{IsAskedFor, LeavesAtRisk, Standing}
+use Rattle.history_core.specs.AtRisk.{IsAskedFor, LeavesAtRisk}
 use Rattle.history_core.specs.History.{IsLegal, replay}
 use Rattle.history_core.specs.Laws.{HasAdded, HasEntry, HasVisit}
 use Rattle.history_core.specs.Steps.{IsSameName, Refusal, Stepped, Steps, accepted, ahead, denied, edit, full, name, refused, repeated}
@@ -58,7 +59,7 @@ answered_step airport before after call new bytes (no_memory, is, gives) = absur
 answered_step airport before after call new bytes (keeper_fault, is, gives) = absurd cc
 
 -- how what was reached stands
-abbrev pub standing_at : Reached → Standing
+abbrev pub standing_at : Reached → Standing Entry
 standing_at at = record { entries = at.history; at_risk = at.at_risk }
 
 -- an ask that did not fail leaves nothing more at risk

@@ -1,5 +1,5 @@
 -- Desks that are served at a journal: what they begin with, and what they leave on the disk.
-use Rattle.std.proofs.Common.{◌≡◌, ◌∙◌, ℕ, List, Result, Ok, Err, refl, subst}
+use Rattle.std.proofs.Common.{◌≡◌, ◌∙◌, ℕ, List, None, Result, Ok, Err, refl, subst}
 use Rattle.std.specs.Prelude.{IfErr, IfOk}
 use Rattle.apron_base.specs.Keeper.{KeeperState}
 use Rattle.apron_base.specs.Machine.{MachineState}
@@ -18,6 +18,7 @@ use Rattle.desk_turns.specs.declared.worker.WorkEnd.{WorkEnd}
 use Rattle.apron_check.specs.declared.files.AirportFiles.{AirportFiles}
 use Rattle.apron_run.specs.Headline.{AllSound}
 use Rattle.apron_run.specs.Journal.{IsOpened, KeepsHistory}
+use Rattle.apron_run.specs.World.{DiskSeen}
 use Rattle.apron_run.specs.declared.unusable.Unusable.TheVariants.{Entries}
 use Rattle.apron_serve.specs.Board.{FindsNoJournal, ServesDesks, begun}
 use Rattle.apron_serve.specs.World.{Ends}
@@ -26,10 +27,16 @@ use Rattle.apron_serve.specs.World.{Ends}
 all_sound : (airport : AirportParts) (history : List Entry) → IsLegal airport history → AllSound airport history
 all_sound airport history legal = λ front back is. legal_sound airport front (front_legal airport front back (subst (IsLegal airport) is legal))
 
+-- behind a board that was opened no entry is at risk
+pub opened_safe : {K : Type 0} (tells : K → KeeperState) (files : AirportFiles) (disk : DiskSeen) (board : BoardHeld K) → IsOpened tells files disk board
+    → (machine_state tells board).at_risk ≡ None
+opened_safe tells files disk board opened = rw opened.at_risk refl
+
 -- a board that was opened, as a machine
 opened_begun : {K : Type 0} (tells : K → KeeperState) (airport : AirportParts) (faults next : ℕ) (board : BoardHeld K) → board.airport ≡ airport → board.next ≡ next
-    → (tells board.keeper).faults ≡ faults → machine_state tells board ≡ record { fixed = airport; history = board.history; next = next; faults = faults }
-opened_begun tells airport faults next board airport_is next_is count = rw (airport_is, next_is, count) refl
+    → (tells board.keeper).faults ≡ faults → (tells board.keeper).at_risk ≡ None
+    → machine_state tells board ≡ record { fixed = airport; history = board.history; at_risk = None; next = next; faults = faults }
+opened_begun tells airport faults next board airport_is next_is count safe = rw (safe, airport_is, next_is, count) refl
 
 -- what is told of a fault, at that fault
 pub of_err : {A E P : Type 0} (met : Result A E) (why : E) → met ≡ Err why → IfErr met (λ _. P) → P
@@ -47,7 +54,7 @@ desks_serve {R = R} states tells files connections before after board left met e
     subst (λ (r : Result WorkEnd R).
     IfOk r (ServesBoard states connections (record { listeners = before.listeners; board = machine_state tells board }) (record { listeners = after.listeners; board = machine_state tells left }))) is serve in
     let fresh : machine_state tells board ≡ begun files.airport board.history before.disk.faults =
-    opened_begun tells files.airport before.disk.faults _ board opened.airport_is opened.next opened.faults in
+    opened_begun tells files.airport before.disk.faults _ board opened.airport_is opened.next opened.faults opened.at_risk in
     let same : left.airport ≡ files.airport = serves.fixed ∙ opened.airport_is in
     let legal : IsLegal files.airport left.history = subst (λ (a : AirportParts). IsLegal a left.history) same serves.legal in
     record {
@@ -57,7 +64,6 @@ desks_serve {R = R} states tells files connections before after board left met e
       serves = subst (λ (m : MachineState Entry AirportParts).
           ServesBoard states connections (record { listeners = before.listeners; board = m }) (record { listeners = after.listeners; board = machine_state tells left }) end) fresh serves;
       faults = counted;
-      at_risk = entry_at_risk left.airport (tells left.keeper);
       keeps = subst (λ (a : AirportParts).
           KeepsHistory (record { airport = a; digests = files.digests }) left.history (entry_at_risk left.airport (tells left.keeper)) after.disk) same keeps;
       sound = all_sound files.airport left.history legal;

@@ -1,5 +1,5 @@
 -- What desks that are served at one journal do to it, and to their listeners.
-use Rattle.std.specs.Prelude.{◌≡◌, ℕ, List, Option, Result, Ok, Err}
+use Rattle.std.specs.Prelude.{◌≡◌, ℕ, List, None, Result, Ok, Err}
 use Rattle.apron_base.specs.Machine.{MachineState}
 use Rattle.apron_rules.specs.declared.parts.AirportParts.{AirportParts}
 use Rattle.visit_book.specs.declared.visits.NewVisit.{NewVisit}
@@ -14,9 +14,9 @@ use Rattle.apron_run.specs.Journal.{KeepsHistory, NotOpened, OpensTo}
 use Rattle.apron_run.specs.declared.unusable.Unusable.{Unusable}
 use Rattle.apron_serve.specs.World.{Ends}
 
--- a board that was opened with this history, over a disk that had failed so often
+-- a board that was opened with this history, behind which no entry is at risk, over a disk that had failed so often
 abbrev pub begun : AirportParts → List Entry → ℕ → MachineState Entry AirportParts
-begun airport opened faults = record { fixed = airport; history = opened; next = next_after opened; faults = faults }
+begun airport opened faults = record { fixed = airport; history = opened; at_risk = None; next = next_after opened; faults = faults }
 
 -- there is no journal to work on, or no memory for the turns at it: no listener was called, and the disk reads as before
 pub record FindsNoJournal {In Out : Type 0} (files : AirportFiles) (before after : Ends In Out) (why : Unusable) : Type 0 where
@@ -30,8 +30,9 @@ module _ {In Out : Type 0} (states : EndStates In Out) (files : AirportFiles) (c
   -- The calls of all workers are, each once and without a gap, the numbers from the one above the last entry's on, or from 1 on where there was none;
   -- and where a worker found them exhausted, all that there are. A worker was told that an entry could not be kept only where the disk's count rose.
   -- After each entry the plan is sound; a draft made a version exactly where the entry of that number is its commit, and a visit is of the entry that
-  -- added it. The disk at the end is the journal of the same files with the history, or, where it has failed, with this and perhaps one entry more that was
-  -- not acknowledged, with which it is still legal.
+  -- added it. The disk at the end is the journal of the same files with the history, or, where it has failed, with this and perhaps one entry more, with
+  -- which it is still legal: that of a request on a connection of one of the workers, which was told that its entry could not be kept, and after which none
+  -- was added.
   pub record ServesDesks (before after : Ends In Out) (end : WorkEnd) : Type 0 where
     pub opened : List Entry
     pub opens : OpensTo files before.disk opened
@@ -40,8 +41,7 @@ module _ {In Out : Type 0} (states : EndStates In Out) (files : AirportFiles) (c
         (record { listeners = before.listeners; board = begun files.airport opened before.disk.faults })
         (record { listeners = after.listeners; board = board }) end
     pub faults : after.disk.faults ≡ board.faults
-    pub at_risk : Option Entry
-    pub keeps : KeepsHistory files board.history at_risk after.disk
+    pub keeps : KeepsHistory files board.history board.at_risk after.disk
     pub sound : AllSound files.airport board.history
     pub drafts : (desk : List ℕ) (number version : ℕ) → HasItsEntry files.airport board.history desk number version
     pub visits : (version : ℕ) (added : NewVisit) → IsOfItsEntry files.airport board.history version added

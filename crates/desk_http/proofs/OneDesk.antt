@@ -1,20 +1,22 @@
 -- A desk alone takes its turns at the history that it has seen.
-use Rattle.std.proofs.Common.{◌≡◌, ◌∙◌, ◌≤◌, ◌<◌, ◌+◌, ◌-◌, ℕ, zero, suc, List, [], ◌∷◌, ◌++◌, length, refl, sym, ap, arith, append-nil}
+use Rattle.std.proofs.Common.{◌≡◌, ◌∙◌, ◌≤◌, ◌<◌, ◌+◌, ◌-◌, ℕ, zero, suc, List, [], ◌∷◌, ◌++◌, length, refl, sym, ap, arith, append-nil, inl, inr}
 use Rattle.std.proofs.lemmas.Bool.{eqb-true}
 use Rattle.std.proofs.lemmas.Bool.Decides.{nat_tests}
 use Rattle.apron_base.specs.Counts.{Counts}
 use Rattle.apron_base.specs.Histories.{Every}
 use Rattle.apron_base.specs.Keeper.{KeeperState}
-use Rattle.apron_base.specs.Machine.{is_fault}
+use Rattle.apron_base.specs.Machine.{Standing, is_fault, standing}
 use Rattle.apron_base.specs.declared.outside.Acted.{Acted}
 use Rattle.apron_base.specs.declared.outside.Acted.TheVariants.{Reply as Replied, Memory as NoMemory, Fault, Spent}
 use Rattle.desk_words.specs.declared.asks.Ask.{Ask}
+use Rattle.desk_words.specs.declared.asks.Entry.{Entry}
+use Rattle.desk_words.specs.declared.asks.What.{What}
 use Rattle.history_core.specs.Answer.{ActsAs, Given, Gives, replied, no_memory, keeper_fault}
-use Rattle.history_core.specs.AtRisk.{LeavesAtRisk, standing}
-use Rattle.history_core.specs.Board.{BoardHeld}
+use Rattle.history_core.specs.AtRisk.{LeavesAtRisk}
+use Rattle.history_core.specs.Board.{BoardHeld, machine_state}
 use Rattle.history_core.specs.History.{IsLegal, call_limit}
-use Rattle.desk_http.specs.Alone.{AloneAsks, IsAlone, alone_port, is_unkept, numbers_from}
-use Rattle.desk_http.specs.Ports.{CountsGiven, ShowsAsk}
+use Rattle.desk_http.specs.Alone.{AloneAsks, IsAlone, alone_port, numbers_from}
+use Rattle.desk_http.specs.Ports.{CountsGiven, RisksGiven, ShowsAsk, is_unkept}
 
 every_one : {E : Type 0} (P : E → Type 0) (xs : List E) → ((x : E) → P x) → Every P xs
 every_one P [] h = tt
@@ -43,11 +45,18 @@ calls_push first next h =
     let last : first + (next - first) ≡ next = omega arith in
     ap (numbers_from first) count ∙ (numbers_from-push first (next - first) ∙ ap (λ n. numbers_from first (next - first) ++ n ∷ []) last)
 
+-- what a board leaves at risk is what its desk is told of it
+risks : (before after : Standing Entry) (call : ℕ) (what : What) (given : Given) → LeavesAtRisk before call what (is_unkept given) after
+    → RisksGiven before.at_risk call what given after.at_risk
+risks before after call what given (inl none) = inl none
+risks before after call what given (inr (inl (same, entries))) = inr (inl same)
+risks before after call what given (inr (inr unkept)) = inr (inr unkept)
+
 -- an ask of a desk alone gets its turn
 turn : {K : Type 0} (tells : K → KeeperState) (before after : BoardHeld K) (first : ℕ) (ask : Ask) (given : Given)
     → IsAlone before first → IsLegal before.airport after.history → before.next < call_limit → Gives before.airport before.history before.next ask given after.history
     → after.next ≡ before.next + 1 → CountsGiven given (tells before.keeper).faults (tells after.keeper).faults
-    → LeavesAtRisk (standing tells before) before.next ask.what (is_unkept given) (standing tells after)
+    → LeavesAtRisk (standing (machine_state tells before)) before.next ask.what (is_unkept given) (standing (machine_state tells after))
     → AloneAsks before.airport (alone_port tells (record { board = before; first = first })) ask given (alone_port tells (record { board = after; first = first }))
 turn tells before after first ask given h still last gives next cause risk = (
   record {
@@ -66,6 +75,7 @@ turn tells before after first ask given h still last gives next cause risk = (
     spent = grind (arith, nat_tests);
     stays = λ spent. let all : after.next ≡ call_limit = eqb-true after.next (call_limit) spent in omega arith;
     faults = cause;
+    at_risk = risks (standing (machine_state tells before)) (standing (machine_state tells after)) before.next ask.what given risk;
   },
   refl,
   let begun = h.begun in let size : length (numbers_from first (before.next - first)) ≡ before.next - first = length-numbers_from first (before.next - first) in omega arith,
@@ -76,7 +86,7 @@ turn tells before after first ask given h still last gives next cause risk = (
 pub alone_shows : {K : Type 0} (tells : K → KeeperState) (before after : BoardHeld K) (first : ℕ) (ask : Ask) (acted : Acted)
     → IsAlone before first → IsLegal before.airport after.history → before.next < call_limit → ActsAs before.airport before.history before.next ask acted after.history
     → after.next ≡ before.next + 1 → Counts (is_fault acted) (tells before.keeper).faults (tells after.keeper).faults
-    → LeavesAtRisk (standing tells before) before.next ask.what (is_fault acted) (standing tells after)
+    → LeavesAtRisk (standing (machine_state tells before)) before.next ask.what (is_fault acted) (standing (machine_state tells after))
     → ShowsAsk AloneAsks before.airport (alone_port tells (record { board = before; first = first })) ask acted (alone_port tells (record { board = after; first = first }))
 alone_shows tells before after first ask (Replied bytes) h still last (replied reply, shows, gives) next counts risk =
     (replied reply, shows, turn tells before after first ask (replied reply) h still last gives next (omega (arith, counts)) risk)

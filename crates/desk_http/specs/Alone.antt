@@ -1,14 +1,16 @@
 -- One desk alone over a board.
-use Rattle.std.specs.Prelude.{◌≡◌, ◌==◌, ◌+◌, ◌-◌, ◌≤◌, ℕ, Bool, true, false, zero, suc, List, [], ◌∷◌, length}
+use Rattle.std.specs.Prelude.{◌≡◌, ◌==◌, ◌+◌, ◌-◌, ◌≤◌, ℕ, zero, suc, List, [], ◌∷◌, length}
 use Rattle.apron_rules.specs.declared.parts.AirportParts.{AirportParts}
 use Rattle.desk_words.specs.declared.asks.Ask.{Ask}
+use Rattle.desk_words.specs.declared.asks.Entry.{Entry}
 use Rattle.apron_base.specs.Histories.{Rises}
 use Rattle.apron_base.specs.Keeper.{KeeperState}
-use Rattle.history_core.specs.Answer.{Given, keeper_fault}
-use Rattle.history_core.specs.AtRisk.{LeavesAtRisk, Standing, entry_at_risk}
+use Rattle.apron_base.specs.Machine.{Standing}
+use Rattle.history_core.specs.Answer.{Given}
+use Rattle.history_core.specs.AtRisk.{LeavesAtRisk, entry_at_risk}
 use Rattle.history_core.specs.History.{call_limit, call_of, IsLegal}
 use Rattle.history_core.specs.Board.{BoardHeld}
-use Rattle.desk_http.specs.Ports.{PortState, Turn}
+use Rattle.desk_http.specs.Ports.{PortState, Turn, is_unkept}
 
 -- a desk alone: its board, and the number that its first call has
 pub record AloneHeld (K : Type 0) : Type 0 where
@@ -39,13 +41,8 @@ alone_port tells alone = record {
 }
 
 -- how a port stands: what it has seen, and the entry at risk behind it
-abbrev pub standing_of : PortState → Standing
+abbrev pub standing_of : PortState → Standing Entry
 standing_of port = record { entries = port.seen; at_risk = port.at_risk }
-
--- whether it was given that the entry could not be kept
-abbrev pub is_unkept : Given → Bool
-is_unkept keeper_fault = true
-is_unkept given = false
 
 -- an ask of a desk alone gets its turn at the history that it has seen, and with the next number; an entry comes to be at risk only where it is the one
 -- that was asked for and could not be kept, and is at risk no more once another is added

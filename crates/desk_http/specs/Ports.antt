@@ -1,5 +1,5 @@
 -- What a port tells, and what one ask does to it.
-use Rattle.std.specs.Prelude.{◌≡◌, ◌+◌, ◌<◌, ◌≤◌, ℕ, Bool, true, false, List, [], ◌∷◌, ◌++◌, Option}
+use Rattle.std.specs.Prelude.{◌≡◌, ◌⊎◌, ◌+◌, ◌<◌, ◌≤◌, ℕ, Bool, true, false, List, [], ◌∷◌, ◌++◌, Option, None, Some}
 use Rattle.apron_base.specs.Counts.{Rose}
 use Rattle.apron_base.specs.Histories.{Every, Rises}
 use Rattle.apron_base.specs.declared.outside.Acted.{Acted}
@@ -7,11 +7,13 @@ use Rattle.apron_base.specs.declared.outside.Acted.TheVariants.{Spent}
 use Rattle.apron_rules.specs.declared.parts.AirportParts.{AirportParts}
 use Rattle.desk_words.specs.declared.asks.Entry.{Entry}
 use Rattle.desk_words.specs.declared.asks.Ask.{Ask}
+use Rattle.desk_words.specs.declared.asks.What.{What}
 use Rattle.history_core.specs.History.{call_limit, call_of, IsLegal}
 use Rattle.history_core.specs.Answer.{Given, keeper_fault, shown, Gives}
+use Rattle.history_core.specs.AtRisk.{IsAskedFor}
 
--- a port: the least number that a call of it can have, the history that it has seen, the entry at risk behind that where it tells one, the numbers of its
--- own calls, whether its numbers are exhausted, and its count of faults
+-- a port: the least number that a call of it can have, the history that it has seen, the entry at risk that its own calls left where there is one (of a
+-- desk alone: the keeper's), the numbers of its own calls, whether its numbers are exhausted, and its count of faults
 pub record PortState : Type 0 where
   pub first : ℕ
   pub seen : List Entry
@@ -31,6 +33,16 @@ abbrev pub CountsGiven : Given → ℕ → ℕ → Type 0
 CountsGiven keeper_fault before now = (before ≤ now) × Rose before now
 CountsGiven given before now = before ≤ now
 
+-- whether it was given that the entry could not be kept
+abbrev pub is_unkept : Given → Bool
+is_unkept keeper_fault = true
+is_unkept given = false
+
+-- what is at risk after an ask with this call number: nothing, or what was; or the entry that was asked for, where it could not be kept
+abbrev pub RisksGiven : Option Entry → ℕ → What → Given → Option Entry → Type 0
+RisksGiven before call what given after =
+    (after ≡ None) ⊎ (after ≡ before) ⊎ ((is_unkept given ≡ true) × ((entry : Entry) × (after ≡ Some entry) × IsAskedFor call what entry))
+
 -- An ask that got its turn: it found this whole history, which begins with all that the port had seen, and was given its answer there.
 pub record Turn (airport : AirportParts) (before : PortState) (ask : Ask) (given : Given) (after : PortState) : Type 0 where
   pub history : List Entry
@@ -48,6 +60,7 @@ pub record Turn (airport : AirportParts) (before : PortState) (ask : Ask) (given
   pub spent : before.spent ≡ false
   pub stays : after.spent ≡ true → call + 1 ≡ call_limit
   pub faults : CountsGiven given before.faults after.faults
+  pub at_risk : RisksGiven before.at_risk call ask.what given after.at_risk
 
 -- an ask that found the numbers exhausted: it made no call, and changed nothing else
 abbrev pub IsExhausted : PortState → PortState → Type 0

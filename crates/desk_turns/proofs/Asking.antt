@@ -1,34 +1,36 @@
 -- A call of a seat that got its turn, as its port tells it.
-use Rattle.std.proofs.Common.{◌≡◌, ◌≢◌, ◌∙◌, ◌<◌, ◌+◌, ℕ, Bool, true, false, cond, List, [], ◌∷◌, ◌++◌, map, refl, sym, ap, subst, arith}
+use Rattle.std.proofs.Common.{◌≡◌, ◌≢◌, ◌∙◌, ◌<◌, ◌+◌, ℕ, Bool, true, false, cond, List, [], ◌∷◌, ◌++◌, map, IfSome, inl, inr, refl, sym, ap, subst, arith}
 use Rattle.std.specs.Prelude.{count_by}
 use Rattle.std.proofs.lemmas.List.{map-append}
 use Rattle.std.proofs.lemmas.List.Sums.{sum_by-append}
 use Rattle.std.proofs.lemmas.Bool.Decides.{nat_tests}
 use Rattle.apron_base.specs.Counts.{Counts}
 use Rattle.apron_base.specs.Histories.{Every}
-use Rattle.apron_base.specs.Machine.{MachineState, is_fault}
+use Rattle.apron_base.specs.Machine.{ActsAtRisk, MachineState, Standing, is_fault}
 use Rattle.apron_base.proofs.Rising.{rises_length}
 use Rattle.apron_base.specs.declared.outside.Acted.{Acted}
 use Rattle.apron_base.specs.declared.outside.Acted.TheVariants.{Reply as Replied, Memory as NoMemory, Fault, Spent}
 use Rattle.apron_rules.specs.declared.parts.AirportParts.{AirportParts}
 use Rattle.desk_words.specs.declared.asks.Ask.{Ask}
 use Rattle.desk_words.specs.declared.asks.Entry.{Entry}
+use Rattle.desk_words.specs.declared.asks.What.TheVariants.{Change}
 use Rattle.history_core.specs.Answer.{ActsLegally, Given, keeper_fault, no_memory, replied, shown}
 use Rattle.history_core.specs.History.{call_of}
 use Rattle.turn_board.specs.Board.{GotTurn, SeatState, Sits, TurnBoardState}
 use Rattle.turn_board.specs.declared.view.Call.{Call}
-use Rattle.desk_http.specs.Ports.{CountsGiven, ShowsAsk, Turn}
-use Rattle.desk_turns.specs.Seats.{is_risen, number_of, port_of}
+use Rattle.desk_http.specs.Ports.{CountsGiven, RisksGiven, ShowsAsk, Turn, is_unkept}
+use Rattle.desk_turns.specs.Seats.{is_risen, latest_at_risk, number_of, port_of, put_by}
+use Rattle.desk_turns.proofs.AtRisk.{latest_new, latest_still, put_older, put_own}
 
-pub every_map : (P : ℕ → Type 0) (calls : List Call) → Every (λ (call : Call). P call.number) calls → Every P (map number_of calls)
+pub every_map : (P : ℕ → Type 0) (calls : List (Call Entry)) → Every (λ (call : Call Entry). P call.number) calls → Every P (map number_of calls)
 every_map P [] h = tt
 every_map P (call ∷ calls) h = (h.0, every_map P calls h.1)
 
-risen_push : (calls : List Call) (last : Call) → count_by is_risen (calls ++ last ∷ []) ≡ count_by is_risen calls + cond (is_risen last) 1 0
-risen_push calls last = let more = sum_by-append (λ (call : Call). cond (is_risen call) 1 0) calls (last ∷ []) in omega (arith, more)
+risen_push : (calls : List (Call Entry)) (last : Call Entry) → count_by is_risen (calls ++ last ∷ []) ≡ count_by is_risen calls + cond (is_risen last) 1 0
+risen_push calls last = let more = sum_by-append (λ (call : Call Entry). cond (is_risen call) 1 0) calls (last ∷ []) in omega (arith, more)
 
 -- the count of a port rises where something was given for a failure, and never falls
-counts : (given : Given) (airport : AirportParts) (answer : Acted) (last : Call) (before : ℕ)
+counts : (given : Given) (airport : AirportParts) (answer : Acted) (last : Call Entry) (before : ℕ)
     → answer ≡ shown airport given → Counts (is_fault answer) last.found last.left
     → CountsGiven given before (before + cond (is_risen last) 1 0)
 counts (replied reply) airport answer last before shows faults = omega arith
@@ -39,14 +41,40 @@ counts keeper_fault airport answer last before shows faults =
     let one : cond {A = ℕ} (is_risen last) 1 0 ≡ 1 = ap (λ (b : Bool). cond {A = ℕ} b 1 0) risen in
     (omega arith, omega (arith, one))
 
+-- an entry of a command, as that is asked
+abbrev Adds : Ask → Entry → Type 0
+Adds ask entry = ask.what ≡ Change entry.command
+
+unkept : (given : Given) (airport : AirportParts) → is_fault (shown airport given) ≡ true → is_unkept given ≡ true
+unkept (replied reply) airport failed = absurd cc
+unkept no_memory airport failed = absurd cc
+unkept keeper_fault airport failed = refl
+
+-- what a port tells at risk: what it told, since what the call found there is older than it; or what the call put there, which failed
+risks : (given : Given) (airport : AirportParts) (ask : Ask) (answer : Acted) (calls : List (Call Entry)) (last : Call Entry) (found : Standing Entry) (seen : List Entry)
+    → answer ≡ shown airport given → Every (λ (call : Call Entry). call.number < last.number) calls → IfSome found.at_risk (λ entry. call_of entry < last.number)
+    → ActsAtRisk (λ entry. (call_of entry ≡ last.number) × Adds ask entry) (is_fault answer) found (record { entries = seen; at_risk = last.at_risk })
+    → RisksGiven (latest_at_risk calls) last.number ask.what given (latest_at_risk (calls ++ last ∷ []))
+risks given airport ask answer calls last found seen shows above older (inl none) = inr (inl (latest_still calls last (ap (put_by last.number) none)))
+risks given airport ask answer calls last found seen shows above older (inr (inl (same, entries))) =
+    inr (inl (latest_still calls last (ap (put_by last.number) same ∙ put_older last.number found.at_risk older)))
+risks given airport ask answer calls last found seen shows above older (inr (inr (failed, (entry, is, (number, what))))) = inr (inr (
+  unkept given airport (ap is_fault (sym shows) ∙ failed),
+  (
+    entry,
+    latest_new calls last entry (subst (λ (call : ℕ). Every (λ (own : Call Entry). own.number < call) calls) (sym number) above) (put_own last.number last.at_risk entry is number),
+    (number, what),
+  ),
+))
+
 -- what a call that got its turn was given
 turn : {M : Type 0} (state : M → MachineState Entry AirportParts) (board : TurnBoardState AirportParts) (before after : SeatState Entry AirportParts) (ask : Ask) (answer : Acted)
-    → Sits board before → after.exhausted ≡ false → GotTurn state call_of ActsLegally before (record { ask = ask; answer = answer }) after
+    → Sits board before → after.exhausted ≡ false → GotTurn state call_of Adds ActsLegally before (record { ask = ask; answer = answer }) after
     → (given : Given) × (answer ≡ shown board.start.fixed given)
     × Turn board.start.fixed (port_of (record { board = board; seat = before })) ask given (port_of (record { board = board; seat = after }))
 turn state board before after ask answer sits still got =
     let history : List Entry = (state got.found).history in
-    let last : Call = record { number = got.ticket; found = (state got.found).faults; left = (state got.left).faults } in
+    let last : Call Entry = record { number = got.ticket; found = (state got.found).faults; left = (state got.left).faults; at_risk = (state got.left).at_risk } in
     let fixed : (state got.found).fixed ≡ board.start.fixed = (got.start board.start sits.start).0 in
     let act : ActsLegally board.start.fixed history got.ticket ask answer after.seen =
     subst (λ (airport : AirportParts). ActsLegally airport history got.ticket ask answer after.seen) fixed
@@ -75,6 +103,8 @@ turn state board before after ask answer sits still got =
         spent = got.note;
         stays = λ spent. absurd (cc);
         faults = subst (CountsGiven given (count_by is_risen before.calls)) (sym risen) (counts given board.start.fixed answer last (count_by is_risen before.calls) act.acts.1 got.acts.faults);
+        at_risk = subst (RisksGiven (latest_at_risk before.calls) got.ticket ask.what given) (ap latest_at_risk (sym got.calls))
+            (risks given board.start.fixed ask answer before.calls last _ (state got.left).history act.acts.1 got.new got.older got.at_risk);
       },
     )
 
@@ -86,7 +116,7 @@ not_true false h = refl
 pub seat_shows : {M : Type 0} (state : M → MachineState Entry AirportParts) (board : TurnBoardState AirportParts) (before after : SeatState Entry AirportParts) (ask : Ask) (answer : Acted)
     → Sits board before
     → (answer ≡ Spent → after ≡ record before { exhausted = true }) → (after.exhausted ≡ true → answer ≡ Spent)
-    → (answer ≢ Spent → GotTurn state call_of ActsLegally before (record { ask = ask; answer = answer }) after)
+    → (answer ≢ Spent → GotTurn state call_of Adds ActsLegally before (record { ask = ask; answer = answer }) after)
     → ShowsAsk Turn board.start.fixed (port_of (record { board = board; seat = before })) ask answer (port_of (record { board = board; seat = after }))
 seat_shows state board before after ask Spent sits unasked still got =
     ap (λ (seat : SeatState Entry AirportParts). port_of (record { board = board; seat = seat })) (unasked refl)

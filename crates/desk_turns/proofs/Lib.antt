@@ -1,3 +1,5 @@
+mod Any
+mod AtRisk
 mod Asking
 mod Together
 mod Working

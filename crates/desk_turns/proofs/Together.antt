@@ -1,5 +1,5 @@
 -- Workers whose seats were cut from one seat and met it again, one more at a time; and what the closed board then tells of them.
-use Rattle.std.proofs.Common.{◌≡◌, ◌⊎◌, ◌∙◌, ◌<◌, ◌≤◌, ◌+◌, ◌-◌, ◌==◌, ◌&&◌, ◌||◌, nat_le, nat_lt, ℕ, suc, Bool, true, false, cond, List, [], ◌∷◌, ◌++◌, map, length, refl, sym, ap, subst, inl, inr, ⊎_elim, arith, append_assoc}
+use Rattle.std.proofs.Common.{◌≡◌, ◌⊎◌, ◌∙◌, ◌<◌, ◌≤◌, ◌+◌, ◌-◌, ◌==◌, ◌&&◌, ◌||◌, nat_le, nat_lt, ℕ, Bool, true, false, cond, List, [], ◌∷◌, ◌++◌, map, length, Option, Some, None, IfSome, refl, sym, ap, subst, inl, inr, ⊎_elim, arith, append_assoc}
 use Rattle.std.specs.List.{AllZip, Any, count_by}
 use Rattle.std.proofs.lemmas.Bool.Decides.{nat_tests}
 use Rattle.std.proofs.lemmas.List.{append-nil, map-append}
@@ -11,27 +11,23 @@ use Rattle.apron_base.specs.Machine.{MachineState}
 use Rattle.apron_rules.specs.declared.parts.AirportParts.{AirportParts}
 use Rattle.desk_words.specs.declared.asks.Entry.{Entry}
 use Rattle.history_core.specs.History.{IsLegal, call_of}
-use Rattle.turn_board.specs.Board.{Closes, Meets, Opens, SeatState, TurnBoardState}
+use Rattle.turn_board.specs.Board.{Closes, IsPutAtRisk, Meets, Opens, SeatState, TurnBoardState}
 use Rattle.turn_board.specs.Totals.{below, times}
 use Rattle.turn_board.specs.declared.view.Call.{Call}
 use Rattle.turn_board.proofs.Totals.{every_append, every_both, every_front, every_more, every_rest, times_append}
 use Rattle.desk_http.specs.Ports.{IsLater, Turn}
 use Rattle.desk_turns.specs.declared.worker.WorkEnd.{WorkEnd}
 use Rattle.desk_turns.specs.declared.worker.WorkEnd.TheVariants.{Done, ListenerFault}
-use Rattle.desk_turns.specs.Crew.{HasSeen, ServesBoard, Worker, WorksAt, calls_of, end_of}
-use Rattle.desk_turns.specs.Seats.{ServedState, is_risen, number_of, port_of}
-use Rattle.desk_turns.specs.Together.{AreLater, WorkTogether, WorksBeside}
+use Rattle.desk_turns.specs.Crew.{HasSeen, IsUnkeptOf, ServesBoard, TellsAtRisk, Worker, WorksAt, calls_of, end_of}
+use Rattle.desk_turns.specs.Seats.{ServedState, is_risen, latest_at_risk, number_of, port_of}
+use Rattle.desk_turns.specs.Together.{AreLater, HasCallOf, StaysAtRisk, WorkTogether, WorksBeside}
 use Rattle.desk_turns.specs.Work.{EndStates, Works}
+use Rattle.desk_turns.proofs.Any.{any_append, any_here, any_none, any_there}
 use Rattle.desk_turns.proofs.Asking.{every_map}
+use Rattle.desk_turns.proofs.AtRisk.{latest_is}
 
 abbrev Held : Type 0
 Held = SeatState Entry AirportParts
-
-any_here : {X : Type 0} (P : X → Type 0) (x : X) (xs : List X) → P x → Any P (x ∷ xs)
-any_here P x xs p = (0, x, omega arith, refl, p)
-
-any_there : {X : Type 0} (P : X → Type 0) (x : X) (xs : List X) → Any P xs → Any P (x ∷ xs)
-any_there P x xs any = (suc any.0, any.1, (let few = any.2 in omega arith), any.3, any.4)
 
 either_true : (one other : Bool) → other ≡ true → (one || other) ≡ true
 either_true true other h = refl
@@ -40,11 +36,11 @@ either_true false other h = h
 count_append : (test : ℕ → Bool) (xs ys : List ℕ) → count_by test (xs ++ ys) ≡ count_by test xs + count_by test ys
 count_append test xs ys = sum_by-append (λ (call : ℕ). cond (test call) 1 0) xs ys
 
-risen_append : (xs ys : List Call) → count_by is_risen (xs ++ ys) ≡ count_by is_risen xs + count_by is_risen ys
-risen_append xs ys = sum_by-append (λ (call : Call). cond (is_risen call) 1 0) xs ys
+risen_append : (xs ys : List (Call Entry)) → count_by is_risen (xs ++ ys) ≡ count_by is_risen xs + count_by is_risen ys
+risen_append xs ys = sum_by-append (λ (call : Call Entry). cond (is_risen call) 1 0) xs ys
 
 -- how often a number was called, by the calls' numbers alone
-times_count : (number : ℕ) (calls : List Call) → times number calls ≡ count_by (λ call. number == call) (map number_of calls)
+times_count : (number : ℕ) (calls : List (Call Entry)) → times number calls ≡ count_by (λ call. number == call) (map number_of calls)
 times_count number [] = refl
 times_count number (call ∷ calls) =
     let more = count_append (λ (own : ℕ). number == own) (call.number ∷ []) (map number_of calls) in
@@ -68,7 +64,7 @@ module _ {In Out : Type 0} (states : EndStates In Out) (airport : AirportParts) 
       let numbers : map number_of after.calls ≡ map number_of mid.calls ++ map number_of other.calls = ap (map number_of) meets.calls ∙ map-append number_of mid.calls other.calls in
       let risen : count_by is_risen after.calls ≡ count_by is_risen mid.calls + count_by is_risen other.calls = ap (count_by is_risen) meets.calls ∙ risen_append mid.calls other.calls in
       let more : List Entry = meets.mine.rest in record {
-        fresh = record { seen = work.fresh.seen ∙ same; calls = work.fresh.calls; spent = work.fresh.spent; faults = work.fresh.faults };
+        fresh = record { seen = work.fresh.seen ∙ same; calls = work.fresh.calls; at_risk = work.fresh.at_risk; spent = work.fresh.spent; faults = work.fresh.faults };
         works = work.works;
         seen = record {
           new = work.seen.new ++ more;
@@ -90,12 +86,13 @@ module _ {In Out : Type 0} (states : EndStates In Out) (airport : AirportParts) 
       → Meets call_of mid ended.seat after
       → WorksBeside states airport asked before after (record { before = record { listener = a; port = port_of started }; after = record { listener = b; port = port_of ended }; end = one })
   itself before mid after started ended a b one mine works meets =
-      let own : List Call = ended.seat.calls in
+      let own : List (Call Entry) = ended.seat.calls in
       let numbers : map number_of after.calls ≡ map number_of mid.calls ++ map number_of own = ap (map number_of) meets.calls ∙ map-append number_of mid.calls own in
       let risen : count_by is_risen after.calls ≡ count_by is_risen mid.calls + count_by is_risen own = ap (count_by is_risen) meets.calls ∙ risen_append mid.calls own in record {
         fresh = record {
           seen = ap (λ (seat : Held). seat.seen) mine;
           calls = ap (λ (seat : Held). map number_of seat.calls) mine;
+          at_risk = ap (λ (seat : Held). latest_at_risk seat.calls) mine;
           spent = ap (λ (seat : Held). seat.exhausted) mine;
           faults = ap (λ (seat : Held). count_by is_risen seat.calls) mine;
         };
@@ -120,6 +117,21 @@ module _ {In Out : Type 0} (states : EndStates In Out) (airport : AirportParts) 
       longest)
       (λ (theirs : after.seen ≡ other.seen). inr (any_here (HasSeen after.seen) worker workers (sym (theirs ∙ its))))
       meets.one
+
+  -- an entry that a call put at risk is that of a call from before, or the one that the worker or one of the others tells
+  at_risk_of : (before less mid other after : Held) (worker : Worker In Out) (workers : List (Worker In Out)) → less.calls ≡ before.calls → after.calls ≡ mid.calls ++ other.calls
+      → worker.after.port.at_risk ≡ latest_at_risk other.calls
+      → ((entry : Entry) → HasCallOf entry mid.calls → StaysAtRisk entry mid.calls → HasCallOf entry less.calls ⊎ Any (TellsAtRisk entry) workers)
+      → (entry : Entry) → HasCallOf entry after.calls → StaysAtRisk entry after.calls → HasCallOf entry before.calls ⊎ Any (TellsAtRisk entry) (worker ∷ workers)
+  at_risk_of before less mid other after worker workers same calls its rest entry has stays =
+      let all : StaysAtRisk entry (mid.calls ++ other.calls) = subst (StaysAtRisk entry) calls stays in ⊎_elim
+      (λ (front : HasCallOf entry mid.calls). ⊎_elim
+      (λ (was : HasCallOf entry less.calls). inl (subst (HasCallOf entry) same was))
+      (λ (one : Any (TellsAtRisk entry) workers). inr (any_there (TellsAtRisk entry) worker workers one))
+      (rest entry front (every_front (λ (call : Call Entry). call_of entry ≤ call.number → call.at_risk ≡ Some entry) mid.calls other.calls all)))
+      (λ (back : HasCallOf entry other.calls). inr (any_here (TellsAtRisk entry) worker workers
+      (its ∙ latest_is entry other.calls back (every_rest (λ (call : Call Entry). call_of entry ≤ call.number → call.at_risk ≡ Some entry) mid.calls other.calls all))))
+      (any_append (λ (call : Call Entry). call.number ≡ call_of entry) mid.calls other.calls (subst (HasCallOf entry) calls has))
 
   -- a worker, and the others beside it
   one_more : (before less mid after : Held) (started ended : ServedState) (a b : ListenerState In Out) (olds news : List (ListenerState In Out)) (one others : WorkEnd)
@@ -153,6 +165,7 @@ module _ {In Out : Type 0} (states : EndStates In Out) (airport : AirportParts) 
             let less_calls = ap (λ (seat : Held). times number seat.calls) less_is in
             let counts = count_append (λ (call : ℕ). number == call) (map number_of ended.seat.calls) (calls_of rest.workers) in
             omega (arith, all, own, theirs, less_calls, counts);
+        at_risk = at_risk_of before less mid ended.seat after worker rest.workers (ap (λ (seat : Held). seat.calls) less_is) meets.calls refl rest.at_risk;
       }
 
   -- no worker
@@ -166,6 +179,7 @@ module _ {In Out : Type 0} (states : EndStates In Out) (airport : AirportParts) 
     begins = record { new = []; is = sym (append-nil seat.seen); above = tt };
     longest = inl refl;
     calls = λ number. omega arith;
+    at_risk = λ entry has stays. inl has;
   }
 
   pub of_none : {L : Type 0} (state : L → ListenerState In Out) (listeners : List L) (seat : Held) → length listeners ≡ 0
@@ -190,7 +204,7 @@ module _ {In Out : Type 0} (states : EndStates In Out) (airport : AirportParts) 
   of_first state before less mid after started ended (x ∷ (z ∷ xs)) (y ∷ ys) us bs one others end single works less_is mine rest meets end_is = absurd (omega arith)
 
 -- one of these calls left a greater count than it found
-rose : (least now : ℕ) (calls : List Call) → 0 < count_by is_risen calls → Every (λ (call : Call). (least ≤ call.found) × (call.left ≤ now)) calls → Rose least now
+rose : (least now : ℕ) (calls : List (Call Entry)) → 0 < count_by is_risen calls → Every (λ (call : Call Entry). (least ≤ call.found) × (call.left ≤ now)) calls → Rose least now
 rose least now [] some within = absurd (omega arith)
 rose least now (call ∷ calls) some within = ⊎_elim
     (λ (here : is_risen call ≡ true). let a = within.0.0 in let b = within.0.1 in grind (arith, nat_tests))
@@ -208,11 +222,24 @@ rose least now (call ∷ calls) some within = ⊎_elim
 once : (first end number count : ℕ) → first ≤ end → count + below number first ≡ below number end → count ≡ cond (nat_le first number && nat_lt number end) 1 0
 once first end number count order counts = grind (arith, nat_tests)
 
+-- an entry at risk behind a board is the one that a worker tells, where no call was made before
+unkept : {In Out : Type 0} (workers : List (Worker In Out)) (calls : List (Call Entry)) (history : List Entry) (risk : Option Entry)
+    → ((entry : Entry) → HasCallOf entry calls → StaysAtRisk entry calls → HasCallOf entry [] ⊎ Any (TellsAtRisk entry) workers)
+    → IfSome risk (IsPutAtRisk call_of calls history) → IfSome risk (IsUnkeptOf workers history)
+unkept workers calls history None told put = tt
+unkept workers calls history (Some entry) told put = record {
+  by = ⊎_elim
+      (λ (before : HasCallOf entry []). absurd (any_none (λ (call : Call Entry). call.number ≡ call_of entry) before))
+      (λ (one : Any (TellsAtRisk entry) workers). one)
+      (told entry put.by put.stays);
+  since = put.since;
+}
+
 module _ {In Out : Type 0} (states : EndStates In Out) (asked : ℕ) where
   pub serves : (machine left : MachineState Entry AirportParts) (board : TurnBoardState AirportParts) (first last : Held) (olds news : List (ListenerState In Out)) (end : WorkEnd)
       → Opens machine board first
       → WorkTogether states board.start.fixed asked (record { listeners = olds; seat = first }) (record { listeners = news; seat = last }) end
-      → Closes board last left → IsLegal left.fixed left.history
+      → Closes call_of board last left → IsLegal left.fixed left.history
       → ServesBoard states asked (record { listeners = olds; board = machine }) (record { listeners = news; board = left }) end
   serves machine left board first last olds news end opens together closes legal =
       let fixed : board.start.fixed ≡ machine.fixed = ap (λ s. s.fixed) opens.start in
@@ -225,7 +252,7 @@ module _ {In Out : Type 0} (states : EndStates In Out) (asked : ℕ) where
         ended = together.ended;
         end_is = together.end_is;
         work = every_more (WorksBeside states board.start.fixed asked first last) (WorksAt states asked machine left) (λ worker work. record {
-          fresh = record { seen = work.fresh.seen ∙ seen; calls = work.fresh.calls; spent = work.fresh.spent; faults = work.fresh.faults };
+          fresh = record { seen = work.fresh.seen ∙ seen; calls = work.fresh.calls; at_risk = work.fresh.at_risk; spent = work.fresh.spent; faults = work.fresh.faults };
           works = subst (λ (at : AirportParts). Works states Turn at asked worker.before worker.after worker.end) fixed work.works;
           seen = subst (λ (history : List Entry). IsLater worker.after.port.seen worker.after.port.calls history) (sym closes.history) work.seen;
           faults = λ some. subst (λ (least : ℕ). Rose least left.faults) faults (rose board.start.faults left.faults last.calls (let few = work.faults in omega arith) closes.faults);
@@ -252,4 +279,8 @@ module _ {In Out : Type 0} (states : EndStates In Out) (asked : ℕ) where
         exhausted = every_more (WorksBeside states board.start.fixed asked first last) (λ (worker : Worker In Out). worker.after.port.spent ≡ true → closes.end ≡ _)
             (λ worker work spent. closes.exhausted (work.exhausted spent)) together.workers together.work;
         faults = let least = closes.since in omega arith;
+        at_risk = unkept together.workers last.calls left.history left.at_risk
+            (subst (λ (calls : List (Call Entry)). (entry : Entry) → HasCallOf entry last.calls → StaysAtRisk entry last.calls → HasCallOf entry calls ⊎ Any (TellsAtRisk entry) together.workers)
+            (ap (λ (seat : Held). seat.calls) opens.first) together.at_risk)
+            closes.at_risk;
       }

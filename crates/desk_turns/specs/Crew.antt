@@ -1,13 +1,13 @@
 -- What several workers at one board do, each with a listener and a port of its own.
-use Rattle.std.specs.Prelude.{◌≡◌, ◌⊎◌, ◌<◌, ◌≤◌, ◌==◌, ◌&&◌, nat_le, nat_lt, cond, ℕ, true, false, List, [], ◌∷◌, map}
+use Rattle.std.specs.Prelude.{◌≡◌, ◌⊎◌, ◌<◌, ◌≤◌, ◌==◌, ◌&&◌, nat_le, nat_lt, cond, ℕ, true, false, List, [], ◌∷◌, map, None, Some, IfSome}
 use Rattle.std.specs.List.{Any, count_by, flat_map}
 use Rattle.apron_base.specs.Counts.{Rose}
-use Rattle.apron_base.specs.Histories.{Every}
+use Rattle.apron_base.specs.Histories.{Every, Rises}
 use Rattle.apron_base.specs.Listener.{ListenerState}
 use Rattle.apron_base.specs.Machine.{MachineState}
 use Rattle.apron_rules.specs.declared.parts.AirportParts.{AirportParts}
 use Rattle.desk_words.specs.declared.asks.Entry.{Entry}
-use Rattle.history_core.specs.History.{IsLegal, call_limit}
+use Rattle.history_core.specs.History.{IsLegal, call_limit, call_of}
 use Rattle.desk_http.specs.Ports.{IsLater, PortState, Turn}
 use Rattle.desk_turns.specs.declared.worker.WorkEnd.{WorkEnd}
 use Rattle.desk_turns.specs.declared.worker.WorkEnd.TheVariants.{Done, ListenerFault}
@@ -28,6 +28,7 @@ pub record Worker (In Out : Type 0) : Type 0 where
 pub record IsFresh (history : List Entry) (port : PortState) : Type 0 where
   pub seen : port.seen ≡ history
   pub calls : port.calls ≡ []
+  pub at_risk : port.at_risk ≡ None
   pub spent : port.spent ≡ false
   pub faults : port.faults ≡ 0
 
@@ -50,6 +51,15 @@ module _ {In Out : Type 0} where
   abbrev pub HasSeen : List Entry → Worker In Out → Type 0
   HasSeen history worker = worker.after.port.seen ≡ history
 
+  -- the worker's port tells this entry at risk at its end: one that was asked for on its connections, and could not be kept
+  abbrev pub TellsAtRisk : Entry → Worker In Out → Type 0
+  TellsAtRisk entry worker = worker.after.port.at_risk ≡ Some entry
+
+  -- an entry that one of these workers could not keep, and none was added since: each of the history has a lower number
+  pub record IsUnkeptOf (workers : List (Worker In Out)) (history : List Entry) (entry : Entry) : Type 0 where
+    pub by : Any (TellsAtRisk entry) workers
+    pub since : Rises call_of 1 entry.call history
+
 module _ {In Out : Type 0} (states : EndStates In Out) (asked : ℕ) (before after : MachineState Entry AirportParts) where
   -- A worker at the board: its port had seen the board's history, and it served the connections of its listener over it. What it has seen at its end begins
   -- the history at the end, where all else has greater numbers than its calls; and its port counts a fault only where the board's count rose.
@@ -61,7 +71,8 @@ module _ {In Out : Type 0} (states : EndStates In Out) (asked : ℕ) (before aft
 
 -- Workers that were asked for so many connections each, one for each listener: how they ended together, and what they left of the board. Its history is legal, begins
 -- with the history before, and is the longest that one of them has seen. Their calls together are, without a gap and each once, the numbers from the board's next
--- one up to an end, which is the end of all numbers where a port found them exhausted.
+-- one up to an end, which is the end of all numbers where a port found them exhausted. An entry at risk then is one that one of them could not keep, and none was
+-- added since.
 pub record ServesBoard {In Out : Type 0} (states : EndStates In Out) (asked : ℕ) (before after : CrewState In Out) (end : WorkEnd) : Type 0 where
   pub workers : List (Worker In Out)
   pub begun : before.listeners ≡ map (λ (worker : Worker In Out). worker.before.listener) workers
@@ -77,3 +88,4 @@ pub record ServesBoard {In Out : Type 0} (states : EndStates In Out) (asked : �
   pub calls : AreAllOnce before.board.next last (calls_of workers)
   pub exhausted : Every (λ (worker : Worker In Out). worker.after.port.spent ≡ true → last ≡ call_limit) workers
   pub faults : before.board.faults ≤ after.board.faults
+  pub at_risk : IfSome after.board.at_risk (IsUnkeptOf workers after.board.history)

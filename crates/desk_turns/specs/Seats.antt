@@ -1,8 +1,9 @@
 -- A seat of a board as a port.
-use Rattle.std.specs.Prelude.{ℕ, Bool, None, map, count_by, nat_le}
+use Rattle.std.specs.Prelude.{◌==◌, ℕ, Bool, List, [], ◌∷◌, Option, None, Some, map, count_by, nat_le, nat_lt, if◌then◌else◌}
 use Rattle.apron_base.specs.Counts.{one_more}
 use Rattle.apron_rules.specs.declared.parts.AirportParts.{AirportParts}
 use Rattle.desk_words.specs.declared.asks.Entry.{Entry}
+use Rattle.history_core.specs.History.{call_of}
 use Rattle.turn_board.specs.declared.view.Call.{Call}
 use Rattle.turn_board.specs.Board.{SeatState, TurnBoardState}
 use Rattle.desk_http.specs.Ports.{PortState}
@@ -17,20 +18,36 @@ abbrev pub place_of : ServedState → TurnBoardState AirportParts × ℕ
 place_of served = (served.board, served.seat.share)
 
 -- the number of a call
-abbrev pub number_of : Call → ℕ
+abbrev pub number_of : Call Entry → ℕ
 number_of call = call.number
 
 -- the machine's count of faults rose over a call, or stands at its last value
-abbrev pub is_risen : Call → Bool
+abbrev pub is_risen : Call Entry → Bool
 is_risen call = nat_le (one_more call.found) call.left
 
--- what a seat tells: its calls have numbers from 1 on, it tells no entry at risk, and its count of faults is the number of its own calls over which the
--- machine's count rose
+-- the entry that a call of this number put at risk, of what it left at risk: one of its own number
+abbrev pub put_by : ℕ → Option Entry → Option Entry
+put_by call None = None
+put_by call (Some entry) = if call_of entry == call then Some entry else None
+
+-- of two entries the one of the greater number
+abbrev pub later_of : Option Entry → Option Entry → Option Entry
+later_of None other = other
+later_of (Some entry) None = Some entry
+later_of (Some entry) (Some other) = if nat_lt (call_of other) (call_of entry) then Some entry else Some other
+
+-- of the entries that these calls put at risk the one of the greatest number
+abbrev pub latest_at_risk : List (Call Entry) → Option Entry
+latest_at_risk [] = None
+latest_at_risk (call ∷ calls) = later_of (put_by call.number call.at_risk) (latest_at_risk calls)
+
+-- what a seat tells: its calls have numbers from 1 on, its entry at risk is the latest that one of them put there, also where others have added entries since,
+-- and its count of faults is the number of its own calls over which the machine's count rose
 abbrev pub port_of : ServedState → PortState
 port_of served = record {
   first = 1;
   seen = served.seat.seen;
-  at_risk = None;
+  at_risk = latest_at_risk served.seat.calls;
   calls = map number_of served.seat.calls;
   spent = served.seat.exhausted;
   faults = count_by is_risen served.seat.calls;

@@ -1,5 +1,5 @@
 -- What workers do whose seats are cut from one seat, and which meet it again.
-use Rattle.std.specs.Prelude.{◌≡◌, ◌⊎◌, ◌+◌, ◌<◌, ◌≤◌, ◌==◌, ℕ, true, List, [], map}
+use Rattle.std.specs.Prelude.{◌≡◌, ◌⊎◌, ◌+◌, ◌<◌, ◌≤◌, ◌==◌, ℕ, true, List, [], map, Some}
 use Rattle.std.specs.List.{Any, count_by}
 use Rattle.apron_base.specs.Histories.{Every}
 use Rattle.apron_base.specs.Listener.{ListenerState}
@@ -8,9 +8,10 @@ use Rattle.desk_words.specs.declared.asks.Entry.{Entry}
 use Rattle.history_core.specs.History.{call_of}
 use Rattle.turn_board.specs.Board.{SeatState}
 use Rattle.turn_board.specs.Totals.{times}
+use Rattle.turn_board.specs.declared.view.Call.{Call}
 use Rattle.desk_http.specs.Ports.{IsLater, Turn}
 use Rattle.desk_turns.specs.declared.worker.WorkEnd.{WorkEnd}
-use Rattle.desk_turns.specs.Crew.{HasSeen, IsFresh, Worker, calls_of, end_of}
+use Rattle.desk_turns.specs.Crew.{HasSeen, IsFresh, TellsAtRisk, Worker, calls_of, end_of}
 use Rattle.desk_turns.specs.Seats.{is_risen, number_of}
 use Rattle.desk_turns.specs.Work.{EndStates, Works}
 
@@ -23,6 +24,14 @@ pub record SeatedState (In Out : Type 0) : Type 0 where
 abbrev pub AreLater : List ℕ → List Entry → Type 0
 AreLater calls entries = Every (λ call. Every (λ entry. call < call_of entry) entries) calls
 
+-- one of these calls has the number of the entry
+abbrev pub HasCallOf : Entry → List (Call Entry) → Type 0
+HasCallOf entry calls = Any (λ (call : Call Entry). call.number ≡ call_of entry) calls
+
+-- each of these calls that is not from before the entry's left it at risk
+abbrev pub StaysAtRisk : Entry → List (Call Entry) → Type 0
+StaysAtRisk entry calls = Every (λ (call : Call Entry). call_of entry ≤ call.number → call.at_risk ≡ Some entry) calls
+
 -- A worker whose seat was cut from one seat and met it again: what its port has seen at its end begins the history that is seen then, and its calls, its note
 -- of exhausted numbers and its faults are with that seat.
 pub record WorksBeside {In Out : Type 0} (states : EndStates In Out) (airport : AirportParts) (asked : ℕ) (before after : SeatState Entry AirportParts) (worker : Worker In Out) : Type 0 where
@@ -33,7 +42,8 @@ pub record WorksBeside {In Out : Type 0} (states : EndStates In Out) (airport : 
   pub exhausted : worker.after.port.spent ≡ true → after.exhausted ≡ true
   pub faults : worker.after.port.faults ≤ count_by is_risen after.calls
 
--- workers that were asked for so many connections each, one for each listener: how they ended together, and the seat that has met all of theirs
+-- workers that were asked for so many connections each, one for each listener: how they ended together, and the seat that has met all of theirs; an entry that
+-- one of its calls put at risk, and which stayed so, is that of a call from before or the one that a worker tells
 pub record WorkTogether {In Out : Type 0} (states : EndStates In Out) (airport : AirportParts) (asked : ℕ) (before after : SeatedState In Out) (end : WorkEnd) : Type 0 where
   pub workers : List (Worker In Out)
   pub begun : before.listeners ≡ map (λ (worker : Worker In Out). worker.before.listener) workers
@@ -43,3 +53,4 @@ pub record WorkTogether {In Out : Type 0} (states : EndStates In Out) (airport :
   pub begins : IsLater before.seat.seen [] after.seat.seen
   pub longest : (after.seat.seen ≡ before.seat.seen) ⊎ Any (HasSeen after.seat.seen) workers
   pub calls : (number : ℕ) → times number after.seat.calls ≡ times number before.seat.calls + count_by (λ call. number == call) (calls_of workers)
+  pub at_risk : (entry : Entry) → HasCallOf entry after.seat.calls → StaysAtRisk entry after.seat.calls → HasCallOf entry before.seat.calls ⊎ Any (TellsAtRisk entry) workers

@@ -1,5 +1,5 @@
 // The workers at one board, one for each listener, each in a thread of its own.
-ghost use Rattle.std.specs.Prelude.{◌≡◌, ◌<◌, IfErr, IfOk, [], ◌∷◌, length, map};
+ghost use Rattle.std.specs.Prelude.{◌≡◌, ◌<◌, IfErr, IfOk, None, [], ◌∷◌, length, map};
 ghost use Rattle.std.specs.List.{AllZip};
 ghost use Rattle.std.specs.Thread.{IsSync};
 ghost use Rattle.history_core.specs.Board.{machine_state};
@@ -22,9 +22,9 @@ use std::sync::Wait;
 use std::thread::{Threads, join_mut};
 use turn_board::{Seat, TurnBoard};
 
-/// Serves so many connections of each listener, each listener by a worker in a thread of its own with a seat of its own
-/// at the board, and takes all seats in again. It ends as the first worker in order that stopped before its time, and is
-/// done where none did. At `Err` memory is wanting, and nothing was served.
+/// Serves so many connections of each listener at a board behind which no entry is at risk: each listener by a worker in
+/// a thread of its own with a seat of its own at the board, and takes all seats in again. It ends as the first worker in
+/// order that stopped before its time, and is done where none did. At `Err` memory is wanting, and nothing was served.
 pub fn serve_board<'a, R: Threads + Wait + Sync, K: Keeper + Send, W: Workplace + Send>(
     rt: &R,
     alloc: Global,
@@ -34,6 +34,7 @@ pub fn serve_board<'a, R: Threads + Wait + Sync, K: Keeper + Send, W: Workplace 
     connections: u32,
 ) -> (Result<WorkEnd, Memory>, Board<'a, K>)
     requires airport { airport.now ≡ board.airport }
+    requires at_risk { (machine_state K.state board).at_risk ≡ None }
     requires few { length listeners.old < all_shares }
     ensures serves { IfOk result.0 (ServesBoard W.states connections
         (record { listeners = map W.state listeners.old; board = machine_state K.state board.entry })

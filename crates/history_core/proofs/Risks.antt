@@ -3,6 +3,7 @@ use Rattle.std.proofs.Common.{◌≡◌, ◌∙◌, ◌⊎◌, ℕ, Bool, true, 
 use Rattle.std.specs.Prelude.{option_and_then}
 use Rattle.std.specs.Result.{IsErrAnd, result_ok}
 use Rattle.apron_base.specs.Keeper.{AddsEntry, FailsToAdd, KeeperState}
+use Rattle.apron_base.specs.Machine.{Standing}
 use Rattle.apron_rules.specs.declared.parts.AirportParts.{AirportParts}
 use Rattle.desk_words.specs.Commands.{IsCommandOf}
 use Rattle.desk_words.specs.declared.asks.Command.{Command}
@@ -13,7 +14,7 @@ use Rattle.entry_bytes.specs.Entries.{decoded, entry_text}
 use Rattle.history_core.specs.Answer.{is_keeper_fault}
 use Rattle.history_core.specs.declared.unanswered.Unanswered.{Unanswered}
 use Rattle.history_core.specs.declared.unanswered.Unanswered.TheVariants as unanswered
-use Rattle.history_core.specs.AtRisk.{LeavesAtRisk, Standing, entry_at_risk}
+use Rattle.history_core.specs.AtRisk.{LeavesAtRisk, entry_at_risk}
 
 -- an entry is read back from the bytes of its copy
 pub read_as : (airport : AirportParts) (call : ℕ) (command copied : Command) (bytes : List ℕ) → copied ≡ command
@@ -37,7 +38,7 @@ module _ (airport : AirportParts) where
   entry_read risk = option_and_then (λ bytes. result_ok (decoded airport bytes)) risk
 
   -- how a history stands over a keeper
-  abbrev over : KeeperState → List Entry → Standing
+  abbrev over : KeeperState → List Entry → Standing Entry
   over keeper history = record { entries = history; at_risk = entry_at_risk airport keeper }
 
   -- the keeper made room, or had none

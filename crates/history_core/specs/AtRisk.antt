@@ -1,26 +1,17 @@
 -- The entry at risk: one that was asked for and not acknowledged, and may be found behind the history when its keeper is read again.
-use Rattle.std.specs.Prelude.{◌≡◌, ◌⊎◌, ℕ, Bool, true, List, Option, None, Some, option_and_then}
+use Rattle.std.specs.Prelude.{◌≡◌, ℕ, Bool, Option, option_and_then}
 use Rattle.std.specs.Result.{result_ok}
 use Rattle.apron_base.specs.Keeper.{KeeperState}
+use Rattle.apron_base.specs.Machine.{ActsAtRisk, Standing}
 use Rattle.apron_rules.specs.declared.parts.AirportParts.{AirportParts}
 use Rattle.desk_words.specs.declared.asks.Entry.{Entry}
 use Rattle.desk_words.specs.declared.asks.What.{What}
 use Rattle.desk_words.specs.declared.asks.What.TheVariants.{Change}
 use Rattle.entry_bytes.specs.Entries.{decoded}
-use Rattle.history_core.specs.Board.{BoardHeld}
-
--- the entries of a history, and the one at risk behind them
-pub record Standing : Type 0 where
-  pub entries : List Entry
-  pub at_risk : Option Entry
 
 -- the entry at risk behind those of a keeper: what its bytes are read as
 abbrev pub entry_at_risk : AirportParts → KeeperState → Option Entry
 entry_at_risk airport keeper = option_and_then (λ bytes. result_ok (decoded airport bytes)) keeper.at_risk
-
--- how a board stands, by what its keeper tells
-abbrev pub standing : {K : Type 0} → (K → KeeperState) → BoardHeld K → Standing
-standing tells board = record { entries = board.history; at_risk = entry_at_risk board.airport (tells board.keeper) }
 
 -- what is asked with this call number is a command, and this is its entry
 abbrev pub IsAskedFor : ℕ → What → Entry → Type 0
@@ -28,8 +19,5 @@ IsAskedFor call what entry = (entry.call ≡ call) × (what ≡ Change entry.com
 
 -- what is at risk once this was asked with this call number: no entry; or the one that was, where none was added; or, where an append failed, the one that
 -- was asked for
-abbrev pub LeavesAtRisk : Standing → ℕ → What → Bool → Standing → Type 0
-LeavesAtRisk before call what failed after =
-    (after.at_risk ≡ None)
-    ⊎ ((after.at_risk ≡ before.at_risk) × (after.entries ≡ before.entries))
-    ⊎ ((failed ≡ true) × ((entry : Entry) × (after.at_risk ≡ Some entry) × IsAskedFor call what entry))
+abbrev pub LeavesAtRisk : Standing Entry → ℕ → What → Bool → Standing Entry → Type 0
+LeavesAtRisk before call what failed after = ActsAtRisk (IsAskedFor call what) failed before after

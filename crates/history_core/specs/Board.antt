@@ -7,6 +7,7 @@ use Rattle.apron_rules.specs.declared.parts.AirportParts.{AirportParts}
 use Rattle.plan_core.specs.PlanState.{PlanState}
 use Rattle.desk_words.specs.declared.asks.Entry.{Entry}
 use Rattle.entry_bytes.specs.Entries.{decoded, entry_text}
+use Rattle.history_core.specs.AtRisk.{entry_at_risk}
 use Rattle.history_core.specs.History.{IsLegal, call_limit, call_of, replay}
 
 -- its keeper, its airport, its history, and the least number of its next call
@@ -44,6 +45,12 @@ pub record IsBoard {K : Type 0} (plan : PlanState) (keeper : KeeperState) (board
   pub calls : board.next ≤ call_limit
   pub kept : IsKept board.airport board.history keeper
 
--- a board as a machine, by what its keeper tells: no call changes its airport, and it fails where the keeper does
+-- a board as a machine, by what its keeper tells: no call changes its airport, the entry at risk is the keeper's, and it fails where the keeper does
 abbrev pub machine_state : {K : Type 0} → (K → KeeperState) → BoardHeld K → MachineState Entry AirportParts
-machine_state tells board = record { fixed = board.airport; history = board.history; next = board.next; faults = (tells board.keeper).faults }
+machine_state tells board = record {
+  fixed = board.airport;
+  history = board.history;
+  at_risk = entry_at_risk board.airport (tells board.keeper);
+  next = board.next;
+  faults = (tells board.keeper).faults;
+}

@@ -2,7 +2,7 @@ pub mod Steps
 pub mod History
 pub mod Answer
 pub mod Taking
-pub mod Board
 pub mod AtRisk
+pub mod Board
 pub mod Opening
 pub mod Laws

@@ -3,14 +3,14 @@ ghost use Rattle.std.specs.Prelude.{◌≡◌, ◌≤◌, ◌<◌, ◌+◌, IfEr
 ghost use Rattle.std.specs.Option.{option_copied};
 ghost use Rattle.apron_base.specs.Counts.{Counts};
 ghost use Rattle.apron_base.specs.Histories.{Rises};
-ghost use Rattle.apron_base.specs.Machine.{is_fault};
+ghost use Rattle.apron_base.specs.Machine.{is_fault, standing};
 ghost use Rattle.desk_words.specs.Commands.{IsCommandOf};
 ghost use Rattle.desk_words.specs.Replies.{IsTellable};
 ghost use Rattle.history_core.specs.Steps.{Steps, accepted, stepped_reply};
 ghost use Rattle.history_core.specs.History.{IsAskOf, IsLegal, call_limit, call_of, replay};
 ghost use Rattle.history_core.specs.Answer.{ActsAs, GivesText, acted_of, changes, is_keeper_fault, sought, told, visit_told};
-ghost use Rattle.history_core.specs.AtRisk.{LeavesAtRisk, standing};
-ghost use Rattle.history_core.specs.Board.{IsKept};
+ghost use Rattle.history_core.specs.AtRisk.{LeavesAtRisk};
+ghost use Rattle.history_core.specs.Board.{IsKept, machine_state};
 ghost use Rattle.history_core.specs.Opening.{CannotOpen, Opens};
 ghost use Rattle.history_core.specs.Taking.{IsChangeOf};
 
@@ -144,7 +144,7 @@ impl<'a, K: Keeper> Board<'a, K> {
         ensures found { IsLegal self.old.airport self.old.history }
         ensures legal { IsLegal self.new.airport self.new.history }
         ensures faults { Counts (is_fault result) (K.state self.old.keeper).faults (K.state self.new.keeper).faults }
-        ensures at_risk { LeavesAtRisk (standing K.state self.old) call ask.now.what (is_fault result) (standing K.state self.new) }
+        ensures at_risk { LeavesAtRisk (standing (machine_state K.state self.old)) call ask.now.what (is_fault result) (standing (machine_state K.state self.new)) }
     {
         let answered = self.answer(alloc, call, ask);
         self.next = call + 1;
@@ -161,7 +161,7 @@ impl<'a, K: Keeper> Board<'a, K> {
         ensures gives { let plan = replay self.old.airport self.old.history in
             GivesText plan self.old.history call (sought plan ask.now) result self.new.history }
         ensures faults { Counts (is_keeper_fault result) (K.state self.old.keeper).faults (K.state self.new.keeper).faults }
-        ensures at_risk { LeavesAtRisk (standing K.state self.old) call ask.now.what (is_keeper_fault result) (standing K.state self.new) }
+        ensures at_risk { LeavesAtRisk (standing (machine_state K.state self.old)) call ask.now.what (is_keeper_fault result) (standing (machine_state K.state self.new)) }
     {
         if ask.seen > self.plan.version() {
             return self.tell(alloc, Told::Ahead);
@@ -206,7 +206,7 @@ impl<'a, K: Keeper> Board<'a, K> {
         ensures gives { let plan = replay self.old.airport self.old.history in
             GivesText plan self.old.history call (changes command.now) result self.new.history }
         ensures faults { Counts (is_keeper_fault result) (K.state self.old.keeper).faults (K.state self.new.keeper).faults }
-        ensures at_risk { LeavesAtRisk (standing K.state self.old) call (What.Change command.now) (is_keeper_fault result) (standing K.state self.new) }
+        ensures at_risk { LeavesAtRisk (standing (machine_state K.state self.old)) call (What.Change command.now) (is_keeper_fault result) (standing (machine_state K.state self.new)) }
     {
         let entries = self.history.as_slice().len();
         match take(alloc, self.airport, &self.plan, entries, command)? {
@@ -236,7 +236,7 @@ impl<'a, K: Keeper> Board<'a, K> {
         ensures gives { let plan = replay self.old.airport self.old.history in
             GivesText plan self.old.history call (changes command.now) result self.new.history }
         ensures faults { Counts (is_keeper_fault result) (K.state self.old.keeper).faults (K.state self.new.keeper).faults }
-        ensures at_risk { LeavesAtRisk (standing K.state self.old) call (What.Change command.now) (is_keeper_fault result) (standing K.state self.new) }
+        ensures at_risk { LeavesAtRisk (standing (machine_state K.state self.old)) call (What.Change command.now) (is_keeper_fault result) (standing (machine_state K.state self.new)) }
     {
         let entry = Entry {
             call,

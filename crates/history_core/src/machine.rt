@@ -6,6 +6,8 @@ use desk_words::asks::{Ask, Entry};
 use std::alloc::Global;
 
 impl<'a, K: Keeper> Machine for Board<'a, K> {
+    ghost use Rattle.std.specs.Prelude.{◌≡◌};
+    ghost use Rattle.desk_words.specs.declared.asks.What.TheVariants.{Change};
     ghost use Rattle.history_core.specs.Answer.{ActsLegally};
     ghost use Rattle.history_core.specs.Board.{machine_state};
     ghost use Rattle.history_core.specs.History.{IsAskOf, call_of};
@@ -21,6 +23,8 @@ impl<'a, K: Keeper> Machine for Board<'a, K> {
     ghost number = { call_of };
 
     ghost valid = { IsAskOf };
+
+    ghost adds = { λ ask entry. ask.what ≡ Change entry.command };
 
     ghost answers = { ActsLegally };
 

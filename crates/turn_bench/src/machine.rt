@@ -16,12 +16,12 @@ pub(crate) struct Worker<'r, R: Clock> {
 }
 
 impl<'r, R: Clock> Model for Worker<'r, R> {
-    ghost use Rattle.std.specs.Prelude.{◌≤◌, [], ℕ};
+    ghost use Rattle.std.specs.Prelude.{◌≤◌, [], ℕ, None};
     ghost use Rattle.apron_base.specs.Machine.{MachineState};
 
     ghost Value = { MachineState (Unit {0}) (Unit {0}) };
 
-    ghost view = { λ w. record { fixed = tt; history = []; next = w.next; faults = 0 } };
+    ghost view = { λ w. record { fixed = tt; history = []; at_risk = None; next = w.next; faults = 0 } };
 
     ghost invariant = { λ w. 1 ≤ w.next };
 }
@@ -51,6 +51,8 @@ impl<'r, R: Clock> Machine for Worker<'r, R> {
     ghost number = { λ entry. 0 };
 
     ghost valid = { λ fixed ask. Unit {0} };
+
+    ghost adds = { λ ask entry. Unit {0} };
 
     ghost answers = { λ fixed before call ask answer after. Unit {0} };
 

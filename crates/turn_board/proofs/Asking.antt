@@ -1,18 +1,18 @@
 -- What the steps of a call say together.
-use Rattle.std.proofs.Common.{◌≡◌, ℕ, ◌+◌, ◌<◌, ◌≤◌, Bool, true, false, cond, List, [], ◌∷◌, ◌++◌, length, Option, Some, sym, refl, ap, ◌∙◌, subst, ⊎_elim, length-append, arith}
+use Rattle.std.proofs.Common.{◌≡◌, ℕ, ◌+◌, ◌<◌, ◌≤◌, Bool, true, false, cond, List, [], ◌∷◌, ◌++◌, length, Option, Some, sym, refl, ap, ◌∙◌, subst, inl, inr, ⊎_elim, length-append, arith}
 use Rattle.atomic_table.specs.Seated.{TableId}
 use Rattle.apron_base.specs.Counts.{Counts}
 use Rattle.apron_base.specs.Histories.{Grows}
-use Rattle.apron_base.specs.Machine.{Acts, Leaves, MachineState, is_fault}
+use Rattle.apron_base.specs.Machine.{Acts, ActsAtRisk, Leaves, MachineState, is_fault, standing}
 use Rattle.apron_base.specs.declared.outside.Acted.{Acted}
-use Rattle.apron_base.specs.declared.outside.Acted.TheVariants.{Spent}
+use Rattle.apron_base.specs.declared.outside.Acted.TheVariants.{Fault, Memory, Reply, Spent}
 use Rattle.apron_base.proofs.Rising.{leaves_grown}
 use Rattle.turn_board.specs.declared.view.Start.{Start}
 use Rattle.turn_board.specs.declared.view.View.{View}
 use Rattle.turn_board.specs.Board.{GotTurn, SeatState, seat_of}
 use Rattle.turn_board.specs.Plays.{IsTaken, Mine}
 use Rattle.turn_board.specs.Totals.{AreBelow}
-use Rattle.turn_board.specs.Turns.{HasActed, IsOver}
+use Rattle.turn_board.specs.Turns.{HasActed, HasLeftAtRisk, IsOver}
 use Rattle.turn_board.specs.Views.{acted, call_end, counted, drawn, ended, turned}
 
 -- a count of faults never falls
@@ -36,6 +36,22 @@ module _ {E F : Type 0} (number : E → ℕ) where
   pub grown : (before after : MachineState E F) (call : ℕ) (answer : Acted) → Acts number before after call answer → Grows number call before.history after.history
   grown before after call answer acts = leaves_grown number call answer before.history after.history acts.history
 
+  -- where it failed, no entry was added
+  still : (before after : MachineState E F) (call : ℕ) (answer : Acted) → Acts number before after call answer → is_fault answer ≡ true → after.history ≡ before.history
+  still before after call Fault acts is = acts.history
+  still before after call (Reply bytes) acts is = absurd (cc)
+  still before after call Memory acts is = absurd (cc)
+  still before after call Spent acts is = absurd (cc)
+
+  -- what the act left at risk, as it is told of the seat that it acted for
+  pub left_at_risk : {M A : Type 0} (adds : A → E → Type 0) (ask : A) (mine : Mine M E F) (before after : MachineState E F) (call : ℕ) (answer : Acted) → Acts number before after call answer
+      → ActsAtRisk (λ e. (number e ≡ call) × adds ask e) (is_fault answer) (standing before) (standing after)
+      → mine.0.number ≡ call → mine.0.seen ≡ before.history → mine.0.at_risk ≡ before.at_risk → HasLeftAtRisk number mine after
+  left_at_risk adds ask mine before after call answer acts risks number_is seen_is risk_is = ⊎_elim inl
+      (⊎_elim (λ (same : (after.at_risk ≡ before.at_risk) × (after.history ≡ before.history)). inr (inl (same.0 ∙ sym risk_is, same.1 ∙ sym seen_is)))
+      (λ (new : (is_fault answer ≡ true) × ((e : E) × (after.at_risk ≡ Some e) × ((number e ≡ call) × adds ask e))).
+      inr (inr (refl, (new.1.0, new.1.1, (new.1.2.0 ∙ sym number_is, still before after call answer acts new.0 ∙ sym seen_is)))))) risks
+
   pub risen : (before after : MachineState E F) (call : ℕ) (answer : Acted) → Acts number before after call answer → before.faults ≤ after.faults
   risen before after call answer acts = counts_rise (is_fault answer) before.faults after.faults acts.faults
 
@@ -53,8 +69,8 @@ module _ {M E F : Type 0} (state : M → MachineState E F) (number : E → ℕ) 
       whole = counted_is ∙ ap (λ (m : Mine M E F). (cond added (counted m.0) m.0, m.1)) noted_is
 
       at : (b : Bool) → length (state machine).history ≡ length before.0.seen + cond b 1 0 → IsOver state (cond b (counted w) w, (0, Some machine) ∷ []) machine
-      at true long = record { stage = refl; share = has.share; paid = refl; held = refl; history = refl; next = omega arith; start = start; left = refl }
-      at false long = record { stage = refl; share = has.share; paid = omega arith; held = refl; history = refl; next = omega arith; start = start; left = refl }
+      at true long = record { stage = refl; share = has.share; paid = refl; held = refl; history = refl; next = omega arith; start = start; left = refl; at_risk = refl }
+      at false long = record { stage = refl; share = has.share; paid = omega arith; held = refl; history = refl; next = omega arith; start = start; left = refl; at_risk = refl }
 
   -- the seat with the machine knows the start as before, and the machine has its fixed part
   pub keeps_start : (v p : View E F) (q : Mine M E F) (cs : List (ℕ × Option M)) (n : ℕ) (m : M) (left : MachineState E F) (x : Start F) → v.start ≡ Some x → p ≡ drawn n v → q ≡ (turned (state m) p, cs)
@@ -63,14 +79,15 @@ module _ {M E F : Type 0} (state : M → MachineState E F) (number : E → ℕ) 
       let known : p.start ≡ Some x = ap (λ (y : View E F). y.start) drawn_is ∙ has in
       (x, ap (λ (y : Mine M E F). y.0.start) turned_is ∙ known, fixed ∙ (taken.start x known).0)
 
-  module _ {A : Type 0} (answers : F → List E → ℕ → A → Acted → List E → Type 0) (z z' : TableId) (v : View E F) (before : SeatState E F) (ask : A) (answer : Acted) where
+  module _ {A : Type 0} (adds : A → E → Type 0) (answers : F → List E → ℕ → A → Acted → List E → Type 0) (z z' : TableId) (v : View E F) (before : SeatState E F) (ask : A) (answer : Acted) where
     -- a call that got its turn
     pub got_turn : seat_of z v ≡ before → (n : ℕ) (m m' : M) (p : View E F) (q w : Mine M E F) (cs : List (ℕ × Option M)) → p ≡ drawn n v → q ≡ (turned (state m) p, cs)
         → w ≡ (ended (acted (state m') q.0), []) → n < call_end → AreBelow n v.calls → v.exhausted ≡ false → IsTaken number p n (state m) → Acts number (state m) (state m') n answer
-        → answers (state m).fixed (state m).history n ask answer (state m').history → GotTurn state number answers before (record { ask = ask; answer = answer }) (seat_of z' w.0)
-    got_turn seat_is n m m' p q w cs drawn_is turned_is ended_is small new room taken acts meets =
-        subst (λ (s : SeatState E F). GotTurn state number answers s (record { ask = ask; answer = answer }) (seat_of z' w.0)) seat_is
-        (subst (λ (x : View E F). GotTurn state number answers (seat_of z v) (record { ask = ask; answer = answer }) (seat_of z' x)) (sym whole) (record {
+        → ActsAtRisk (λ e. (number e ≡ n) × adds ask e) (is_fault answer) (standing (state m)) (standing (state m'))
+        → answers (state m).fixed (state m).history n ask answer (state m').history → GotTurn state number adds answers before (record { ask = ask; answer = answer }) (seat_of z' w.0)
+    got_turn seat_is n m m' p q w cs drawn_is turned_is ended_is small new room taken acts risks meets =
+        subst (λ (s : SeatState E F). GotTurn state number adds answers s (record { ask = ask; answer = answer }) (seat_of z' w.0)) seat_is
+        (subst (λ (x : View E F). GotTurn state number adds answers (seat_of z v) (record { ask = ask; answer = answer }) (seat_of z' x)) (sym whole) (record {
           found = m;
           left = m';
           ticket = n;
@@ -82,6 +99,8 @@ module _ {M E F : Type 0} (state : M → MachineState E F) (number : E → ℕ) 
           next = took.next;
           start = took.start;
           faults = took.faults;
+          older = took.at_risk;
+          at_risk = risks;
           acts = acts;
           answered = meets;
           seen = refl;

@@ -1,5 +1,5 @@
 -- A table that begins, and one that is closed.
-use Rattle.std.proofs.Common.{◌≡◌, ◌≢◌, ℕ, zero, suc, ◌+◌, ◌^◌, ◌<◌, ◌≤◌, ◌==◌, cond, List, [], ◌∷◌, length, Option, Some, sym, refl, ap, ◌∙◌, subst, inl, ⊎_elim, arith, lt_of_not-le}
+use Rattle.std.proofs.Common.{◌≡◌, ◌≢◌, ℕ, zero, suc, ◌+◌, ◌^◌, ◌<◌, ◌≤◌, ◌==◌, cond, List, [], ◌∷◌, length, Option, None, Some, IfSome, sym, refl, ap, ◌∙◌, subst, ◌⊎◌, inl, ⊎_elim, arith, lt_of_not-le}
 use mathlib.Core.Logic.{dite}
 use mathlib.Core.Option.{some, none, some-injective, some-ne-none}
 use mathlib.Core.Option as maybe
@@ -15,17 +15,18 @@ use Rattle.turn_board.specs.declared.view.Call.{Call}
 use Rattle.turn_board.specs.declared.view.Stage.{Stage}
 use Rattle.turn_board.specs.declared.view.Stage.TheVariants.{Idle}
 use Rattle.turn_board.specs.declared.view.View.{View}
-use Rattle.turn_board.specs.Board.{Closes, SeatState, TurnBoardState, seat_of}
-use Rattle.turn_board.specs.Rule.{AtHome, Fits, IsOut, TurnRule}
+use Rattle.turn_board.specs.Board.{Closes, IsPutAtRisk, SeatState, TurnBoardState, seat_of}
+use Rattle.turn_board.specs.Rule.{AtHome, Fits, IsAtRisk, IsNewAtRisk, IsOut, TurnRule}
 use Rattle.turn_board.specs.Totals.{below, times, total}
 use Rattle.turn_board.specs.Views.{all_shares, calls_of, has_acted, has_turn, in_flight, is_flying, opened, share_of, start_of, turn_of}
 use Rattle.turn_board.proofs.Faults.{IsKnown}
-use Rattle.turn_board.proofs.Totals.{below_here, every_more, not_below, same_inside, total_only, total_two}
+use Rattle.turn_board.proofs.Risks.{IsLeft, if_some}
+use Rattle.turn_board.proofs.Totals.{below_here, called, every_more, not_below, same_inside, total_only, total_two}
 
 module _ {M E F : Type 0} (number : E → ℕ) (state : M → MachineState E F) where
-  pub starts : (m : M) (first long : ℕ) → first ≡ (state m).next → first ≤ 2 ^ 62 → long ≡ length (state m).history → Rises number 1 (state m).next (state m).history
+  pub starts : (m : M) (first long : ℕ) → first ≡ (state m).next → first ≤ 2 ^ 62 → long ≡ length (state m).history → Rises number 1 (state m).next (state m).history → (state m).at_risk ≡ None
       → TurnRule number state (state m) (opening (first ∷ first ∷ long ∷ []) (Some m ∷ []) (opened (state m)))
-  starts m first long is few long_is rises = record {
+  starts m first long is few long_is rises safe = record {
     standing = record { ticket = first; serving = first; count = long; longest = (state m).history };
     words = refl;
     facts = record {
@@ -50,14 +51,35 @@ module _ {M E F : Type 0} (number : E → ℕ) (state : M → MachineState E F) 
       turn = no_turn;
       home = λ m' e. let a : (state m).faults ≡ (state m').faults = ap (held_faults m) e in omega arith;
     };
+    risks = record {
+      left = λ x. None;
+      calls = none_left;
+      turn = never_turned;
+      home = λ m' e. subst (λ (r : Option E). IfSome r (IsAtRisk number (state m) (λ x. None) first (state m').history)) (sym safe ∙ ap (held_risk m) e) tt;
+    };
   }
     where
       held_faults : M → List (maybe.Option (Option M)) → ℕ
       held_faults d (some (Some x) ∷ _) = (state x).faults
       held_faults d _ = (state d).faults
 
-      no_calls : (j : ℕ) (v : View E F) → get_elem? (opened (state m) ∷ []) j ≡ some v → Every (λ (c : Call). (c.number < first) × (c.found ≡ (state m).faults) × (c.left ≡ (state m).faults)) v.calls
-      no_calls zero v e = subst (λ (z : View E F). Every (λ (c : Call). (c.number < first) × (c.found ≡ (state m).faults) × (c.left ≡ (state m).faults)) z.calls) (some-injective (opened (state m)) v e) tt
+      held_risk : M → List (maybe.Option (Option M)) → Option E
+      held_risk d (some (Some x) ∷ _) = (state x).at_risk
+      held_risk d _ = (state d).at_risk
+
+      none_left : (j : ℕ) (v : View E F) → get_elem? (opened (state m) ∷ []) j ≡ some v → Every (IsLeft (λ x. None) first) v.calls
+      none_left zero v e = subst (λ (z : View E F). Every (IsLeft (λ x. None) first) z.calls) (some-injective (opened (state m)) v e) tt
+      none_left (suc j) v e = absurd (some-ne-none v (sym e))
+
+      Knows : View E F → Type 0
+      Knows v = 0 < has_turn v.stage → IfSome v.at_risk (λ a. IsNewAtRisk number v a ⊎ IsAtRisk number (state m) (λ x. None) first v.seen a)
+
+      never_turned : (j : ℕ) (v : View E F) → get_elem? (opened (state m) ∷ []) j ≡ some v → Knows v
+      never_turned zero v e = subst Knows (some-injective (opened (state m)) v e) (λ p. absurd (omega arith))
+      never_turned (suc j) v e = absurd (some-ne-none v (sym e))
+
+      no_calls : (j : ℕ) (v : View E F) → get_elem? (opened (state m) ∷ []) j ≡ some v → Every (λ (c : Call E). (c.number < first) × (c.found ≡ (state m).faults) × (c.left ≡ (state m).faults)) v.calls
+      no_calls zero v e = subst (λ (z : View E F). Every (λ (c : Call E). (c.number < first) × (c.found ≡ (state m).faults) × (c.left ≡ (state m).faults)) z.calls) (some-injective (opened (state m)) v e) tt
       no_calls (suc j) v e = absurd (some-ne-none v (sym e))
 
       no_turn : (j : ℕ) (v : View E F) → get_elem? (opened (state m) ∷ []) j ≡ some v → (0 < has_turn v.stage → (state m).faults ≤ v.found) × (0 < has_acted v.stage → v.found ≤ v.left)
@@ -84,10 +106,10 @@ module _ {M E F : Type 0} (number : E → ℕ) (state : M → MachineState E F) 
 
 module _ {M E F : Type 0} (number : E → ℕ) (state : M → MachineState E F) where
   pub starts_as : (m m' : M) (xs : List (Option M)) (first second long : ℕ) → m' ≡ m → xs ≡ Some m ∷ [] → first ≡ (state m).next → second ≡ (state m).next → (state m).next ≤ 2 ^ 62 → long ≡ length (state m).history
-      → Rises number 1 (state m).next (state m).history → TurnRule number state (state m') (opening (first ∷ second ∷ long ∷ []) xs (opened (state m')))
-  starts_as m m' xs first second long is items first_is second_is few long_is rises =
+      → Rises number 1 (state m).next (state m).history → (state m).at_risk ≡ None → TurnRule number state (state m') (opening (first ∷ second ∷ long ∷ []) xs (opened (state m')))
+  starts_as m m' xs first second long is items first_is second_is few long_is rises safe =
       let at : TurnRule number state (state m) (opening (first ∷ second ∷ long ∷ []) (Some m ∷ []) (opened (state m))) =
-      subst (λ (z : ℕ). TurnRule number state (state m) (opening (first ∷ z ∷ long ∷ []) (Some m ∷ []) (opened (state m)))) (first_is ∙ sym second_is) (starts number state m first long first_is (omega arith) long_is rises) in
+      subst (λ (z : ℕ). TurnRule number state (state m) (opening (first ∷ z ∷ long ∷ []) (Some m ∷ []) (opened (state m)))) (first_is ∙ sym second_is) (starts number state m first long first_is (omega arith) long_is rises safe) in
       let other : TurnRule number state (state m') (opening (first ∷ second ∷ long ∷ []) (Some m ∷ []) (opened (state m'))) = subst (λ (z : M). TurnRule number state (state z) (opening (first ∷ second ∷ long ∷ []) (Some m ∷ []) (opened (state z)))) (sym is) at in
       subst (λ (ys : List (Option M)). TurnRule number state (state m') (opening (first ∷ second ∷ long ∷ []) ys (opened (state m')))) (sym items) other
 
@@ -102,10 +124,10 @@ module _ {M E F : Type 0} (number : E → ℕ) (state : M → MachineState E F) 
   board_of z = record { table = z; start = start_of origin }
 
   -- who has every share is the only one who has called, and the machine is at home
-  pub closes : (z z' : TableId) (id : ℕ) (v : V) (ws : List ℕ) (xs : List (Option M)) → v.share ≡ all_shares → v.stage ≡ Idle → Final (Seen (TurnRule number state origin) id v) ws xs → (m : M) × (get_elem? xs 0 ≡ some (Some m)) × Closes (board_of z) (seat_of z' v) (state m)
+  pub closes : (z z' : TableId) (id : ℕ) (v : V) (ws : List ℕ) (xs : List (Option M)) → v.share ≡ all_shares → v.stage ≡ Idle → Final (Seen (TurnRule number state origin) id v) ws xs → (m : M) × (get_elem? xs 0 ≡ some (Some m)) × Closes number (board_of z) (seat_of z' v) (state m)
   closes z z' id v ws xs all idle f =
       let s = f.0 in let h = f.1.0 in let at = f.1.1 in
-      let t = h.standing.ticket in let k = h.standing.serving in let log = h.standing.longest in let r = h.facts in let q = h.faults in
+      let t = h.standing.ticket in let k = h.standing.serving in let log = h.standing.longest in let r = h.facts in let q = h.faults in let d = h.risks in
       let views = s.views in
       let mine = r.seats id v at in
       let others : (j : ℕ) (u : V) → j ≢ id → get_elem? views j ≡ some u → u.share ≡ 0 = λ j u ne e. let a = total_two share_of views id j v u ne at e in let b = r.shares in omega arith in
@@ -135,18 +157,23 @@ module _ {M E F : Type 0} (number : E → ℕ) (state : M → MachineState E F) 
           fixed = hm.3.fixed;
           next = hm.3.next;
           since = let a = q.least in let d = q.home hm.0 hm.1 in omega arith;
-          faults = every_more (IsKnown q.found q.left k) (λ (c : Call). (origin.faults ≤ c.found) × (c.left ≤ (state hm.0).faults)) (λ c g. let a = q.each c.number g.0 in let d = q.home hm.0 hm.1 in let x = g.1 in let y = g.2 in (omega arith, omega arith)) v.calls (q.calls id v at);
+          faults = every_more (IsKnown q.found q.left k) (λ (c : Call E). (origin.faults ≤ c.found) × (c.left ≤ (state hm.0).faults)) (λ c g. let a = q.each c.number g.0 in let d = q.home hm.0 hm.1 in let x = g.1 in let y = g.2 in (omega arith, omega arith)) v.calls (q.calls id v at);
+          at_risk = if_some (IsAtRisk number origin d.left k (state hm.0).history) (IsPutAtRisk number v.calls (state hm.0).history) (λ e known. record {
+            by = called (number e) v.calls (let a = calls (number e) in let b = not_below (number e) origin.next known.from in let c = below_here (number e) k known.ended in omega arith);
+            stays = every_more (IsLeft d.left k) (λ (c : Call E). number e ≤ c.number → c.at_risk ≡ Some e) (λ c left l. left.1 ∙ known.stays c.number l left.0) v.calls (d.calls id v at);
+            since = known.since;
+          }) (state hm.0).at_risk (d.home hm.0 hm.1);
         },
       ))
       (λ (out : IsOut s.homes views). absurd (let a = out.1 in omega arith)) r.slot
 
   -- the same, by the value that stood in the slot
   pub closes_with : (z z' : TableId) (id : ℕ) (v : V) (ws : List ℕ) (xs : List (Option M)) (slot : Option M) → v.share ≡ all_shares → v.stage ≡ Idle → Final (Seen (TurnRule number state origin) id v) ws xs → get_elem? xs 0 ≡ some slot
-      → (m : M) × (slot ≡ Some m) × Closes (board_of z) (seat_of z' v) (state m)
+      → (m : M) × (slot ≡ Some m) × Closes number (board_of z) (seat_of z' v) (state m)
   closes_with z z' id v ws xs slot all idle f at = let c = closes z z' id v ws xs all idle f in (c.0, some-injective slot (Some c.0) (sym at ∙ c.1), c.2)
 
   pub closes_as : (z z' : TableId) (id : ℕ) (v : V) (ws : List ℕ) (xs : List (Option M)) (slot : Option M) (m : M) (board : TurnBoardState F) (seat : SeatState E F) → board_of z ≡ board → seat_of z' v ≡ seat
-      → v.share ≡ all_shares → v.stage ≡ Idle → Final (Seen (TurnRule number state origin) id v) ws xs → get_elem? xs 0 ≡ some slot → slot ≡ Some m → Closes board seat (state m)
+      → v.share ≡ all_shares → v.stage ≡ Idle → Final (Seen (TurnRule number state origin) id v) ws xs → get_elem? xs 0 ≡ some slot → slot ≡ Some m → Closes number board seat (state m)
   closes_as z z' id v ws xs slot m board seat board_is seat_is all idle f at is = let c = closes_with z z' id v ws xs slot all idle f at in
-      let here : Closes (board_of z) (seat_of z' v) (state m) = subst (λ (y : M). Closes (board_of z) (seat_of z' v) (state y)) (same_inside c.0 m c.1 is) c.2 in
-      subst (λ (x : SeatState E F). Closes board x (state m)) seat_is (subst (λ (y : TurnBoardState F). Closes y (seat_of z' v) (state m)) board_is here)
+      let here : Closes number (board_of z) (seat_of z' v) (state m) = subst (λ (y : M). Closes number (board_of z) (seat_of z' v) (state y)) (same_inside c.0 m c.1 is) c.2 in
+      subst (λ (x : SeatState E F). Closes number board x (state m)) seat_is (subst (λ (y : TurnBoardState F). Closes number y (seat_of z' v) (state m)) board_is here)

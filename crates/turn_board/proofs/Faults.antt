@@ -17,17 +17,17 @@ use Rattle.turn_board.specs.Plays.{DoNotOverlap}
 use Rattle.turn_board.proofs.Totals.{every_append, every_more}
 
 -- f, but y at k
-abbrev pub at_else : (ℕ → ℕ) → ℕ → ℕ → ℕ → ℕ
+abbrev pub at_else : {A : Type 0} → (ℕ → A) → ℕ → A → ℕ → A
 at_else f k y x = cond (x == k) y (f x)
 
-below_else : (f : ℕ → ℕ) (k y x : ℕ) → x < k → at_else f k y x ≡ f x
+pub below_else : {A : Type 0} (f : ℕ → A) (k : ℕ) (y : A) (x : ℕ) → x < k → at_else f k y x ≡ f x
 below_else f k y x h = let b : (x == k) ≡ false = grind (arith, nat_tests) in ap (λ z. cond z y (f x)) b
 
-here_else : (f : ℕ → ℕ) (k y : ℕ) → at_else f k y k ≡ y
+pub here_else : {A : Type 0} (f : ℕ → A) (k : ℕ) (y : A) → at_else f k y k ≡ y
 here_else f k y = let b : (k == k) ≡ true = grind (arith, nat_tests) in ap (λ z. cond z y (f k)) b
 
 -- what is known of an ended call
-abbrev pub IsKnown : (ℕ → ℕ) → (ℕ → ℕ) → ℕ → Call → Type 0
+abbrev pub IsKnown : {E : Type 0} → (ℕ → ℕ) → (ℕ → ℕ) → ℕ → Call E → Type 0
 IsKnown found left k c = (c.number < k) × (c.found ≡ found c.number) × (c.left ≡ left c.number)
 
 module _ {M E F : Type 0} (state : M → MachineState E F) (origin : MachineState E F) where
@@ -57,7 +57,7 @@ module _ {M E F : Type 0} (state : M → MachineState E F) (origin : MachineStat
 
   -- the seat's call ends, with the number k
   pub ended_call : (k : ℕ) (homes homes' : Homes) (views : List V) (f : AreFaults state origin k homes views) (id : ℕ) (v w : V) → get_elem? views id ≡ some v → v.number ≡ k → has_acted v.stage ≡ 1 → has_turn v.stage ≡ 1
-      → w.calls ≡ v.calls ++ record { number = v.number; found = v.found; left = v.left } ∷ [] → has_turn w.stage ≡ 0 → has_acted w.stage ≡ 0
+      → w.calls ≡ v.calls ++ record { number = v.number; found = v.found; left = v.left; at_risk = v.at_risk } ∷ [] → has_turn w.stage ≡ 0 → has_acted w.stage ≡ 0
       → ((j : ℕ) (u : V) → j ≢ id → get_elem? views j ≡ some u → has_turn u.stage ≡ 0)
       → ((m : M) → homes' ≡ some (Some m) ∷ [] → v.left ≤ (state m).faults) → AreFaults state origin (k + 1) homes' (set views id w)
   ended_call k homes homes' views f id v w at is is_done went calls_are idle undone others home =
@@ -66,9 +66,9 @@ module _ {M E F : Type 0} (state : M → MachineState E F) (origin : MachineStat
       let turn = f.turn id v at in
       let low : f.top ≤ v.found = turn.0 (omega arith) in
       let high : v.found ≤ v.left = turn.1 (omega arith) in
-      let move : (c : Call) → IsKnown f.found f.left k c → IsKnown found' left' (k + 1) c =
+      let move : (c : Call E) → IsKnown f.found f.left k c → IsKnown found' left' (k + 1) c =
       λ c h. ((let a = h.0 in omega arith), h.1 ∙ sym (below_else f.found k v.found c.number h.0), h.2 ∙ sym (below_else f.left k v.left c.number h.0)) in
-      let new : IsKnown found' left' (k + 1) (record { number = v.number; found = v.found; left = v.left }) =
+      let new : IsKnown found' left' (k + 1) (record { number = v.number; found = v.found; left = v.left; at_risk = v.at_risk }) =
       ((omega arith), sym (ap found' is ∙ here_else f.found k v.found), sym (ap left' is ∙ here_else f.left k v.left)) in
       record {
         found = found';
@@ -83,7 +83,7 @@ module _ {M E F : Type 0} (state : M → MachineState E F) (origin : MachineStat
             (λ (ne : y ≢ k). let less' : y < k = omega arith in let b = below_else f.found k v.found y less' in let d = f.order x y l less' in omega arith);
         calls = λ j u e. ⊎_elim
             (λ (h : (j ≡ id) × (w ≡ u)). subst (λ (z : V). Every (IsKnown found' left' (k + 1)) z.calls) h.1 (subst (Every (IsKnown found' left' (k + 1))) (sym calls_are)
-            (every_append (IsKnown found' left' (k + 1)) v.calls (record { number = v.number; found = v.found; left = v.left } ∷ []) (every_more (IsKnown f.found f.left k) (IsKnown found' left' (k + 1)) move v.calls (f.calls id v at)) (new, tt))))
+            (every_append (IsKnown found' left' (k + 1)) v.calls (record { number = v.number; found = v.found; left = v.left; at_risk = v.at_risk } ∷ []) (every_more (IsKnown f.found f.left k) (IsKnown found' left' (k + 1)) move v.calls (f.calls id v at)) (new, tt))))
             (λ (h : (j ≢ id) × (get_elem? views j ≡ some u)). every_more (IsKnown f.found f.left k) (IsKnown found' left' (k + 1)) move u.calls (f.calls j u h.1)) (at_set views id j w u e);
         turn = λ j u e. ⊎_elim
             (λ (h : (j ≡ id) × (w ≡ u)). subst (λ (z : V). (0 < has_turn z.stage → v.left ≤ z.found) × (0 < has_acted z.stage → z.found ≤ z.left)) h.1 ((λ p. absurd (omega arith)), (λ p. absurd (omega arith))))
@@ -109,5 +109,5 @@ module _ {M E F : Type 0} (state : M → MachineState E F) (origin : MachineStat
 
   -- what the counts of one seat's calls say of each other
   pub apart : (k : ℕ) (homes : Homes) (views : List V) → AreFaults state origin k homes views → (id : ℕ) (v : V) → get_elem? views id ≡ some v → DoNotOverlap v.calls
-  apart k homes views f id v at = let all = f.calls id v at in every_more (IsKnown f.found f.left k) (λ (c : Call). Every (λ (d : Call). c.number < d.number → c.left ≤ d.found) v.calls)
-      (λ c h. every_more (IsKnown f.found f.left k) (λ (d : Call). c.number < d.number → c.left ≤ d.found) (λ d g l. let a = f.order c.number d.number l g.0 in let b = h.2 in let e = g.1 in omega arith) v.calls all) v.calls all
+  apart k homes views f id v at = let all = f.calls id v at in every_more (IsKnown f.found f.left k) (λ (c : Call E). Every (λ (d : Call E). c.number < d.number → c.left ≤ d.found) v.calls)
+      (λ c h. every_more (IsKnown f.found f.left k) (λ (d : Call E). c.number < d.number → c.left ≤ d.found) (λ d g l. let a = f.order c.number d.number l g.0 in let b = h.2 in let e = g.1 in omega arith) v.calls all) v.calls all

@@ -1,6 +1,7 @@
 pub mod Totals
 pub mod Later
 pub mod Faults
+pub mod Risks
 pub mod Moves
 pub mod Seats
 pub mod Ends

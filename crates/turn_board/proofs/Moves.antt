@@ -19,13 +19,14 @@ use Rattle.turn_board.specs.declared.view.Stage.TheVariants.{Idle, Waiting, Turn
 use Rattle.turn_board.specs.declared.view.View.{View}
 use Rattle.apron_base.specs.Machine.{MachineState}
 use Rattle.turn_board.specs.declared.view.Start.{Start}
-use Rattle.turn_board.specs.Rule.{AreFaults, AtHome, EndsAt, Extends, Facts, Fits, IsOut, Standing, TurnRule}
+use Rattle.turn_board.specs.Rule.{AreFaults, AreRisks, AtHome, EndsAt, Extends, Facts, Fits, IsAtRisk, IsNewAtRisk, IsOut, Standing, TurnRule}
 use Rattle.turn_board.specs.Totals.{below, same, total}
-use Rattle.turn_board.specs.Turns.{HasActed}
+use Rattle.turn_board.specs.Turns.{HasActed, HasLeftAtRisk}
 use Rattle.turn_board.specs.Views.{acted, acted_of, calls_of, counted, drawn, ended, has_acted, has_turn, in_flight, is_flying, looked, may_owe, owes_of, run_out, share_of, start_of, turn_of, turned}
 use Rattle.turn_board.specs.Plays.{CountsEntry, Draws, Ends, Looks, Notes, Takes, noted}
 use Rattle.turn_board.proofs.Faults.{IsKnown, apart, ended_call, kept}
-use Rattle.turn_board.proofs.Totals.{same_inside, below_suc, not_below, below_most, times_append, total_set, total_le, total_apart, total_at, total_two, set_at, every_append, every_more, every_always, every_both, every_front, later_rest}
+use Rattle.turn_board.proofs.Risks.{ended_risk, if_some, keeps_risks, noted_risk, risks_stay}
+use Rattle.turn_board.proofs.Totals.{same_inside, below_here, below_suc, not_below, below_most, times_append, total_set, total_le, total_apart, total_at, total_two, set_at, every_append, every_more, every_always, every_both, every_front, later_rest}
 
 module _ {M E F : Type 0} (number : E → ℕ) (state : M → MachineState E F) (origin : MachineState E F) where
   abbrev V : Type 0
@@ -50,11 +51,11 @@ module _ {M E F : Type 0} (number : E → ℕ) (state : M → MachineState E F) 
       × then (get_or ws i 0) (w, carried_after me.1 a)
 
   allowed : (slots id : ℕ) (me : Mine) (i : ℕ) (f : ℕ → ℕ) (then : ℕ → Mine → Type 0)
-      → ((t k n : ℕ) (log : List E) (homes : Homes) (views : List V) → Facts number state origin (stand t k n log) homes views → AreFaults state origin k homes views → get_elem? views id ≡ some me.0
+      → ((t k n : ℕ) (log : List E) (homes : Homes) (views : List V) → Facts number state origin (stand t k n log) homes views → AreFaults state origin k homes views → AreRisks number state origin k homes views → get_elem? views id ≡ some me.0
       → Owed (t ∷ k ∷ n ∷ []) homes views id me i (f (get_or (t ∷ k ∷ n ∷ []) i 0)) then)
       → Allows (TurnRule number state origin) slots id me i f then
   allowed slots id me i f then give s h deep at small =
-      subst (λ (ws : List ℕ). Owed ws s.homes s.views id me i (f (get_or ws i 0)) then) (sym h.words) (give h.standing.ticket h.standing.serving h.standing.count h.standing.longest s.homes s.views h.facts h.faults at)
+      subst (λ (ws : List ℕ). Owed ws s.homes s.views id me i (f (get_or ws i 0)) then) (sym h.words) (give h.standing.ticket h.standing.serving h.standing.count h.standing.longest s.homes s.views h.facts h.faults h.risks at)
 
   -- a seat's step: what it owes of the totals, of the slot and of each seat
   moved : (t k n : ℕ) (log : List E) (homes : Homes) (views : List V) → Facts number state origin (stand t k n log) homes views
@@ -122,7 +123,7 @@ module _ {M E F : Type 0} (number : E → ℕ) (state : M → MachineState E F) 
 
   pub draws : (slots id : ℕ) (me : Mine) (old new : ℕ) → me.0.stage ≡ Idle → 0 < me.0.share → (old < 2 ^ 62 → new ≡ old + 1) → (2 ^ 62 ≤ old → new ≡ old)
       → Allows (TurnRule number state origin) slots id me 0 (λ n. either (n == old) new n) (Draws (step slots 0 old new none) me)
-  draws slots id me old new idle live up at_end = allowed slots id me 0 (λ n. either (n == old) new n) (Draws (step slots 0 old new none) me) (λ t k n log homes views r q at.
+  draws slots id me old new idle live up at_end = allowed slots id me 0 (λ n. either (n == old) new n) (Draws (step slots 0 old new none) me) (λ t k n log homes views r q d at.
       let v = me.0 in
       let mine = r.seats id v at in
       let Goal : ℕ → Type 0 = λ x. Owed (t ∷ k ∷ n ∷ []) homes views id me 0 x (Draws (step slots 0 old new none) me) in
@@ -140,6 +141,7 @@ module _ {M E F : Type 0} (number : E → ℕ) (state : M → MachineState E F) 
               (done_stays number k log views id v w at refl r.rises) refl (slot_stays k log homes views id v w at refl r.slot)
               (record { start = mine.start; seen = mine.seen; calls = mine.calls; told = mine.told; late = mine.late; turn = mine.turn; owes = mine.owes; own = mine.own; note = λ _. full; spent = mine.spent }) (λ j u _ _ f. f) (inr (refl, refl));
           faults = faults_stay k homes views q id v w at refl refl refl refl refl;
+          risks = risks_stay number state origin k homes views d id v w at refl (d.turn id v at);
         },
         ((λ _. refl), (λ no. absurd (no full)), (λ no. absurd (no full))),
       ) in exchanged t old new Goal (λ e. subst Goal (let h = at_end (omega arith) in omega arith) still) (λ _. still))
@@ -173,14 +175,15 @@ module _ {M E F : Type 0} (number : E → ℕ) (state : M → MachineState E F) 
               })
               (λ j u _ _ f. record { start = f.start; seen = f.seen; calls = f.calls; told = f.told; late = f.late; turn = f.turn; owes = f.owes; own = f.own; note = λ h. absurd (room (f.note h)); spent = f.spent }) (inr (refl, refl));
           faults = faults_stay k homes views q id v w at refl (sym (ap has_turn idle)) (sym (ap has_acted idle)) refl refl;
+          risks = risks_stay number state origin k homes views d id v w at refl (λ p. absurd (omega arith));
         },
-        ((λ h. absurd (room h)), (λ _ _. (less, refl, every_more (λ (c : Call). c.number < k) (λ (c : Call). c.number < t) (λ c h. let g = r.order.0 in omega arith) v.calls mine.calls, not_true v.exhausted (λ h. room (mine.note h)))), (λ _ h. absurd (h e))),
+        ((λ h. absurd (room h)), (λ _ _. (less, refl, every_more (λ (c : Call E). c.number < k) (λ (c : Call E). c.number < t) (λ c h. let g = r.order.0 in omega arith) v.calls mine.calls, not_true v.exhausted (λ h. room (mine.note h)))), (λ _ h. absurd (h e))),
       ))
       (λ (ne : t ≢ old). (
         v,
         keeps,
         tt,
-        record { standing = stand t k n log; words = refl; facts = stays t k n log homes views r id v at; faults = faults_stay k homes views q id v v at refl refl refl refl refl },
+        record { standing = stand t k n log; words = refl; facts = stays t k n log homes views r id v at; faults = faults_stay k homes views q id v v at refl refl refl refl refl; risks = risks_stay number state origin k homes views d id v v at refl (d.turn id v at) },
         ((λ h. absurd (room h)), (λ _ h. absurd (ne h)), (λ _ _. refl)),
       ))))
 
@@ -210,8 +213,8 @@ module _ {M E F : Type 0} (number : E → ℕ) (state : M → MachineState E F) 
       omega arith
 
   -- the longest history begins with itself, and nothing follows
-  whole : (log seen : List E) (ended : List Call) → seen ≡ log → Extends number log seen ended
-  whole log seen ended is = record { rest = []; is = sym (append-nil seen ∙ is); later = every_always (λ (c : Call). Every (λ e. c.number < number e) []) (λ c. tt) ended }
+  whole : (log seen : List E) (ended : List (Call E)) → seen ≡ log → Extends number log seen ended
+  whole log seen ended is = record { rest = []; is = sym (append-nil seen ∙ is); later = every_always (λ (c : Call E). Every (λ e. c.number < number e) []) (λ c. tt) ended }
 
   head_is : (m' : M) {homes : Homes} {m : M} → homes ≡ some (Some m) ∷ [] → set homes 0 none ≡ some (Some m') ∷ [] → some (Some m') ≡ none
   head_is m' {homes} {m} is e = sym (ap (head none) (sym (ap (λ (hs : Homes). set hs 0 none) is) ∙ e))
@@ -221,7 +224,7 @@ module _ {M E F : Type 0} (number : E → ℕ) (state : M → MachineState E F) 
       head d (x ∷ xs) = x
 
   pub takes_turn : (slots id : ℕ) (me : Mine) → me.0.stage ≡ Waiting → 0 < me.0.share → Allows (TurnRule number state origin) slots id me 1 (λ n. n) (Takes state number (step slots 1 0 0 none) me)
-  takes_turn slots id me waits live = allowed slots id me 1 (λ n. n) (Takes state number (step slots 1 0 0 none) me) (λ t k n log homes views r q at.
+  takes_turn slots id me waits live = allowed slots id me 1 (λ n. n) (Takes state number (step slots 1 0 0 none) me) (λ t k n log homes views r q d at.
       let v = me.0 in
       let mine = r.seats id v at in
       dite (ℕ_discrete k v.number)
@@ -261,6 +264,9 @@ module _ {M E F : Type 0} (number : E → ℕ) (state : M → MachineState E F) 
               (λ j u _ _ f. f) (inl (sym home.history, live));
           faults = kept state origin k homes (set homes 0 none) views q id v w at (q.calls id v at) ((λ _. q.home m h.1), (λ p. absurd (omega arith)))
               (λ m' e. absurd (some-ne-none (Some m') (head_is m' h.1 e)));
+          risks = keeps_risks number state origin k homes (set homes 0 none) views d id w (d.calls id v at)
+              (λ _. if_some (IsAtRisk number origin d.left k (state m).history) (λ a. IsNewAtRisk number w a ⊎ IsAtRisk number origin d.left k (state m).history a) (λ a known. inr known) (state m).at_risk (d.home m h.1))
+              (λ m' e. absurd (some-ne-none (Some m') (head_is m' h.1 e)));
         },
         (
           (λ _. (
@@ -272,7 +278,8 @@ module _ {M E F : Type 0} (number : E → ℕ) (state : M → MachineState E F) 
               rises = subst (Rises number 1 k) (sym home.history) rises;
               next = home.next;
               start = λ x is. subst (λ (y : Start F). ((state m).fixed ≡ y.fixed) × (y.faults ≤ (state m).faults)) (same_inside (start_of origin) x (mine.start live) is) (home.fixed, (let b = q.least in let c = q.home m h.1 in omega arith));
-              faults = every_more (IsKnown q.found q.left k) (λ (c : Call). c.left ≤ (state m).faults) (λ c g. let a = (q.each c.number g.0).2 in let b = g.2 in let d = q.home m h.1 in omega arith) v.calls (q.calls id v at);
+              faults = every_more (IsKnown q.found q.left k) (λ (c : Call E). c.left ≤ (state m).faults) (λ c g. let a = (q.each c.number g.0).2 in let b = g.2 in let d = q.home m h.1 in omega arith) v.calls (q.calls id v at);
+              at_risk = if_some (IsAtRisk number origin d.left k (state m).history) (λ a. number a < k) (λ a known. known.ended) (state m).at_risk (d.home m h.1);
             },
           )),
           (λ no. absurd (no e)),
@@ -283,7 +290,7 @@ module _ {M E F : Type 0} (number : E → ℕ) (state : M → MachineState E F) 
         v,
         keeps,
         tt,
-        record { standing = stand t k n log; words = refl; facts = stays t k n log homes views r id v at; faults = faults_stay k homes views q id v v at refl refl refl refl refl },
+        record { standing = stand t k n log; words = refl; facts = stays t k n log homes views r id v at; faults = faults_stay k homes views q id v v at refl refl refl refl refl; risks = risks_stay number state origin k homes views d id v v at refl (d.turn id v at) },
         ((λ h. absurd (ne h)), (λ _. refl)),
       )))
 
@@ -299,13 +306,13 @@ module _ {M E F : Type 0} (number : E → ℕ) (state : M → MachineState E F) 
   others_wait homes views out id v at is j u ne e = let a = total_two turn_of views id j v u ne at e in let b = out.1 in omega arith
 
   -- what was not seen, after one more entry of the number k
-  before_grown : (k call : ℕ) (log after seen : List E) (ended : List Call) → call ≡ k → Grows number call log after → Every (λ (c : Call). c.number < k) ended → Extends number log seen ended → Extends number after seen ended
+  before_grown : (k call : ℕ) (log after seen : List E) (ended : List (Call E)) → call ≡ k → Grows number call log after → Every (λ (c : Call E). c.number < k) ended → Extends number log seen ended → Extends number after seen ended
   before_grown k call log after seen ended is g below_k b = ⊎_elim
       (λ (same : after ≡ log). subst (λ (l : List E). Extends number l seen ended) (sym same) b)
       (λ (more : (e : E) × (number e ≡ call) × (after ≡ log ++ e ∷ [])). record {
         rest = b.rest ++ more.0 ∷ [];
         is = more.2 ∙ (ap (λ (l : List E). l ++ more.0 ∷ []) b.is ∙ append_assoc seen b.rest (more.0 ∷ []));
-        later = every_both (λ (c : Call). Every (λ e. c.number < number e) b.rest) (λ (c : Call). c.number < k) (λ (c : Call). Every (λ e. c.number < number e) (b.rest ++ more.0 ∷ []))
+        later = every_both (λ (c : Call E). Every (λ e. c.number < number e) b.rest) (λ (c : Call E). c.number < k) (λ (c : Call E). Every (λ e. c.number < number e) (b.rest ++ more.0 ∷ []))
             (λ c h l. every_append (λ e. c.number < number e) b.rest (more.0 ∷ []) h ((let a = more.1 in omega arith), tt)) ended b.later below_k;
       }) g
 
@@ -317,9 +324,9 @@ module _ {M E F : Type 0} (number : E → ℕ) (state : M → MachineState E F) 
   own_entry call before after g more = ⊎_elim (λ (same : after ≡ before). absurd (let a : length after ≡ length before = ap length same in omega arith))
       (λ (h : (e : E) × (number e ≡ call) × (after ≡ before ++ e ∷ [])). (before, h.0, h.2, h.1)) g
 
-  pub notes : (slots id : ℕ) (me : Mine) (m : M) → me.0.stage ≡ Turn → me.1 ≡ (0, Some m) ∷ [] → 0 < me.0.share → Grows number me.0.number me.0.seen (state m).history → me.0.found ≤ (state m).faults
+  pub notes : (slots id : ℕ) (me : Mine) (m : M) → me.0.stage ≡ Turn → me.1 ≡ (0, Some m) ∷ [] → 0 < me.0.share → Grows number me.0.number me.0.seen (state m).history → me.0.found ≤ (state m).faults → HasLeftAtRisk number me (state m)
       → Allows (TurnRule number state origin) slots id me 1 (λ n. n) (Notes state (step slots 1 0 0 none) me)
-  notes slots id me m turn holds live grows rose = allowed slots id me 1 (λ n. n) (Notes state (step slots 1 0 0 none) me) (λ t k n log homes views r q at.
+  notes slots id me m turn holds live grows rose left = allowed slots id me 1 (λ n. n) (Notes state (step slots 1 0 0 none) me) (λ t k n log homes views r q d at.
       let v = me.0 in
       let mine = r.seats id v at in
       let w = acted (state m) v in
@@ -370,17 +377,19 @@ module _ {M E F : Type 0} (number : E → ℕ) (state : M → MachineState E F) 
               })
               (inl (refl, live));
           faults = kept state origin k homes homes views q id v w at (q.calls id v at) ((λ _. (q.turn id v at).0 (omega arith)), (λ _. rose)) q.home;
+          risks = keeps_risks number state origin k homes homes views d id w (d.calls id v at)
+              (λ _. noted_risk number state origin v m me.1 d.left k left (subst (λ (z : ℕ). Rises number 1 z v.seen) (sym now.0) (subst (Rises number 1 k) (sym now.1) rises)) (d.turn id v at (omega arith))) d.home;
         },
         (λ i. (ap (λ (cs : List (ℕ × S)). noted state v cs) (sym holds) i, me.1)),
       ))
 
   -- the same, after the machine was put back into the slot
-  pub notes_acted : (slots id : ℕ) (me me' : Mine) (m : M) → HasActed number me (state m) → me' ≡ (me.0, (0, Some m) ∷ rest me.1)
+  pub notes_acted : (slots id : ℕ) (me me' : Mine) (m : M) → HasActed number me (state m) → HasLeftAtRisk number me (state m) → me' ≡ (me.0, (0, Some m) ∷ rest me.1)
       → Allows (TurnRule number state origin) slots id me' 1 (λ n. n) (Notes state (step slots 1 0 0 none) me')
-  notes_acted slots id me me' m asked is =
+  notes_acted slots id me me' m asked left is =
       let now : Mine = (me.0, (0, Some m) ∷ rest me.1) in
       subst (λ (z : Mine). Allows (TurnRule number state origin) slots id z 1 (λ n. n) (Notes state (step slots 1 0 0 none) z)) (sym is)
-      (notes slots id now m asked.stage (ap (λ cs. (0, Some m) ∷ rest cs) asked.out) asked.share asked.grows asked.faults)
+      (notes slots id now m asked.stage (ap (λ cs. (0, Some m) ∷ rest cs) asked.out) asked.share asked.grows asked.faults left)
 
   flying_done : (st : Stage) → has_acted st ≡ 1 → (is_flying st ≡ 1) × (has_turn st ≡ 1)
   flying_done Idle is = absurd (omega arith)
@@ -391,7 +400,7 @@ module _ {M E F : Type 0} (number : E → ℕ) (state : M → MachineState E F) 
 
   pub counts_entry : (slots id : ℕ) (me : Mine) → me.0.stage ≡ Noted → me.0.owes ≡ 1 → 0 < me.0.share
       → Allows (TurnRule number state origin) slots id me 2 (λ n. (n + 1) % 2 ^ 64) (CountsEntry (step slots 2 1 0 none) me)
-  counts_entry slots id me acted_ owes live = allowed slots id me 2 (λ n. (n + 1) % 2 ^ 64) (CountsEntry (step slots 2 1 0 none) me) (λ t k n log homes views r q at.
+  counts_entry slots id me acted_ owes live = allowed slots id me 2 (λ n. (n + 1) % 2 ^ 64) (CountsEntry (step slots 2 1 0 none) me) (λ t k n log homes views r q d at.
       let v = me.0 in
       let mine = r.seats id v at in
       let w = counted v in
@@ -415,6 +424,7 @@ module _ {M E F : Type 0} (number : E → ℕ) (state : M → MachineState E F) 
               (record { start = mine.start; seen = mine.seen; calls = mine.calls; told = mine.told; late = mine.late; turn = λ _. mine.turn (omega arith); owes = omega arith; own = λ z. absurd (omega arith); note = mine.note; spent = λ z. absurd (omega arith) })
               (λ j u _ _ f. f) (inr (refl, refl));
           faults = faults_stay k homes views q id v w at refl (sym went) (sym is_done) refl refl;
+          risks = risks_stay number state origin k homes views d id v w at refl (λ _. d.turn id v at (omega arith));
         },
         refl,
       ))
@@ -427,9 +437,9 @@ module _ {M E F : Type 0} (number : E → ℕ) (state : M → MachineState E F) 
       held d _ = d
 
   pub ends : (slots id : ℕ) (me : Mine) (m : M) → has_acted me.0.stage ≡ 1 → me.0.owes ≡ 0 → 0 < me.0.share → me.1 ≡ (0, Some m) ∷ []
-      → (state m).history ≡ me.0.seen → (state m).next ≤ me.0.number + 1 → (x : Start F) → me.0.start ≡ Some x → (state m).fixed ≡ x.fixed → me.0.left ≡ (state m).faults
+      → (state m).history ≡ me.0.seen → (state m).next ≤ me.0.number + 1 → (x : Start F) → me.0.start ≡ Some x → (state m).fixed ≡ x.fixed → me.0.left ≡ (state m).faults → me.0.at_risk ≡ (state m).at_risk
       → Allows (TurnRule number state origin) slots id me 1 (λ n. (n + 1) % 2 ^ 64) (Ends (step slots 1 1 0 none) me)
-  ends slots id me m is_done owes live holds same_history next_is x has same_fixed left_is = allowed slots id me 1 (λ n. (n + 1) % 2 ^ 64) (Ends (step slots 1 1 0 none) me) (λ t k n log homes views r q at.
+  ends slots id me m is_done owes live holds same_history next_is x has same_fixed left_is risk_is = allowed slots id me 1 (λ n. (n + 1) % 2 ^ 64) (Ends (step slots 1 1 0 none) me) (λ t k n log homes views r q d at.
       let v = me.0 in
       let mine = r.seats id v at in
       let w = ended v in
@@ -441,6 +451,8 @@ module _ {M E F : Type 0} (number : E → ℕ) (state : M → MachineState E F) 
       let served : k < t = dite (dec_le t k)
       (λ (h : t ≤ k). absurd (let a = r.flights k in let b = not_below k t h in let c = total_at (in_flight k) views id v at in omega arith)) (λ (h : t ≤ k → ⊥). lt_of_not-le h) in
       let small : k + 1 < 2 ^ 64 = let c = r.order in omega arith in
+      let since : origin.next ≤ k = dite (dec_le origin.next k) (λ (l : origin.next ≤ k). l)
+      (λ (g : origin.next ≤ k → ⊥). absurd (let a = r.calls k in let b = not_below k k (omega arith) in let c = below_here k origin.next (lt_of_not-le g) in omega arith)) in
       let Goal : ℕ → Type 0 = λ z. Owed (t ∷ k ∷ n ∷ []) homes views id me 1 z (Ends (step slots 1 1 0 none) me) in
       let returned : put_back homes me.1 ≡ some (Some m) ∷ [] = λ i. put_back (out.0 i) (holds i) in
       let past_after : total turn_of (set views id w) ≡ 0 = let a = total_set turn_of views id v w at in let b = out.1 in omega arith in
@@ -454,17 +466,17 @@ module _ {M E F : Type 0} (number : E → ℕ) (state : M → MachineState E F) 
           words = refl;
           facts = moved t k n log homes views r id v w at t (k + 1) n log (put_back homes me.1) (omega arith, r.order.1)
               (λ y. let a = below_suc y k in let b : same y v.number ≡ same y k = ap (same y) now.0 in let c : in_flight y v ≡ same y v.number = ap (λ z. cond (y == v.number) z 0) flew in let d = idles y w refl in omega arith)
-              (λ y. let a = below_suc y k in let b : same y v.number ≡ same y k = ap (same y) now.0 in let c = times_append y v.calls (record { number = v.number; found = v.found; left = v.left } ∷ []) in omega arith)
+              (λ y. let a = below_suc y k in let b : same y v.number ≡ same y k = ap (same y) now.0 in let c = times_append y v.calls (record { number = v.number; found = v.found; left = v.left; at_risk = v.at_risk } ∷ []) in omega arith)
               (omega arith)
               (subst (λ (z : ℕ). Rises number 1 z log) done_after r.rises) refl
               (inl (m, returned, past_after, record { history = same_history ∙ now.1; next = (let a = now.0 in omega arith); fixed = same_fixed ∙ ap (λ (y : Start F). y.fixed) (same_inside x (start_of origin) has (mine.start live)) }))
               (record {
                 start = mine.start;
                 seen = whole log v.seen w.calls now.1;
-                calls = every_append (λ (c : Call). c.number < k + 1) v.calls (record { number = v.number; found = v.found; left = v.left } ∷ [])
-                    (every_more (λ (c : Call). c.number < k) (λ (c : Call). c.number < k + 1) (λ c h. omega arith) v.calls mine.calls) ((let a = now.0 in omega arith), tt);
+                calls = every_append (λ (c : Call E). c.number < k + 1) v.calls (record { number = v.number; found = v.found; left = v.left; at_risk = v.at_risk } ∷ [])
+                    (every_more (λ (c : Call E). c.number < k) (λ (c : Call E). c.number < k + 1) (λ c h. omega arith) v.calls mine.calls) ((let a = now.0 in omega arith), tt);
                 told = mine.told;
-                late = every_more (λ (c : Call). c.number < k) (λ (c : Call). c.number < k + 1) (λ c h. omega arith) v.late mine.late;
+                late = every_more (λ (c : Call E). c.number < k) (λ (c : Call E). c.number < k + 1) (λ c h. omega arith) v.late mine.late;
                 turn = λ p. absurd (omega arith);
                 owes = omega arith;
                 own = λ z. absurd (omega arith);
@@ -474,9 +486,9 @@ module _ {M E F : Type 0} (number : E → ℕ) (state : M → MachineState E F) 
               (λ j u ne e f. record {
                 start = f.start;
                 seen = f.seen;
-                calls = every_more (λ (c : Call). c.number < k) (λ (c : Call). c.number < k + 1) (λ c h. omega arith) u.calls f.calls;
+                calls = every_more (λ (c : Call E). c.number < k) (λ (c : Call E). c.number < k + 1) (λ c h. omega arith) u.calls f.calls;
                 told = f.told;
-                late = every_more (λ (c : Call). c.number < k) (λ (c : Call). c.number < k + 1) (λ c h. omega arith) u.late f.late;
+                late = every_more (λ (c : Call E). c.number < k) (λ (c : Call E). c.number < k + 1) (λ c h. omega arith) u.late f.late;
                 turn = λ p. absurd (let a = others_wait homes views out id v at went j u ne e in omega arith);
                 owes = f.owes;
                 own = f.own;
@@ -486,6 +498,9 @@ module _ {M E F : Type 0} (number : E → ℕ) (state : M → MachineState E F) 
               (inr (refl, refl));
           faults = ended_call state origin k homes (put_back homes me.1) views q id v w at now.0 is_done went refl refl refl (others_wait homes views out id v at went)
               (λ m' e. let same_machine : m ≡ m' = machine_is m m' (sym returned ∙ e) in let a : (state m).faults ≡ (state m').faults = ap (λ (y : M). (state y).faults) same_machine in omega arith);
+          risks = ended_risk number state origin k homes (put_back homes me.1) views d id v w at now.0 went since refl refl (others_wait homes views out id v at went)
+              (λ m' e. let same_machine : m ≡ m' = machine_is m m' (sym returned ∙ e) in
+              (risk_is ∙ ap (λ (y : M). (state y).at_risk) same_machine, ap (λ (y : M). (state y).history) (sym same_machine) ∙ same_history));
         },
         (λ i. (w, rest (holds i))),
       ))
@@ -494,16 +509,16 @@ module _ {M E F : Type 0} (number : E → ℕ) (state : M → MachineState E F) 
   nothing_told log = record { rest = log; is = refl; later = tt }
 
   -- what stands before the whole history stands before each longer beginning of it
-  stands : (log seen told : List E) (late : List Call) (rest : List E) → log ≡ seen ++ rest → Extends number log told late → length told ≤ length seen → Extends number seen told late
+  stands : (log seen told : List E) (late : List (Call E)) (rest : List E) → log ≡ seen ++ rest → Extends number log told late → length told ≤ length seen → Extends number seen told late
   stands log seen told late rest is b h = let l = later_rest told seen b.rest rest (sym b.is ∙ is) h in record {
     rest = l.0;
     is = l.1;
-    later = every_more (λ (c : Call). Every (λ e. c.number < number e) b.rest) (λ (c : Call). Every (λ e. c.number < number e) l.0)
+    later = every_more (λ (c : Call E). Every (λ e. c.number < number e) b.rest) (λ (c : Call E). Every (λ e. c.number < number e) l.0)
         (λ c all. every_front (λ e. c.number < number e) l.0 rest (subst (Every (λ e. c.number < number e)) l.2 all)) late b.later;
   }
 
   pub looks : (slots id : ℕ) (me : Mine) → Allows (TurnRule number state origin) slots id me 1 (λ n. n) (Looks number (step slots 1 0 0 none) me)
-  looks slots id me = allowed slots id me 1 (λ n. n) (Looks number (step slots 1 0 0 none) me) (λ t k n log homes views r q at.
+  looks slots id me = allowed slots id me 1 (λ n. n) (Looks number (step slots 1 0 0 none) me) (λ t k n log homes views r q d at.
       let v = me.0 in
       let mine = r.seats id v at in
       let w = looked v in (
@@ -518,6 +533,7 @@ module _ {M E F : Type 0} (number : E → ℕ) (state : M → MachineState E F) 
               (record { start = mine.start; seen = mine.seen; told = nothing_told log; late = tt; calls = mine.calls; turn = mine.turn; owes = mine.owes; own = mine.own; note = mine.note; spent = mine.spent })
               (λ j u _ _ f. f) (inr (refl, refl));
           faults = faults_stay k homes views q id v w at refl refl refl refl refl;
+          risks = risks_stay number state origin k homes views d id v w at refl (d.turn id v at);
         },
         (
           refl,

@@ -23,6 +23,7 @@ use Rattle.turn_board.specs.Rule.{AtHome, Extends, Fits, IsOut, TurnRule}
 use Rattle.turn_board.specs.Totals.{times, total}
 use Rattle.turn_board.specs.Views.{acted_of, both, calls_of, has_acted, has_turn, in_flight, is_flying, less_one, longer, looked, may_owe, owes_of, share_of, shorter, spent, split_off, turn_of}
 use Rattle.turn_board.proofs.Faults.{IsKnown, kept, with_new}
+use Rattle.turn_board.proofs.Risks.{IsLeft, keeps_risks, new_at_risk}
 use Rattle.turn_board.proofs.Totals.{times_append, total_set, total_snoc, set_at, every_append, every_more, every_rest, later_rest}
 
 module _ {M E F : Type 0} (number : E → ℕ) (state : M → MachineState E F) (origin : MachineState E F) where
@@ -42,7 +43,7 @@ module _ {M E F : Type 0} (number : E → ℕ) (state : M → MachineState E F) 
 
   pub splits : (id : ℕ) (v : V) → 2 ≤ v.share → Splits (TurnRule number state origin) id v (less_one v) (split_off v)
   splits id v room s h at =
-      let t = h.standing.ticket in let k = h.standing.serving in let n = h.standing.count in let log = h.standing.longest in let r = h.facts in let q = h.faults in
+      let t = h.standing.ticket in let k = h.standing.serving in let n = h.standing.count in let log = h.standing.longest in let r = h.facts in let q = h.faults in let d = h.risks in
       let views = s.views in
       let mine = r.seats id v at in
       let w = less_one v in
@@ -97,6 +98,7 @@ module _ {M E F : Type 0} (number : E → ℕ) (state : M → MachineState E F) 
         };
         faults = with_new state origin k s.homes (set views id w) (kept state origin k s.homes s.homes views q id v w at (q.calls id v at) (q.turn id v at) q.home)
             u refl refl refl;
+        risks = new_at_risk number state origin k s.homes (set views id w) (keeps_risks number state origin k s.homes s.homes views d id w (d.calls id v at) (d.turn id v at) d.home) u refl refl;
       }
 
   pub longer_is : (P : List E → Type 0) (xs ys : List E) → (length xs < length ys → P ys) → (length ys ≤ length xs → P xs) → P (longer xs ys)
@@ -112,26 +114,26 @@ module _ {M E F : Type 0} (number : E → ℕ) (state : M → MachineState E F) 
   short log xs ys is = let a : length log ≡ length xs + length ys = ap length is ∙ length-append xs ys in omega arith
 
   -- the calls of a seat whose history goes on stand before what the longer history leaves
-  shorter_rest : (log xs ys : List E) (ended : List Call) (b : Extends number log xs ended) (rest : List E) → log ≡ ys ++ rest → length xs ≤ length ys → Every (λ (c : Call). Every (λ e. c.number < number e) rest) ended
+  shorter_rest : (log xs ys : List E) (ended : List (Call E)) (b : Extends number log xs ended) (rest : List E) → log ≡ ys ++ rest → length xs ≤ length ys → Every (λ (c : Call E). Every (λ e. c.number < number e) rest) ended
   shorter_rest log xs ys ended b rest is h = let l = later_rest xs ys b.rest rest (sym b.is ∙ is) h in
-      every_more (λ (c : Call). Every (λ e. c.number < number e) b.rest) (λ (c : Call). Every (λ e. c.number < number e) rest)
+      every_more (λ (c : Call E). Every (λ e. c.number < number e) b.rest) (λ (c : Call E). Every (λ e. c.number < number e) rest)
       (λ c all. every_rest (λ e. c.number < number e) l.0 rest (subst (Every (λ e. c.number < number e)) l.2 all)) ended b.later
 
-  before_both : (log xs ys : List E) (cs ds : List Call) → Extends number log xs cs → Extends number log ys ds → Extends number log (longer xs ys) (cs ++ ds)
+  before_both : (log xs ys : List E) (cs ds : List (Call E)) → Extends number log xs cs → Extends number log ys ds → Extends number log (longer xs ys) (cs ++ ds)
   before_both log xs ys cs ds b c = longer_is (λ zs. Extends number log zs (cs ++ ds)) xs ys
-      (λ h. record { rest = c.rest; is = c.is; later = every_append (λ (k : Call). Every (λ e. k.number < number e) c.rest) cs ds (shorter_rest log xs ys cs b c.rest c.is (omega arith)) c.later })
-      (λ h. record { rest = b.rest; is = b.is; later = every_append (λ (k : Call). Every (λ e. k.number < number e) b.rest) cs ds b.later (shorter_rest log ys xs ds c b.rest b.is h) })
+      (λ h. record { rest = c.rest; is = c.is; later = every_append (λ (k : Call E). Every (λ e. k.number < number e) c.rest) cs ds (shorter_rest log xs ys cs b c.rest c.is (omega arith)) c.later })
+      (λ h. record { rest = b.rest; is = b.is; later = every_append (λ (k : Call E). Every (λ e. k.number < number e) b.rest) cs ds b.later (shorter_rest log ys xs ds c b.rest b.is h) })
 
-  longest_left : (log xs ys : List E) (cs ds : List Call) → Extends number log xs cs → Extends number log ys ds → xs ≡ log → longer xs ys ≡ log
+  longest_left : (log xs ys : List E) (cs ds : List (Call E)) → Extends number log xs cs → Extends number log ys ds → xs ≡ log → longer xs ys ≡ log
   longest_left log xs ys cs ds b c is = let a : length xs ≡ length log = ap length is in longer_is (λ zs. zs ≡ log) xs ys (λ h. absurd (let d = short log ys c.rest c.is in omega arith)) (λ h. is)
 
-  longest_right : (log xs ys : List E) (cs ds : List Call) → Extends number log xs cs → Extends number log ys ds → ys ≡ log → longer xs ys ≡ log
+  longest_right : (log xs ys : List E) (cs ds : List (Call E)) → Extends number log xs cs → Extends number log ys ds → ys ≡ log → longer xs ys ≡ log
   longest_right log xs ys cs ds b c is = let a : length ys ≡ length log = ap length is in longer_is (λ zs. zs ≡ log) xs ys (λ h. is) (λ h. prefix_whole log xs b.rest b.is (omega arith))
 
-  told_both : (log xs ys : List E) (cs ds : List Call) → Extends number log xs cs → Extends number log ys ds → Extends number log (shorter xs ys) (cond (nat_lt (length xs) (length ys)) cs ds)
+  told_both : (log xs ys : List E) (cs ds : List (Call E)) → Extends number log xs cs → Extends number log ys ds → Extends number log (shorter xs ys) (cond (nat_lt (length xs) (length ys)) cs ds)
   told_both log xs ys cs ds a b = elim (nat_lt (length xs) (length ys)) as (λ z. Extends number log (cond z xs ys) (cond z cs ds)) [ true ↦ a | false ↦ b ]
 
-  late_both : (k : ℕ) (b : Bool) (cs ds : List Call) → Every (λ (c : Call). c.number < k) cs → Every (λ (c : Call). c.number < k) ds → Every (λ (c : Call). c.number < k) (cond b cs ds)
+  late_both : (k : ℕ) (b : Bool) (cs ds : List (Call E)) → Every (λ (c : Call E). c.number < k) cs → Every (λ (c : Call E). c.number < k) ds → Every (λ (c : Call E). c.number < k) (cond b cs ds)
   late_both k true cs ds a b = a
   late_both k false cs ds a b = b
 
@@ -141,7 +143,7 @@ module _ {M E F : Type 0} (number : E → ℕ) (state : M → MachineState E F) 
 
   pub joins : (id : ℕ) (v : V) (other : ℕ) (u : V) → v.stage ≡ Idle → u.stage ≡ Idle → 0 < v.share → Joins (TurnRule number state origin) id v other u (both v u) spent
   joins id v other u idle idle' live s h at apart there' =
-      let t = h.standing.ticket in let k = h.standing.serving in let n = h.standing.count in let log = h.standing.longest in let r = h.facts in let q = h.faults in
+      let t = h.standing.ticket in let k = h.standing.serving in let n = h.standing.count in let log = h.standing.longest in let r = h.facts in let q = h.faults in let d = h.risks in
       let views = s.views in
       let w = both v u in
       let sp : V = spent in
@@ -186,7 +188,7 @@ module _ {M E F : Type 0} (number : E → ℕ) (state : M → MachineState E F) 
                 seen = last;
                 told = told_both log v.seen u.seen v.calls u.calls mine.seen theirs.seen;
                 late = late_both k (nat_lt (length v.seen) (length u.seen)) v.calls u.calls mine.calls theirs.calls;
-                calls = every_append (λ (c : Call). c.number < k) v.calls u.calls mine.calls theirs.calls;
+                calls = every_append (λ (c : Call E). c.number < k) v.calls u.calls mine.calls theirs.calls;
                 turn = λ g. absurd (let a : has_turn v.stage ≡ 0 = ap has_turn idle in omega arith);
                 owes = mine.owes;
                 own = λ z. absurd (let a = mine.owes in let b : may_owe v.stage ≡ 0 = ap may_owe idle in omega arith);
@@ -210,6 +212,9 @@ module _ {M E F : Type 0} (number : E → ℕ) (state : M → MachineState E F) 
             let joined = kept state origin k s.homes s.homes views q id v w at (every_append (IsKnown q.found q.left k) v.calls u.calls (q.calls id v at) (q.calls other u there))
             ((λ p. absurd (omega arith)), (λ p. absurd (omega arith))) q.home in
             kept state origin k s.homes s.homes (set views id w) joined other u sp there' tt ((λ p. absurd (omega arith)), (λ p. absurd (omega arith))) joined.home);
+        risks = (let no : has_turn v.stage ≡ 0 = ap has_turn idle in
+            let joined = keeps_risks number state origin k s.homes s.homes views d id w (every_append (IsLeft d.left k) v.calls u.calls (d.calls id v at) (d.calls other u there)) (λ p. absurd (omega arith)) d.home in
+            keeps_risks number state origin k s.homes s.homes (set views id w) joined other sp tt (λ p. absurd (omega arith)) joined.home);
       }
 
   -- what the look after a join says: both histories stand before the longer one, each before its own calls
@@ -217,10 +222,10 @@ module _ {M E F : Type 0} (number : E → ℕ) (state : M → MachineState E F) 
   met v u w is h = let known = subst (λ (z : V). length z.told ≤ length z.seen → Extends number z.seen z.told z.late) is h in
       subst (λ (z : V). Extends number z.seen v.seen v.calls × Extends number z.seen u.seen u.calls) (sym is) (cases (nat_lt (length v.seen) (length u.seen)) refl known)
     where
-      itself : (xs : List E) (cs : List Call) → Extends number xs xs cs
-      itself xs cs = record { rest = []; is = sym (append-nil xs); later = every_more (λ (c : Call). Unit {0}) (λ (c : Call). Every (λ e. c.number < number e) []) (λ c _. tt) cs (all_units cs) }
+      itself : (xs : List E) (cs : List (Call E)) → Extends number xs xs cs
+      itself xs cs = record { rest = []; is = sym (append-nil xs); later = every_more (λ (c : Call E). Unit {0}) (λ (c : Call E). Every (λ e. c.number < number e) []) (λ c _. tt) cs (all_units cs) }
         where
-          all_units : (cs : List Call) → Every (λ (c : Call). Unit {0}) cs
+          all_units : (cs : List (Call E)) → Every (λ (c : Call E). Unit {0}) cs
           all_units [] = tt
           all_units (c ∷ cs) = (tt, all_units cs)
 

@@ -1,8 +1,11 @@
 -- Totals over seats, and numbers below a bound.
 use Rattle.std.proofs.Common.{◌≡◌, ◌≢◌, ℕ, zero, suc, ◌+◌, ◌<◌, ◌≤◌, List, [], ◌∷◌, ◌++◌, length, set, Option, Some, None, sym, ap, ◌∙◌, refl, arith}
+use mathlib.Core.Logic.{dite}
 use mathlib.Core.Option.{some, some-injective, some-ne-none}
+use native.Mathlib.Decide.{ℕ_discrete}
 use lib.ListN.{get_elem?}
 use Rattle.std.proofs.lemmas.Bool.Decides.{nat_tests}
+use Rattle.std.specs.List.{Any}
 use Rattle.apron_base.specs.Histories.{Every}
 use Rattle.turn_board.specs.declared.view.Call.{Call}
 use Rattle.turn_board.specs.Totals.{below, same, times, total}
@@ -33,9 +36,15 @@ below_most n m = grind (arith, nat_tests)
 pub same_here : (n : ℕ) → same n n ≡ 1
 same_here n = grind (arith, nat_tests)
 
-pub times_append : (x : ℕ) (cs ds : List Call) → times x (cs ++ ds) ≡ times x cs + times x ds
+pub times_append : {E : Type 0} (x : ℕ) (cs ds : List (Call E)) → times x (cs ++ ds) ≡ times x cs + times x ds
 times_append x [] ds = omega arith
 times_append x (c ∷ cs) ds = let h = times_append x cs ds in omega arith
+
+-- where a number was called, one of the calls has it
+pub called : {E : Type 0} (x : ℕ) (cs : List (Call E)) → 0 < times x cs → Any (λ (c : Call E). c.number ≡ x) cs
+called x [] more = absurd (omega arith)
+called x (c ∷ cs) more = dite (ℕ_discrete c.number x) (λ (e : c.number ≡ x). (0, c, omega arith, refl, e))
+    (λ (ne : c.number ≢ x). let a : same x c.number ≡ 0 = grind (arith, nat_tests) in let rest = called x cs (omega arith) in (suc rest.0, rest.1, (let b = rest.2 in omega arith), rest.3, rest.4))
 
 module _ {V : Type 0} where
   pub total_set : (f : V → ℕ) (views : List V) (j : ℕ) (v w : V) → get_elem? views j ≡ some v → total f (set views j w) + f v ≡ total f views + f w

@@ -1,8 +1,9 @@
 -- Boards and seats as callers see them.
-use Rattle.std.specs.Prelude.{◌≡◌, ◌⊎◌, ℕ, ◌+◌, ◌<◌, ◌≤◌, List, [], ◌∷◌, ◌++◌, Bool, true, false, ◌||◌, Option, Some}
+use Rattle.std.specs.Prelude.{◌≡◌, ◌⊎◌, ℕ, ◌+◌, ◌<◌, ◌≤◌, List, [], ◌∷◌, ◌++◌, Bool, true, false, ◌||◌, Option, Some, IfSome}
+use Rattle.std.specs.List.{Any}
 use Rattle.atomic_table.specs.Seated.{TableId}
 use Rattle.apron_base.specs.Histories.{Every, Rises}
-use Rattle.apron_base.specs.Machine.{Acts, MachineState}
+use Rattle.apron_base.specs.Machine.{Acts, ActsAtRisk, MachineState, is_fault, standing}
 use Rattle.apron_base.specs.declared.outside.Acted.{Acted}
 use Rattle.turn_board.specs.declared.view.Call.{Call}
 use Rattle.turn_board.specs.declared.view.Start.{Start}
@@ -22,7 +23,7 @@ pub record SeatState (Entry Fixed : Type 0) : Type 0 where
   pub table : TableId
   pub start : Option (Start Fixed)
   pub seen : List Entry
-  pub calls : List Call
+  pub calls : List (Call Entry)
   pub exhausted : Bool
   pub share : ℕ
 
@@ -46,8 +47,8 @@ module _ {Entry Fixed : Type 0} where
     pub start : board.start ≡ start_of machine
     pub first : seat ≡ record { table = board.table; start = Some board.start; seen = machine.history; calls = []; exhausted = false; share = all_shares }
 
--- a call that got its turn, with its ticket and the machine as it was found and left: the ticket is new, the machine was found with all that the seat had seen, it answered by its own relation, and the seat has then seen what it left
-pub record GotTurn {M Entry Fixed Ask : Type 0} (state : M → MachineState Entry Fixed) (number : Entry → ℕ) (answers : Fixed → List Entry → ℕ → Ask → Acted → List Entry → Type 0)
+-- a call that got its turn, with its ticket and the machine as it was found and left: the ticket is new, the machine was found with all that the seat had seen, it answered by its own relation, an entry that it put at risk is one that was asked for, and the seat has then seen what it left
+pub record GotTurn {M Entry Fixed Ask : Type 0} (state : M → MachineState Entry Fixed) (number : Entry → ℕ) (adds : Ask → Entry → Type 0) (answers : Fixed → List Entry → ℕ → Ask → Acted → List Entry → Type 0)
     (before : SeatState Entry Fixed) (asked : Asked Ask) (after : SeatState Entry Fixed) : Type 0 where
   pub found : M
   pub left : M
@@ -59,11 +60,13 @@ pub record GotTurn {M Entry Fixed Ask : Type 0} (state : M → MachineState Entr
   pub rises : Rises number 1 ticket (state found).history
   pub next : (state found).next ≤ ticket
   pub start : (start : Start Fixed) → before.start ≡ Some start → ((state found).fixed ≡ start.fixed) × (start.faults ≤ (state found).faults)
-  pub faults : Every (λ (call : Call). call.left ≤ (state found).faults) before.calls
+  pub faults : Every (λ (call : Call Entry). call.left ≤ (state found).faults) before.calls
+  pub older : IfSome (state found).at_risk (λ entry. number entry < ticket)
+  pub at_risk : ActsAtRisk (λ entry. (number entry ≡ ticket) × adds asked.ask entry) (is_fault asked.answer) (standing (state found)) (standing (state left))
   pub acts : Acts number (state found) (state left) ticket asked.answer
   pub answered : answers (state found).fixed (state found).history ticket asked.ask asked.answer (state left).history
   pub seen : after.seen ≡ (state left).history
-  pub calls : after.calls ≡ before.calls ++ record { number = ticket; found = (state found).faults; left = (state left).faults } ∷ []
+  pub calls : after.calls ≡ before.calls ++ record { number = ticket; found = (state found).faults; left = (state left).faults; at_risk = (state left).at_risk } ∷ []
 
 -- two seats in one: of their histories one goes on from the other, and is seen; all calls are the seat's own, with no number twice and counts that do not overlap
 pub record Meets {Entry Fixed : Type 0} (number : Entry → ℕ) (before other after : SeatState Entry Fixed) : Type 0 where
@@ -76,8 +79,14 @@ pub record Meets {Entry Fixed : Type 0} (number : Entry → ℕ) (before other a
   pub note : after.exhausted ≡ (before.exhausted || other.exhausted)
   pub share : after.share ≡ before.share + other.share
 
--- the machine that a closed board leaves to the seat that took all others in: its history is what the seat has seen, and the seat's calls are each number once from the first one on, and all where they had run out
-pub record Closes {Entry Fixed : Type 0} (board : TurnBoardState Fixed) (seat : SeatState Entry Fixed) (machine : MachineState Entry Fixed) : Type 0 where
+-- an entry that one of these calls put at risk behind a history: it has the number of that call, which left it as the later ones did, and each entry of the history has a lower one
+pub record IsPutAtRisk {Entry : Type 0} (number : Entry → ℕ) (calls : List (Call Entry)) (history : List Entry) (entry : Entry) : Type 0 where
+  pub by : Any (λ (call : Call Entry). call.number ≡ number entry) calls
+  pub stays : Every (λ (call : Call Entry). number entry ≤ call.number → call.at_risk ≡ Some entry) calls
+  pub since : Rises number 1 (number entry) history
+
+-- the machine that a closed board leaves to the seat that took all others in: its history is what the seat has seen, the seat's calls are each number once from the first one on, and all where they had run out, and an entry at risk was put there by one of them
+pub record Closes {Entry Fixed : Type 0} (number : Entry → ℕ) (board : TurnBoardState Fixed) (seat : SeatState Entry Fixed) (machine : MachineState Entry Fixed) : Type 0 where
   pub end : ℕ
   pub calls : (call : ℕ) → times call seat.calls + below call board.start.first ≡ below call end
   pub order : (board.start.first ≤ end) × (end ≤ call_end)
@@ -86,4 +95,5 @@ pub record Closes {Entry Fixed : Type 0} (board : TurnBoardState Fixed) (seat : 
   pub fixed : machine.fixed ≡ board.start.fixed
   pub next : machine.next ≤ end
   pub since : board.start.faults ≤ machine.faults
-  pub faults : Every (λ (call : Call). (board.start.faults ≤ call.found) × (call.left ≤ machine.faults)) seat.calls
+  pub faults : Every (λ (call : Call Entry). (board.start.faults ≤ call.found) × (call.left ≤ machine.faults)) seat.calls
+  pub at_risk : IfSome machine.at_risk (IsPutAtRisk number seat.calls machine.history)

@@ -1,5 +1,5 @@
 -- What each step on the table tells the seat that takes it.
-use Rattle.std.specs.Prelude.{◌≡◌, ◌≢◌, ℕ, ◌<◌, ◌≤◌, false, List, [], ◌∷◌, length, Option, Some}
+use Rattle.std.specs.Prelude.{◌≡◌, ◌≢◌, ℕ, ◌<◌, ◌≤◌, false, List, [], ◌∷◌, length, Option, Some, IfSome}
 use Rattle.atomic_table.specs.Table.{Me, Step}
 use Rattle.apron_base.specs.Histories.{Every, Rises}
 use Rattle.apron_base.specs.Machine.{MachineState}
@@ -11,17 +11,18 @@ use Rattle.turn_board.specs.Totals.{AreBelow, times}
 use Rattle.turn_board.specs.Views.{acted, call_end, counted, drawn, ended, looked, run_out, turned}
 
 -- of two calls the later one found no less than the earlier one left
-abbrev pub DoNotOverlap : List Call → Type 0
-DoNotOverlap calls = Every (λ (call : Call). Every (λ (later : Call). call.number < later.number → call.left ≤ later.found) calls) calls
+abbrev pub DoNotOverlap : {Entry : Type 0} → List (Call Entry) → Type 0
+DoNotOverlap {Entry} calls = Every (λ (call : Call Entry). Every (λ (later : Call Entry). call.number < later.number → call.left ≤ later.found) calls) calls
 
 module _ {Entry Fixed : Type 0} (number : Entry → ℕ) where
-  -- a machine that is taken for a ticket: it has all that the seat had seen, with lower numbers than the ticket, and no count of the seat's calls is above its own
+  -- a machine that is taken for a ticket: it has all that the seat had seen, with lower numbers than the ticket, as an entry at risk has, and no count of the seat's calls is above its own
   pub record IsTaken (view : View Entry Fixed) (ticket : ℕ) (machine : MachineState Entry Fixed) : Type 0 where
     pub extends : Extends number machine.history view.seen view.calls
     pub rises : Rises number 1 ticket machine.history
     pub next : machine.next ≤ ticket
     pub start : (start : Start Fixed) → view.start ≡ Some start → (machine.fixed ≡ start.fixed) × (start.faults ≤ machine.faults)
-    pub faults : Every (λ (call : Call). call.left ≤ machine.faults) view.calls
+    pub faults : Every (λ (call : Call Entry). call.left ≤ machine.faults) view.calls
+    pub at_risk : IfSome machine.at_risk (λ entry. number entry < ticket)
 
 -- what a seat knows, and the slots that it holds
 abbrev pub Mine : Type 0 → Type 0 → Type 0 → Type 0

@@ -1,5 +1,5 @@
 -- The rule of the turns: what holds of the words, of the slot and of all seats between any two steps.
-use Rattle.std.specs.Prelude.{◌≡◌, ◌⊎◌, ℕ, ◌+◌, ◌<◌, ◌≤◌, true, List, [], ◌∷◌, ◌++◌, length, Option, Some}
+use Rattle.std.specs.Prelude.{◌≡◌, ◌⊎◌, ℕ, ◌+◌, ◌<◌, ◌≤◌, true, List, [], ◌∷◌, ◌++◌, length, Option, Some, IfSome}
 use mathlib.Core.Option.{some, none}
 use mathlib.Core.Option as maybe
 use lib.ListN.{get_elem?}
@@ -25,10 +25,14 @@ module _ {Entry : Type 0} (number : Entry → ℕ) where
   EndsAt call history = (front : List Entry) × (last : Entry) × (history ≡ front ++ last ∷ []) × (number last ≡ call)
 
   -- a history goes on from what was seen, and each entry that was not seen has a number above these calls
-  pub record Extends (history seen : List Entry) (calls : List Call) : Type 0 where
+  pub record Extends (history seen : List Entry) (calls : List (Call Entry)) : Type 0 where
     pub rest : List Entry
     pub is : history ≡ seen ++ rest
-    pub later : Every (λ (call : Call). Every (λ entry. call.number < number entry) rest) calls
+    pub later : Every (λ (call : Call Entry). Every (λ entry. call.number < number entry) rest) calls
+
+  -- an entry that the call in flight put at risk
+  abbrev pub IsNewAtRisk : {Fixed : Type 0} → View Entry Fixed → Entry → Type 0
+  IsNewAtRisk view entry = (number entry ≡ view.number) × Rises number 1 (number entry) view.seen
 
 -- a machine at home has the longest history, its next call is served or waited for, and its fixed part is that of the origin
 pub record IsHome {Entry Fixed : Type 0} (origin : MachineState Entry Fixed) (serving : ℕ) (longest : List Entry) (machine : MachineState Entry Fixed) : Type 0 where
@@ -56,12 +60,19 @@ module _ {M Entry Fixed : Type 0} (state : M → MachineState Entry Fixed) (orig
     pub each : (call : ℕ) → call < serving → (origin.faults ≤ found call) × (found call ≤ left call) × (left call ≤ top)
     pub order : (call later : ℕ) → call < later → later < serving → left call ≤ found later
     pub calls : (seat : ℕ) (view : View Entry Fixed) → get_elem? views seat ≡ some view
-        → Every (λ (call : Call). (call.number < serving) × (call.found ≡ found call.number) × (call.left ≡ left call.number)) view.calls
+        → Every (λ (call : Call Entry). (call.number < serving) × (call.found ≡ found call.number) × (call.left ≡ left call.number)) view.calls
     pub turn : (seat : ℕ) (view : View Entry Fixed) → get_elem? views seat ≡ some view
         → (0 < has_turn view.stage → top ≤ view.found) × (0 < has_acted view.stage → view.found ≤ view.left)
     pub home : (machine : M) → homes ≡ some (Some machine) ∷ [] → top ≤ (state machine).faults
 
 module _ {Entry Fixed : Type 0} (number : Entry → ℕ) (origin : MachineState Entry Fixed) where
+  -- an entry at risk behind a history: it has the number of an ended call, which left it as the calls after it did, and each entry of the history has a lower one
+  pub record IsAtRisk (left : ℕ → Option Entry) (serving : ℕ) (history : List Entry) (entry : Entry) : Type 0 where
+    pub from : origin.next ≤ number entry
+    pub ended : number entry < serving
+    pub stays : (call : ℕ) → number entry ≤ call → call < serving → left call ≡ Some entry
+    pub since : Rises number 1 (number entry) history
+
   -- what is known of one seat, where these are the next ticket, the ticket that is served, and the longest history
   pub record Fits (ticket serving : ℕ) (longest : List Entry) (view : View Entry Fixed) : Type 0 where
     pub start : 0 < view.share → view.start ≡ Some (start_of origin)
@@ -76,6 +87,15 @@ module _ {Entry Fixed : Type 0} (number : Entry → ℕ) (origin : MachineState 
     pub spent : view.share ≡ 0 → (view.stage ≡ Idle) × (view.calls ≡ [])
 
 module _ {M Entry Fixed : Type 0} (number : Entry → ℕ) (state : M → MachineState Entry Fixed) (origin : MachineState Entry Fixed) where
+  -- what the ended calls left at risk, what a seat that has its turn knows at risk, and what a machine at home has at risk
+  pub record AreRisks (serving : ℕ) (homes : List (maybe.Option (Option M))) (views : List (View Entry Fixed)) : Type 0 where
+    pub left : ℕ → Option Entry
+    pub calls : (seat : ℕ) (view : View Entry Fixed) → get_elem? views seat ≡ some view
+        → Every (λ (call : Call Entry). (call.number < serving) × (call.at_risk ≡ left call.number)) view.calls
+    pub turn : (seat : ℕ) (view : View Entry Fixed) → get_elem? views seat ≡ some view
+        → 0 < has_turn view.stage → IfSome view.at_risk (λ entry. IsNewAtRisk number view entry ⊎ IsAtRisk number origin left serving view.seen entry)
+    pub home : (machine : M) → homes ≡ some (Some machine) ∷ [] → IfSome (state machine).at_risk (IsAtRisk number origin left serving (state machine).history)
+
   -- order: the tickets that were drawn
   -- flights: each number from the one served up to the next ticket is in flight once, and no other is
   -- calls: each number from the first one up to the one served is an ended call once, and no other is
@@ -101,3 +121,4 @@ module _ {M Entry Fixed : Type 0} (number : Entry → ℕ) (state : M → Machin
     pub words : table.words ≡ standing.ticket ∷ standing.serving ∷ standing.count ∷ []
     pub facts : Facts standing table.homes table.views
     pub faults : AreFaults state origin standing.serving table.homes table.views
+    pub risks : AreRisks standing.serving table.homes table.views

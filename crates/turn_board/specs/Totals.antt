@@ -17,10 +17,10 @@ abbrev pub below : ℕ → ℕ → ℕ
 below number end = cond (nat_lt number end) 1 0
 
 -- how many of the calls have this number
-abbrev pub times : ℕ → List Call → ℕ
+abbrev pub times : {Entry : Type 0} → ℕ → List (Call Entry) → ℕ
 times number [] = 0
 times number (call ∷ calls) = same number call.number + times number calls
 
 -- all calls have lower numbers
-abbrev pub AreBelow : ℕ → List Call → Type 0
-AreBelow number calls = Every (λ (call : Call). call.number < number) calls
+abbrev pub AreBelow : {Entry : Type 0} → ℕ → List (Call Entry) → Type 0
+AreBelow {Entry} number calls = Every (λ (call : Call Entry). call.number < number) calls

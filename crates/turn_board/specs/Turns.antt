@@ -1,8 +1,8 @@
 -- What holds between the steps of one call.
-use Rattle.std.specs.Prelude.{◌≡◌, ℕ, ◌+◌, ◌<◌, ◌≤◌, [], ◌∷◌, Some, None}
+use Rattle.std.specs.Prelude.{◌≡◌, ℕ, ◌+◌, ◌<◌, ◌≤◌, true, [], ◌∷◌, Some, None}
 use Rattle.atomic_table.specs.Seated.{TableId}
 use Rattle.apron_base.specs.Histories.{Grows}
-use Rattle.apron_base.specs.Machine.{MachineState}
+use Rattle.apron_base.specs.Machine.{ActsAtRisk, MachineState, standing}
 use Rattle.turn_board.specs.declared.view.Stage.TheVariants.{Turn}
 use Rattle.turn_board.specs.declared.view.Start.{Start}
 use Rattle.turn_board.specs.Plays.{Mine}
@@ -25,6 +25,11 @@ module _ {M Entry Fixed : Type 0} where
     pub grows : Grows number mine.0.number mine.0.seen machine.history
     pub faults : mine.0.found ≤ machine.faults
 
+  -- what the machine, which has acted, left at risk: nothing; or what the seat found, or an entry of this call, where none was added
+  abbrev pub HasLeftAtRisk : (Entry → ℕ) → Mine M Entry Fixed → MachineState Entry Fixed → Type 0
+  HasLeftAtRisk number mine machine = ActsAtRisk (λ entry. (number entry ≡ mine.0.number) × (machine.history ≡ mine.0.seen)) true
+      (record { entries = mine.0.seen; at_risk = mine.0.at_risk }) (standing machine)
+
   -- the machine lies in the slot that the seat holds, and is as the seat noted it, and nothing is owed to the count
   pub record IsOver (state : M → MachineState Entry Fixed) (mine : Mine M Entry Fixed) (machine : M) : Type 0 where
     pub stage : has_acted mine.0.stage ≡ 1
@@ -35,3 +40,4 @@ module _ {M Entry Fixed : Type 0} where
     pub next : (state machine).next ≤ mine.0.number + 1
     pub start : (start : Start Fixed) × (mine.0.start ≡ Some start) × ((state machine).fixed ≡ start.fixed)
     pub left : mine.0.left ≡ (state machine).faults
+    pub at_risk : mine.0.at_risk ≡ (state machine).at_risk

@@ -86,6 +86,7 @@ module _ {Entry Fixed : Type 0} where
     number = 0;
     found = 0;
     left = 0;
+    at_risk = None;
     owes = 0;
     exhausted = false;
     share = all_shares;
@@ -101,7 +102,7 @@ module _ {Entry Fixed : Type 0} where
 
   -- the machine was taken as it was found
   abbrev pub turned : MachineState Entry Fixed → View Entry Fixed → View Entry Fixed
-  turned found view = record view { stage = Turn; seen = found.history; found = found.faults }
+  turned found view = record view { stage = Turn; seen = found.history; found = found.faults; at_risk = found.at_risk }
 
   -- the machine acted, and what it left is noted; an entry that it added is owed to the count
   abbrev pub acted : MachineState Entry Fixed → View Entry Fixed → View Entry Fixed
@@ -109,6 +110,7 @@ module _ {Entry Fixed : Type 0} where
     stage = Noted;
     seen = left.history;
     left = left.faults;
+    at_risk = left.at_risk;
     owes = length left.history - length view.seen;
   }
 
@@ -121,7 +123,7 @@ module _ {Entry Fixed : Type 0} where
   ended view = record view {
     stage = Idle;
     owes = 0;
-    calls = view.calls ++ record { number = view.number; found = view.found; left = view.left } ∷ [];
+    calls = view.calls ++ record { number = view.number; found = view.found; left = view.left; at_risk = view.at_risk } ∷ [];
   }
 
   -- a seat whose share is one less
@@ -140,6 +142,7 @@ module _ {Entry Fixed : Type 0} where
     number = 0;
     found = 0;
     left = 0;
+    at_risk = None;
     owes = 0;
     exhausted = false;
     share = 1;
@@ -168,6 +171,7 @@ module _ {Entry Fixed : Type 0} where
     number = 0;
     found = 0;
     left = 0;
+    at_risk = None;
     owes = 0;
     exhausted = false;
     share = 0;

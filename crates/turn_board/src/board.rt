@@ -1,5 +1,5 @@
 // The board and its seats.
-ghost use Rattle.std.specs.Prelude.{◌≡◌, ◌≢◌, ◌↔◌, ◌-◌, ◌≤◌, [], false, true, IfErr, IfOk, IsSome, Some};
+ghost use Rattle.std.specs.Prelude.{◌≡◌, ◌≢◌, ◌↔◌, ◌-◌, ◌≤◌, [], false, true, IfErr, IfOk, IsSome, None, Some};
 ghost use Rattle.apron_base.specs.declared.outside.Acted.TheVariants.{Spent};
 ghost use Rattle.turn_board.specs.Board.{Closes, GotTurn, Meets, Opens, Sits};
 
@@ -61,10 +61,11 @@ fn machine_of<M>(slot: Option<M>) -> M
 }
 
 impl<M: Machine> TurnBoard<M> {
-    /// A board over this machine, and its first seat, which has all shares. Call numbers go on from the
-    /// machine's next one. At `Err` memory is wanting, and the machine comes back as it was.
+    /// A board over this machine, at which no entry is at risk, and its first seat, which has all shares.
+    /// Call numbers go on from the machine's next one. At `Err` memory is wanting, and the machine comes back as it was.
     pub fn new(alloc: Global, machine: M) -> Result<(TurnBoard<M>, Seat<M>), M>
         requires next { (M.state machine).next ≤ CALL_END }
+        requires at_risk { (M.state machine).at_risk ≡ None }
         ensures ok { IfOk result (λ made. Opens (M.state machine) made.0 made.1) }
         ensures err { IfErr result (λ back. back ≡ machine) }
     {
@@ -98,7 +99,7 @@ impl<M: Machine> TurnBoard<M> {
         ensures share { seat.new.share ≡ seat.old.share }
         ensures spent { result ≡ Spent ↔ (seat.new.exhausted ≡ true) }
         ensures unasked { result ≡ Spent → seat.new ≡ record seat.old { exhausted = true } }
-        ensures answered { result ≢ Spent → GotTurn M.state M.number M.answers seat.old (record { ask = ask.now; answer = result }) seat.new }
+        ensures answered { result ≢ Spent → GotTurn M.state M.number M.adds M.answers seat.old (record { ask = ask.now; answer = result }) seat.new }
     {
         let table = &self.table.shared;
         let place = &mut seat.place;
@@ -142,7 +143,7 @@ impl<M: Machine> TurnBoard<M> {
     pub fn close(self, seat: Seat<M>) -> M
         requires sits { Sits self seat }
         requires share { seat.share ≡ SHARES }
-        ensures closes { Closes self seat (M.state result) }
+        ensures closes { Closes M.number self seat (M.state result) }
     {
         let TurnBoard { table } = self;
         let Seat { place } = seat;

@@ -2,7 +2,7 @@
 ghost use Rattle.std.specs.Prelude.{◌≡◌, ◌+◌, ◌<◌, ◌≤◌, [], ◌∷◌, length, cond, false, IfSome, IfNone, None, Some};
 ghost use Rattle.turn_board.specs.Plays.{IsTaken};
 ghost use Rattle.turn_board.specs.Totals.{AreBelow};
-ghost use Rattle.turn_board.specs.Turns.{HasActed, IsOver, IsSeatOf};
+ghost use Rattle.turn_board.specs.Turns.{HasActed, HasLeftAtRisk, IsOver, IsSeatOf};
 ghost use Rattle.turn_board.specs.Views.{acted, call_end, counted, drawn, ended, run_out, turned};
 ghost use Rattle.turn_board.specs.declared.view.Stage.TheVariants.{Idle, Noted, Waiting};
 ghost use Rattle.turn_board.specs.declared.view.Start.{Start};
@@ -105,6 +105,7 @@ pub(crate) fn take<M: Machine, R: Wait>(
 fn note<M: Machine>(table: &SharedTable<M>, place: &mut Place<M>, machine: M)
     requires table { IsSeatOf table.now.table_id place.old.table_id }
     requires acted { HasActed M.number place.old.me (M.state machine) }
+    requires at_risk { HasLeftAtRisk M.number place.old.me (M.state machine) }
     ensures table { place.new.table_id ≡ place.old.table_id }
     ensures noted { place.new.me ≡ (acted (M.state machine) place.old.me.0, (0, Some machine) ∷ []) }
 {
@@ -125,7 +126,7 @@ fn count<M: Machine>(table: &SharedTable<M>, place: &mut Place<M>, added: bool)
     }
 }
 
-// Gives the machine back to its slot, and lets the next number be served.
+// Gives the machine back to its slot, lets the next number be served, and wakes a seat behind that one.
 fn end<M: Machine>(table: &SharedTable<M>, place: &mut Place<M>)
     requires table { IsSeatOf table.now.table_id place.old.table_id }
     requires over { (machine : _) × IsOver M.state place.old.me machine }
@@ -133,6 +134,7 @@ fn end<M: Machine>(table: &SharedTable<M>, place: &mut Place<M>)
     ensures ended { place.new.me ≡ (ended place.old.me.0, []) }
 {
     table.fetch_add::<End>(place, SERVING, 1);
+    table.wake_one(SERVING);
 }
 
 /// Ends a call after the machine's act: the machine is back before the next number is served.
@@ -144,6 +146,7 @@ pub(crate) fn finish<M: Machine>(
 )
     requires table { IsSeatOf table.now.table_id place.old.table_id }
     requires acted { HasActed M.number place.old.me (M.state machine) }
+    requires at_risk { HasLeftAtRisk M.number place.old.me (M.state machine) }
     requires added { length (M.state machine).history ≡ length place.old.me.0.seen + cond added 1 0 }
     requires next { (M.state machine).next ≡ place.old.me.0.number + 1 }
     requires start { (start : Start M.Fixed) × (place.old.me.0.start ≡ Some start) × ((M.state machine).fixed ≡ start.fixed) }

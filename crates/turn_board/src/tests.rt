@@ -25,14 +25,14 @@ struct Counter {
 }
 
 impl Model for Counter {
-    ghost use Rattle.std.specs.Prelude.{◌≤◌, ◌^◌, ℕ};
+    ghost use Rattle.std.specs.Prelude.{◌≤◌, ◌^◌, ℕ, None};
     ghost use Rattle.apron_base.specs.Histories.{Rises};
     ghost use Rattle.apron_base.specs.Machine.{MachineState};
     ghost use Rattle.turn_board.specs.declared.tests.Mark.{Mark};
 
     ghost Value = { MachineState Mark ℕ };
 
-    ghost view = { λ c. record { fixed = c.owner; history = c.marks.items; next = c.next; faults = 0 } };
+    ghost view = { λ c. record { fixed = c.owner; history = c.marks.items; at_risk = None; next = c.next; faults = 0 } };
 
     ghost invariant = { λ c. Rises (λ mark. mark.call) 1 c.next c.marks.items × (c.next ≤ 2 ^ 62) };
 }
@@ -64,6 +64,8 @@ impl Machine for Counter {
     ghost number = { λ mark. mark.call };
 
     ghost valid = { λ owner adds. Unit {0} };
+
+    ghost adds = { λ asked mark. Unit {0} };
 
     ghost answers = { λ owner before call adds answer after. Unit {0} };
 

@@ -15,11 +15,13 @@ pub enum Stage {
     Counted,
 }
 
-/// An ended call: its number, and the machine's counts of faults that it found and left.
-pub struct Call {
+/// An ended call: its number, the machine's counts of faults that it found and left, and the entry at risk
+/// that it left.
+pub struct Call<E> {
     pub number: u64,
     pub found: u64,
     pub left: u64,
+    pub at_risk: Option<E>,
 }
 
 /// The machine with which a board was made: its fixed part, the first number, and its count of faults.
@@ -38,9 +40,9 @@ pub struct View<E, F> {
     /// What a seat that was taken in had seen, until the next look.
     pub told: LinkedList<E>,
     /// The calls of the seat that had seen that.
-    pub late: LinkedList<Call>,
+    pub late: LinkedList<Call<E>>,
     /// The seat's ended calls.
-    pub calls: LinkedList<Call>,
+    pub calls: LinkedList<Call<E>>,
     pub stage: Stage,
     /// The number in flight, except at the stage idle.
     pub number: u64,
@@ -48,6 +50,8 @@ pub struct View<E, F> {
     pub found: u64,
     /// The count of faults that this call left.
     pub left: u64,
+    /// The entry at risk that this call found, and then the one that it left.
+    pub at_risk: Option<E>,
     /// 1 where this call added an entry that is not counted yet.
     pub owes: u64,
     /// The seat found the numbers run out.

@@ -8,27 +8,28 @@ use std::sync::Wait;
 use std::time::Duration;
 use std::{hint, thread};
 
-/// How often the seat that is next looks again at once before it lets other threads run.
-const SPINS: u32 = 200;
-/// The most microseconds that a seat further back sleeps before it looks again.
-const NAP: u64 = 100;
+/// How often the seat that is next pauses between two looks before it lets other threads run.
+const PAUSES: u32 = 20;
+/// The most microseconds that a seat further back sleeps before it looks again where no wake comes.
+const NAP: u64 = 1_000;
 
 /// A sleep is on the low half of a word: this is the least number above it.
 const LOW: u64 = 1 << 32;
 
-/// How often a seat has looked while it was next.
+/// What a seat that waits remembers between two looks: the number served at which it last went to sleep.
 #[derive(Drop)]
 pub(crate) struct Patience {
-    looks: u32,
+    slept_at: Option<u64>,
 }
 
 impl Patience {
     pub(crate) fn new() -> Patience {
-        Patience { looks: 0 }
+        Patience { slept_at: None }
     }
 
     /// Lets time pass between two looks, where `serving` was found and the seat waits for `number`. The
-    /// seat that is next never sleeps.
+    /// seat that is next never sleeps. Those behind it sleep until the end of a turn wakes one of them, in
+    /// the order in which they went to sleep: so one that is woken before it is next wakes another.
     pub(crate) fn wait<M: Machine, R: Wait>(
         &mut self,
         rt: &R,
@@ -39,16 +40,20 @@ impl Patience {
         requires table { IsTurnTable table.now.table_id }
     {
         if number.saturating_sub(serving) > 1 {
+            if self.slept_at.is_some_and(|before| before != serving) {
+                table.wake_one(SERVING);
+            }
+            self.slept_at = Some(serving);
             table.park_timeout(
                 rt,
                 SERVING,
                 (serving % LOW) as u32,
                 Duration::from_micros(NAP),
             );
-        } else if self.looks < SPINS {
-            self.looks += 1;
-            hint::spin_loop();
         } else {
+            for _ in 0..PAUSES {
+                hint::spin_loop();
+            }
             thread::yield_now();
         }
     }

@@ -24,13 +24,13 @@ struct Tally {
 }
 
 impl Model for Tally {
-    ghost use Rattle.std.specs.Prelude.{◌≤◌, ◌^◌, ℕ};
+    ghost use Rattle.std.specs.Prelude.{◌≤◌, ◌^◌, ℕ, None};
     ghost use Rattle.apron_base.specs.Histories.{Rises};
     ghost use Rattle.apron_base.specs.Machine.{MachineState};
 
     ghost Value = { MachineState ℕ (Unit {0}) };
 
-    ghost view = { λ t. record { fixed = tt; history = t.calls.items; next = t.next; faults = 0 } };
+    ghost view = { λ t. record { fixed = tt; history = t.calls.items; at_risk = None; next = t.next; faults = 0 } };
 
     ghost invariant = { λ t. Rises (λ call. call) 1 t.next t.calls.items × (t.next ≤ 2 ^ 62) };
 }
@@ -71,6 +71,8 @@ impl Machine for Tally {
     ghost number = { λ call. call };
 
     ghost valid = { λ fixed ask. Unit {0} };
+
+    ghost adds = { λ ask call. Unit {0} };
 
     ghost answers = { λ fixed before call ask answer after. Unit {0} };
 

@@ -4,8 +4,11 @@ use Rattle.history_core.specs.AtRisk.{entry_at_risk}
 use Rattle.apron_run.specs.Journal.{KeepsHistory, journal_tells}
 use Rattle.apron_run.specs.World.{DiskSeen, seen_of}
 use Rattle.apron_serve.specs.World.{Ends}
-use Rattle.apron_serve.proofs.Desks.{desks_serve, of_err, turns_want_memory}
+use Rattle.apron_serve.proofs.Desks.{desks_serve, of_err, opened_safe, turns_want_memory}
 use Rattle.apron_serve.proofs.board.serve_desks.Goals as goal
+
+pub serve_board-served-requires-clause-at_risk : goal.serve_board-served-requires-clause-at_risk
+serve_board-served-requires-clause-at_risk g c κs within = opened_safe (journal_tells g.D.Disk.state) c.args.files.now (seen_of (g.D.Disk.state c.args.disk)) c.in-Ok.board c.in-Ok.ensures.opened
 
 pub returns-in-Ok-served-clause-meets : goal.returns-in-Ok-served-clause-meets
 returns-in-Ok-served-clause-meets g c =

@@ -7,5 +7,5 @@ pub load-requires : goal.load-requires
 load-requires g c = (
   ◌∙◌ {A = TableId} c.exchange-left.ensures.0 c.requires.table.1,
   (let a = c.requires.table.0.0 in omega arith),
-  notes_acted _ _ _ _ _ c.args.place.now.me c.exchange-left.new.seat.me c.args.machine c.requires.acted c.exchange-left.ensures.3,
+  notes_acted _ _ _ _ _ c.args.place.now.me c.exchange-left.new.seat.me c.args.machine c.requires.acted c.requires.at_risk c.exchange-left.ensures.3,
 )

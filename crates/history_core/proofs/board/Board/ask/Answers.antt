@@ -1,9 +1,10 @@
 use Rattle.std.proofs.Common.{◌≡◌, ◌+◌, ◌≤◌, Bool, arith, sym, subst}
+use Rattle.apron_base.specs.Machine.{standing}
 use Rattle.apron_base.proofs.Rising.{rises_more}
 use Rattle.history_core.specs.Answer.{GivesText, is_keeper_fault, sought}
-use Rattle.history_core.specs.AtRisk.{LeavesAtRisk, entry_at_risk, standing}
+use Rattle.history_core.specs.AtRisk.{LeavesAtRisk, entry_at_risk}
 use Rattle.history_core.specs.History.{IsLegal, call_of, replay}
-use Rattle.history_core.specs.Board.{BoardHeld}
+use Rattle.history_core.specs.Board.{BoardHeld, machine_state}
 use Rattle.history_core.proofs.Boards.{board_called}
 use Rattle.history_core.proofs.Texts.{found_legal, text_acts}
 use Rattle.history_core.proofs.board.Board.ask.Goals as goal
@@ -44,8 +45,8 @@ returns-clause-acts g c =
 pub returns-clause-at_risk : goal.returns-clause-at_risk
 returns-clause-at_risk g c =
     let tells = g.K.Keeper.state in
-    let leaves = subst (λ (b : BoardHeld g.row.K.Denot). LeavesAtRisk (standing tells c.args.self.now) c.args.call c.args.ask.now.what (is_keeper_fault c.answer-answered.result) (standing tells b))
+    let leaves = subst (λ (b : BoardHeld g.row.K.Denot). LeavesAtRisk (standing (machine_state tells c.args.self.now)) c.args.call c.args.ask.now.what (is_keeper_fault c.answer-answered.result) (standing (machine_state tells b)))
     (sym c.self.view_is) c.answer-answered.ensures.at_risk in
-    subst (λ (failed : Bool). LeavesAtRisk (standing tells c.args.self.now) c.args.call c.args.ask.now.what failed
+    subst (λ (failed : Bool). LeavesAtRisk (standing (machine_state tells c.args.self.now)) c.args.call c.args.ask.now.what failed
     (record { entries = c.self.inside.history.items; at_risk = entry_at_risk c.self.inside.airport.now (tells c.self.inside.keeper) }))
     (sym c.acted_of.ensures.fault) leaves
