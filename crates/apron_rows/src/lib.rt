@@ -1,4 +1,4 @@
-//! What the program does with whole inputs: tables of requests and replies, and nothing else.
+//! What the program does with files, journals and input that end, fail or are none: tables, and nothing else.
 #![tactic(auto)]
 
 #[cfg(test)]

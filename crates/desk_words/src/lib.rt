@@ -11,6 +11,4 @@ mod part_objects;
 pub mod replies;
 mod row_objects;
 pub mod short;
-#[cfg(test)]
-mod tests;
 mod visit_objects;

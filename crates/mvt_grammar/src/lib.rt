@@ -21,6 +21,3 @@ pub use message::{Clock, Flight, Mvt, MvtFault};
 pub use readable::{is_flight, is_readable};
 pub use reading::read_mvt;
 pub use writing::{push_flight, write_mvt};
-
-#[cfg(test)]
-mod tests;

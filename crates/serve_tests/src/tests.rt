@@ -3,14 +3,15 @@ mod beside;
 mod over_tcp;
 mod statuses;
 
-use apron_base::{Kept, ListListener, ListSink, ListSource, Listed, MapShelf, Memory, Word};
+use apron_base::{ListListener, ListSink, ListSource, MapShelf, Memory};
 use apron_run::run;
 use apron_serve::serve;
-use journal_disk::{Disk, MemoryDisk, Room};
+use journal_disk::{Disk, MemoryDisk};
 use std::alloc::Global;
 use std::sync::Wait;
 use std::test::Fail;
 use std::thread::Threads;
+use text_runs::{ROOM, kept, words};
 
 // The airport file: one stand.
 const AIRPORT: &str = r#"frontage = [ { name = "N", objects = [] } ]
@@ -64,32 +65,14 @@ const BY_B: &[u8] =
 const CLASH: &[u8] =
     b"HTTP/1.1 422 Unprocessable Entity\r\nContent-Type: application/json\r\nContent-Length: 106\r\nX-Version: 3\r\n\r\n{\"a\":{\"part\":1,\"visit\":1},\"b\":{\"part\":1,\"visit\":2},\"error\":\"clash\",\"minute\":600,\"rule\":\"same\",\"version\":3}";
 
-const ROOM: Room = Room {
-    bytes: 200_000,
-    written: 200_000,
-    calls: 20_000,
-};
-
-fn words(alloc: Global, texts: &str) -> Result<Vec<Word>, Memory> {
-    let mut words = Vec::new(alloc);
-    for text in texts.split_ascii_whitespace() {
-        words.push(Word::new(alloc, text)?)?;
-    }
-    Ok(words)
-}
-
-fn kept(alloc: Global, name: &str, text: &str) -> Result<Kept, Memory> {
-    Ok(Kept {
-        name: Word::new(alloc, name)?,
-        bytes: Listed::from_vec(text.as_bytes().to_vec(alloc)?),
-    })
-}
-
 // The two files, by the names `A` and `T`.
 fn shelf(alloc: Global, failing: &[u64]) -> Result<MapShelf, Memory> {
     let files = Vec::from_array(
         alloc,
-        [kept(alloc, "A", AIRPORT)?, kept(alloc, "T", TYPES)?],
+        [
+            kept(alloc, "A", AIRPORT.as_bytes())?,
+            kept(alloc, "T", TYPES.as_bytes())?,
+        ],
     )?;
     Ok(MapShelf::new(files, failing.to_vec(alloc)?))
 }

@@ -1,10 +1,9 @@
 // What a desk finds after a stop at any call of the disk.
-use super::lines::Session;
-use super::{DEMO, Ended, FIRST, Run};
 use journal_disk::{MemoryDisk, Unsynced};
 use std::alloc::Global;
 use std::process::Abort;
 use std::test::Fail;
+use text_runs::{DEMO, Ended, FIRST, Run, Session};
 
 // The requests that add three visits, and the one for the version.
 const THREE: &[u8] =

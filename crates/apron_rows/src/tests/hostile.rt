@@ -1,11 +1,9 @@
 // Input that is cut, ends that fail, heads that don't end, and a history that takes no more.
 use super::journals::{STANDS as STANDING, V1, journal_of};
-use super::lines::Session;
-use super::sessions::{ADDED, STANDS};
-use super::{DEMO, FIRST, Run};
 use apron_base::Memory;
 use std::alloc::Global;
 use std::test::Fail;
+use text_runs::{ADDED, DEMO, FIRST, Run, STANDS, Session};
 
 // What is written for the first so many bytes of the two requests, of 123 and 129 bytes, and the status.
 fn answer_to_front(length: usize) -> (&'static [u8], u8) {
@@ -30,7 +28,7 @@ fn two_requests_are_cut_after_each_byte(rt: HostRuntime) -> Result<(), Fail> {
             input: FIRST.get(..length).unwrap_or(FIRST),
             ..DEMO
         };
-        run.gives(&rt, rt.alloc(), &length, output, status)?;
+        run.gives(rt.alloc(), &length, output, status)?;
     }
     Ok(())
 }
@@ -106,7 +104,7 @@ fn run_failing(failing: Failing, numbers: &'static [u64]) -> Run<'static> {
 #[test]
 fn each_call_that_fails_has_its_status_or_reply(rt: HostRuntime) -> Result<(), Fail> {
     for (failing, numbers, output, status) in FAILS {
-        run_failing(failing, numbers).gives(&rt, rt.alloc(), &(failing, numbers), output, status)?;
+        run_failing(failing, numbers).gives(rt.alloc(), &(failing, numbers), output, status)?;
     }
     Ok(())
 }
@@ -127,12 +125,12 @@ fn a_head_without_an_end_is_refused(rt: HostRuntime) -> Result<(), Fail> {
             input: head.as_slice(),
             ..DEMO
         };
-        run.gives(&rt, alloc, &length, output, status)?;
+        run.gives(alloc, &length, output, status)?;
         let run = Run {
             pieces: &[1000; 9],
             ..run
         };
-        run.gives(&rt, alloc, &length, output, status)?;
+        run.gives(alloc, &length, output, status)?;
     }
     Ok(())
 }
@@ -167,14 +165,7 @@ fn goes_on_at_full(alloc: Global) -> Result<bool, Fail> {
         "422 200000 {\"edit\":1,\"error\":\"unknown\",\"version\":200000}",
     )?;
     let journal = full_journal(alloc)?;
-    let run = Run {
-        input: AT_FULL,
-        is_new: false,
-        stored: journal.as_slice(),
-        ..DEMO
-    };
-    let ended = run.ends(alloc)?;
-    Ok(ended.status == 0 && ended.output.as_slice() == session.output.as_slice())
+    Ok(session.is_told_on(alloc, journal.as_slice(), AT_FULL)?)
 }
 
 #[test]

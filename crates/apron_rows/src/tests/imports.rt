@@ -1,10 +1,10 @@
 // Season files that are imported and exported. The worked-out texts are those of the format of season files.
-use super::{AIRPORT, DEMO, Ended, ROOM, Run, TYPES, empty_journal, kept, words};
 use apron_base::{ListSink, ListSource, MapShelf, Memory};
 use apron_run::run;
 use journal_disk::{MemoryDisk, Room};
 use std::alloc::Global;
 use std::test::Fail;
+use text_runs::{AIRPORT, DEMO, Ended, ROOM, Run, TYPES, empty_journal, kept, words};
 
 const TWO: &[u8] =
     b"name,type,class,on,off,arr,arrday,dep,depday\nV1,A320,3,600,660,LH123,1,LH124,1\nV2,AT76,5,700,760,,,,\n";
@@ -213,7 +213,7 @@ fn lines_of_imports_that_are_not_written(rt: HostRuntime) -> Result<(), Fail> {
             failing_puts: &[0],
             ..DEMO
         };
-        run.gives(&rt, rt.alloc(), &(words, season), b"", status)?;
+        run.gives(rt.alloc(), &(words, season), b"", status)?;
     }
     Ok(())
 }

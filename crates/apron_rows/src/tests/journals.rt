@@ -1,9 +1,8 @@
 // Journals: how they are made, what desks keep in them, and what is told of those that can't be used.
-use super::lines::Session;
-use super::{AIRPORT, DEMO, Ended, FIRST, Run, TYPES, empty_journal};
 use apron_base::Memory;
 use std::alloc::Global;
 use std::test::Fail;
+use text_runs::{AIRPORT, DEMO, Ended, FIRST, Run, Session, TYPES, empty_journal};
 
 // What is told of a journal whose type file's digest ends otherwise: the digests are those of the example's airport file and
 // type file, as `sha256sum` prints them.
@@ -62,14 +61,7 @@ fn goes_on(alloc: Global) -> Result<bool, Fail> {
     session.tell(alloc, "200 2 {\"version\":2}")?;
     session.tell(alloc, "200 3 {\"version\":3,\"visit\":2}")?;
     let journal = journal_of(alloc, &[V1, STANDS])?;
-    let run = Run {
-        input: AGAIN,
-        is_new: false,
-        stored: journal.as_slice(),
-        ..DEMO
-    };
-    let ended = run.ends(alloc)?;
-    Ok(ended.status == 0 && ended.output.as_slice() == session.output.as_slice())
+    Ok(session.is_told_on(alloc, journal.as_slice(), AGAIN)?)
 }
 
 #[test]
@@ -303,7 +295,7 @@ fn openings_that_fail_are_told(rt: HostRuntime) -> Result<(), Fail> {
             failing_calls,
             ..DEMO
         };
-        run.gives(&rt, rt.alloc(), &failing_calls, b"disk fault\n", 7)?;
+        run.gives(rt.alloc(), &failing_calls, b"disk fault\n", 7)?;
     }
     Ok(())
 }

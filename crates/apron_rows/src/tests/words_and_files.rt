@@ -1,6 +1,6 @@
 // The words, and the files that they name.
-use super::{AIRPORT, DEMO, FIRST, Run, TYPES};
 use std::test::Fail;
+use text_runs::{AIRPORT, DEMO, FIRST, Run, TYPES};
 
 const HELP: &[u8] =
     b"apron: airport stand allocation\n\napron init AIRPORT TYPES JOURNAL   makes an empty journal for the airport of an airport file and a\n                                   type file\napron desk AIRPORT TYPES JOURNAL   answers HTTP requests from standard input on standard output at\n                                   that airport, and keeps in its journal what it accepts\napron serve AIRPORT TYPES CONNECTIONS ADDRESS WORKERS JOURNAL\n                                   does the same over TCP for many desks at once: 1 to 16 workers\n                                   take 1 to 1,000,000 connections each, one after the other\napron chart AIRPORT TYPES DAY JOURNAL\n                                   prints the wall chart of a day of the plan in that journal\napron import AIRPORT TYPES SEASON JOURNAL\n                                   adds the visits of a season file to the plan in that journal\napron export AIRPORT TYPES JOURNAL prints the season file of the visits in that journal\napron check AIRPORT TYPES          reads an airport file and a type file, and prints how much they\n                                   hold, or the first fault in them\napron make VISITS                  prints the summary of a generated day of 1 to 5,000 visits\napron --help                       prints this text\napron --version                    prints the version\n";
@@ -82,12 +82,12 @@ fn words_that_print(rt: HostRuntime) -> Result<(), Fail> {
             input: FIRST,
             ..DEMO
         };
-        run.gives(&rt, rt.alloc(), &words, output, status)?;
+        run.gives(rt.alloc(), &words, output, status)?;
         let run = Run {
             failing_puts: &[0],
             ..run
         };
-        run.gives(&rt, rt.alloc(), &words, b"", unwritten)?;
+        run.gives(rt.alloc(), &words, b"", unwritten)?;
     }
     Ok(())
 }
@@ -120,12 +120,12 @@ fn faulty_files_are_told(rt: HostRuntime) -> Result<(), Fail> {
                 failing_files,
                 ..DEMO
             };
-            run.gives(&rt, rt.alloc(), &(words, line), line, status)?;
+            run.gives(rt.alloc(), &(words, line), line, status)?;
             let run = Run {
                 failing_puts: &[0],
                 ..run
             };
-            run.gives(&rt, rt.alloc(), &(words, line), b"", status)?;
+            run.gives(rt.alloc(), &(words, line), b"", status)?;
         }
     }
     Ok(())

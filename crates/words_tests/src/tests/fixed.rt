@@ -1,6 +1,6 @@
 // Replies that need no plan.
-use crate::early::{Early, early_bytes};
-use crate::fixed::{bad_encoding, bad_head, keeper_fault, large_body, no_length, no_memory};
+use desk_words::early::{Early, early_bytes};
+use desk_words::fixed::{bad_encoding, bad_head, keeper_fault, large_body, no_length, no_memory};
 use mvt_grammar::MvtFault;
 
 #[test]

@@ -1,10 +1,10 @@
 // Which targets there are, and which methods they take.
-use super::lines::all_hold;
 use std::test::Fail;
+use text_runs::all_hold;
 
 #[test]
 fn targets_take_their_method(rt: HostRuntime) -> Result<(), Fail> {
-    all_hold(&rt, rt.alloc(), SESSIONS)
+    all_hold(rt.alloc(), SESSIONS)
 }
 
 const SESSIONS: &str = r#"

@@ -1,5 +1,5 @@
 // What texts are read as, worked out by hand from the format.
-use crate::{Clock, MvtFault, read_flight, read_mvt, write_mvt};
+use mvt_grammar::{Clock, MvtFault, read_flight, read_mvt, write_mvt};
 use std::alloc::Global;
 use std::process::Abort;
 use std::test::Fail;

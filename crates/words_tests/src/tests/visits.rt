@@ -1,8 +1,8 @@
 // Visits.
 use super::{OK, airport, has_text, part, reply};
-use crate::replies::Told;
 use apron_base::{Name, StandNo, TypeNo, VisitNo};
 use apron_rules::Rule;
+use desk_words::replies::Told;
 use mvt_grammar::Flight;
 use std::test::Fail;
 use visit_book::{Bump, End, Key, Part, Parts, Place, Visit};

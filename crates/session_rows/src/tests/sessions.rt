@@ -1,14 +1,6 @@
 // Whole sessions: how their input comes and ends, and what fails on the way.
-use super::lines::Session;
-use super::{DEMO, FIRST, Run};
 use std::test::Fail;
-
-// The replies to the first request and to both.
-pub(super) const ADDED: &[u8] =
-    b"HTTP/1.1 200 OK\r\nContent-Type: application/json\r\nContent-Length: 23\r\nX-Version: 1\r\n\r\n{\"version\":1,\"visit\":1}";
-
-pub(super) const STANDS: &[u8] =
-    b"HTTP/1.1 200 OK\r\nContent-Type: application/json\r\nContent-Length: 23\r\nX-Version: 1\r\n\r\n{\"version\":1,\"visit\":1}HTTP/1.1 200 OK\r\nContent-Type: application/json\r\nContent-Length: 13\r\nX-Version: 2\r\n\r\n{\"version\":2}";
+use text_runs::{ADDED, DEMO, FIRST, Run, STANDS, Session};
 
 // The two requests come in two pieces, cut at each byte.
 #[test]
@@ -19,7 +11,7 @@ fn a_visit_is_added_and_stands_byte_for_byte(rt: HostRuntime) -> Result<(), Fail
             pieces: &[cut],
             ..DEMO
         };
-        run.gives(&rt, rt.alloc(), &cut, STANDS, 0)?;
+        run.gives(rt.alloc(), &cut, STANDS, 0)?;
     }
     Ok(())
 }
@@ -45,13 +37,7 @@ fn each_read_and_each_put_that_fails_ends_the_session(rt: HostRuntime) -> Result
             failing_puts,
             ..DEMO
         };
-        run.gives(
-            &rt,
-            rt.alloc(),
-            &(failing_reads, failing_puts),
-            output,
-            status,
-        )?;
+        run.gives(rt.alloc(), &(failing_reads, failing_puts), output, status)?;
     }
     Ok(())
 }
@@ -166,7 +152,7 @@ fn how_input_ends(rt: HostRuntime) -> Result<(), Fail> {
                 pieces,
                 ..DEMO
             };
-            run.gives(&rt, alloc, &input, session.output.as_slice(), status)?;
+            run.gives(alloc, &input, session.output.as_slice(), status)?;
         }
     }
     Ok(())

@@ -1,11 +1,10 @@
 // Which visit a movement message is of, which minute it tells, and what makes it say nothing.
-use super::lines::{Session, all_hold};
-use super::{DEMO, Run};
 use std::test::Fail;
+use text_runs::{DEMO, Run, Session, all_hold};
 
 #[test]
 fn messages_change_the_visit_that_they_mean(rt: HostRuntime) -> Result<(), Fail> {
-    all_hold(&rt, rt.alloc(), SESSIONS)
+    all_hold(rt.alloc(), SESSIONS)
 }
 
 #[test]
@@ -18,7 +17,7 @@ fn days_are_those_of_the_calendar(rt: HostRuntime) -> Result<(), Fail> {
             input: session.input.as_slice(),
             ..DEMO
         };
-        run.gives(&rt, rt.alloc(), &shows, session.output.as_slice(), 0)?;
+        run.gives(rt.alloc(), &shows, session.output.as_slice(), 0)?;
     }
     Ok(())
 }

@@ -1,10 +1,10 @@
 // The version that a desk says it has seen.
-use super::lines::all_hold;
 use std::test::Fail;
+use text_runs::all_hold;
 
 #[test]
 fn versions_that_desks_have_seen(rt: HostRuntime) -> Result<(), Fail> {
-    all_hold(&rt, rt.alloc(), SESSIONS)
+    all_hold(rt.alloc(), SESSIONS)
 }
 
 const SESSIONS: &str = r#"

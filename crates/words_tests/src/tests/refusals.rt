@@ -1,8 +1,8 @@
 // Refused edits.
 use super::{CONFLICT, UNPROCESSABLE, airport, has_text, part, reply};
-use crate::replies::Told;
 use apron_base::VisitNo;
 use apron_rules::{Clash, Rule, UnfitBy};
+use desk_words::replies::Told;
 use std::test::Fail;
 use visit_book::EditFault;
 

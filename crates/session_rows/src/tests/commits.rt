@@ -1,11 +1,11 @@
 // What commits are answered, one after another: stands and the rules by which they exclude each other, each kind of edit and
 // each cause against it, and drafts over plans that are past, present and to come.
-use super::lines::all_hold;
 use std::test::Fail;
+use text_runs::all_hold;
 
 #[test]
 fn commits_are_taken_or_refused(rt: HostRuntime) -> Result<(), Fail> {
-    all_hold(&rt, rt.alloc(), SESSIONS)
+    all_hold(rt.alloc(), SESSIONS)
 }
 
 const SESSIONS: &str = r#"

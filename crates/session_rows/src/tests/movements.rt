@@ -1,10 +1,10 @@
 // Messages, reports and cancels: what they do to visits, and which parts lose their stands.
-use super::lines::all_hold;
 use std::test::Fail;
+use text_runs::all_hold;
 
 #[test]
 fn what_happens_moves_the_plan(rt: HostRuntime) -> Result<(), Fail> {
-    all_hold(&rt, rt.alloc(), SESSIONS)
+    all_hold(rt.alloc(), SESSIONS)
 }
 
 const SESSIONS: &str = r#"

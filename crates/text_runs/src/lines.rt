@@ -1,21 +1,22 @@
 // Sessions in words: requests and replies, a line each.
-use super::{DEMO, Run};
+use crate::{DEMO, Run};
 use apron_base::Memory;
 use std::alloc::Global;
-use std::process::Abort;
 use std::test::Fail;
 
 /// The input of a session, and what is to be written for it.
 #[derive(Drop)]
-pub(super) struct Session {
-    pub(super) input: Vec<u8>,
-    pub(super) output: Vec<u8>,
+pub struct Session {
+    /// The requests.
+    pub input: Vec<u8>,
+    /// The replies.
+    pub output: Vec<u8>,
 }
 
 impl Session {
     /// A line `> METHOD TARGET BODY` is a request, with the fields of the lines `+ FIELD` before it in its head, and a line
-    /// `< CODE FIELD BODY` is a reply.
-    pub(super) fn of(alloc: Global, lines: &str) -> Result<Session, Fail> {
+    /// `< CODE FIELD BODY` is a reply. At `Err` memory is wanting, or a line is none of these.
+    pub fn of(alloc: Global, lines: &str) -> Result<Session, Fail> {
         let mut session = Session {
             input: Vec::new(alloc),
             output: Vec::new(alloc),
@@ -36,7 +37,8 @@ impl Session {
     }
 
     /// Puts a request `METHOD TARGET BODY` behind the input, with these lines in its head. A bar in the body is the end of a line.
-    pub(super) fn ask(&mut self, alloc: Global, words: &str, fields: &str) -> Result<(), Fail> {
+    /// At `Err` memory is wanting, or the request has no target.
+    pub fn ask(&mut self, alloc: Global, words: &str, fields: &str) -> Result<(), Fail> {
         let (method, rest) = words.split_once(' ').ok_or("a request has a target")?;
         let (target, body) = rest.split_once(' ').unwrap_or((rest, ""));
         let length = body.len();
@@ -51,8 +53,8 @@ impl Session {
     }
 
     /// Puts a reply `CODE FIELD BODY` behind the output: FIELD is the version that its head tells, or the one method that is
-    /// allowed, or `close`, or `-`.
-    pub(super) fn tell(&mut self, alloc: Global, words: &str) -> Result<(), Fail> {
+    /// allowed, or `close`, or `-`. At `Err` memory is wanting, or the reply has no field or no body.
+    pub fn tell(&mut self, alloc: Global, words: &str) -> Result<(), Fail> {
         let (code, rest) = words.split_once(' ').ok_or("a reply has a field")?;
         let (field, body) = rest.split_once(' ').ok_or("a reply has a body")?;
         let phrase = phrase_of(code);
@@ -65,19 +67,31 @@ impl Session {
         Ok(())
     }
 
-    /// The input is answered with the output, and the session ends with this status.
-    pub(super) fn holds(
-        &self,
-        rt: &impl Abort,
-        alloc: Global,
-        shows: &str,
-        status: u8,
-    ) -> Result<(), Memory> {
+    /// At `Err` the input is answered with another output, or the session ends with another status, or memory is wanting.
+    pub fn holds(&self, alloc: Global, shows: &str, status: u8) -> Result<(), Fail> {
         let run = Run {
             input: self.input.as_slice(),
             ..DEMO
         };
-        run.gives(rt, alloc, &shows, self.output.as_slice(), status)
+        run.gives(alloc, &shows, self.output.as_slice(), status)
+    }
+
+    /// Whether a desk on this journal answers this other input with the output, and ends with status 0. At `Err` memory is
+    /// wanting.
+    pub fn is_told_on<'a>(
+        &self,
+        alloc: Global,
+        journal: &'a [u8],
+        input: &'a [u8],
+    ) -> Result<bool, Memory> {
+        let run = Run {
+            input,
+            is_new: false,
+            stored: journal,
+            ..DEMO
+        };
+        let ended = run.ends(alloc)?;
+        Ok(ended.status == 0 && ended.output.as_slice() == self.output.as_slice())
     }
 }
 
@@ -106,11 +120,12 @@ fn phrase_of(code: &str) -> &'static str {
     }
 }
 
-/// Each session is answered as its lines say. One begins with a line `# WHAT IT SHOWS`.
-pub(super) fn all_hold(rt: &impl Abort, alloc: Global, sessions: &str) -> Result<(), Fail> {
+/// Looks whether each session is answered as its lines say, with status 0. One begins with a line `# WHAT IT SHOWS`. At `Err` one
+/// is not, which is told with what it shows, or a line is none, or memory is wanting.
+pub fn all_hold(alloc: Global, sessions: &str) -> Result<(), Fail> {
     for session in sessions.split('#') {
         let (shows, lines) = session.split_once('\n').unwrap_or((session, ""));
-        Session::of(alloc, lines)?.holds(rt, alloc, shows, 0)?;
+        Session::of(alloc, lines)?.holds(alloc, shows, 0)?;
     }
     Ok(())
 }

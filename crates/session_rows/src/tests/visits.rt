@@ -1,10 +1,10 @@
 // What is answered to those who add visits.
-use super::lines::all_hold;
 use std::test::Fail;
+use text_runs::all_hold;
 
 #[test]
 fn visits_are_added_or_refused(rt: HostRuntime) -> Result<(), Fail> {
-    all_hold(&rt, rt.alloc(), SESSIONS)
+    all_hold(rt.alloc(), SESSIONS)
 }
 
 const SESSIONS: &str = r#"

@@ -1,10 +1,10 @@
 // Sessions that are long, and requests as great as they may be.
-use super::lines::Session;
-use super::{AIRPORT, DEMO, Run, TYPES, kept, words};
 use apron_base::{NullSink, SteadyShelf, SteadySource};
 use apron_run::run;
+use journal_disk::MemoryDisk;
 use std::alloc::Global;
 use std::test::Fail;
+use text_runs::{AIRPORT, DEMO, ROOM, Run, Session, TYPES, empty_journal, kept, words};
 
 // The greatest head and the greatest body, in bytes.
 const MOST_OF_A_HEAD: usize = 8192;
@@ -46,7 +46,7 @@ fn five_hundred_commits_are_accepted(rt: HostRuntime) -> Result<(), Fail> {
             &format!(in alloc; "200 {version} {{\"version\":{version}}}")?,
         )?;
     }
-    session.holds(&rt, alloc, "five hundred commits", 0)?;
+    session.holds(alloc, "five hundred commits", 0)?;
     Ok(())
 }
 
@@ -80,7 +80,7 @@ fn the_greatest_commits_are_taken(rt: HostRuntime) -> Result<(), Fail> {
         let length = length.saturating_add("POST /commits ".len());
         session.ask(alloc, &filled(alloc, &commit, ' ', length)?, "")?;
         session.tell(alloc, reply)?;
-        session.holds(&rt, alloc, shows, status)?;
+        session.holds(alloc, shows, status)?;
     }
     Ok(())
 }
@@ -108,7 +108,7 @@ fn the_greatest_head_is_read(rt: HostRuntime) -> Result<(), Fail> {
             pieces: &[1000; 9],
             ..DEMO
         };
-        run.gives(&rt, alloc, &shows, session.output.as_slice(), status)?;
+        run.gives(alloc, &shows, session.output.as_slice(), status)?;
     }
     Ok(())
 }
@@ -129,7 +129,8 @@ fn a_session_ends_at_its_limit(rt: HostRuntime) -> Result<(), Fail> {
         ],
     )?;
     let words = words(alloc, DEMO.words)?;
-    let mut disk = DEMO.disk(alloc)?;
+    let journal = empty_journal(alloc, AIRPORT, TYPES)?;
+    let mut disk = MemoryDisk::new(alloc, journal, ROOM, Vec::new(alloc))?;
     let status = run(
         alloc,
         words.as_slice(),

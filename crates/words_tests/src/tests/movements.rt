@@ -1,7 +1,7 @@
 // What came of messages, reports and cancels.
 use super::{OK, UNPROCESSABLE, airport, has_text, part, reply};
-use crate::replies::{Denial, Told};
 use apron_base::{Listed, VisitNo};
+use desk_words::replies::{Denial, Told};
 use std::test::Fail;
 
 #[test]

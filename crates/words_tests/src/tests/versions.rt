@@ -1,7 +1,7 @@
 // What tells a version and little else.
 use super::{CONFLICT, OK, airport, has_text, reply};
-use crate::replies::Told;
 use apron_base::VisitNo;
+use desk_words::replies::Told;
 use std::test::Fail;
 
 #[test]

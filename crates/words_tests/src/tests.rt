@@ -2,9 +2,9 @@
 ghost use Rattle.std.specs.Prelude.{IsTrue, IfSome};
 ghost use Rattle.visit_book.specs.NewVisits.{HasFlight, IsNewVisit, new_of};
 
-use crate::replies::{Reply, Told, reply_bytes};
 use apron_base::{Letter, Listed, Name, PartId, VisitNo};
 use apron_rules::{Airport, AirportParts, Date, Frontage, StandRow, TypeRow};
+use desk_words::replies::{Reply, Told, reply_bytes};
 use mvt_grammar::is_flight;
 use std::alloc::Global;
 use std::test::Fail;

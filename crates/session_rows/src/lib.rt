@@ -1,0 +1,5 @@
+//! What a desk is told for whole sessions: tables of requests and replies, and nothing else.
+#![tactic(auto)]
+
+#[cfg(test)]
+mod tests;
