@@ -1,16 +1,13 @@
 -- A step of the walk over the records of a text.
-use Rattle.std.proofs.Common.{◌≡◌, ℕ, zero, suc, ◌+◌, true, false, List, [], ◌∷◌, ◌++◌, Option, Some, None, Result, Ok, Err, refl, sym, append_assoc, add-one}
-use Rattle.std.proofs.lemmas.Bool.{false≢true}
+use Rattle.std.proofs.Common.{◌≡◌, ℕ, zero, suc, ◌+◌, true, false, List, [], ◌∷◌, ◌++◌, Some, None, Result, Ok, Err, refl, append_assoc, add-one}
 use Rattle.std.proofs.lemmas.List.{append-nil}
 use Rattle.csv.specs.Machine.{Read, next_record}
 use Rattle.csv.specs.Reading.{default_config, records_from}
 use Rattle.csv.specs.declared.parser.State.{State}
-use Rattle.csv.specs.declared.reader.Reader.{Reader}
 use Rattle.apron_rules.specs.declared.parts.TypeRow.{TypeRow}
 use Rattle.airport_files.specs.declared.types.TableFault.{TableFault}
 use Rattle.airport_files.specs.declared.types.TableFault.TheVariants.{BadRow}
 use Rattle.airport_files.specs.TypeRows.{is_header, row_of}
-use Rattle.airport_files.specs.Reading.{IsReading, Found}
 use Rattle.apron_base.specs.ResultChain.{◌>>=◌}
 use Rattle.airport_files.specs.Table.{rows_from, table_of, rows_left, table_from}
 
@@ -59,12 +56,3 @@ header-bad n s left p next bad = rw (add-one, next, bad)
 pub header-good : (n : ℕ) (s : State) (left : List ℕ) (p : Read) → next_record default_config s [] [] left ≡ Some p → is_header p.0 ≡ true → table_from (n + 1) s left ≡ rows_left 2 n p.1 p.2
 unfolding records_from table_of
 header-good n s left p next good = rw (add-one, next, good)
-
--- what a read that found a record, or none, says
-pub found-some : {R : Type 0} (rem : R → Option (List ℕ)) (r : Reader R) (fields : List (List ℕ)) (o : Option Read) → Found rem r true fields o → (p : Read) × (o ≡ Some p) × (fields ≡ p.0) × IsReading rem r p.1 p.2
-found-some rem r fields None h = absurd (false≢true (sym h))
-found-some rem r fields (Some p) h = (p, refl, h.1, h.2)
-
-pub found-none : {R : Type 0} (rem : R → Option (List ℕ)) (r : Reader R) (fields : List (List ℕ)) (o : Option Read) → Found rem r false fields o → o ≡ None
-found-none rem r fields None h = refl
-found-none rem r fields (Some p) h = absurd (false≢true h.0)

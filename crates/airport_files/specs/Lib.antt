@@ -4,6 +4,5 @@ pub mod Rows
 pub mod Layout
 pub mod Document
 pub mod TypeRows
-pub mod Reading
 pub mod Table
 pub mod Meaning

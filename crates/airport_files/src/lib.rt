@@ -7,7 +7,6 @@ mod laws;
 mod layout;
 mod numbers;
 mod read;
-mod reading;
 mod rows;
 mod text;
 mod type_rows;

@@ -1,14 +1,14 @@
 // The table of a type file, read record by record.
 ghost use Rattle.std.specs.Prelude.{◌≡◌, ◌⊎◌, ℕ, List, Some, OnOk, IfErr, ◌<◌, ◌+◌, ◌^◌, length, MatchResult, Ok, Err};
 ghost use Rattle.csv.specs.declared.parser.State.{State};
-ghost use Rattle.airport_files.specs.Reading.{IsReading};
+ghost use Rattle.csv_records.specs.Reading.{IsReading};
 ghost use Rattle.airport_files.specs.Table.{table_in, table_from, rows_left};
 
-use crate::reading::{read_row, start};
 use crate::type_rows::{is_header, row_of};
-use apron_base::Listed;
+use apron_base::{Listed, Memory};
 use apron_rules::TypeRow;
 use csv::{ByteRecord, Reader};
+use csv_records::{read_row, start};
 use std::alloc::Global;
 
 /// The first bad record, counted from 1, or want of memory.
@@ -16,6 +16,17 @@ use std::alloc::Global;
 pub(crate) enum TableFault {
     BadRow(u32),
     Memory,
+}
+
+impl From<Memory> for TableFault {
+    ghost use Rattle.std.specs.Prelude.{◌≡◌};
+    ghost use Rattle.airport_files.specs.declared.types.TableFault.TheVariants as table_fault;
+
+    ghost from_gives = { λ _ why. why ≡ table_fault.Memory };
+
+    fn from(_: Memory) -> Self {
+        TableFault::Memory
+    }
 }
 
 // Reads the first record, which is the header.

@@ -16,3 +16,4 @@ pub mod ResultChain
 pub mod Letter
 pub mod Name
 pub mod NameFields
+pub mod Sorting

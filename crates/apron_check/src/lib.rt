@@ -9,6 +9,3 @@ mod line;
 pub use faults::FilesFault;
 pub use files::{AirportFiles, MAX_FILE, airport_of};
 pub use line::{put_both, put_counts, put_fault, put_number};
-
-#[cfg(test)]
-mod tests;

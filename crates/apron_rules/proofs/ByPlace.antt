@@ -89,7 +89,7 @@ found_at before (first ∷ rest) (suc i) name none at =
     let whole : (before ++ first ∷ []) ++ rest ≡ before ++ first ∷ rest = append_assoc before (first ∷ []) rest in
     rw (← next, ← whole) (found_at (before ++ first ∷ []) rest i name more at)
 
-place_at : (names : List (List ℕ)) (i : ℕ) (name : List ℕ) → first_repeated names ≡ None → slice_get names i ≡ Some name → place_of name names ≡ Some i
+pub place_at : (names : List (List ℕ)) (i : ℕ) (name : List ℕ) → first_repeated names ≡ None → slice_get names i ≡ Some name → place_of name names ≡ Some i
 place_at names i name none at = let plain : 0 + i ≡ i = omega arith in found_at [] names i name none at ∙ ap Some plain
 
 -- where f finds nothing, it finds nothing in any row

@@ -14,6 +14,7 @@ use Rattle.std.proofs.lemmas.List.Sums.{sum_by-cons}
 use Rattle.apron_base.specs.declared.numbers.PartId.{PartId}
 use Rattle.apron_base.specs.declared.numbers.StandNo.{StandNo}
 use Rattle.apron_base.specs.declared.slot.Slot.{Slot}
+use Rattle.apron_base.proofs.Sorting.{listed_cases, listed_first, listed_later}
 use Rattle.apron_rules.specs.declared.parts.AirportParts.{AirportParts}
 use Rattle.apron_rules.specs.declared.rules.Clash.{Clash}
 use Rattle.apron_rules.specs.declared.rules.Rule.TheVariants.{Same}
@@ -28,7 +29,7 @@ use Rattle.clash_check.specs.Indexed.{all_slots, slots_at}
 use Rattle.clash_check.specs.Meetings.{Meeting, by_part, clash_with, clashes_with, is_smaller, meeting}
 use Rattle.clash_check.proofs.Looked.{of_stand, rule_hit, rule_neighbour}
 use Rattle.clash_check.proofs.Meetings.{first_meeting}
-use Rattle.clash_check.proofs.Ordered.{IsOnce, NeverFalls, Rises, falls_nowhere, is_part, listed_cases, listed_first, listed_later, ordered_from, ordered_rises, ordered_to, part_of, rises_once, rises_one}
+use Rattle.clash_check.proofs.Ordered.{IsOnce, NeverFalls, Rises, falls_nowhere, is_part, ordered_from, ordered_rises, ordered_to, part_of, rises_once, rises_one}
 
 -- a clash with a slot tells its part, and has its rule at its minute
 record Tells (airport : AirportParts) (p q : Slot) (c : Clash) : Type 0 where

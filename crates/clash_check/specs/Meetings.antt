@@ -1,8 +1,9 @@
 -- When two slots clash first, by trying each minute, and the clashes of one slot.
-use Rattle.std.specs.Prelude.{ℕ, zero, suc, ◌+◌, ◌==◌, ◌&&◌, ◌||◌, min, nat_lt, Bool, List, [], ◌∷◌, Option, None, option_map, filter_map, if◌then◌else◌}
+use Rattle.std.specs.Prelude.{ℕ, zero, suc, ◌+◌, ◌==◌, ◌&&◌, ◌||◌, min, nat_lt, Bool, List, Option, None, option_map, filter_map}
 use Rattle.std.specs.Option.{option_or}
 use Rattle.apron_base.specs.declared.numbers.PartId.{PartId}
 use Rattle.apron_base.specs.declared.slot.Slot.{Slot}
+use Rattle.apron_base.specs.Sorting.{sorted_by}
 use Rattle.apron_rules.specs.declared.parts.AirportParts.{AirportParts}
 use Rattle.apron_rules.specs.declared.rules.Clash.{Clash}
 use Rattle.apron_rules.specs.declared.rules.Rule.{Rule}
@@ -35,12 +36,6 @@ clashes_with airport slot others = filter_map (clash_with airport slot) others
 abbrev pub is_smaller : PartId → PartId → Bool
 is_smaller part other = nat_lt part.visit.0 other.visit.0 || (part.visit.0 == other.visit.0 && nat_lt part.part other.part)
 
--- the slots with one more, behind those of smaller parts
-abbrev pub insert_by_part : Slot → List Slot → List Slot
-insert_by_part slot [] = slot ∷ []
-insert_by_part slot (first ∷ others) = if is_smaller first.part slot.part then first ∷ insert_by_part slot others else slot ∷ first ∷ others
-
 -- the slots in order of their parts
 abbrev pub by_part : List Slot → List Slot
-by_part [] = []
-by_part (slot ∷ slots) = insert_by_part slot (by_part slots)
+by_part slots = sorted_by (λ slot other. is_smaller slot.part other.part) slots

@@ -1,72 +1,35 @@
 // Entries, read and written again, and the first fault of what is none.
-use apron_base::{Letter, Listed, Name};
-use apron_rules::{Airport, AirportParts, Date, Frontage, StandRow, TypeRow};
+use apron_base::Name;
+use apron_rules::Airport;
 use entry_bytes::{EntryFault, decode_entry, encode_entry};
+use small_airports::{on_one_frontage, stand_on_n, type_of_40};
 use std::alloc::Global;
 use std::test::Fail;
-
-fn stand(name: Name, centre: u32) -> StandRow {
-    StandRow {
-        name,
-        frontage: Name::literal(b"N"),
-        centre,
-        letter: Letter::C,
-        buffer: 10,
-        half_of: None,
-    }
-}
-
-// A type whose aircraft stay for 40 minutes at least.
-fn kind(name: Name) -> TypeRow {
-    TypeRow {
-        name,
-        span: 3_580,
-        least: 40,
-    }
-}
 
 // Six stands, seven types, and three days.
 fn airport(alloc: Global) -> Result<Airport, Fail> {
     let stands = [
-        stand(Name::literal(b"N1"), 4_000),
-        stand(Name::literal(b"N2"), 8_030),
-        stand(Name::literal(b"N3"), 12_060),
-        stand(Name::literal(b"N4"), 16_090),
-        stand(Name::literal(b"N5"), 20_120),
-        stand(Name::literal(b"N6"), 24_150),
+        stand_on_n(Name::literal(b"N1"), 4_000),
+        stand_on_n(Name::literal(b"N2"), 8_030),
+        stand_on_n(Name::literal(b"N3"), 12_060),
+        stand_on_n(Name::literal(b"N4"), 16_090),
+        stand_on_n(Name::literal(b"N5"), 20_120),
+        stand_on_n(Name::literal(b"N6"), 24_150),
     ];
-    let kinds = [
-        kind(Name::literal(b"A319")),
-        kind(Name::literal(b"A320")),
-        kind(Name::literal(b"A321")),
-        kind(Name::literal(b"B737")),
-        kind(Name::literal(b"B738")),
-        kind(Name::literal(b"B739")),
-        kind(Name::literal(b"E190")),
+    let types = [
+        type_of_40(Name::literal(b"A319")),
+        type_of_40(Name::literal(b"A320")),
+        type_of_40(Name::literal(b"A321")),
+        type_of_40(Name::literal(b"B737")),
+        type_of_40(Name::literal(b"B738")),
+        type_of_40(Name::literal(b"B739")),
+        type_of_40(Name::literal(b"E190")),
     ];
-    let frontage = Frontage {
-        name: Name::literal(b"N"),
-        objects: Listed::new(alloc),
-    };
-    let parts = AirportParts {
-        station: Name::literal(b"APR"),
-        first: Date {
-            year: 2026,
-            month: 3,
-            day: 27,
-        },
-        days: 3,
-        taxi_in: 5,
-        tow: 20,
-        frontages: Listed::from_vec(Vec::from_array(alloc, [frontage])?),
-        stands: Listed::from_vec(Vec::from_array(alloc, stands)?),
-        pairs: Listed::new(alloc),
-        types: Listed::from_vec(Vec::from_array(alloc, kinds)?),
-    };
-    match Airport::new(alloc, parts) {
-        Ok(airport) => Ok(airport),
-        Err(_) => Err(Fail::new("an airport without fault")),
-    }
+    on_one_frontage(
+        alloc,
+        Vec::from_array(alloc, stands)?,
+        Vec::from_array(alloc, types)?,
+    )
 }
 
 // V1 is an aircraft of the first type, of class 3, from 600 to 660.

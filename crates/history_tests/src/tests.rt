@@ -2,52 +2,22 @@
 ghost use Rattle.std.specs.Prelude.{◌≡◌, IfOk, IfSome};
 ghost use Rattle.history_core.specs.History.{IsAskOf};
 
-use apron_base::{Acted, CALL_END, Letter, ListKeeper, Listed, Name, TypeNo};
-use apron_rules::{Airport, AirportParts, Date, Frontage, StandRow, TypeRow};
+use apron_base::{Acted, CALL_END, ListKeeper, Listed, Name, TypeNo};
+use apron_rules::Airport;
 use desk_words::asks::{Ask, Command, What};
 use history_core::{Board, OpenFault};
+use small_airports::{on_one_frontage, stand_on_n, type_of_40};
 use std::alloc::Global;
 use std::test::Fail;
 use visit_book::{NewVisit, is_in_time};
 
 // One stand, N1, and one type, A320, whose aircraft stay for 40 minutes at least.
 fn airport(alloc: Global) -> Result<Airport, Fail> {
-    let frontage = Frontage {
-        name: Name::literal(b"N"),
-        objects: Listed::new(alloc),
-    };
-    let stand = StandRow {
-        name: Name::literal(b"N1"),
-        frontage: Name::literal(b"N"),
-        centre: 4_000,
-        letter: Letter::C,
-        buffer: 10,
-        half_of: None,
-    };
-    let kind = TypeRow {
-        name: Name::literal(b"A320"),
-        span: 3_580,
-        least: 40,
-    };
-    let parts = AirportParts {
-        station: Name::literal(b"APR"),
-        first: Date {
-            year: 2026,
-            month: 3,
-            day: 27,
-        },
-        days: 3,
-        taxi_in: 5,
-        tow: 20,
-        frontages: Listed::from_vec(Vec::from_array(alloc, [frontage])?),
-        stands: Listed::from_vec(Vec::from_array(alloc, [stand])?),
-        pairs: Listed::new(alloc),
-        types: Listed::from_vec(Vec::from_array(alloc, [kind])?),
-    };
-    match Airport::new(alloc, parts) {
-        Ok(airport) => Ok(airport),
-        Err(_) => Err(Fail::new("an airport")),
-    }
+    on_one_frontage(
+        alloc,
+        Vec::from_array(alloc, [stand_on_n(Name::literal(b"N1"), 4_000)])?,
+        Vec::from_array(alloc, [type_of_40(Name::literal(b"A320"))])?,
+    )
 }
 
 // These entries, each of which has some bytes.

@@ -11,6 +11,7 @@ use Rattle.std.proofs.lemmas.List.Sums.{sum_by-cons, sum_by-drop_more}
 use Rattle.apron_base.specs.Histories.{Rises}
 use Rattle.apron_base.specs.declared.numbers.StandNo.{StandNo}
 use Rattle.apron_base.specs.declared.slot.Slot.{Slot}
+use Rattle.apron_base.proofs.Sorting.{listed_first, listed_later}
 use Rattle.apron_rules.specs.declared.parts.AirportParts.{AirportParts}
 use Rattle.apron_rules.specs.declared.rules.Rule.TheVariants.{Same}
 use Rattle.apron_rules.specs.Clash.{IsSlotOf, IsSound, is_held, rule_at}
@@ -20,7 +21,6 @@ use Rattle.apron_rules.proofs.Bordering.{filter_passed}
 use Rattle.clash_check.specs.Clear.{is_of_other, others_of}
 use Rattle.clash_check.specs.Indexed.{all_slots}
 use Rattle.clash_check.proofs.Looked.{of_index}
-use Rattle.clash_check.proofs.Ordered.{listed_first, listed_later}
 use Rattle.stand_index.specs.Slots.{AddsSlot, HasMinutes, IsIndex, IsSlotAt, KeepsOrder, KeepsOtherStands, StandSlots, at_stand}
 use Rattle.visit_book.specs.declared.visits.Visit.{Visit}
 use Rattle.visit_book.specs.Numbers.{IsNumbered, visit_at}

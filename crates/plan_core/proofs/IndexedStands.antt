@@ -10,9 +10,9 @@ use Rattle.std.proofs.lemmas.List.Sorted.{IsPermutation-refl, IsPermutation-sym,
 use Rattle.apron_base.specs.declared.numbers.PartId.{PartId}
 use Rattle.apron_base.specs.declared.numbers.StandNo.{StandNo}
 use Rattle.apron_base.specs.declared.slot.Slot.{Slot}
+use Rattle.apron_base.proofs.Sorting.{listed_first, listed_later}
 use Rattle.clash_check.specs.Indexed.{all_slots, slots_at}
 use Rattle.clash_check.proofs.Looked.{of_stand}
-use Rattle.clash_check.proofs.Ordered.{listed_first, listed_later}
 use Rattle.stand_index.specs.Slots.{AddsSlot, AreSlotsAt, HasMinutes, IsIndex, KeepsOrder, KeepsOtherStands, KeepsSlots, RemovesPart, StandSlots, actual_with, at_stand, insert_by_start, is_of_part, no_slots, planned_with}
 use Rattle.stand_index.proofs.Stands.{stand_with_room, stand_with_slot, stand_without_part}
 use Rattle.plan_core.specs.Indexing.{KeepsRoom, is_off}

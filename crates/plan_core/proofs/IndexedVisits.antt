@@ -8,6 +8,7 @@ use Rattle.std.proofs.lemmas.List.Elements.{All-contains, Contains-append_cases,
 use Rattle.apron_base.specs.Histories.{Rises}
 use Rattle.apron_base.specs.declared.numbers.VisitNo.{VisitNo}
 use Rattle.apron_base.specs.declared.slot.Slot.{Slot}
+use Rattle.apron_base.proofs.Sorting.{listed_cases, listed_first, listed_later}
 use Rattle.apron_rules.specs.declared.parts.AirportParts.{AirportParts}
 use Rattle.apron_rules.specs.declared.rules.Clash.{Clash}
 use Rattle.apron_rules.specs.Clash.{IsClashAmong, IsFirstClash, IsSound}
@@ -15,7 +16,6 @@ use Rattle.apron_rules.proofs.Bordering.{filter_passed, passes_filter}
 use Rattle.apron_rules.proofs.Least.{least_same}
 use Rattle.clash_check.specs.Clear.{is_of_any, is_of_other, others_of}
 use Rattle.clash_check.specs.Indexed.{all_slots}
-use Rattle.clash_check.proofs.Ordered.{listed_cases, listed_first, listed_later}
 use Rattle.stand_index.specs.Slots.{StandSlots}
 use Rattle.visit_book.specs.declared.visits.Visit.{Visit}
 use Rattle.visit_book.specs.Numbers.{IsNumbered, IsNumberedAbove, has_number, visit_at}

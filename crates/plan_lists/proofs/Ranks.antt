@@ -1,32 +1,28 @@
 -- Parts that wait, by rank: there is one order of them.
-use Rattle.std.proofs.Common.{◌≡◌, ◌∙◌, ◌<◌, ◌≤◌, ◌+◌, ◌==◌, ◌&&◌, ◌||◌, ◌⊎◌, inl, inr, ℕ, suc, Bool, true, false, cond, List, [], ◌∷◌, ◌++◌, refl, sym, ap, subst, arith, length, get_or, map, nat_lt}
+use Rattle.std.proofs.Common.{◌≡◌, ◌∙◌, ◌<◌, ◌≤◌, ◌+◌, ◌==◌, ◌&&◌, ◌||◌, ℕ, suc, Bool, true, false, cond, List, [], ◌∷◌, ◌++◌, refl, sym, ap, subst, arith, length, get_or, map, nat_lt}
 use Rattle.std.specs.Prelude.{Contains, filter, not, sum_by}
 use Rattle.std.specs.List.{flat_map}
-use Rattle.std.specs.List.Sorted.{IsPermutation, IsSortedByKey}
+use Rattle.std.specs.Cmp.{IsStrictWeakOrder}
+use Rattle.std.specs.List.Sorted.{IsPermutation, IsSortedByKey, ties}
 use Rattle.std.specs.Ordering.{is_lt, nat_cmp, ordering_then}
 use Rattle.std.specs.declared.cmp.Ordering.{Ordering}
 use Rattle.std.specs.declared.cmp.Ordering.TheVariants.{Equal, Greater, Less}
 use Rattle.std.proofs.lemmas.Bool.Decides.{nat_tests}
-use Rattle.std.proofs.lemmas.List.Sorted.{Contains-permutation, IsPermutation-sym, sum_by-IsPermutation}
 use Rattle.std.proofs.lemmas.List.Sums.{sum_by-append, sum_by-cons, sum_by-le-sum_by}
 use Rattle.apron_base.specs.declared.numbers.PartId.{PartId}
+use Rattle.apron_base.proofs.Sorting.{IsOnce, NeverFalls, falls_nowhere, one_order, sorted_from}
 use Rattle.visit_book.specs.declared.visits.Part.{Part}
 use Rattle.visit_book.specs.declared.visits.Visit.{Visit}
 use Rattle.visit_book.specs.Ends.{is_live}
 use Rattle.visit_book.specs.Numbers.{IsNumbered, IsNumberedAbove}
-use Rattle.clash_check.proofs.Ordered.{is_part, listed_cases, listed_first, listed_later}
+use Rattle.clash_check.proofs.Ordered.{is_part}
 use Rattle.bump_core.specs.Ranks.{is_lower, part_rank}
 use Rattle.bump_core.proofs.Order.{lower_apart, lower_trans}
 use Rattle.bump_core.proofs.Settled.{lower_total}
 use Rattle.desk_words.specs.declared.replies.PartRow.{PartRow}
 use Rattle.plan_lists.specs.declared.waiting.Waiting.{Waiting}
 use Rattle.plan_lists.specs.Rows.{rows_from}
-use Rattle.plan_lists.specs.Unplaced.{by_rank, insert_by_rank, is_unplaced, rank_of, waiting_of, with_rank}
-use Rattle.plan_lists.proofs.Ordered.{IsOnce, IsOrder, NeverFalls, falls_nowhere, rises_once, rises_one, ties}
-
--- one is of a lower rank than the other
-abbrev pub ranks_before : Waiting → Waiting → Bool
-ranks_before part other = is_lower (rank_of part) (rank_of other)
+use Rattle.plan_lists.specs.Unplaced.{by_rank, is_unplaced, rank_of, ranks_before, waiting_of, with_rank}
 
 lower_one_way : (xs ys : List ℕ) (b : Bool) → is_lower ys xs ≡ b → is_lower xs ys ≡ true → is_lower ys xs ≡ false
 lower_one_way xs ys false e h = e
@@ -35,99 +31,26 @@ lower_one_way xs ys true e h =
     let no : is_lower xs xs ≡ false = lower_apart xs in
     absurd (cc)
 
-lower_along : (xs ys zs : List ℕ) (b c : Bool) → length xs ≡ length ys → is_lower zs xs ≡ b → is_lower xs ys ≡ c → is_lower ys xs ≡ false → is_lower zs ys ≡ false → is_lower zs xs ≡ false
-lower_along xs ys zs false c len e f h k = e
-lower_along xs ys zs true true len e f h k = let yes : is_lower zs ys ≡ true = lower_trans zs xs ys e f in absurd (cc)
-lower_along xs ys zs true false len e f h k = let same : xs ≡ ys = lower_total xs ys len f h in absurd (cc)
+lower_chain : (xs ys zs : List ℕ) (b c : Bool) → length ys ≡ length zs → is_lower xs zs ≡ b → is_lower zs ys ≡ c → is_lower xs ys ≡ false → is_lower ys zs ≡ false → is_lower xs zs ≡ false
+lower_chain xs ys zs false c long e f h k = e
+lower_chain xs ys zs true true long e f h k = let yes : is_lower xs ys ≡ true = lower_trans xs zs ys e f in absurd (cc)
+lower_chain xs ys zs true false long e f h k = let same : ys ≡ zs = lower_total ys zs long k f in absurd (cc)
 
-pub order : IsOrder ranks_before
-order = record {
-  one_way = λ x y h. lower_one_way (rank_of x) (rank_of y) (is_lower (rank_of y) (rank_of x)) refl h;
-  along = λ x y z h k. lower_along (rank_of x) (rank_of y) (rank_of z) (is_lower (rank_of z) (rank_of x)) (is_lower (rank_of x) (rank_of y)) refl refl refl h k;
+-- as many numbers of each item make an order
+pub order_by : {X : Type 0} (numbers : X → List ℕ) (n : ℕ) → ((x : X) → length (numbers x) ≡ n) → (lt : X → X → Bool) → ((x y : X) → lt x y ≡ is_lower (numbers x) (numbers y)) → IsStrictWeakOrder lt
+order_by numbers n long lt same = record {
+  one_way = λ x y h. same y x ∙ lower_one_way (numbers x) (numbers y) (is_lower (numbers y) (numbers x)) refl (sym (same x y) ∙ h);
+  chain = λ x y z h k. same x z
+      ∙ lower_chain (numbers x) (numbers y) (numbers z) (is_lower (numbers x) (numbers z)) (is_lower (numbers z) (numbers y)) (long y ∙ sym (long z)) refl refl
+      (sym (same x y) ∙ h) (sym (same y z) ∙ k);
 }
 
--- a part that is put among others
-insert_cases : (part : Waiting) (xs : List Waiting) (y : Waiting) → Contains (insert_by_rank part xs) y → (part ≡ y) ⊎ Contains xs y
-insert_cases part [] y h = listed_cases part [] y h
-insert_cases part (x ∷ xs) y h = cases (insert_cases part xs y) (ranks_before x part) h
-  where
-    cases : (Contains (insert_by_rank part xs) y → (part ≡ y) ⊎ Contains xs y) → (b : Bool) → Contains (cond b (x ∷ insert_by_rank part xs) (part ∷ x ∷ xs)) y → (part ≡ y) ⊎ Contains (x ∷ xs) y
-    cases rest true k = elim (listed_cases x (insert_by_rank part xs) y k) [
-      | inl first ↦ inr (subst (Contains (x ∷ xs)) first (listed_first x xs))
-      | inr later ↦ elim (rest later) [ inl own ↦ inl own | inr old ↦ inr (listed_later x xs y old) ]
-    ]
-    cases rest false k = listed_cases part (x ∷ xs) y k
-
-insert_listed : (part : Waiting) (xs : List Waiting) (y : Waiting) → (part ≡ y) ⊎ Contains xs y → Contains (insert_by_rank part xs) y
-insert_listed part [] y h = elim h [ inl own ↦ subst (Contains (part ∷ [])) own (listed_first part []) | inr old ↦ listed_later part [] y old ]
-insert_listed part (x ∷ xs) y h = cases (insert_listed part xs y) (ranks_before x part) h
-  where
-    cases : ((part ≡ y) ⊎ Contains xs y → Contains (insert_by_rank part xs) y) → (b : Bool) → (part ≡ y) ⊎ Contains (x ∷ xs) y → Contains (cond b (x ∷ insert_by_rank part xs) (part ∷ x ∷ xs)) y
-    cases rest true (inl own) = listed_later x (insert_by_rank part xs) y (rest (inl own))
-    cases rest true (inr old) = elim (listed_cases x xs y old) [
-      | inl first ↦ subst (Contains (x ∷ insert_by_rank part xs)) first (listed_first x (insert_by_rank part xs))
-      | inr later ↦ listed_later x (insert_by_rank part xs) y (rest (inr later))
-    ]
-    cases rest false (inl own) = subst (Contains (part ∷ x ∷ xs)) own (listed_first part (x ∷ xs))
-    cases rest false (inr old) = listed_later part (x ∷ xs) y old
+order : IsStrictWeakOrder ranks_before
+order = order_by rank_of 4 (λ part. refl) ranks_before (λ part other. refl)
 
 -- parts by rank are those parts
 pub ordered_from : (parts : List Waiting) (y : Waiting) → Contains (by_rank parts) y → Contains parts y
-ordered_from [] y h = h
-ordered_from (part ∷ parts) y h = elim (insert_cases part (by_rank parts) y h) [
-  | inl own ↦ subst (Contains (part ∷ parts)) own (listed_first part parts)
-  | inr old ↦ listed_later part parts y (ordered_from parts y old)
-]
-
-ordered_to : (parts : List Waiting) (y : Waiting) → Contains parts y → Contains (by_rank parts) y
-ordered_to [] y h = h
-ordered_to (part ∷ parts) y h = insert_listed part (by_rank parts) y (elim (listed_cases part parts y h) [ inl own ↦ inl own | inr later ↦ inr (ordered_to parts y later) ])
-
-insert_falls : (part : Waiting) (xs : List Waiting) → NeverFalls ranks_before order xs → NeverFalls ranks_before order (insert_by_rank part xs)
-insert_falls part [] falls = (λ y h. absurd (omega (arith, h.1)), tt)
-insert_falls part (x ∷ xs) falls = cases (insert_falls part xs falls.1) (ranks_before x part) refl
-  where
-    behind : ranks_before x part ≡ true → (y : Waiting) → (part ≡ y) ⊎ Contains xs y → ranks_before y x ≡ false
-    behind e y (inl own) = subst (λ (z : Waiting). ranks_before z x ≡ false) own (order.one_way x part e)
-    behind e y (inr old) = falls.0 y old
-
-    ahead : ranks_before x part ≡ false → (y : Waiting) → (x ≡ y) ⊎ Contains xs y → ranks_before y part ≡ false
-    ahead e y (inl first) = subst (λ (z : Waiting). ranks_before z part ≡ false) first e
-    ahead e y (inr later) = order.along part x y e (falls.0 y later)
-
-    cases : NeverFalls ranks_before order (insert_by_rank part xs) → (b : Bool) → ranks_before x part ≡ b
-        → NeverFalls ranks_before order (cond b (x ∷ insert_by_rank part xs) (part ∷ x ∷ xs))
-    cases rest true e = (λ y h. behind e y (insert_cases part xs y h), rest)
-    cases rest false e = (λ y h. ahead e y (listed_cases x xs y h), falls)
-
-ordered_falls : (parts : List Waiting) → NeverFalls ranks_before order (by_rank parts)
-ordered_falls [] = tt
-ordered_falls (part ∷ parts) = insert_falls part (by_rank parts) (ordered_falls parts)
-
-insert_count : (f : Waiting → ℕ) (part : Waiting) (xs : List Waiting) → sum_by f (insert_by_rank part xs) ≡ f part + sum_by f xs
-insert_count f part [] = sum_by-cons f part []
-insert_count f part (x ∷ xs) = cases (insert_count f part xs) (ranks_before x part)
-  where
-    cases : sum_by f (insert_by_rank part xs) ≡ f part + sum_by f xs → (b : Bool) → sum_by f (cond b (x ∷ insert_by_rank part xs) (part ∷ x ∷ xs)) ≡ f part + sum_by f (x ∷ xs)
-    cases rest true = omega (arith, sum_by-cons f x (insert_by_rank part xs), rest, sum_by-cons f x xs)
-    cases rest false = sum_by-cons f part (x ∷ xs)
-
-ordered_count : (f : Waiting → ℕ) (parts : List Waiting) → sum_by f (by_rank parts) ≡ sum_by f parts
-ordered_count f [] = refl
-ordered_count f (part ∷ parts) = omega (arith, insert_count f part (by_rank parts), ordered_count f parts, sum_by-cons f part parts)
-
--- parts of which no two tie, once they are in order
-one_order : (found sorted : List Waiting) → IsOnce ranks_before order found → IsPermutation found sorted → NeverFalls ranks_before order sorted → sorted ≡ by_rank found
-one_order found sorted once moved falls =
-    let same_count : IsOnce ranks_before order sorted = λ part.
-    omega (arith, once part, sum_by-IsPermutation (λ (x : Waiting). cond (ties ranks_before part x) 1 0) found sorted moved) in
-    let count_by_rank : IsOnce ranks_before order (by_rank found) = λ part.
-    omega (arith, once part, ordered_count (λ (x : Waiting). cond (ties ranks_before part x) 1 0) found) in
-    rises_one ranks_before order sorted (by_rank found)
-    (rises_once ranks_before order sorted falls same_count)
-    (rises_once ranks_before order (by_rank found) (ordered_falls found) count_by_rank)
-    (λ x listed. ordered_to found x (Contains-permutation sorted found x (IsPermutation-sym found sorted moved) listed))
-    (λ x listed. Contains-permutation found sorted x moved (ordered_from found x listed))
+ordered_from parts y h = sorted_from ranks_before parts y h
 
 -- the part that waits is this one
 abbrev is_id : PartId → Waiting → Bool
@@ -266,7 +189,7 @@ cond_le true true h = omega arith
 cond_le true false h = absurd (cc (h refl))
 
 -- no two parts of visits in order tie
-once : (visits : List Visit) → IsNumbered visits → IsOnce ranks_before order (flat_map waiting_of visits)
+once : (visits : List Visit) → IsNumbered visits → IsOnce ranks_before (flat_map waiting_of visits)
 once visits h part =
     omega (
       arith,
@@ -306,7 +229,7 @@ lower_is part other =
     (nat_lt part.row.id.part other.row.id.part) (part.row.id.part == other.row.id.part)
 
 -- sorted parts are in order
-pub sorted_falls : (sorted : List Waiting) → IsSortedByKey key_of compare_keys sorted → NeverFalls ranks_before order sorted
+pub sorted_falls : (sorted : List Waiting) → IsSortedByKey key_of compare_keys sorted → NeverFalls ranks_before sorted
 sorted_falls sorted up = falls_nowhere ranks_before order sorted (λ k d inside.
     let next : k + 1 ≡ suc k = omega arith in
     let later = up k d (omega arith) (omega (arith, inside)) in
@@ -315,6 +238,6 @@ sorted_falls sorted up = falls_nowhere ranks_before order sorted (λ k d inside.
 
 -- the parts of visits that wait, once they are sorted
 pub sorted_waiting : (visits : List Visit) (found sorted : List Waiting) → IsNumbered visits → found ≡ flat_map waiting_of visits → IsPermutation found sorted
-    → NeverFalls ranks_before order sorted → sorted ≡ by_rank (flat_map waiting_of visits)
+    → NeverFalls ranks_before sorted → sorted ≡ by_rank (flat_map waiting_of visits)
 sorted_waiting visits found sorted numbered are moved falls =
-    one_order (flat_map waiting_of visits) sorted (once visits numbered) (subst (λ (parts : List Waiting). IsPermutation parts sorted) are moved) falls
+    one_order ranks_before order (flat_map waiting_of visits) sorted (once visits numbered) (subst (λ (parts : List Waiting). IsPermutation parts sorted) are moved) falls

@@ -1,6 +1,7 @@
 -- The parts that wait for a stand.
-use Rattle.std.specs.Prelude.{◌∷◌, [], ℕ, Bool, List, filter, is_none, map, if◌then◌else◌}
+use Rattle.std.specs.Prelude.{[], ℕ, Bool, List, filter, is_none, map, if◌then◌else◌}
 use Rattle.std.specs.List.{flat_map}
+use Rattle.apron_base.specs.Sorting.{sorted_by}
 use Rattle.visit_book.specs.declared.visits.Visit.{Visit}
 use Rattle.visit_book.specs.Ends.{is_live}
 use Rattle.visit_book.specs.Places.{stand_of}
@@ -26,16 +27,13 @@ waiting_of visit = if is_live visit then map (with_rank visit) (filter is_unplac
 abbrev pub rank_of : Waiting → List ℕ
 rank_of part = part_rank part.class part.on part.row.id
 
--- the parts with one more, behind those of a lower rank
-abbrev pub insert_by_rank : Waiting → List Waiting → List Waiting
-insert_by_rank part [] = part ∷ []
-insert_by_rank part (first ∷ others) =
-    if is_lower (rank_of first) (rank_of part) then first ∷ insert_by_rank part others else part ∷ first ∷ others
+-- one is of a lower rank than the other
+abbrev pub ranks_before : Waiting → Waiting → Bool
+ranks_before part other = is_lower (rank_of part) (rank_of other)
 
 -- the parts by rank
 abbrev pub by_rank : List Waiting → List Waiting
-by_rank [] = []
-by_rank (part ∷ parts) = insert_by_rank part (by_rank parts)
+by_rank parts = sorted_by ranks_before parts
 
 -- the parts of live visits that wait for a stand, by rank
 abbrev pub unplaced : PlanState → List PartRow

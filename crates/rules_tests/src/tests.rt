@@ -2,9 +2,8 @@
 ghost use Rattle.std.specs.Prelude.{◌≡◌, ◌<◌, IfSome, length, nat_lt};
 
 use apron_base::{Letter, Listed, Name, StandNo, TypeNo};
-use apron_rules::{
-    Airport, AirportParts, Date, Frontage, PairRow, Rule, StandRow, TypeRow, UnfitBy,
-};
+use apron_rules::{Airport, AirportParts, Frontage, PairRow, Rule, StandRow, TypeRow, UnfitBy};
+use small_airports::{airport_of, empty_parts};
 use std::alloc::Global;
 use std::test::Fail;
 
@@ -65,25 +64,17 @@ fn airport(alloc: Global) -> Result<Airport, Fail> {
         span: 6_480,
         least: 40,
     };
-    let parts = AirportParts {
-        station: Name::literal(b"APR"),
-        first: Date {
-            year: 2026,
-            month: 3,
-            day: 27,
+    airport_of(
+        alloc,
+        AirportParts {
+            days: 1,
+            frontages: Listed::from_vec(Vec::from_array(alloc, [frontage])?),
+            stands: Listed::from_vec(Vec::from_array(alloc, stands)?),
+            pairs: Listed::from_vec(Vec::from_array(alloc, [pair])?),
+            types: Listed::from_vec(Vec::from_array(alloc, [narrow, wide])?),
+            ..empty_parts(alloc)
         },
-        days: 1,
-        taxi_in: 5,
-        tow: 20,
-        frontages: Listed::from_vec(Vec::from_array(alloc, [frontage])?),
-        stands: Listed::from_vec(Vec::from_array(alloc, stands)?),
-        pairs: Listed::from_vec(Vec::from_array(alloc, [pair])?),
-        types: Listed::from_vec(Vec::from_array(alloc, [narrow, wide])?),
-    };
-    match Airport::new(alloc, parts) {
-        Ok(airport) => Ok(airport),
-        Err(_) => Err(Fail::new("an airport")),
-    }
+    )
 }
 
 fn number(airport: &Airport, name: &str) -> Option<StandNo>

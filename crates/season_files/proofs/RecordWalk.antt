@@ -1,5 +1,5 @@
 -- A step of the walk over the records of a text.
-use Rattle.std.proofs.Common.{◌≡◌, ℕ, zero, suc, ◌+◌, true, false, List, [], ◌∷◌, ◌++◌, Option, Some, None, Result, Ok, Err, refl, sym, append_assoc, add-one}
+use Rattle.std.proofs.Common.{◌≡◌, ℕ, zero, suc, ◌+◌, true, false, List, [], ◌∷◌, ◌++◌, Some, None, Result, Ok, Err, refl, sym, append_assoc, add-one}
 use Rattle.std.specs.Prelude.{is_err, OnOk}
 use Rattle.std.proofs.lemmas.Bool.{false≢true}
 use Rattle.std.proofs.lemmas.List.{append-nil}
@@ -8,9 +8,7 @@ use Rattle.apron_rules.specs.declared.parts.AirportParts.{AirportParts}
 use Rattle.csv.specs.Machine.{Read, next_record}
 use Rattle.csv.specs.Reading.{default_config, records_from}
 use Rattle.csv.specs.declared.parser.State.{State}
-use Rattle.csv.specs.declared.reader.Reader.{Reader}
 use Rattle.visit_book.specs.declared.visits.NewVisit.{NewVisit}
-use Rattle.season_files.specs.CsvReading.{IsReading, Found}
 use Rattle.season_files.specs.Records.{is_header, visit_of}
 use Rattle.season_files.specs.Seasons.{season_left, visits_from, visits_left, visits_of}
 
@@ -60,15 +58,6 @@ module _ (airport : AirportParts) where
   pub header-good : (n : ℕ) (s : State) (left : List ℕ) (p : Read) → next_record default_config s [] [] left ≡ Some p → is_header p.0 ≡ true → season_left airport (n + 1) s left ≡ visits_left airport 2 n p.1 p.2
   unfolding records_from visits_of
   header-good n s left p next good = rw (add-one, next, good)
-
--- what a read that found a record, or none, says
-pub found-some : {R : Type 0} (rem : R → Option (List ℕ)) (r : Reader R) (fields : List (List ℕ)) (o : Option Read) → Found rem r true fields o → (p : Read) × (o ≡ Some p) × (fields ≡ p.0) × IsReading rem r p.1 p.2
-found-some rem r fields None h = absurd (false≢true (sym h))
-found-some rem r fields (Some p) h = (p, refl, h.1, h.2)
-
-pub found-none : {R : Type 0} (rem : R → Option (List ℕ)) (r : Reader R) (fields : List (List ℕ)) (o : Option Read) → Found rem r false fields o → o ≡ None
-found-none rem r fields None h = refl
-found-none rem r fields (Some p) h = absurd (false≢true h.0)
 
 -- what a call that wasn't refused promises
 pub from_ok : {T E : Type 0} (r : Result T E) (P : Type 0) → is_err r ≡ false → OnOk r P → P

@@ -1,25 +1,18 @@
 -- A type is found by its name.
-use Rattle.std.proofs.Common.{◌≡◌, ◌∙◌, ◌<◌, ◌≤◌, ◌==◌, ◌+◌, ℕ, Bool, true, false, cond, List, [], ◌∷◌, ◌++◌, length, zero, suc, refl, ap, arith, append_assoc, Option, None, Some, get_or, inl, inr}
-use Rattle.std.specs.Prelude.{All, is_some, slice_get, nat_lt, not}
-use Rattle.std.specs.List.{prefix_len}
+use Rattle.std.proofs.Common.{◌≡◌, ◌∙◌, ◌<◌, ℕ, length, refl, ap, arith, Option, None, Some, get_or, inl, inr}
+use Rattle.std.specs.Prelude.{All, slice_get}
 use Rattle.std.specs.Option.{option_map}
-use Rattle.std.specs.Str.{bytes_eq}
-use Rattle.std.specs.Cmp.Lexicographic.{bytes_decides}
-use Rattle.std.proofs.lemmas.Bool.{ltb-false, false≢true}
-use Rattle.std.proofs.lemmas.Bool.Decides.{nat_tests}
-use Rattle.std.proofs.lemmas.List.{length_push, length-append}
 use Rattle.std.proofs.lemmas.List.Elements.{All-get_or}
-use Rattle.std.proofs.lemmas.List.Folds.{prefix_len-append}
-use Rattle.std.proofs.lemmas.List.Sums.{prefix_len-le-length}
 use Rattle.std.proofs.lemmas.Option.{slice_get-map, slice_get_cases, slice_get_read}
-use Rattle.apron_base.specs.Name.{IsName, is_name}
+use Rattle.apron_base.specs.Name.{IsName}
 use Rattle.apron_base.specs.declared.numbers.TypeNo.{TypeNo}
 use Rattle.apron_base.proofs.NameTests.{name_decides}
-use Rattle.apron_rules.specs.Names.{frontage_names, is_known, first_repeated, place_of, repeated_after, stand_names, type_names}
+use Rattle.apron_rules.specs.Names.{frontage_names, first_repeated, place_of, stand_names, type_names}
 use Rattle.apron_rules.specs.Refusals.{duplicate_of, fault_of, later_fault_of}
 use Rattle.apron_rules.specs.declared.parts.AirportParts.{AirportParts}
 use Rattle.apron_rules.specs.declared.parts.TypeRow.{TypeRow}
 use Rattle.apron_rules.proofs.Airports.{left_none, right_none}
+use Rattle.apron_rules.proofs.ByPlace.{place_at}
 use Rattle.season_files.specs.Laws.{HasName}
 use Rattle.season_files.specs.Records.{type_named}
 use Rattle.season_files.specs.Texts.{name_of_row, name_of_type}
@@ -35,48 +28,10 @@ types_once parts h =
     let once = unmapped _ (duplicate_of parts) (left_none _ (later_fault_of parts) h) in
     right_none (first_repeated (stand_names parts)) _ (right_none (first_repeated (frontage_names parts)) _ once)
 
-itself : (name : List ℕ) → bytes_eq name name ≡ true
-itself name = (bytes_decides name name).1 refl
-
-not_found : (test : Bool) (k : ℕ) → is_some (cond test (Some k) None) ≡ false → test ≡ false
-not_found true k h = absurd (cc)
-not_found false k h = refl
-
--- a new name is found behind the names before it
-found_behind : (before rest : List (List ℕ)) (name : List ℕ) → is_known name before ≡ false → place_of name (before ++ name ∷ rest) ≡ Some (length before + 0)
-found_behind before rest name new =
-    let p : List ℕ → Bool = λ x. not (bytes_eq name x) in
-    let past : length before ≤ prefix_len p before = ltb-false _ _ (not_found _ _ new) in
-    let most : prefix_len p before ≤ length before = prefix_len-le-length p before in
-    let all : prefix_len p before ≡ length before = omega (arith, past, most) in
-    let whole : (length before == length before) ≡ true = grind (arith, nat_tests) in
-    let none : prefix_len p (name ∷ rest) ≡ 0 = rw (itself name) refl in
-    let place : prefix_len p (before ++ name ∷ rest) ≡ length before + 0 = prefix_len-append p before (name ∷ rest) ∙ (rw (all, whole, none) refl) in
-    let inside : nat_lt (length before + 0) (length (before ++ name ∷ rest)) ≡ true = rw (length-append before (name ∷ rest)) (grind (arith, nat_tests)) in
-    rw (place, inside) refl
-
-new_by : (known : Bool) (name : List ℕ) (rest : Option (List ℕ)) → cond known (Some name) rest ≡ None → (known ≡ false) × (rest ≡ None)
-new_by true name rest h = absurd (cc)
-new_by false name rest h = (refl, h)
-
--- where no name is there twice, each is found at its place
-found_at : (before rest : List (List ℕ)) (i : ℕ) (name : List ℕ) → repeated_after before rest ≡ None → slice_get rest i ≡ Some name → place_of name (before ++ rest) ≡ Some (length before + i)
-unfolding repeated_after
-found_at before [] i name none at = absurd (cc)
-found_at before (first ∷ rest) zero name none at =
-    let same : first ≡ name = cc in
-    rw (← same) (found_behind before rest first (new_by (is_known first before) first (repeated_after (before ++ first ∷ []) rest) none).0)
-found_at before (first ∷ rest) (suc i) name none at =
-    let more = (new_by (is_known first before) first (repeated_after (before ++ first ∷ []) rest) none).1 in
-    let next : length (before ++ first ∷ []) + i ≡ length before + suc i = omega (arith, length_push before first) in
-    let whole : (before ++ first ∷ []) ++ rest ≡ before ++ first ∷ rest = append_assoc before (first ∷ []) rest in
-    rw (← next, ← whole) (found_at (before ++ first ∷ []) rest i name more at)
-
 -- the place of a type's name is the type's number
 type_place : (parts : AirportParts) (k : ℕ) (row : TypeRow) → fault_of parts ≡ None → slice_get parts.types k ≡ Some row → place_of row.name (type_names parts) ≡ Some k
 type_place parts k row none at =
-    let plain : 0 + k ≡ k = omega arith in
-    found_at [] (type_names parts) k row.name (types_once parts none) (slice_get-map (λ (row : TypeRow). row.name) parts.types k ∙ ap (option_map (λ (row : TypeRow). row.name)) at) ∙ ap Some plain
+    place_at (type_names parts) k row.name (types_once parts none) (slice_get-map (λ (row : TypeRow). row.name) parts.types k ∙ ap (option_map (λ (row : TypeRow). row.name)) at)
 
 -- the row of a type of the airport
 pub record IsRowOf (airport : AirportParts) (kind : TypeNo) (row : TypeRow) : Type 0 where

@@ -1,4 +1,3 @@
-pub mod CsvReading
 pub mod Records
 pub mod Seasons
 pub mod CsvWriting

@@ -2,7 +2,6 @@
 //! plan, and adds nothing.
 #![tactic(auto)]
 
-mod csv_reading;
 mod csv_writing;
 mod faults;
 mod laws;

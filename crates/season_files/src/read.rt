@@ -2,15 +2,15 @@
 ghost use Rattle.std.specs.Prelude.{◌≡◌, ℕ, List, Some, OnOk, IfOk, IfErr, ◌<◌, ◌+◌, ◌^◌, length, All};
 ghost use Rattle.csv.specs.declared.parser.State.{State};
 ghost use Rattle.visit_book.specs.NewVisits.{IsNewVisitOf};
-ghost use Rattle.season_files.specs.CsvReading.{IsReading};
+ghost use Rattle.csv_records.specs.Reading.{IsReading};
 ghost use Rattle.season_files.specs.Seasons.{Reads, Refuses, season_in, season_left, visits_left};
 
-use crate::csv_reading::{read_row, start};
 use crate::faults::SeasonFault;
 use crate::records::{is_header, visit_of};
 use apron_base::Listed;
 use apron_rules::Airport;
 use csv::{ByteRecord, Reader};
+use csv_records::{read_row, start};
 use std::alloc::Global;
 use visit_book::{Key, NewVisit};
 

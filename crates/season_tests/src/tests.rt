@@ -2,9 +2,10 @@
 ghost use Rattle.std.specs.Prelude.{◌≡◌, All, IfOk};
 ghost use Rattle.visit_book.specs.NewVisits.{IsNewVisitOf, new_of};
 
-use apron_base::{Letter, Listed, Name, VisitNo};
-use apron_rules::{Airport, AirportParts, Date, Frontage, StandRow, TypeRow};
+use apron_base::{Listed, Name, VisitNo};
+use apron_rules::{Airport, TypeRow};
 use season_files::{SeasonFault, read_season, write_season};
+use small_airports::{on_one_frontage, stand_on_n, type_of_40};
 use std::alloc::Global;
 use std::test::Fail;
 use visit_book::{End, NewVisit, Visit, added_visit};
@@ -19,47 +20,16 @@ const MOST: usize = 1_000_000;
 
 // One stand, N1, and two types, of 40 and of 25 minutes at least.
 fn airport(alloc: Global) -> Result<Airport, Fail> {
-    let frontage = Frontage {
-        name: Name::literal(b"N"),
-        objects: Listed::new(alloc),
-    };
-    let stand = StandRow {
-        name: Name::literal(b"N1"),
-        frontage: Name::literal(b"N"),
-        centre: 4_000,
-        letter: Letter::C,
-        buffer: 10,
-        half_of: None,
-    };
-    let jet = TypeRow {
-        name: Name::literal(b"A320"),
-        span: 3_580,
-        least: 40,
-    };
     let turboprop = TypeRow {
         name: Name::literal(b"AT76"),
         span: 2_705,
         least: 25,
     };
-    let parts = AirportParts {
-        station: Name::literal(b"APR"),
-        first: Date {
-            year: 2026,
-            month: 3,
-            day: 27,
-        },
-        days: 3,
-        taxi_in: 5,
-        tow: 20,
-        frontages: Listed::from_vec(Vec::from_array(alloc, [frontage])?),
-        stands: Listed::from_vec(Vec::from_array(alloc, [stand])?),
-        pairs: Listed::new(alloc),
-        types: Listed::from_vec(Vec::from_array(alloc, [jet, turboprop])?),
-    };
-    match Airport::new(alloc, parts) {
-        Ok(airport) => Ok(airport),
-        Err(_) => Err(Fail::new("an airport")),
-    }
+    on_one_frontage(
+        alloc,
+        Vec::from_array(alloc, [stand_on_n(Name::literal(b"N1"), 4_000)])?,
+        Vec::from_array(alloc, [type_of_40(Name::literal(b"A320")), turboprop])?,
+    )
 }
 
 // The visits that a text tells.

@@ -7,11 +7,11 @@ use apron_base::{ListListener, ListSink, ListSource, MapShelf, Memory};
 use apron_run::run;
 use apron_serve::serve;
 use journal_disk::{Disk, MemoryDisk};
+use run_inputs::{FIRST, ROOM, STANDS, kept, words};
 use std::alloc::Global;
 use std::sync::Wait;
 use std::test::Fail;
 use std::thread::Threads;
-use text_runs::{ROOM, kept, words};
 
 // The airport file: one stand.
 const AIRPORT: &str = r#"frontage = [ { name = "N", objects = [] } ]
@@ -28,14 +28,6 @@ tow = 20
 
 // The type file: one type.
 const TYPES: &str = "type,span,least\nA320,3580,40\n";
-
-// A visit is added, and put on the stand.
-const FIRST: &[u8] =
-    b"POST /visits HTTP/1.1\r\nContent-Length: 78\r\n\r\n{\"name\":\"V1\",\"type\":\"A320\",\"class\":3,\"on\":600,\"off\":660,\"arr\":null,\"dep\":null}POST /commits HTTP/1.1\r\nContent-Length: 83\r\n\r\n{\"desk\":\"D\",\"draft\":1,\"base\":1,\"edits\":[{\"put\":{\"visit\":1,\"part\":1,\"stand\":\"N1\"}}]}";
-
-// What the desk is told of it.
-const FIRST_TOLD: &[u8] =
-    b"HTTP/1.1 200 OK\r\nContent-Type: application/json\r\nContent-Length: 23\r\nX-Version: 1\r\n\r\n{\"version\":1,\"visit\":1}HTTP/1.1 200 OK\r\nContent-Type: application/json\r\nContent-Length: 13\r\nX-Version: 2\r\n\r\n{\"version\":2}";
 
 const VERSION: &[u8] = b"GET /version HTTP/1.1\r\nX-Seen: 0\r\n\r\n";
 
@@ -171,7 +163,7 @@ fn a_desk_that_asks_the_version_is_told_one_that_there_was(rt: HostRuntime) -> R
     let alloc = rt.alloc();
     let both = serve_both(&rt, alloc, (FIRST, VERSION), journal(alloc)?)?;
     assert_eq!(rt; both.status, 0);
-    assert_eq!(rt; both.first.as_slice(), FIRST_TOLD);
+    assert_eq!(rt; both.first.as_slice(), STANDS);
     assert!(rt; [AT_0, AT_1, AT_2].contains(&both.second.as_slice()));
     assert_eq!(rt; both.version.as_slice(), AT_2);
     Ok(())

@@ -8,6 +8,7 @@ use Rattle.std.proofs.lemmas.List.Sorted.{All-permutation, Contains-permutation,
 use Rattle.std.proofs.lemmas.List.Sums.{sum_by-cons}
 use Rattle.apron_base.specs.declared.numbers.PartId.{PartId}
 use Rattle.apron_base.specs.declared.slot.Slot.{Slot}
+use Rattle.apron_base.proofs.Sorting.{listed_first, listed_later}
 use Rattle.apron_rules.specs.declared.parts.AirportParts.{AirportParts}
 use Rattle.apron_rules.specs.Clash.{IsSlotOf, IsSound}
 use Rattle.apron_rules.proofs.Bordering.{filter_passed}
@@ -15,7 +16,6 @@ use Rattle.stand_index.specs.Slots.{AddsSlot, HasNoSlots, IsEarlier, KeepsOrder,
 use Rattle.clash_check.specs.Clear.{HasPartsOnce, IsClear, is_of_other, others_of}
 use Rattle.clash_check.specs.Indexed.{all_slots, slots_at}
 use Rattle.clash_check.proofs.Looked.{of_index}
-use Rattle.clash_check.proofs.Ordered.{listed_first, listed_later}
 
 inserted : (slot : Slot) (xs : List Slot) → IsPermutation (slot ∷ xs) (insert_by_start slot xs)
 inserted slot [] = IsPermutation-refl (slot ∷ [])

@@ -5,6 +5,4 @@ mod lines;
 mod runs;
 
 pub use lines::{Session, all_hold};
-pub use runs::{
-    ADDED, AIRPORT, DEMO, Ended, FIRST, ROOM, Run, STANDS, TYPES, empty_journal, kept, words,
-};
+pub use runs::{DEMO, Ended, Run, empty_journal};

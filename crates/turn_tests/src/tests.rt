@@ -2,10 +2,11 @@
 ghost use Rattle.std.specs.Prelude.{◌≡◌, ◌≤◌, IfOk};
 ghost use Rattle.history_core.specs.History.{IsAskOf};
 
-use apron_base::{Acted, Letter, Listed, Name, StandNo, SteadyKeeper, TypeNo, VisitNo};
-use apron_rules::{Airport, AirportParts, Date, Frontage, StandRow, TypeRow};
+use apron_base::{Acted, Listed, Name, StandNo, SteadyKeeper, TypeNo, VisitNo};
+use apron_rules::Airport;
 use desk_words::asks::{Ask, Command, What};
 use history_core::Board;
+use small_airports::{on_one_frontage, stand_on_n, type_of_40};
 use std::alloc::Global;
 use std::sync::Wait;
 use std::test::Fail;
@@ -28,42 +29,11 @@ const CLASH: &[u8] =
 
 // One stand, N1, and one type, A320.
 fn airport(alloc: Global) -> Result<Airport, Fail> {
-    let frontage = Frontage {
-        name: Name::literal(b"N"),
-        objects: Listed::new(alloc),
-    };
-    let stand = StandRow {
-        name: Name::literal(b"N1"),
-        frontage: Name::literal(b"N"),
-        centre: 4_000,
-        letter: Letter::C,
-        buffer: 10,
-        half_of: None,
-    };
-    let kind = TypeRow {
-        name: Name::literal(b"A320"),
-        span: 3_580,
-        least: 40,
-    };
-    let parts = AirportParts {
-        station: Name::literal(b"APR"),
-        first: Date {
-            year: 2026,
-            month: 3,
-            day: 27,
-        },
-        days: 3,
-        taxi_in: 5,
-        tow: 20,
-        frontages: Listed::from_vec(Vec::from_array(alloc, [frontage])?),
-        stands: Listed::from_vec(Vec::from_array(alloc, [stand])?),
-        pairs: Listed::new(alloc),
-        types: Listed::from_vec(Vec::from_array(alloc, [kind])?),
-    };
-    match Airport::new(alloc, parts) {
-        Ok(airport) => Ok(airport),
-        Err(_) => Err(Fail::new("an airport")),
-    }
+    on_one_frontage(
+        alloc,
+        Vec::from_array(alloc, [stand_on_n(Name::literal(b"N1"), 4_000)])?,
+        Vec::from_array(alloc, [type_of_40(Name::literal(b"A320"))])?,
+    )
 }
 
 // An A320 of this name is to be added, from 600 to 660.

@@ -6,6 +6,7 @@ use Rattle.std.specs.List.{flat_map, cons_option}
 use Rattle.std.specs.Option.{option_or}
 use Rattle.std.proofs.lemmas.Bool.Decides.{nat_tests}
 use Rattle.apron_base.specs.declared.slot.Slot.{Slot}
+use Rattle.apron_base.proofs.Sorting.{listed_first, listed_later}
 use Rattle.apron_rules.specs.declared.parts.AirportParts.{AirportParts}
 use Rattle.apron_rules.specs.declared.rules.Clash.{Clash}
 use Rattle.apron_rules.specs.declared.rules.Rule.{Rule}
@@ -18,7 +19,6 @@ use Rattle.clash_check.specs.Indexed.{all_slots}
 use Rattle.clash_check.specs.Meetings.{Meeting, by_part, clash_with, clashes_with, is_smaller, meeting, meeting_from}
 use Rattle.clash_check.proofs.Among.{others_none}
 use Rattle.clash_check.proofs.Meetings.{first_meeting, never_meeting, not_held}
-use Rattle.clash_check.proofs.Ordered.{listed_first, listed_later}
 use Rattle.visit_book.specs.declared.visits.Visit.{Visit}
 use Rattle.visit_book.specs.Slots.{slots_of}
 use Rattle.plan_core.specs.Indexed.{IsIndexed}

@@ -5,11 +5,11 @@ use Rattle.std.specs.List.{list_any, range_with_len}
 use Rattle.std.proofs.lemmas.Bool.Decides.{nat_tests}
 use Rattle.apron_base.specs.declared.numbers.StandNo.{StandNo}
 use Rattle.apron_base.specs.declared.slot.Slot.{Slot}
+use Rattle.apron_base.proofs.Sorting.{listed_cases, listed_first, listed_later}
 use Rattle.apron_rules.specs.declared.parts.AirportParts.{AirportParts}
 use Rattle.stand_index.specs.Slots.{IsIndex, StandSlots, at_stand, hits_of, is_hit}
 use Rattle.clash_check.specs.Indexed.{slots_at}
 use Rattle.clash_check.proofs.Looked.{at_its_stand, hit_listed, hit_of, of_index}
-use Rattle.clash_check.proofs.Ordered.{listed_cases, listed_first, listed_later}
 use Rattle.visit_book.specs.declared.visits.Visit.{Visit}
 use Rattle.visit_book.specs.Slots.{slots_of}
 use Rattle.plan_core.specs.Indexed.{IsIndexed}

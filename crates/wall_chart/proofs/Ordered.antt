@@ -1,60 +1,36 @@
 -- Lists in order of numbers, as sorts by keys leave them.
-use Rattle.std.proofs.Common.{◌≡◌, ◌∙◌, ℕ, Bool, true, false, cond, ◌&&◌, ◌||◌, ◌==◌, nat_lt, List, [], ◌∷◌, refl, sym, ap, length}
-use Rattle.std.specs.Cmp.{IsStrictWeakOrder}
+use Rattle.std.proofs.Common.{◌≡◌, ◌∙◌, ℕ, Bool, true, false, cond, ◌&&◌, ◌||◌, ◌==◌, nat_lt, List, [], ◌∷◌, refl, ap, length}
 use Rattle.std.specs.List.Sorted.{IsSortedBy, IsSortedByKey, IsStableBy, IsStableByKey}
 use Rattle.std.specs.Ordering.{nat_cmp, is_lt, ordering_then}
 use Rattle.std.specs.declared.cmp.Ordering.{Ordering}
 use Rattle.std.specs.declared.cmp.Ordering.TheVariants.{Less, Equal, Greater}
 use Rattle.apron_base.specs.declared.numbers.PartId.{PartId}
+use Rattle.apron_base.specs.Sorting.{insert_by, sorted_by}
 use Rattle.apron_rules.specs.declared.rules.Clash.{Clash}
 use Rattle.visit_book.specs.Places.{stand_of}
 use Rattle.bump_core.specs.Ranks.{is_lower}
-use Rattle.bump_core.proofs.Order.{lower_apart, lower_trans}
-use Rattle.bump_core.proofs.Settled.{lower_total}
 use Rattle.desk_words.specs.declared.replies.PartRow.{PartRow}
+use Rattle.plan_lists.proofs.Ranks.{order_by}
 use Rattle.wall_chart.specs.Alarms.{alarm_order}
-use Rattle.wall_chart.specs.Order.{in_order, insert_in_order}
+use Rattle.wall_chart.specs.Order.{in_order, lower_by}
 use Rattle.wall_chart.specs.Parts.{part_order, stand_number}
-use Rattle.wall_chart.proofs.Sorted.{insert_by, sorted_by, sorted_is}
+use Rattle.wall_chart.proofs.Sorted.{sorted_is}
 
-insert_alike : {X : Type 0} (numbers : X → List ℕ) (lt : X → X → Bool) → ((x y : X) → lt x y ≡ is_lower (numbers x) (numbers y))
-    → (item : X) (xs : List X) → insert_by lt item xs ≡ insert_in_order numbers item xs
-insert_alike numbers lt same item [] = refl
-insert_alike {X} numbers lt same item (x ∷ xs) =
+insert_alike : {X : Type 0} (lt before : X → X → Bool) → ((x y : X) → lt x y ≡ before x y) → (item : X) (xs : List X) → insert_by lt item xs ≡ insert_by before item xs
+insert_alike lt before same item [] = refl
+insert_alike {X} lt before same item (x ∷ xs) =
     ap (λ (b : Bool). cond b (x ∷ insert_by lt item xs) (item ∷ x ∷ xs)) (same x item)
-    ∙ ap (λ (ys : List X). cond (is_lower (numbers x) (numbers item)) (x ∷ ys) (item ∷ x ∷ xs)) (insert_alike numbers lt same item xs)
+    ∙ ap (λ (ys : List X). cond (before x item) (x ∷ ys) (item ∷ x ∷ xs)) (insert_alike lt before same item xs)
 
-sorted_alike : {X : Type 0} (numbers : X → List ℕ) (lt : X → X → Bool) → ((x y : X) → lt x y ≡ is_lower (numbers x) (numbers y))
-    → (xs : List X) → sorted_by lt xs ≡ in_order numbers xs
-unfolding in_order
-sorted_alike numbers lt same [] = refl
-sorted_alike numbers lt same (x ∷ xs) = insert_alike numbers lt same x (sorted_by lt xs) ∙ ap (insert_in_order numbers x) (sorted_alike numbers lt same xs)
-
-lower_one_way : (xs ys : List ℕ) (b : Bool) → is_lower ys xs ≡ b → is_lower xs ys ≡ true → is_lower ys xs ≡ false
-lower_one_way xs ys false e h = e
-lower_one_way xs ys true e h =
-    let yes : is_lower xs xs ≡ true = lower_trans xs ys xs h e in
-    let no : is_lower xs xs ≡ false = lower_apart xs in
-    absurd (cc)
-
-lower_chain : (xs ys zs : List ℕ) (b c : Bool) → length ys ≡ length zs → is_lower xs zs ≡ b → is_lower zs ys ≡ c → is_lower xs ys ≡ false → is_lower ys zs ≡ false → is_lower xs zs ≡ false
-lower_chain xs ys zs false c long e f h k = e
-lower_chain xs ys zs true true long e f h k = let yes : is_lower xs ys ≡ true = lower_trans xs zs ys e f in absurd (cc)
-lower_chain xs ys zs true false long e f h k = let same : ys ≡ zs = lower_total ys zs long k f in absurd (cc)
-
--- as many numbers of each item make an order
-order_by : {X : Type 0} (numbers : X → List ℕ) (n : ℕ) → ((x : X) → length (numbers x) ≡ n) → (lt : X → X → Bool) → ((x y : X) → lt x y ≡ is_lower (numbers x) (numbers y)) → IsStrictWeakOrder lt
-order_by numbers n long lt same = record {
-  one_way = λ x y h. same y x ∙ lower_one_way (numbers x) (numbers y) (is_lower (numbers y) (numbers x)) refl (sym (same x y) ∙ h);
-  chain = λ x y z h k. same x z
-      ∙ lower_chain (numbers x) (numbers y) (numbers z) (is_lower (numbers x) (numbers z)) (is_lower (numbers z) (numbers y)) (long y ∙ sym (long z)) refl refl
-      (sym (same x y) ∙ h) (sym (same y z) ∙ k);
-}
+sorted_alike : {X : Type 0} (lt before : X → X → Bool) → ((x y : X) → lt x y ≡ before x y) → (xs : List X) → sorted_by lt xs ≡ sorted_by before xs
+sorted_alike lt before same [] = refl
+sorted_alike lt before same (x ∷ xs) = insert_alike lt before same x (sorted_by lt xs) ∙ ap (insert_by before x) (sorted_alike lt before same xs)
 
 -- a stable sort by an order that compares these numbers, as many of each item, leaves the list in order of them
 pub sorted_in_order : {X : Type 0} (numbers : X → List ℕ) (n : ℕ) → ((x : X) → length (numbers x) ≡ n) → (lt : X → X → Bool) → ((x y : X) → lt x y ≡ is_lower (numbers x) (numbers y))
     → (xs ys : List X) → IsSortedBy lt ys → IsStableBy lt xs ys → ys ≡ in_order numbers xs
-sorted_in_order numbers n long lt same xs ys up stable = sorted_is lt (order_by numbers n long lt same) xs ys up stable ∙ sorted_alike numbers lt same xs
+unfolding in_order
+sorted_in_order numbers n long lt same xs ys up stable = sorted_is lt (order_by numbers n long lt same) xs ys up stable ∙ sorted_alike lt (lower_by numbers) same xs
 
 -- one number is compared, and then what follows
 then_by : (p q : Bool) (rest : Ordering) → is_lt (ordering_then (cond p Less (cond q Equal Greater)) rest) ≡ (p || (q && is_lt rest))

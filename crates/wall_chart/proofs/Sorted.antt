@@ -4,57 +4,12 @@ use Rattle.std.specs.Prelude.{Contains, filter}
 use Rattle.std.specs.Cmp.{IsStrictWeakOrder}
 use Rattle.std.specs.List.Sorted.{IsSortedBy, IsStableBy, ties}
 use Rattle.std.proofs.lemmas.List.Sorted.{sorted_far}
-use Rattle.clash_check.proofs.Ordered.{listed_cases, listed_first, listed_later}
-
--- the items with one more, behind those before it
-abbrev pub insert_by : {X : Type 0} → (X → X → Bool) → X → List X → List X
-insert_by lt item [] = item ∷ []
-insert_by lt item (first ∷ others) = cond (lt first item) (first ∷ insert_by lt item others) (item ∷ first ∷ others)
-
--- the items in order
-abbrev pub sorted_by : {X : Type 0} → (X → X → Bool) → List X → List X
-sorted_by lt [] = []
-sorted_by lt (item ∷ items) = insert_by lt item (sorted_by lt items)
-
-insert_cases : {X : Type 0} (lt : X → X → Bool) (item : X) (xs : List X) (y : X) → Contains (insert_by lt item xs) y → (item ≡ y) ⊎ Contains xs y
-insert_cases lt item [] y h = listed_cases item [] y h
-insert_cases {X} lt item (x ∷ xs) y h = cases (insert_cases lt item xs y) (lt x item) h
-  where
-    cases : (Contains (insert_by lt item xs) y → (item ≡ y) ⊎ Contains xs y) → (b : Bool) → Contains (cond b (x ∷ insert_by lt item xs) (item ∷ x ∷ xs)) y → (item ≡ y) ⊎ Contains (x ∷ xs) y
-    cases rest true k = elim (listed_cases x (insert_by lt item xs) y k) [
-      | inl first ↦ inr (subst (Contains (x ∷ xs)) first (listed_first x xs))
-      | inr later ↦ elim (rest later) [ inl own ↦ inl own | inr old ↦ inr (listed_later x xs y old) ]
-    ]
-    cases rest false k = listed_cases item (x ∷ xs) y k
+use Rattle.apron_base.specs.Sorting.{insert_by, sorted_by}
+use Rattle.apron_base.proofs.Sorting.{NeverFalls, listed_cases, listed_first, listed_later, sorted_falls}
 
 module _ {X : Type 0} (lt : X → X → Bool) (o : IsStrictWeakOrder lt) where
-  -- no item is before one that stands earlier
-  abbrev pub NeverFalls : List X → Type 0
-  NeverFalls [] = Unit {0}
-  NeverFalls (x ∷ xs) = ((y : X) → Contains xs y → lt y x ≡ false) × NeverFalls xs
-
-  insert_falls : (item : X) (xs : List X) → NeverFalls xs → NeverFalls (insert_by lt item xs)
-  insert_falls item [] falls = (λ y h. absurd (omega (arith, h.1)), tt)
-  insert_falls item (x ∷ xs) falls = cases (insert_falls item xs falls.1) (lt x item) refl
-    where
-      behind : lt x item ≡ true → (y : X) → (item ≡ y) ⊎ Contains xs y → lt y x ≡ false
-      behind e y (inl own) = subst (λ (z : X). lt z x ≡ false) own (o.one_way x item e)
-      behind e y (inr old) = falls.0 y old
-
-      before : lt x item ≡ false → (y : X) → (x ≡ y) ⊎ Contains xs y → lt y item ≡ false
-      before e y (inl first) = subst (λ (z : X). lt z item ≡ false) first e
-      before e y (inr later) = o.chain y x item (falls.0 y later) e
-
-      cases : NeverFalls (insert_by lt item xs) → (b : Bool) → lt x item ≡ b → NeverFalls (cond b (x ∷ insert_by lt item xs) (item ∷ x ∷ xs))
-      cases rest true e = (λ y h. behind e y (insert_cases lt item xs y h), rest)
-      cases rest false e = (λ y h. before e y (listed_cases x xs y h), falls)
-
-  sorted_falls : (xs : List X) → NeverFalls (sorted_by lt xs)
-  sorted_falls [] = tt
-  sorted_falls (x ∷ xs) = insert_falls x (sorted_by lt xs) (sorted_falls xs)
-
   -- what a sort ensures of neighbours
-  falls_nowhere : (xs : List X) → ((i j : ℕ) (d : X) → i ≤ j → j < length xs → lt (get_or xs j d) (get_or xs i d) ≡ false) → NeverFalls xs
+  falls_nowhere : (xs : List X) → ((i j : ℕ) (d : X) → i ≤ j → j < length xs → lt (get_or xs j d) (get_or xs i d) ≡ false) → NeverFalls lt xs
   falls_nowhere [] h = tt
   falls_nowhere (x ∷ xs) h = (
     λ y (k, inside, at). subst (λ z. lt z x ≡ false) at (h 0 (suc k) y (omega arith) (omega (arith, inside))),
@@ -128,7 +83,7 @@ module _ {X : Type 0} (lt : X → X → Bool) (o : IsStrictWeakOrder lt) where
   rest_same x y true ys zs e = cc
   rest_same x y false ys zs e = e
 
-  first_same : (y z : X) (ys zs : List X) → NeverFalls (y ∷ ys) → NeverFalls (z ∷ zs) → ((x : X) → filter (ties lt x) (y ∷ ys) ≡ filter (ties lt x) (z ∷ zs))
+  first_same : (y z : X) (ys zs : List X) → NeverFalls lt (y ∷ ys) → NeverFalls lt (z ∷ zs) → ((x : X) → filter (ties lt x) (y ∷ ys) ≡ filter (ties lt x) (z ∷ zs))
       → (y ≡ z) ⊎ Contains zs y → (z ≡ y) ⊎ Contains ys z → y ≡ z
   first_same y z ys zs falls falls2 same (inl e) h = e
   first_same y z ys zs falls falls2 same (inr later) (inl e) = sym e
@@ -139,7 +94,7 @@ module _ {X : Type 0} (lt : X → X → Bool) (o : IsStrictWeakOrder lt) where
       cc
 
   -- two lists that never fall, and in which those that tie stand alike, are one
-  pub sorted_one : (ys zs : List X) → NeverFalls ys → NeverFalls zs → ((x : X) → filter (ties lt x) ys ≡ filter (ties lt x) zs) → ys ≡ zs
+  pub sorted_one : (ys zs : List X) → NeverFalls lt ys → NeverFalls lt zs → ((x : X) → filter (ties lt x) ys ≡ filter (ties lt x) zs) → ys ≡ zs
   sorted_one [] [] falls falls2 same = refl
   sorted_one [] (z ∷ zs) falls falls2 same = let none : [] ≡ z ∷ filter (ties lt z) zs = same z ∙ head_of z zs in absurd (cc)
   sorted_one (y ∷ ys) [] falls falls2 same = let none : y ∷ filter (ties lt y) ys ≡ [] = sym (head_of y ys) ∙ same y in absurd (cc)
@@ -154,4 +109,4 @@ module _ {X : Type 0} (lt : X → X → Bool) (o : IsStrictWeakOrder lt) where
   -- what a stable sort leaves is the list in order
   pub sorted_is : (xs ys : List X) → IsSortedBy lt ys → IsStableBy lt xs ys → ys ≡ sorted_by lt xs
   sorted_is xs ys up stable =
-      sorted_one ys (sorted_by lt xs) (falls_nowhere ys (sorted_far lt o ys up)) (sorted_falls xs) (λ x. stable x ∙ sym (sorted_stable x xs))
+      sorted_one ys (sorted_by lt xs) (falls_nowhere ys (sorted_far lt o ys up)) (sorted_falls lt o xs) (λ x. stable x ∙ sym (sorted_stable x xs))

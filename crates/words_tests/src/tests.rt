@@ -2,10 +2,11 @@
 ghost use Rattle.std.specs.Prelude.{IsTrue, IfSome};
 ghost use Rattle.visit_book.specs.NewVisits.{HasFlight, IsNewVisit, new_of};
 
-use apron_base::{Letter, Listed, Name, PartId, VisitNo};
-use apron_rules::{Airport, AirportParts, Date, Frontage, StandRow, TypeRow};
+use apron_base::{Name, PartId, VisitNo};
+use apron_rules::Airport;
 use desk_words::replies::{Reply, Told, reply_bytes};
 use mvt_grammar::is_flight;
+use small_airports::{on_one_frontage, stand_on_n, type_of_40};
 use std::alloc::Global;
 use std::test::Fail;
 use visit_book::{EditFault, Key, Visit};
@@ -57,51 +58,17 @@ fn has_text(alloc: Global, airport: &Airport, reply: &Reply, status: &str, body:
     }
 }
 
-fn stand(name: Name, centre: u32) -> StandRow {
-    StandRow {
-        name,
-        frontage: Name::literal(b"N"),
-        centre,
-        letter: Letter::C,
-        buffer: 10,
-        half_of: None,
-    }
-}
-
 // Two stands, N1 and N2, and one type, A320.
 fn airport(alloc: Global) -> Result<Airport, Fail> {
     let stands = [
-        stand(Name::literal(b"N1"), 4_000),
-        stand(Name::literal(b"N2"), 8_030),
+        stand_on_n(Name::literal(b"N1"), 4_000),
+        stand_on_n(Name::literal(b"N2"), 8_030),
     ];
-    let kind = TypeRow {
-        name: Name::literal(b"A320"),
-        span: 3_580,
-        least: 40,
-    };
-    let frontage = Frontage {
-        name: Name::literal(b"N"),
-        objects: Listed::new(alloc),
-    };
-    let parts = AirportParts {
-        station: Name::literal(b"APR"),
-        first: Date {
-            year: 2026,
-            month: 3,
-            day: 27,
-        },
-        days: 3,
-        taxi_in: 5,
-        tow: 20,
-        frontages: Listed::from_vec(Vec::from_array(alloc, [frontage])?),
-        stands: Listed::from_vec(Vec::from_array(alloc, stands)?),
-        pairs: Listed::new(alloc),
-        types: Listed::from_vec(Vec::from_array(alloc, [kind])?),
-    };
-    match Airport::new(alloc, parts) {
-        Ok(airport) => Ok(airport),
-        Err(_) => Err(Fail::new("an airport without fault")),
-    }
+    on_one_frontage(
+        alloc,
+        Vec::from_array(alloc, stands)?,
+        Vec::from_array(alloc, [type_of_40(Name::literal(b"A320"))])?,
+    )
 }
 
 // What the visit was added with can be said at any airport.

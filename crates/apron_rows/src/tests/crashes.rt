@@ -1,9 +1,10 @@
 // What a desk finds after a stop at any call of the disk.
 use journal_disk::{MemoryDisk, Unsynced};
+use run_inputs::FIRST;
 use std::alloc::Global;
 use std::process::Abort;
 use std::test::Fail;
-use text_runs::{DEMO, Ended, FIRST, Run, Session};
+use text_runs::{DEMO, Ended, Run, Session};
 
 // The requests that add three visits, and the one for the version.
 const THREE: &[u8] =

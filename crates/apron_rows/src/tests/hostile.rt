@@ -1,9 +1,10 @@
 // Input that is cut, ends that fail, heads that don't end, and a history that takes no more.
 use super::journals::{STANDS as STANDING, V1, journal_of};
 use apron_base::Memory;
+use run_inputs::{ADDED, FIRST, STANDS};
 use std::alloc::Global;
 use std::test::Fail;
-use text_runs::{ADDED, DEMO, FIRST, Run, STANDS, Session};
+use text_runs::{DEMO, Run, Session};
 
 // What is written for the first so many bytes of the two requests, of 123 and 129 bytes, and the status.
 fn answer_to_front(length: usize) -> (&'static [u8], u8) {

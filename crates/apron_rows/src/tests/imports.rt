@@ -2,9 +2,10 @@
 use apron_base::{ListSink, ListSource, MapShelf, Memory};
 use apron_run::run;
 use journal_disk::{MemoryDisk, Room};
+use run_inputs::{AIRPORT, ROOM, TYPES, kept, words};
 use std::alloc::Global;
 use std::test::Fail;
-use text_runs::{AIRPORT, DEMO, Ended, ROOM, Run, TYPES, empty_journal, kept, words};
+use text_runs::{DEMO, Ended, Run, empty_journal};
 
 const TWO: &[u8] =
     b"name,type,class,on,off,arr,arrday,dep,depday\nV1,A320,3,600,660,LH123,1,LH124,1\nV2,AT76,5,700,760,,,,\n";

@@ -1,8 +1,9 @@
 // Journals: how they are made, what desks keep in them, and what is told of those that can't be used.
 use apron_base::Memory;
+use run_inputs::{AIRPORT, FIRST, TYPES};
 use std::alloc::Global;
 use std::test::Fail;
-use text_runs::{AIRPORT, DEMO, Ended, FIRST, Run, Session, TYPES, empty_journal};
+use text_runs::{DEMO, Ended, Run, Session, empty_journal};
 
 // What is told of a journal whose type file's digest ends otherwise: the digests are those of the example's airport file and
 // type file, as `sha256sum` prints them.

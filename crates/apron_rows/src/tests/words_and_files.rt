@@ -1,6 +1,7 @@
 // The words, and the files that they name.
+use run_inputs::{AIRPORT, FIRST, TYPES};
 use std::test::Fail;
-use text_runs::{AIRPORT, DEMO, FIRST, Run, TYPES};
+use text_runs::{DEMO, Run};
 
 const HELP: &[u8] =
     b"apron: airport stand allocation\n\napron init AIRPORT TYPES JOURNAL   makes an empty journal for the airport of an airport file and a\n                                   type file\napron desk AIRPORT TYPES JOURNAL   answers HTTP requests from standard input on standard output at\n                                   that airport, and keeps in its journal what it accepts\napron serve AIRPORT TYPES CONNECTIONS ADDRESS WORKERS JOURNAL\n                                   does the same over TCP for many desks at once: 1 to 16 workers\n                                   take 1 to 1,000,000 connections each, one after the other\napron chart AIRPORT TYPES DAY JOURNAL\n                                   prints the wall chart of a day of the plan in that journal\napron import AIRPORT TYPES SEASON JOURNAL\n                                   adds the visits of a season file to the plan in that journal\napron export AIRPORT TYPES JOURNAL prints the season file of the visits in that journal\napron check AIRPORT TYPES          reads an airport file and a type file, and prints how much they\n                                   hold, or the first fault in them\napron make VISITS                  prints the summary of a generated day of 1 to 5,000 visits\napron --help                       prints this text\napron --version                    prints the version\n";

@@ -1,9 +1,10 @@
 // Two workers that run beside each other, on a disk that counts its syncs.
 
-use super::{AT_0, AT_1, AT_2, FIRST, FIRST_TOLD, VERSION, journal, printed, shelf, words};
+use super::{AT_0, AT_1, AT_2, VERSION, journal, printed, shelf};
 use apron_base::{Failed, ListListener, ListSink, ListSource, Memory, Sink, Source};
 use apron_serve::serve;
 use journal_disk::Disk;
+use run_inputs::{FIRST, STANDS, words};
 use std::alloc::Global;
 use std::marker::Model;
 use std::sync::Wait;
@@ -222,7 +223,7 @@ fn both_are_served<R: Wait + Threads + Sync>(
     let mut counting = counting;
     let version = printed(alloc, "desk A T", VERSION, &mut counting)?;
     let are_told = match listeners.as_slice() {
-        [one, two] => is_told(one, &[FIRST_TOLD]) && is_told(two, &[AT_0, AT_1, AT_2]),
+        [one, two] => is_told(one, &[STANDS]) && is_told(two, &[AT_0, AT_1, AT_2]),
         _ => false,
     };
     Ok(status == 0 && are_told && version.as_slice() == AT_2)

@@ -1,7 +1,8 @@
 // Connections over TCP, on the machine's own address.
-use super::{AT_1, VERSION, journal, printed, shelf, words};
+use super::{AT_1, VERSION, journal, printed, shelf};
 use apron_base::{ListSink, Memory};
 use apron_serve::serve;
+use run_inputs::words;
 use std::alloc::Global;
 use std::io;
 use std::io::{Read, Write};

@@ -1,8 +1,9 @@
 // How `serve` ends, and the line that it prints.
-use super::{ROOM, journal, listener, shelf, words};
+use super::{journal, listener, shelf};
 use apron_base::{ListSink, Memory};
 use apron_serve::serve;
 use journal_disk::MemoryDisk;
+use run_inputs::{ROOM, words};
 use std::alloc::Global;
 use std::sync::Wait;
 use std::test::Fail;

@@ -2,9 +2,10 @@
 use apron_base::{NullSink, SteadyShelf, SteadySource};
 use apron_run::run;
 use journal_disk::MemoryDisk;
+use run_inputs::{AIRPORT, ROOM, TYPES, kept, words};
 use std::alloc::Global;
 use std::test::Fail;
-use text_runs::{AIRPORT, DEMO, ROOM, Run, Session, TYPES, empty_journal, kept, words};
+use text_runs::{DEMO, Run, Session, empty_journal};
 
 // The greatest head and the greatest body, in bytes.
 const MOST_OF_A_HEAD: usize = 8192;

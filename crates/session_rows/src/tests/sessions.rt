@@ -1,6 +1,7 @@
 // Whole sessions: how their input comes and ends, and what fails on the way.
+use run_inputs::{ADDED, FIRST, STANDS};
 use std::test::Fail;
-use text_runs::{ADDED, DEMO, FIRST, Run, STANDS, Session};
+use text_runs::{DEMO, Run, Session};
 
 // The two requests come in two pieces, cut at each byte.
 #[test]

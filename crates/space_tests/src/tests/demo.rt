@@ -2,7 +2,8 @@
 ghost use Rattle.std.specs.Prelude.{◌≡◌, IfOk, length};
 
 use apron_base::{Letter, Listed, Name};
-use apron_rules::{Airport, AirportParts, Date, Frontage, PairRow, StandRow, TypeRow};
+use apron_rules::{Airport, AirportParts, Frontage, PairRow, StandRow, TypeRow};
+use small_airports::{airport_of, empty_parts};
 use std::alloc::{AllocError, Global};
 use std::test::Fail;
 
@@ -101,23 +102,15 @@ pub(super) fn demo(alloc: Global) -> Result<Airport, Fail>
         b: Name::literal(b"15"),
         lb: Letter::C,
     };
-    let parts = AirportParts {
-        station: Name::literal(b"APR"),
-        first: Date {
-            year: 2026,
-            month: 3,
-            day: 27,
+    airport_of(
+        alloc,
+        AirportParts {
+            days: 1,
+            frontages: frontages(alloc)?,
+            stands: Listed::from_vec(Vec::from_array(alloc, stands)?),
+            pairs: Listed::from_vec(Vec::from_array(alloc, [pair])?),
+            types: Listed::from_vec(Vec::from_array(alloc, types)?),
+            ..empty_parts(alloc)
         },
-        days: 1,
-        taxi_in: 5,
-        tow: 20,
-        frontages: frontages(alloc)?,
-        stands: Listed::from_vec(Vec::from_array(alloc, stands)?),
-        pairs: Listed::from_vec(Vec::from_array(alloc, [pair])?),
-        types: Listed::from_vec(Vec::from_array(alloc, types)?),
-    };
-    match Airport::new(alloc, parts) {
-        Ok(airport) => Ok(airport),
-        Err(_) => Err(Fail::new("an airport")),
-    }
+    )
 }

@@ -1,5 +1,6 @@
 use Rattle.std.proofs.Common.{Bor, List, ℕ, Some, sym, ◌∙◌, inr}
-use Rattle.airport_files.proofs.TableWalk.{found-some, found-none, header-none, header-bad, header-good}
+use Rattle.csv_records.proofs.Found.{found-some, found-none}
+use Rattle.airport_files.proofs.TableWalk.{header-none, header-bad, header-good}
 use Rattle.airport_files.proofs.types.read_header.Goals as goal
 
 pub returns-then-not-branch-clause-err : goal.returns-then-not-branch-clause-err

@@ -1,6 +1,7 @@
 use Rattle.std.proofs.Common.{Bor, List, ℕ, Some, ◌+◌, ◌-◌, sym, ◌∙◌, inr, arith}
 use Rattle.airport_files.proofs.NumberWalk.{from_ok}
-use Rattle.airport_files.proofs.TableWalk.{found-some, found-none, walk-start, step-row, step-bad, step-end, out_of_turns}
+use Rattle.csv_records.proofs.Found.{found-some, found-none}
+use Rattle.airport_files.proofs.TableWalk.{walk-start, step-row, step-bad, step-end, out_of_turns}
 use Rattle.airport_files.proofs.types.read_rows.Goals as goal
 
 pub loop-k-init : goal.loop-k-init

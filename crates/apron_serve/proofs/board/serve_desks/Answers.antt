@@ -1,9 +1,7 @@
-use Rattle.std.proofs.Common.{◌≡◌, ◌∙◌, ℕ, List, ap, map, subst, sym}
-use Rattle.apron_base.specs.Listener.{ListenerState}
+use Rattle.std.proofs.Common.{◌∙◌, ℕ, List, ap, map, subst, sym}
 use Rattle.history_core.specs.AtRisk.{entry_at_risk}
 use Rattle.apron_run.specs.Journal.{KeepsHistory, journal_tells}
-use Rattle.apron_run.specs.World.{DiskSeen, seen_of}
-use Rattle.apron_serve.specs.World.{Ends}
+use Rattle.apron_run.specs.World.{seen_of}
 use Rattle.apron_serve.proofs.Desks.{desks_serve, of_err, opened_safe, turns_want_memory}
 use Rattle.apron_serve.proofs.board.serve_desks.Goals as goal
 

@@ -1,5 +1,6 @@
 use Rattle.std.proofs.Common.{Bor, List, ℕ, Some, sym, ◌∙◌}
-use Rattle.season_files.proofs.RecordWalk.{found-some, found-none, header-none, header-bad, header-good}
+use Rattle.csv_records.proofs.Found.{found-some, found-none}
+use Rattle.season_files.proofs.RecordWalk.{header-none, header-bad, header-good}
 use Rattle.season_files.proofs.read.read_header.Goals as goal
 
 pub returns-then-not-branch-clause-err : goal.returns-then-not-branch-clause-err

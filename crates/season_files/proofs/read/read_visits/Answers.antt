@@ -1,7 +1,8 @@
 use Rattle.std.proofs.Common.{Bor, List, ℕ, Some, ◌+◌, ◌-◌, sym, ◌∙◌, arith}
 use Rattle.std.proofs.lemmas.List.Elements.{All-push}
 use Rattle.visit_book.specs.NewVisits.{IsNewVisitOf}
-use Rattle.season_files.proofs.RecordWalk.{found-some, found-none, from_ok, walk-start, step-visit, step-bad, step-end, out_of_turns}
+use Rattle.csv_records.proofs.Found.{found-some, found-none}
+use Rattle.season_files.proofs.RecordWalk.{from_ok, step-visit, step-bad, step-end, out_of_turns}
 use Rattle.season_files.proofs.read.read_visits.Goals as goal
 
 pub returns-then-not-branch-clause-value : goal.returns-then-not-branch-clause-value

@@ -1,7 +1,7 @@
 use Rattle.std.proofs.Common.{◌≡◌, ℕ, ◌+◌, ◌-◌, List, Some, All}
 use Rattle.csv.specs.declared.parser.State.{State}
 use Rattle.visit_book.specs.NewVisits.{IsNewVisitOf}
-use Rattle.season_files.specs.CsvReading.{IsReading}
+use Rattle.csv_records.specs.Reading.{IsReading}
 use Rattle.season_files.specs.Seasons.{visits_left}
 use Rattle.season_files.proofs.RecordWalk.{joined}
 use Rattle.season_files.proofs.read.read_visits.Given as goal

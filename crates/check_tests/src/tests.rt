@@ -1,49 +1,9 @@
 // What is found in files, good and bad, and the lines that tell it.
-use crate::{airport_of, put_counts, put_fault};
-use apron_base::{Kept, ListSink, Listed, MapShelf, Memory, Word};
+use apron_base::{ListSink, MapShelf, Memory};
+use apron_check::{airport_of, put_counts, put_fault};
+use run_inputs::{AIRPORT, TYPES, kept};
 use std::alloc::{AllocError, Global};
 use std::test::Fail;
-
-const AIRPORT: &str = r#"frontage = [
-  { name = "N", objects = [0] },
-  { name = "S", objects = [0] },
-  { name = "R", objects = [] },
-  { name = "T", objects = [27500] },
-]
-stand = [
-  { name = "N1", frontage = "N", centre = 4000, letter = "C", buffer = 10 },
-  { name = "N2", frontage = "N", centre = 8030, letter = "C", buffer = 10 },
-  { name = "N3", frontage = "N", centre = 12059, letter = "E", buffer = 10 },
-  { name = "S1", frontage = "S", centre = 6000, letter = "C", buffer = 10 },
-  { name = "S2", frontage = "S", centre = 8890, letter = "C", buffer = 10 },
-  { name = "S3", frontage = "S", centre = 11779, letter = "E", buffer = 10 },
-  { name = "S4", frontage = "S", centre = 14670, letter = "C", buffer = 10 },
-  { name = "S5", frontage = "S", centre = 17559, letter = "C", buffer = 10 },
-  { name = "12", frontage = "R", centre = 10000, letter = "E", buffer = 10 },
-  { name = "12L", frontage = "R", centre = 8400, letter = "C", buffer = 10, half_of = "12" },
-  { name = "12R", frontage = "R", centre = 11600, letter = "C", buffer = 10, half_of = "12" },
-  { name = "14", frontage = "T", centre = 10000, letter = "F", buffer = 10 },
-  { name = "15", frontage = "T", centre = 25000, letter = "E", buffer = 10 },
-]
-pair = [ { a = "14", la = "E", b = "15", lb = "C" } ]
-
-[airport]
-station = "APR"
-first_day = "2026-03-27"
-days = 3
-taxi_in = 5
-tow = 20
-"#;
-
-const TYPES: &str = "type,span,least
-A320,3580,40
-B738,3579,40
-B77W,6480,60
-AT76,2705,25
-B190,1767,20
-A388,7975,90
-X360,3600,40
-";
 
 const OK: &str = "ok: 13 stands, 7 types, 3 days\n";
 
@@ -54,13 +14,6 @@ fn edited(alloc: Global, text: &str, edit: (&str, &str)) -> Result<String, Alloc
         Some((before, after)) => format!(in alloc; "{}{}{}", before, edit.1, after),
         None => format!(in alloc; "no such text"),
     }
-}
-
-fn kept(alloc: Global, name: &str, text: &str) -> Result<Kept, Memory> {
-    Ok(Kept {
-        name: Word::new(alloc, name)?,
-        bytes: Listed::from_vec(Vec::from_slice(alloc, text.as_bytes())?),
-    })
 }
 
 // Whether there is an airport, whether what was found was told whole, and what was written.
@@ -81,7 +34,10 @@ fn found_in(
 ) -> Result<Found, Memory> {
     let files = Vec::from_array(
         alloc,
-        [kept(alloc, "A", airport)?, kept(alloc, "T", types)?],
+        [
+            kept(alloc, "A", airport.as_bytes())?,
+            kept(alloc, "T", types.as_bytes())?,
+        ],
     )?;
     let mut shelf = MapShelf::new(files, Vec::from_slice(alloc, failing_reads)?);
     let mut sink = ListSink::new(alloc, 1000, Vec::from_slice(alloc, failing_puts)?)?;

@@ -1,0 +1,6 @@
+//! The records of a text of comma-separated values, one after the other. It knows nothing of what they tell.
+#![tactic(auto)]
+
+mod records;
+
+pub use records::{read_row, start};
