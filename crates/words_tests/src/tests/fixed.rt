@@ -3,75 +3,76 @@ use desk_words::early::{Early, early_bytes};
 use desk_words::fixed::{bad_encoding, bad_head, keeper_fault, large_body, no_length, no_memory};
 use mvt_grammar::MvtFault;
 
+const EARLY: [(Early, &'static [u8]); 16] = [
+    (
+        Early::NoRoute,
+        b"HTTP/1.1 404 Not Found\r\nContent-Type: application/json\r\nContent-Length: 17\r\n\r\n{\"error\":\"route\"}",
+    ),
+    (
+        Early::OnlyGet,
+        b"HTTP/1.1 405 Method Not Allowed\r\nContent-Type: application/json\r\nContent-Length: 18\r\nAllow: GET\r\n\r\n{\"error\":\"method\"}",
+    ),
+    (
+        Early::OnlyPost,
+        b"HTTP/1.1 405 Method Not Allowed\r\nContent-Type: application/json\r\nContent-Length: 18\r\nAllow: POST\r\n\r\n{\"error\":\"method\"}",
+    ),
+    (
+        Early::BadSeen,
+        b"HTTP/1.1 400 Bad Request\r\nContent-Type: application/json\r\nContent-Length: 16\r\n\r\n{\"error\":\"seen\"}",
+    ),
+    (
+        Early::NoDay,
+        b"HTTP/1.1 404 Not Found\r\nContent-Type: application/json\r\nContent-Length: 15\r\n\r\n{\"error\":\"day\"}",
+    ),
+    (
+        Early::NotJson,
+        b"HTTP/1.1 400 Bad Request\r\nContent-Type: application/json\r\nContent-Length: 16\r\n\r\n{\"error\":\"json\"}",
+    ),
+    (
+        Early::NotMvt(MvtFault::TooLong),
+        b"HTTP/1.1 400 Bad Request\r\nContent-Type: application/json\r\nContent-Length: 30\r\n\r\n{\"error\":\"mvt\",\"fault\":\"long\"}",
+    ),
+    (
+        Early::NotMvt(MvtFault::NoIdentifier),
+        b"HTTP/1.1 400 Bad Request\r\nContent-Type: application/json\r\nContent-Length: 36\r\n\r\n{\"error\":\"mvt\",\"fault\":\"identifier\"}",
+    ),
+    (
+        Early::NotMvt(MvtFault::BadFlightLine),
+        b"HTTP/1.1 400 Bad Request\r\nContent-Type: application/json\r\nContent-Length: 32\r\n\r\n{\"error\":\"mvt\",\"fault\":\"flight\"}",
+    ),
+    (
+        Early::NotMvt(MvtFault::BadElement(27)),
+        b"HTTP/1.1 400 Bad Request\r\nContent-Type: application/json\r\nContent-Length: 41\r\n\r\n{\"at\":27,\"error\":\"mvt\",\"fault\":\"element\"}",
+    ),
+    (
+        Early::NotMvt(MvtFault::Twice(4294967295)),
+        b"HTTP/1.1 400 Bad Request\r\nContent-Type: application/json\r\nContent-Length: 47\r\n\r\n{\"at\":4294967295,\"error\":\"mvt\",\"fault\":\"twice\"}",
+    ),
+    (
+        Early::BadType,
+        b"HTTP/1.1 422 Unprocessable Entity\r\nContent-Type: application/json\r\nContent-Length: 16\r\n\r\n{\"error\":\"type\"}",
+    ),
+    (
+        Early::BadStand { edit: 1 },
+        b"HTTP/1.1 422 Unprocessable Entity\r\nContent-Type: application/json\r\nContent-Length: 26\r\n\r\n{\"edit\":1,\"error\":\"stand\"}",
+    ),
+    (
+        Early::BadStand { edit: 64 },
+        b"HTTP/1.1 422 Unprocessable Entity\r\nContent-Type: application/json\r\nContent-Length: 27\r\n\r\n{\"edit\":64,\"error\":\"stand\"}",
+    ),
+    (
+        Early::NoStand,
+        b"HTTP/1.1 422 Unprocessable Entity\r\nContent-Type: application/json\r\nContent-Length: 17\r\n\r\n{\"error\":\"stand\"}",
+    ),
+    (
+        Early::BadTimes,
+        b"HTTP/1.1 422 Unprocessable Entity\r\nContent-Type: application/json\r\nContent-Length: 17\r\n\r\n{\"error\":\"times\"}",
+    ),
+];
+
 #[test]
 fn early_replies_are_these_bytes(rt: HostRuntime) {
-    let rows: [(Early, &[u8]); 16] = [
-        (
-            Early::NoRoute,
-            b"HTTP/1.1 404 Not Found\r\nContent-Type: application/json\r\nContent-Length: 17\r\n\r\n{\"error\":\"route\"}",
-        ),
-        (
-            Early::OnlyGet,
-            b"HTTP/1.1 405 Method Not Allowed\r\nContent-Type: application/json\r\nContent-Length: 18\r\nAllow: GET\r\n\r\n{\"error\":\"method\"}",
-        ),
-        (
-            Early::OnlyPost,
-            b"HTTP/1.1 405 Method Not Allowed\r\nContent-Type: application/json\r\nContent-Length: 18\r\nAllow: POST\r\n\r\n{\"error\":\"method\"}",
-        ),
-        (
-            Early::BadSeen,
-            b"HTTP/1.1 400 Bad Request\r\nContent-Type: application/json\r\nContent-Length: 16\r\n\r\n{\"error\":\"seen\"}",
-        ),
-        (
-            Early::NoDay,
-            b"HTTP/1.1 404 Not Found\r\nContent-Type: application/json\r\nContent-Length: 15\r\n\r\n{\"error\":\"day\"}",
-        ),
-        (
-            Early::NotJson,
-            b"HTTP/1.1 400 Bad Request\r\nContent-Type: application/json\r\nContent-Length: 16\r\n\r\n{\"error\":\"json\"}",
-        ),
-        (
-            Early::NotMvt(MvtFault::TooLong),
-            b"HTTP/1.1 400 Bad Request\r\nContent-Type: application/json\r\nContent-Length: 30\r\n\r\n{\"error\":\"mvt\",\"fault\":\"long\"}",
-        ),
-        (
-            Early::NotMvt(MvtFault::NoIdentifier),
-            b"HTTP/1.1 400 Bad Request\r\nContent-Type: application/json\r\nContent-Length: 36\r\n\r\n{\"error\":\"mvt\",\"fault\":\"identifier\"}",
-        ),
-        (
-            Early::NotMvt(MvtFault::BadFlightLine),
-            b"HTTP/1.1 400 Bad Request\r\nContent-Type: application/json\r\nContent-Length: 32\r\n\r\n{\"error\":\"mvt\",\"fault\":\"flight\"}",
-        ),
-        (
-            Early::NotMvt(MvtFault::BadElement(27)),
-            b"HTTP/1.1 400 Bad Request\r\nContent-Type: application/json\r\nContent-Length: 41\r\n\r\n{\"at\":27,\"error\":\"mvt\",\"fault\":\"element\"}",
-        ),
-        (
-            Early::NotMvt(MvtFault::Twice(4294967295)),
-            b"HTTP/1.1 400 Bad Request\r\nContent-Type: application/json\r\nContent-Length: 47\r\n\r\n{\"at\":4294967295,\"error\":\"mvt\",\"fault\":\"twice\"}",
-        ),
-        (
-            Early::BadType,
-            b"HTTP/1.1 422 Unprocessable Entity\r\nContent-Type: application/json\r\nContent-Length: 16\r\n\r\n{\"error\":\"type\"}",
-        ),
-        (
-            Early::BadStand { edit: 1 },
-            b"HTTP/1.1 422 Unprocessable Entity\r\nContent-Type: application/json\r\nContent-Length: 26\r\n\r\n{\"edit\":1,\"error\":\"stand\"}",
-        ),
-        (
-            Early::BadStand { edit: 64 },
-            b"HTTP/1.1 422 Unprocessable Entity\r\nContent-Type: application/json\r\nContent-Length: 27\r\n\r\n{\"edit\":64,\"error\":\"stand\"}",
-        ),
-        (
-            Early::NoStand,
-            b"HTTP/1.1 422 Unprocessable Entity\r\nContent-Type: application/json\r\nContent-Length: 17\r\n\r\n{\"error\":\"stand\"}",
-        ),
-        (
-            Early::BadTimes,
-            b"HTTP/1.1 422 Unprocessable Entity\r\nContent-Type: application/json\r\nContent-Length: 17\r\n\r\n{\"error\":\"times\"}",
-        ),
-    ];
-    for (early, want) in rows {
+    for (early, want) in EARLY {
         assert!(rt; early_bytes(early).as_slice() == want, "at {early:?}");
     }
 }

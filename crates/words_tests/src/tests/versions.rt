@@ -1,14 +1,12 @@
 // What tells a version and little else.
 use super::{CONFLICT, OK, airport, has_text, reply};
 use apron_base::VisitNo;
-use desk_words::replies::Told;
+use desk_words::replies::{Reply, Told};
 use std::test::Fail;
 
-#[test]
-fn replies_of_versions_are_these_bytes(rt: HostRuntime) -> Result<(), Fail> {
-    let alloc = rt.alloc();
-    let airport = airport(alloc)?;
-    let rows = [
+// The replies, the status and the body of each.
+fn rows() -> [(Reply, &'static str, &'static str); 11] {
+    [
         (
             reply(
                 9,
@@ -71,9 +69,18 @@ fn replies_of_versions_are_these_bytes(rt: HostRuntime) -> Result<(), Fail> {
             CONFLICT,
             r#"{"error":"name","version":41,"visit":20000}"#,
         ),
-    ];
-    for (reply, status, body) in &rows {
-        assert!(rt; has_text(alloc, &airport, reply, status, body), "at {body}");
+    ]
+}
+
+#[test]
+fn replies_of_versions_are_these_bytes(rt: HostRuntime) -> Result<(), Fail> {
+    let alloc = rt.alloc();
+    let airport = airport(alloc)?;
+    for (reply, status, body) in rows() {
+        assert!(rt;
+            has_text(alloc, &airport, &reply, status, body),
+            "at {body}"
+        );
     }
     Ok(())
 }

@@ -1,21 +1,22 @@
 // Visits.
-use super::{OK, airport, has_text, part, reply};
-use apron_base::{Name, StandNo, TypeNo, VisitNo};
+use super::{OK, airport, has_text, reply};
+use apron_base::{Name, PartId, StandNo, TypeNo, VisitNo};
 use apron_rules::Rule;
 use desk_words::replies::Told;
 use mvt_grammar::Flight;
 use std::test::Fail;
 use visit_book::{Bump, End, Key, Part, Parts, Place, Visit};
 
-fn bump() -> Bump {
-    Bump {
-        stand: StandNo(1),
-        entry: 8,
-        blocker: part(40, 2),
-        minute: 615,
-        rule: Rule::Pair,
-    }
-}
+const BUMP: Bump = Bump {
+    stand: StandNo(1),
+    entry: 8,
+    blocker: PartId {
+        visit: VisitNo(40),
+        part: 2,
+    },
+    minute: 615,
+    rule: Rule::Pair,
+};
 
 fn first_visit(place: Place, on_block: bool, end: End) -> Visit {
     Visit {
@@ -98,77 +99,95 @@ fn nameless_visit() -> Visit {
     visit
 }
 
+// The version, the place of the one part, whether the visit is on block, how it ended, and the body.
+const ROWS: [(u32, Place, bool, End, &'static str); 6] = [
+    (
+        1,
+        Place::Planned(StandNo(0)),
+        false,
+        End::Live,
+        r#"{"arr":null,"class":3,"dep":null,"edited":1,"name":"V1","off":660,"on":600,"parts":[{"actual":false,"bump":null,"from":600,"stand":"N1","to":660}],"state":"expected","type":"A320","version":1,"visit":1}"#,
+    ),
+    (
+        4294967294,
+        Place::Actual(StandNo(1)),
+        true,
+        End::Live,
+        r#"{"arr":null,"class":3,"dep":null,"edited":1,"name":"V1","off":660,"on":600,"parts":[{"actual":true,"bump":null,"from":600,"stand":"N2","to":660}],"state":"onblock","type":"A320","version":4294967294,"visit":1}"#,
+    ),
+    (
+        12,
+        Place::Actual(StandNo(1)),
+        true,
+        End::Gone,
+        r#"{"arr":null,"class":3,"dep":null,"edited":1,"name":"V1","off":660,"on":600,"parts":[{"actual":true,"bump":null,"from":600,"stand":"N2","to":660}],"state":"gone","type":"A320","version":12,"visit":1}"#,
+    ),
+    (
+        0,
+        Place::Unplaced(None),
+        true,
+        End::Cancelled,
+        r#"{"arr":null,"class":3,"dep":null,"edited":1,"name":"V1","off":660,"on":600,"parts":[{"actual":false,"bump":null,"from":600,"stand":null,"to":660}],"state":"cancelled","type":"A320","version":0,"visit":1}"#,
+    ),
+    (
+        2,
+        Place::Unplaced(None),
+        false,
+        End::Gone,
+        r#"{"arr":null,"class":3,"dep":null,"edited":1,"name":"V1","off":660,"on":600,"parts":[{"actual":false,"bump":null,"from":600,"stand":null,"to":660}],"state":"gone","type":"A320","version":2,"visit":1}"#,
+    ),
+    (
+        9,
+        Place::Unplaced(Some(BUMP)),
+        false,
+        End::Live,
+        r#"{"arr":null,"class":3,"dep":null,"edited":1,"name":"V1","off":660,"on":600,"parts":[{"actual":false,"bump":{"blocker":{"part":2,"visit":40},"entry":8,"minute":615,"rule":"pair","stand":"N2"},"from":600,"stand":null,"to":660}],"state":"expected","type":"A320","version":9,"visit":1}"#,
+    ),
+];
+
+const LAST: &str =
+    r#"{"arr":null,"class":0,"dep":{"day":255,"flight":"AAL0Z"},"edited":4294967294,"name":"KL-0641-27-A","off":4319,"on":0,"parts":[{"actual":false,"bump":null,"from":1,"stand":"N2","to":4320}],"state":"expected","type":"A320","version":4294967294,"visit":4294967295}"#;
+
+const CONNECTING: &str =
+    r#"{"arr":{"day":0,"flight":"LH27"},"class":3,"dep":{"day":1,"flight":"LH1400A"},"edited":1,"name":"V1","off":660,"on":600,"parts":[{"actual":false,"bump":null,"from":600,"stand":"N1","to":660}],"state":"expected","type":"A320","version":3,"visit":1}"#;
+
+const NAMELESS: &str =
+    r#"{"arr":null,"class":3,"dep":null,"edited":1,"name":"V1","off":660,"on":600,"parts":[{"actual":false,"bump":null,"from":600,"stand":null,"to":660}],"state":"expected","type":null,"version":1,"visit":1}"#;
+
 #[test]
 fn visits_are_these_bytes(rt: HostRuntime) -> Result<(), Fail> {
     let alloc = rt.alloc();
     let airport = airport(alloc)?;
-    let rows = [
-        (
-            reply(
-                1,
-                Told::Visit(first_visit(Place::Planned(StandNo(0)), false, End::Live)),
-            ),
+    for (version, place, on_block, end, body) in ROWS {
+        let visit = first_visit(place, on_block, end);
+        let is = has_text(
+            alloc,
+            &airport,
+            &reply(version, Told::Visit(visit)),
             OK,
-            r#"{"arr":null,"class":3,"dep":null,"edited":1,"name":"V1","off":660,"on":600,"parts":[{"actual":false,"bump":null,"from":600,"stand":"N1","to":660}],"state":"expected","type":"A320","version":1,"visit":1}"#,
-        ),
-        (
-            reply(
-                4294967294,
-                Told::Visit(first_visit(Place::Actual(StandNo(1)), true, End::Live)),
-            ),
-            OK,
-            r#"{"arr":null,"class":3,"dep":null,"edited":1,"name":"V1","off":660,"on":600,"parts":[{"actual":true,"bump":null,"from":600,"stand":"N2","to":660}],"state":"onblock","type":"A320","version":4294967294,"visit":1}"#,
-        ),
-        (
-            reply(
-                12,
-                Told::Visit(first_visit(Place::Actual(StandNo(1)), true, End::Gone)),
-            ),
-            OK,
-            r#"{"arr":null,"class":3,"dep":null,"edited":1,"name":"V1","off":660,"on":600,"parts":[{"actual":true,"bump":null,"from":600,"stand":"N2","to":660}],"state":"gone","type":"A320","version":12,"visit":1}"#,
-        ),
-        (
-            reply(
-                0,
-                Told::Visit(first_visit(Place::Unplaced(None), true, End::Cancelled)),
-            ),
-            OK,
-            r#"{"arr":null,"class":3,"dep":null,"edited":1,"name":"V1","off":660,"on":600,"parts":[{"actual":false,"bump":null,"from":600,"stand":null,"to":660}],"state":"cancelled","type":"A320","version":0,"visit":1}"#,
-        ),
-        (
-            reply(
-                2,
-                Told::Visit(first_visit(Place::Unplaced(None), false, End::Gone)),
-            ),
-            OK,
-            r#"{"arr":null,"class":3,"dep":null,"edited":1,"name":"V1","off":660,"on":600,"parts":[{"actual":false,"bump":null,"from":600,"stand":null,"to":660}],"state":"gone","type":"A320","version":2,"visit":1}"#,
-        ),
-        (
-            reply(
-                9,
-                Told::Visit(first_visit(Place::Unplaced(Some(bump())), false, End::Live)),
-            ),
-            OK,
-            r#"{"arr":null,"class":3,"dep":null,"edited":1,"name":"V1","off":660,"on":600,"parts":[{"actual":false,"bump":{"blocker":{"part":2,"visit":40},"entry":8,"minute":615,"rule":"pair","stand":"N2"},"from":600,"stand":null,"to":660}],"state":"expected","type":"A320","version":9,"visit":1}"#,
-        ),
-        (
-            reply(4294967294, Told::Visit(last_visit())),
-            OK,
-            r#"{"arr":null,"class":0,"dep":{"day":255,"flight":"AAL0Z"},"edited":4294967294,"name":"KL-0641-27-A","off":4319,"on":0,"parts":[{"actual":false,"bump":null,"from":1,"stand":"N2","to":4320}],"state":"expected","type":"A320","version":4294967294,"visit":4294967295}"#,
-        ),
-        (
-            reply(3, Told::Visit(connecting_visit())),
-            OK,
-            r#"{"arr":{"day":0,"flight":"LH27"},"class":3,"dep":{"day":1,"flight":"LH1400A"},"edited":1,"name":"V1","off":660,"on":600,"parts":[{"actual":false,"bump":null,"from":600,"stand":"N1","to":660}],"state":"expected","type":"A320","version":3,"visit":1}"#,
-        ),
-        (
-            reply(1, Told::Visit(nameless_visit())),
-            OK,
-            r#"{"arr":null,"class":3,"dep":null,"edited":1,"name":"V1","off":660,"on":600,"parts":[{"actual":false,"bump":null,"from":600,"stand":null,"to":660}],"state":"expected","type":null,"version":1,"visit":1}"#,
-        ),
-    ];
-    for (reply, status, body) in &rows {
-        assert!(rt; has_text(alloc, &airport, reply, status, body), "at {body}");
+            body,
+        );
+        assert!(rt; is, "at {body}");
     }
+    Ok(())
+}
+
+#[test]
+fn flights_and_the_greatest_numbers_are_told(rt: HostRuntime) -> Result<(), Fail> {
+    let alloc = rt.alloc();
+    let airport = airport(alloc)?;
+    let last = reply(4294967294, Told::Visit(last_visit()));
+    assert!(rt; has_text(alloc, &airport, &last, OK, LAST));
+    let connecting = reply(3, Told::Visit(connecting_visit()));
+    assert!(rt; has_text(alloc, &airport, &connecting, OK, CONNECTING));
+    Ok(())
+}
+
+#[test]
+fn a_stand_and_a_type_that_there_are_not_are_told_as_null(rt: HostRuntime) -> Result<(), Fail> {
+    let alloc = rt.alloc();
+    let airport = airport(alloc)?;
+    let nameless = reply(1, Told::Visit(nameless_visit()));
+    assert!(rt; has_text(alloc, &airport, &nameless, OK, NAMELESS));
     Ok(())
 }
