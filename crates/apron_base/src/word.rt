@@ -36,16 +36,3 @@ impl Word {
         self.text.as_str()
     }
 }
-
-#[cfg(test)]
-mod tests {
-    use super::*;
-    use std::test::Fail;
-
-    #[test]
-    fn a_word_keeps_its_text(rt: HostRuntime) -> Result<(), Fail> {
-        let word = Word::new(rt.alloc(), "desk")?;
-        assert_eq!(rt; word.text(), "desk");
-        Ok(())
-    }
-}

@@ -6,6 +6,3 @@ mod text;
 
 pub use day::{Date, month_day, plan_date};
 pub use text::date_in;
-
-#[cfg(test)]
-mod tests;

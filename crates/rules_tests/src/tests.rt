@@ -7,6 +7,8 @@ use small_airports::{airport_of, empty_parts};
 use std::alloc::Global;
 use std::test::Fail;
 
+mod dates;
+
 const NARROW: u16 = 0;
 
 const WIDE: u16 = 1;

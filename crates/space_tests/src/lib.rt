@@ -1,4 +1,5 @@
-//! Tests of drawn plans: what is found near a slot or a changed visit, beside plain searches over all.
+//! Tests of what is found on stands and near them: in an index that was filled by hand; and at drawn plans, near a slot or a
+//! changed visit, beside plain searches over all.
 #![tactic(auto)]
 
 #[cfg(test)]

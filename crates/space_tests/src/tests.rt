@@ -1,5 +1,6 @@
-// Plans that are drawn at the demo airport.
+// What is found at the stands of an index, and at plans that are drawn at the demo airport.
 mod clashes;
 mod demo;
 mod draws;
+mod looks;
 mod settling;

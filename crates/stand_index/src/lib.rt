@@ -5,7 +5,5 @@
 mod index;
 mod one_stand;
 mod search;
-#[cfg(test)]
-mod tests;
 
 pub use index::StandIndex;

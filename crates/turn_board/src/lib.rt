@@ -5,8 +5,6 @@ mod board;
 mod laws;
 mod plays;
 mod steps;
-#[cfg(test)]
-mod tests;
 mod view;
 mod wait;
 

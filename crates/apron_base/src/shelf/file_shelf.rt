@@ -74,36 +74,3 @@ fn front_of<F: Read + Drop>(file: F, alloc: Global, limit: u32) -> io::Result<Ve
     file.take(u64::from(limit) + 1).read_to_end(&mut bytes)?;
     Ok(bytes)
 }
-
-#[cfg(test)]
-mod tests {
-    use super::*;
-    use std::test::Fail;
-
-    fn length(read: Result<Vec<u8>, ShelfFault>) -> Result<usize, ShelfFault> {
-        match read {
-            Ok(bytes) => Ok(bytes.len()),
-            Err(fault) => Err(fault),
-        }
-    }
-
-    #[test]
-    fn files_are_read_up_to_their_limit(rt: HostRuntime) -> Result<(), Fail> {
-        fs::write(&rt, "five", b"abcde")?;
-        let mut shelf = FileShelf::new(&rt);
-        for (name, limit, want, faults, read) in [
-            ("five", 5, Ok(5), 0, 5),
-            ("five", 4, Err(ShelfFault::TooLong), 0, 10),
-            ("none", 5, Err(ShelfFault::Failed), 1, 10),
-            (".", 5, Err(ShelfFault::Failed), 2, 10),
-            ("five", 6, Ok(5), 2, 15),
-        ] {
-            let got = length(shelf.read_file(rt.alloc(), name, limit));
-            assert_eq!(rt; got, want);
-            assert_eq!(rt; shelf.faults, faults);
-            assert_eq!(rt; shelf.read, read);
-        }
-        fs::remove_file(&rt, "five")?;
-        Ok(())
-    }
-}

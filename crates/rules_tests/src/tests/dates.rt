@@ -1,5 +1,5 @@
 // Dates of the calendar.
-use crate::{date_in, month_day};
+use apron_dates::{date_in, month_day};
 use std::test::Fail;
 
 #[test]

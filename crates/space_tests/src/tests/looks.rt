@@ -1,8 +1,8 @@
 // Looks into an index of two stands, with three planned slots and two actual ones on the first.
 ghost use Rattle.std.specs.Prelude.{◌≡◌, ◌≤◌, ◌<◌, IfOk, length};
 
-use crate::StandIndex;
 use apron_base::{Memory, Minute, PartId, Slot, StandNo, Steps, TypeNo, VisitNo};
+use stand_index::StandIndex;
 use std::alloc::Global;
 use std::marker::Brand;
 use std::sync::ledger::{Blank, Ledger};

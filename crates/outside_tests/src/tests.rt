@@ -1,0 +1,7 @@
+// What comes from outside and goes there.
+mod adapters;
+mod keepers;
+mod list_ends;
+mod listeners;
+mod shelves;
+mod tcp;

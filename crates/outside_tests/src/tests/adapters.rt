@@ -1,0 +1,86 @@
+// A reader as a source and a writer as a sink, which fail at some calls.
+ghost use Rattle.std.specs.Prelude.{◌≤◌, IfOk};
+
+use apron_base::{Failed, Reading, Sink, Source, Writing};
+use std::io;
+use std::io::{ErrorKind, Read, Write};
+use std::test::Fail;
+
+// Gives or takes at most two bytes at each call, five in all. Its second call and its fourth flush
+// fail; a signal interrupts its third call and its second flush.
+#[derive(Drop)]
+struct Breaking {
+    calls: u8,
+    flushes: u8,
+    moved: usize,
+}
+
+impl Breaking {
+    fn next(&mut self, most: usize) -> io::Result<usize>
+        ensures bound { IfOk result (λ n. n ≤ most) }
+    {
+        self.calls = self.calls.saturating_add(1);
+        match self.calls {
+            2 => return Err(io::Error::from(ErrorKind::Other)),
+            3 => return Err(io::Error::from(ErrorKind::Interrupted)),
+            _ => {}
+        }
+        let count = 5usize.saturating_sub(self.moved).min(most).min(2);
+        self.moved = self.moved.saturating_add(count);
+        Ok(count)
+    }
+}
+
+impl Read for Breaking {
+    fn read(&mut self, into: &mut [u8]) -> io::Result<usize> {
+        let count = self.next(into.len())?;
+        into[..count].fill(b'x');
+        Ok(count)
+    }
+}
+
+impl Write for Breaking {
+    fn write(&mut self, piece: &[u8]) -> io::Result<usize> {
+        self.next(piece.len())
+    }
+
+    fn flush(&mut self) -> io::Result<()> {
+        self.flushes = self.flushes.saturating_add(1);
+        match self.flushes {
+            2 => Err(io::Error::from(ErrorKind::Interrupted)),
+            4 => Err(io::Error::from(ErrorKind::Other)),
+            _ => Ok(()),
+        }
+    }
+}
+
+const NEW: Breaking = Breaking {
+    calls: 0,
+    flushes: 0,
+    moved: 0,
+};
+
+#[test]
+fn a_read_that_is_interrupted_is_made_again(rt: HostRuntime) -> Result<(), Fail> {
+    let mut source = Reading::new(NEW);
+    let mut into = [0; 4];
+    for want in [Ok(2), Err(Failed), Ok(2), Ok(1), Ok(0)] {
+        assert_eq!(rt; source.read(&mut into), want);
+    }
+    Ok(())
+}
+
+#[test]
+fn a_piece_that_is_not_taken_or_not_flushed_fails(rt: HostRuntime) -> Result<(), Fail> {
+    let mut sink = Writing::new(NEW);
+    for (piece, want) in [
+        ("abc", Err(Failed)),
+        ("", Ok(())),
+        ("de", Ok(())),
+        ("", Err(Failed)),
+        ("fg", Err(Failed)),
+    ] {
+        assert_eq!(rt; sink.put(piece.as_bytes()), want, "at {piece}");
+    }
+    Ok(())
+}
