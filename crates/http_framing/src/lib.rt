@@ -20,6 +20,3 @@ pub use front::{Front, RequestParts};
 pub use heads::{MAX_FIELDS, MAX_HEAD};
 pub use incoming::{End, Incoming, MAX_PIECE};
 pub use laws::{more_bytes_change_no_request, requests_have_one_reading};
-
-#[cfg(test)]
-mod tests;
