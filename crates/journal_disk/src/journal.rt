@@ -17,9 +17,6 @@ use apron_base::{Failed, Keeper, Listed, MAX_ENTRIES, MAX_ENTRY, Memory};
 use std::alloc::Global;
 use std::marker::Model;
 
-#[cfg(test)]
-mod tests;
-
 /// A journal on a disk. It acknowledges an entry once a crash at any moment leaves it there.
 /// Contracts see its disk and how far it reaches there.
 #[derive(Drop)]

@@ -1,4 +1,5 @@
-//! Tests of `apron_base` and `tcp_desks`: sources and sinks, shelves, keepers and listeners, in memory and over the system.
+//! Tests of `apron_base`, `tcp_desks` and `journal_disk`: sources and sinks, shelves, keepers,
+//! listeners and journals, in memory and over the system.
 #![tactic(auto)]
 
 #[cfg(test)]

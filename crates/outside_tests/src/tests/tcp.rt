@@ -1,55 +1,64 @@
 // The system's TCP listener.
 use apron_base::{Listener, Outcome, Sink, Source};
-use std::alloc::Global;
+use std::alloc::{AllocError, Global};
+use std::io;
 use std::io::{ErrorKind, Read, Write};
-use std::net::{Net, TcpListener, TcpStream};
+use std::net::{Net, SocketAddr, TcpListener, TcpStream};
+use std::sync::Wait;
 use std::test::Fail;
 use tcp_desks::TcpDesks;
 
-// The next four bytes that a connection sends.
-fn taken<S: Source>(alloc: Global, source: &mut S) -> Result<Vec<u8>, Fail> {
-    let mut bytes = Vec::new(alloc);
-    for _ in 0..4 {
+// Desks at a port that the system chooses, and the address.
+fn desks_at<N: Net<Listener = TcpListener, Stream = TcpStream>>(
+    net: &N,
+) -> io::Result<(TcpDesks, SocketAddr)> {
+    let desks = TcpDesks::bind(net, "127.0.0.1:0")?;
+    match desks.address() {
+        Some(address) => Ok((desks, address)),
+        None => Err(io::Error::from(ErrorKind::NotFound)),
+    }
+}
+
+// Whether the next bytes that a connection sends are these.
+fn sends<S: Source>(source: &mut S, bytes: &[u8]) -> bool {
+    for want in bytes {
         let mut byte = [0];
-        match source.read(&mut byte) {
-            Ok(1) => bytes.push(byte[0])?,
-            _ => return Err(Fail::new("a byte")),
+        if source.read(&mut byte) != Ok(1) || byte[0] != *want {
+            return false;
         }
     }
-    Ok(bytes)
+    true
+}
+
+// Accepts a connection, answers it and closes it; whether it asked and could be told.
+fn is_answered<L: Listener, R: Wait>(rt: &R, desks: &mut L) -> bool {
+    let Ok((mut source, mut sink)) = desks.accept(rt) else {
+        return false;
+    };
+    let is_asked = sends(&mut source, b"ask.");
+    let is_told = sink.put(b"told").is_ok();
+    desks.finish(source, sink, Outcome::Closed);
+    is_asked && is_told
 }
 
 #[test]
 fn a_connection_is_read_written_and_closed(rt: HostRuntime) -> Result<(), Fail> {
-    let first = TcpDesks::bind(&rt, "127.0.0.1:0")?;
-    let Some(address) = first.address() else {
-        return Err(Fail::new("an address"));
-    };
+    let (first, address) = desks_at(&rt)?;
     let mut peer = TcpStream::connect(&rt, address)?;
     peer.write_all(b"ask.")?;
-    let mut desks = first.beside();
-    let Ok((mut source, mut sink)) = desks.accept(&rt) else {
-        return Err(Fail::new("a connection"));
-    };
-    assert_eq!(rt;
-        taken(rt.alloc(), &mut source)?.as_slice(),
-        b"ask.".as_slice()
-    );
-    assert!(rt; sink.put(b"told").is_ok());
-    desks.finish(source, sink, Outcome::Closed);
+    assert!(rt; is_answered(&rt, &mut first.beside()));
     let mut told = Vec::new(rt.alloc());
     peer.read_to_end(&mut told)?;
-    assert_eq!(rt; told.as_slice(), b"told".as_slice());
+    assert!(rt; told.as_slice() == b"told".as_slice());
     Ok(())
 }
 
 #[test]
-fn where_no_address_is_bound_each_accept_fails(rt: HostRuntime) -> Result<(), Fail> {
+fn where_no_address_is_bound_each_accept_fails(rt: HostRuntime) {
     let mut desks = TcpDesks::nowhere().beside();
     for _ in 1..4 {
         assert!(rt; desks.accept(&rt).is_err());
     }
-    Ok(())
 }
 
 // Whether the address is refused for this reason.
@@ -64,38 +73,41 @@ fn is_refused<N: Net<Listener = TcpListener, Stream = TcpStream>>(
     }
 }
 
+fn text_of(alloc: Global, address: SocketAddr) -> Result<String, AllocError> {
+    format!(in alloc; "{address}")
+}
+
 #[test]
 fn an_address_that_is_none_or_is_taken_is_refused(rt: HostRuntime) -> Result<(), Fail> {
-    let first = TcpDesks::bind(&rt, "127.0.0.1:0")?;
-    let Some(address) = first.address() else {
-        return Err(Fail::new("an address"));
-    };
-    let taken = format!(in rt.alloc(); "{address}")?;
+    let (_first, address) = desks_at(&rt)?;
+    let taken = text_of(rt.alloc(), address)?;
     assert!(rt; is_refused(&rt, taken.as_str(), ErrorKind::AddrInUse));
     assert!(rt; is_refused(&rt, "no address", ErrorKind::InvalidInput));
     Ok(())
+}
+
+// Accepts a connection, closes it and listens no more; whether there was one.
+fn is_closed<L: Listener + Drop, R: Wait>(rt: &R, desks: L) -> bool {
+    let mut desks = desks;
+    match desks.accept(rt) {
+        Ok((source, sink)) => {
+            desks.finish(source, sink, Outcome::Closed);
+            true
+        }
+        Err(_) => false,
+    }
 }
 
 // A server that closed a connection first leaves the address in use for a while, which hinders none that listens there
 // next.
 #[test]
 fn the_address_can_be_bound_again_at_once(rt: HostRuntime) -> Result<(), Fail> {
-    let mut first = TcpDesks::bind(&rt, "127.0.0.1:0")?;
-    let Some(address) = first.address() else {
-        return Err(Fail::new("an address"));
-    };
+    let (first, address) = desks_at(&rt)?;
     let mut peer = TcpStream::connect(&rt, address)?;
-    let Ok((source, sink)) = first.accept(&rt) else {
-        return Err(Fail::new("a connection"));
-    };
-    first.finish(source, sink, Outcome::Closed);
-    drop(first);
-    assert_eq!(rt; peer.read(&mut [0])?, 0);
+    assert!(rt; is_closed(&rt, first) && peer.read(&mut [0])? == 0);
     drop(peer);
-    let again = format!(in rt.alloc(); "{address}")?;
-    assert_eq!(rt;
-        TcpDesks::bind(&rt, again.as_str())?.address(),
-        Some(address)
-    );
+    let again = text_of(rt.alloc(), address)?;
+    let second = TcpDesks::bind(&rt, again.as_str())?;
+    assert!(rt; second.address() == Some(address));
     Ok(())
 }
