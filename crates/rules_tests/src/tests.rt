@@ -95,78 +95,129 @@ fn has_type(airport: &Airport, kind: u16) -> bool
     (kind as usize) < airport.parts().types.len()
 }
 
-// By which rule a type on one stand and a type on another exclude each other, where there are such.
-fn rule_on(airport: &Airport, one: (&str, u16), other: (&str, u16)) -> Option<Option<Rule>> {
-    let s = number(airport, one.0)?;
-    let s2 = number(airport, other.0)?;
-    if !has_type(airport, one.1) || !has_type(airport, other.1) {
-        return None;
+// Whether a type on one stand and a type on another exclude each other by this rule, or by none.
+fn exclude_by(airport: &Airport, one: (&str, u16), other: (&str, u16), want: Option<Rule>) -> bool {
+    let Some(s) = number(airport, one.0) else {
+        return false;
+    };
+    let Some(s2) = number(airport, other.0) else {
+        return false;
+    };
+    has_type(airport, one.1)
+        && has_type(airport, other.1)
+        && airport.breaks(s, TypeNo(one.1), s2, TypeNo(other.1)) == want
+}
+
+const RULES: [(&str, (&str, u16), (&str, u16), Option<Rule>); 10] = [
+    (
+        "4,029 cm",
+        ("A", NARROW),
+        ("B", NARROW),
+        Some(Rule::Clearance),
+    ),
+    ("4,030 cm", ("B", NARROW), ("C", NARROW), None),
+    ("two halves", ("WL", NARROW), ("WR", NARROW), None),
+    (
+        "half, whole",
+        ("WL", NARROW),
+        ("W", NARROW),
+        Some(Rule::Split),
+    ),
+    (
+        "whole, half",
+        ("W", WIDE),
+        ("WR", NARROW),
+        Some(Rule::Split),
+    ),
+    ("one stand", ("W", NARROW), ("W", WIDE), Some(Rule::Same)),
+    ("restricted", ("P", WIDE), ("Q", NARROW), Some(Rule::Pair)),
+    (
+        "restricted, turned",
+        ("Q", NARROW),
+        ("P", WIDE),
+        Some(Rule::Pair),
+    ),
+    ("not restricted", ("P", NARROW), ("Q", WIDE), None),
+    ("not restricted, turned", ("Q", WIDE), ("P", NARROW), None),
+];
+
+// The first row at which another rule holds, if there is one.
+fn wrong_rule(airport: &Airport) -> Option<&'static str> {
+    for (row, one, other, want) in RULES {
+        if !exclude_by(airport, one, other, want) {
+            return Some(row);
+        }
     }
-    Some(airport.breaks(s, TypeNo(one.1), s2, TypeNo(other.1)))
+    None
+}
+
+// Whether a type fits a stand, or what it does not fit by.
+fn fits_so(airport: &Airport, name: &str, kind: u16, want: Result<(), UnfitBy>) -> bool {
+    match number(airport, name) {
+        Some(s) => has_type(airport, kind) && airport.fits(s, TypeNo(kind)) == want,
+        None => false,
+    }
+}
+
+const FITS: [(&str, &str, u16, Result<(), UnfitBy>); 4] = [
+    ("at its clearance", "X", NARROW, Ok(())),
+    ("1 cm less", "Y", NARROW, Err(UnfitBy::Object(2))),
+    ("E on C", "X", WIDE, Err(UnfitBy::Letter)),
+    ("E on E", "P", WIDE, Ok(())),
+];
+
+// The first row at which another answer is given, if there is one.
+fn wrong_fit(airport: &Airport) -> Option<&'static str> {
+    for (row, name, kind, want) in FITS {
+        if !fits_so(airport, name, kind, want) {
+            return Some(row);
+        }
+    }
+    None
+}
+
+// Whether these are the stand's neighbours.
+fn neighbours_are(airport: &Airport, name: &str, want: &[StandNo]) -> bool {
+    match number(airport, name) {
+        Some(s) => airport.neighbours(s) == want,
+        None => false,
+    }
+}
+
+const NEIGHBOURS: [(&str, &[StandNo]); 8] = [
+    ("A", &[StandNo(0), StandNo(1)]),
+    ("B", &[StandNo(0), StandNo(1), StandNo(2)]),
+    ("C", &[StandNo(1), StandNo(2)]),
+    ("W", &[StandNo(3), StandNo(4), StandNo(5)]),
+    ("WR", &[StandNo(3), StandNo(4), StandNo(5)]),
+    ("P", &[StandNo(6), StandNo(7)]),
+    ("Q", &[StandNo(6), StandNo(7)]),
+    ("X", &[StandNo(8)]),
+];
+
+// The first stand that has other neighbours, if there is one.
+fn wrong_neighbours(airport: &Airport) -> Option<&'static str> {
+    for (name, want) in NEIGHBOURS {
+        if !neighbours_are(airport, name, want) {
+            return Some(name);
+        }
+    }
+    None
+}
+
+// Two aircraft exclude each other by the first rule, an aircraft fits up to its clearance, and neighbours are the stands
+// that some two types exclude.
+fn wrong_row(airport: &Airport) -> Option<&'static str> {
+    wrong_rule(airport)
+        .or(wrong_fit(airport))
+        .or(wrong_neighbours(airport))
 }
 
 #[test]
-fn two_aircraft_exclude_each_other_by_the_first_rule(rt: HostRuntime) -> Result<(), Fail> {
+fn the_rules_hold_at_their_bounds(rt: HostRuntime) -> Result<(), Fail> {
     let airport = airport(rt.alloc())?;
-    for (one, other, want) in [
-        (("A", NARROW), ("B", NARROW), Some(Rule::Clearance)),
-        (("B", NARROW), ("C", NARROW), None),
-        (("WL", NARROW), ("WR", NARROW), None),
-        (("WL", NARROW), ("W", NARROW), Some(Rule::Split)),
-        (("W", WIDE), ("WR", NARROW), Some(Rule::Split)),
-        (("W", NARROW), ("W", WIDE), Some(Rule::Same)),
-        (("P", WIDE), ("Q", NARROW), Some(Rule::Pair)),
-        (("Q", NARROW), ("P", WIDE), Some(Rule::Pair)),
-        (("P", NARROW), ("Q", WIDE), None),
-        (("Q", WIDE), ("P", NARROW), None),
-    ] {
-        let rule = rule_on(&airport, one, other);
-        assert_eq!(rt; rule, Some(want), "on {} and {}", one.0, other.0);
+    match wrong_row(&airport) {
+        Some(row) => Err(Fail::new(row)),
+        None => Ok(()),
     }
-    Ok(())
-}
-
-// Whether a type fits a stand, where there are such.
-fn fits_on(airport: &Airport, name: &str, kind: u16) -> Option<Result<(), UnfitBy>> {
-    let s = number(airport, name)?;
-    if !has_type(airport, kind) {
-        return None;
-    }
-    Some(airport.fits(s, TypeNo(kind)))
-}
-
-#[test]
-fn an_aircraft_fits_up_to_its_clearance(rt: HostRuntime) -> Result<(), Fail> {
-    let airport = airport(rt.alloc())?;
-    for (name, kind, want) in [
-        ("X", NARROW, Ok(())),
-        ("Y", NARROW, Err(UnfitBy::Object(2))),
-        ("X", WIDE, Err(UnfitBy::Letter)),
-        ("P", WIDE, Ok(())),
-    ] {
-        assert_eq!(rt; fits_on(&airport, name, kind), Some(want), "on {name}");
-    }
-    Ok(())
-}
-
-#[test]
-fn neighbours_are_the_stands_that_some_two_types_exclude(rt: HostRuntime) -> Result<(), Fail> {
-    let airport = airport(rt.alloc())?;
-    let cases: [(&str, &[StandNo]); 8] = [
-        ("A", &[StandNo(0), StandNo(1)]),
-        ("B", &[StandNo(0), StandNo(1), StandNo(2)]),
-        ("C", &[StandNo(1), StandNo(2)]),
-        ("W", &[StandNo(3), StandNo(4), StandNo(5)]),
-        ("WR", &[StandNo(3), StandNo(4), StandNo(5)]),
-        ("P", &[StandNo(6), StandNo(7)]),
-        ("Q", &[StandNo(6), StandNo(7)]),
-        ("X", &[StandNo(8)]),
-    ];
-    for (name, want) in &cases {
-        let Some(s) = number(&airport, name) else {
-            return Err(Fail::new("a stand of this name"));
-        };
-        assert_eq!(rt; airport.neighbours(s), *want, "of {name}");
-    }
-    Ok(())
 }
