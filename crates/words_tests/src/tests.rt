@@ -2,7 +2,7 @@
 ghost use Rattle.std.specs.Prelude.{IsTrue, IfSome};
 ghost use Rattle.visit_book.specs.NewVisits.{HasFlight, IsNewVisit, new_of};
 
-use apron_base::{Name, PartId, VisitNo};
+use apron_base::Name;
 use apron_rules::Airport;
 use desk_words::replies::{Reply, Told, reply_bytes};
 use mvt_grammar::is_flight;
@@ -23,12 +23,19 @@ const CONFLICT: &str = "409 Conflict";
 
 const UNPROCESSABLE: &str = "422 Unprocessable Entity";
 
-fn reply(version: u32, told: Told) -> Reply {
-    Reply { version, told }
+// Whether the text of what is told at this version has this status, the lines that each reply has, and this body.
+fn has_text(
+    alloc: Global,
+    version: u32,
+    told: Told,
+    status: &str,
+    body: &str,
+) -> Result<bool, Fail> {
+    let airport = airport(alloc)?;
+    Ok(is_text(alloc, &airport, &Reply { version, told }, status, body))
 }
 
-// Whether the reply's text has this status, the lines that each reply has, and this body.
-fn has_text(alloc: Global, airport: &Airport, reply: &Reply, status: &str, body: &str) -> bool {
+fn is_text(alloc: Global, airport: &Airport, reply: &Reply, status: &str, body: &str) -> bool {
     let bytes = match &reply.told {
         Told::Edit(EditFault::Memory) => return false,
         Told::Visit(visit) if !is_new_visit(visit) => return false,
@@ -84,12 +91,5 @@ fn has_flight(key: &Option<Key>) -> bool
     match key {
         Some(key) => is_flight(&key.flight),
         None => true,
-    }
-}
-
-fn part(visit: u32, part: u8) -> PartId {
-    PartId {
-        visit: VisitNo(visit),
-        part,
     }
 }

@@ -1,5 +1,5 @@
 // Refused edits.
-use super::{CONFLICT, UNPROCESSABLE, airport, has_text, reply};
+use super::{CONFLICT, UNPROCESSABLE, has_text};
 use apron_base::{PartId, VisitNo};
 use apron_rules::{Clash, Rule, UnfitBy};
 use desk_words::replies::Told;
@@ -125,16 +125,8 @@ const ROWS: [(u32, EditFault, &'static str, &'static str); 13] = [
 
 #[test]
 fn refused_edits_are_these_bytes(rt: HostRuntime) -> Result<(), Fail> {
-    let alloc = rt.alloc();
-    let airport = airport(alloc)?;
     for (version, fault, status, body) in ROWS {
-        let is = has_text(
-            alloc,
-            &airport,
-            &reply(version, Told::Edit(fault)),
-            status,
-            body,
-        );
+        let is = has_text(rt.alloc(), version, Told::Edit(fault), status, body)?;
         assert!(rt; is, "at {body}");
     }
     Ok(())

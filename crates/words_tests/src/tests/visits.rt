@@ -1,5 +1,5 @@
 // Visits.
-use super::{OK, airport, has_text, reply};
+use super::{OK, has_text};
 use apron_base::{Name, PartId, StandNo, TypeNo, VisitNo};
 use apron_rules::Rule;
 use desk_words::replies::Told;
@@ -156,17 +156,9 @@ const NAMELESS: &str =
 
 #[test]
 fn visits_are_these_bytes(rt: HostRuntime) -> Result<(), Fail> {
-    let alloc = rt.alloc();
-    let airport = airport(alloc)?;
     for (version, place, on_block, end, body) in ROWS {
         let visit = first_visit(place, on_block, end);
-        let is = has_text(
-            alloc,
-            &airport,
-            &reply(version, Told::Visit(visit)),
-            OK,
-            body,
-        );
+        let is = has_text(rt.alloc(), version, Told::Visit(visit), OK, body)?;
         assert!(rt; is, "at {body}");
     }
     Ok(())
@@ -174,20 +166,21 @@ fn visits_are_these_bytes(rt: HostRuntime) -> Result<(), Fail> {
 
 #[test]
 fn flights_and_the_greatest_numbers_are_told(rt: HostRuntime) -> Result<(), Fail> {
-    let alloc = rt.alloc();
-    let airport = airport(alloc)?;
-    let last = reply(4294967294, Told::Visit(last_visit()));
-    assert!(rt; has_text(alloc, &airport, &last, OK, LAST));
-    let connecting = reply(3, Told::Visit(connecting_visit()));
-    assert!(rt; has_text(alloc, &airport, &connecting, OK, CONNECTING));
+    let last = has_text(rt.alloc(), 4294967294, Told::Visit(last_visit()), OK, LAST)?;
+    let connecting = has_text(
+        rt.alloc(),
+        3,
+        Told::Visit(connecting_visit()),
+        OK,
+        CONNECTING,
+    )?;
+    assert!(rt; last && connecting, "last {last}, connecting {connecting}");
     Ok(())
 }
 
 #[test]
 fn a_stand_and_a_type_that_there_are_not_are_told_as_null(rt: HostRuntime) -> Result<(), Fail> {
-    let alloc = rt.alloc();
-    let airport = airport(alloc)?;
-    let nameless = reply(1, Told::Visit(nameless_visit()));
-    assert!(rt; has_text(alloc, &airport, &nameless, OK, NAMELESS));
+    let is = has_text(rt.alloc(), 1, Told::Visit(nameless_visit()), OK, NAMELESS)?;
+    assert!(rt; is);
     Ok(())
 }
