@@ -4,5 +4,5 @@
 mod lines;
 mod runs;
 
-pub use lines::{Session, all_hold};
+pub use lines::{Session, all_hold, all_hold_at};
 pub use runs::{DEMO, Ended, Run, empty_journal};

@@ -14,26 +14,37 @@ pub struct Session {
 }
 
 impl Session {
-    /// A line `> METHOD TARGET BODY` is a request, with the fields of the lines `+ FIELD` before it in its head, and a line
-    /// `< CODE FIELD BODY` is a reply. At `Err` memory is wanting, or a line is none of these.
-    pub fn of(alloc: Global, lines: &str) -> Result<Session, Fail> {
-        let mut session = Session {
+    /// A session of no request.
+    pub fn new(alloc: Global) -> Session {
+        Session {
             input: Vec::new(alloc),
             output: Vec::new(alloc),
-        };
+        }
+    }
+
+    /// A line `> METHOD TARGET BODY` is a request, with the fields of the lines `+ FIELD` before it in its head, and a line
+    /// `< CODE FIELD BODY` is a reply. At `Err` memory is wanting, or a request or a reply is none.
+    pub fn of(alloc: Global, lines: &str) -> Result<Session, Fail> {
+        let mut session = Session::new(alloc);
         let mut fields = String::new(alloc);
         for line in lines.split('\n') {
-            if let Some(field) = line.strip_prefix("+ ") {
-                fields.push_str(field)?;
-                fields.push_str("\r\n")?;
-            } else if let Some(words) = line.strip_prefix("> ") {
-                session.ask(alloc, words, fields.as_str())?;
-                fields.clear();
-            } else if let Some(words) = line.strip_prefix("< ") {
-                session.tell(alloc, words)?;
-            }
+            session.take(alloc, line, &mut fields)?;
         }
         Ok(session)
+    }
+
+    // Takes one of the lines; the fields are those of the next request's head.
+    fn take(&mut self, alloc: Global, line: &str, fields: &mut String) -> Result<(), Fail> {
+        if let Some(field) = line.strip_prefix("+ ") {
+            fields.push_str(field)?;
+            fields.push_str("\r\n")?;
+        } else if let Some(words) = line.strip_prefix("> ") {
+            self.ask(alloc, words, fields.as_str())?;
+            fields.clear();
+        } else if let Some(words) = line.strip_prefix("< ") {
+            self.tell(alloc, words)?;
+        }
+        Ok(())
     }
 
     /// Puts a request `METHOD TARGET BODY` behind the input, with these lines in its head. A bar in the body is the end of a line.
@@ -41,11 +52,10 @@ impl Session {
     pub fn ask(&mut self, alloc: Global, words: &str, fields: &str) -> Result<(), Fail> {
         let (method, rest) = words.split_once(' ').ok_or("a request has a target")?;
         let (target, body) = rest.split_once(' ').unwrap_or((rest, ""));
-        let length = body.len();
-        let head = format!(in alloc;
-            "{method} {target} HTTP/1.1\r\nContent-Length: {length}\r\n{fields}\r\n"
-        )?;
-        self.input.extend_from_slice(head.as_bytes())?;
+        put(&mut self.input, &[method, " ", target, " HTTP/1.1\r\n"])?;
+        put_length(alloc, &mut self.input, body)?;
+        self.input.extend_from_slice(fields.as_bytes())?;
+        self.input.extend_from_slice(b"\r\n")?;
         for byte in body.as_bytes() {
             self.input.push(if *byte == b'|' { b'\n' } else { *byte })?;
         }
@@ -57,19 +67,31 @@ impl Session {
     pub fn tell(&mut self, alloc: Global, words: &str) -> Result<(), Fail> {
         let (code, rest) = words.split_once(' ').ok_or("a reply has a field")?;
         let (field, body) = rest.split_once(' ').ok_or("a reply has a body")?;
-        let phrase = phrase_of(code);
-        let (name, value, end) = field_of(field);
-        let length = body.len();
-        let reply = format!(in alloc;
-            "HTTP/1.1 {code} {phrase}\r\nContent-Type: application/json\r\nContent-Length: {length}\r\n{name}{value}{end}\r\n{body}"
+        put(&mut self.output, &["HTTP/1.1 ", code, " "])?;
+        put(
+            &mut self.output,
+            &[phrase_of(code), "\r\nContent-Type: application/json\r\n"],
         )?;
-        self.output.extend_from_slice(reply.as_bytes())?;
+        put_length(alloc, &mut self.output, body)?;
+        put_field(&mut self.output, field)?;
+        put(&mut self.output, &["\r\n", body])?;
         Ok(())
     }
 
     /// At `Err` the input is answered with another output, or the session ends with another status, or memory is wanting.
     pub fn holds(&self, alloc: Global, shows: &str, status: u8) -> Result<(), Fail> {
+        self.holds_at(alloc, DEMO.airport, shows, status)
+    }
+
+    fn holds_at<'a>(
+        &'a self,
+        alloc: Global,
+        airport: &'a str,
+        shows: &str,
+        status: u8,
+    ) -> Result<(), Fail> {
         let run = Run {
+            airport,
             input: self.input.as_slice(),
             ..DEMO
         };
@@ -90,19 +112,36 @@ impl Session {
             stored: journal,
             ..DEMO
         };
-        let ended = run.ends(alloc)?;
-        Ok(ended.status == 0 && ended.output.as_slice() == self.output.as_slice())
+        Ok(run.ends(alloc)?.is(self.output.as_slice(), 0))
     }
 }
 
-// The name of a field, its value and its end.
-fn field_of(field: &str) -> (&'static str, &str, &'static str) {
-    match field {
-        "-" => ("", "", ""),
-        "close" => ("Connection: ", field, "\r\n"),
-        "GET" | "POST" => ("Allow: ", field, "\r\n"),
-        _ => ("X-Version: ", field, "\r\n"),
+fn put(bytes: &mut Vec<u8>, texts: &[&str]) -> Result<(), Memory> {
+    for text in texts {
+        bytes.extend_from_slice(text.as_bytes())?;
     }
+    Ok(())
+}
+
+// Puts the field that tells the length of this body.
+fn put_length(alloc: Global, bytes: &mut Vec<u8>, body: &str) -> Result<(), Fail> {
+    let length = body.len();
+    let field = format!(in alloc; "Content-Length: {length}\r\n")?;
+    bytes.extend_from_slice(field.as_bytes())?;
+    Ok(())
+}
+
+fn put_field(bytes: &mut Vec<u8>, field: &str) -> Result<(), Memory> {
+    let name = match field {
+        "-" => return Ok(()),
+        "close" => "Connection: ",
+        "GET" | "POST" => "Allow: ",
+        _ => "X-Version: ",
+    };
+    bytes.extend_from_slice(name.as_bytes())?;
+    bytes.extend_from_slice(field.as_bytes())?;
+    bytes.extend_from_slice(b"\r\n")?;
+    Ok(())
 }
 
 fn phrase_of(code: &str) -> &'static str {
@@ -123,9 +162,14 @@ fn phrase_of(code: &str) -> &'static str {
 /// Looks whether each session is answered as its lines say, with status 0. One begins with a line `# WHAT IT SHOWS`. At `Err` one
 /// is not, which is told with what it shows, or a line is none, or memory is wanting.
 pub fn all_hold(alloc: Global, sessions: &str) -> Result<(), Fail> {
+    all_hold_at(alloc, DEMO.airport, sessions)
+}
+
+/// The same at the airport of this airport file.
+pub fn all_hold_at(alloc: Global, airport: &str, sessions: &str) -> Result<(), Fail> {
     for session in sessions.split('#') {
         let (shows, lines) = session.split_once('\n').unwrap_or((session, ""));
-        Session::of(alloc, lines)?.holds(alloc, shows, 0)?;
+        Session::of(alloc, lines)?.holds_at(alloc, airport, shows, 0)?;
     }
     Ok(())
 }

@@ -1,5 +1,5 @@
 // The program on texts in memory.
-use apron_base::{ListSink, ListSource, MapShelf, Memory};
+use apron_base::{Kept, ListSink, ListSource, MapShelf, Memory};
 use apron_run::run;
 use journal_disk::{MemoryDisk, digest_of};
 use run_inputs::{AIRPORT, ROOM, TYPES, kept, words};
@@ -63,6 +63,19 @@ pub struct Ended {
     pub disk: MemoryDisk,
 }
 
+impl Ended {
+    /// Whether it wrote this, and ended with this status.
+    pub fn is(&self, output: &[u8], status: u8) -> bool {
+        self.status == status && self.output.as_slice() == output
+    }
+
+    fn told(&self, shows: &impl Debug) -> Fail {
+        let wrote = str::from_utf8(self.output.as_slice());
+        let ends_with = self.status;
+        Fail::new(format_args!("{shows:?}: it ends with {ends_with}, and writes {wrote:?}"))
+    }
+}
+
 impl Run<'_> {
     /// Runs the program. At `Err` it wrote another output or ended with another status, which is told with what it shows, or
     /// memory is wanting.
@@ -74,33 +87,20 @@ impl Run<'_> {
         status: u8,
     ) -> Result<(), Fail> {
         let ended = self.ends(alloc)?;
-        if ended.output.as_slice() == output && ended.status == status {
-            return Ok(());
+        if ended.is(output, status) {
+            Ok(())
+        } else {
+            Err(ended.told(shows))
         }
-        let wrote = str::from_utf8(ended.output.as_slice());
-        let ends_with = ended.status;
-        Err(Fail::new(format_args!("{shows:?}: it ends with {ends_with}, and writes {wrote:?}")))
     }
 
     /// Runs the program. At `Err` memory is wanting.
     pub fn ends(&self, alloc: Global) -> Result<Ended, Memory> {
-        let files = Vec::from_array(
-            alloc,
-            [
-                kept(alloc, "A", self.airport.as_bytes())?,
-                kept(alloc, "T", self.types.as_bytes())?,
-                kept(alloc, "S", self.season)?,
-            ],
-        )?;
-        let mut shelf = MapShelf::new(files, self.failing_files.to_vec(alloc)?);
-        let mut source = ListSource::new(
-            self.input.to_vec(alloc)?,
-            self.pieces.to_vec(alloc)?,
-            self.failing_reads.to_vec(alloc)?,
-        );
+        let words = words(alloc, self.words)?;
+        let mut shelf = self.shelf(alloc)?;
+        let mut source = self.source(alloc)?;
         let mut sink = ListSink::new(alloc, 200_000, self.failing_puts.to_vec(alloc)?)?;
         let mut disk = self.disk(alloc)?;
-        let words = words(alloc, self.words)?;
         let status = run(
             alloc,
             words.as_slice(),
@@ -116,6 +116,22 @@ impl Run<'_> {
         })
     }
 
+    fn shelf(&self, alloc: Global) -> Result<MapShelf, Memory> {
+        let mut files = Vec::new(alloc);
+        put_file(alloc, &mut files, "A", self.airport.as_bytes())?;
+        put_file(alloc, &mut files, "T", self.types.as_bytes())?;
+        put_file(alloc, &mut files, "S", self.season)?;
+        Ok(MapShelf::new(files, self.failing_files.to_vec(alloc)?))
+    }
+
+    fn source(&self, alloc: Global) -> Result<ListSource, Memory> {
+        Ok(ListSource::new(
+            self.input.to_vec(alloc)?,
+            self.pieces.to_vec(alloc)?,
+            self.failing_reads.to_vec(alloc)?,
+        ))
+    }
+
     fn disk(&self, alloc: Global) -> Result<MemoryDisk, Memory> {
         let first = if self.is_new {
             empty_journal(alloc, self.airport, self.types)?
@@ -124,6 +140,11 @@ impl Run<'_> {
         };
         MemoryDisk::new(alloc, first, ROOM, self.failing_calls.to_vec(alloc)?)
     }
+}
+
+fn put_file(alloc: Global, files: &mut Vec<Kept>, name: &str, bytes: &[u8]) -> Result<(), Memory> {
+    files.push(kept(alloc, name, bytes)?)?;
+    Ok(())
 }
 
 /// A journal of these two files with no entry: what it begins with, the digests of both files, and a closed gate. At `Err`
