@@ -214,24 +214,46 @@ const UNSYNCED: [Unsynced; 4] = [
     Unsynced::Ones,
 ];
 
-// The first moment at which a crash may lose what was acknowledged, and the writes that it leaves.
-fn first_lost(alloc: Global, failing: u64) -> Result<Option<(usize, Unsynced)>, JournalFault> {
-    let acknowledged = acknowledged(alloc, failing)?;
-    let (disk, _) = after_appends(alloc, failing, 4)?;
-    for moment in CALLS_BEFORE..=disk.calls().len() {
-        for unsynced in UNSYNCED {
-            if !is_kept(alloc, &disk, &acknowledged, moment, unsynced)? {
-                return Ok(Some((moment, unsynced)));
-            }
+// What becomes of the writes where a crash at this moment loses what was acknowledged.
+fn lost_at(
+    alloc: Global,
+    disk: &MemoryDisk,
+    acknowledged: &[(usize, u8)],
+    moment: usize,
+) -> Result<Option<Unsynced>, JournalFault> {
+    for unsynced in UNSYNCED {
+        if !is_kept(alloc, disk, acknowledged, moment, unsynced)? {
+            return Ok(Some(unsynced));
         }
     }
     Ok(None)
 }
 
+// The first moment at which a crash may lose that, and what becomes of the writes then.
+fn first_lost(
+    alloc: Global,
+    disk: &MemoryDisk,
+    acknowledged: &[(usize, u8)],
+) -> Result<Option<(usize, Unsynced)>, JournalFault> {
+    for moment in CALLS_BEFORE..=disk.calls().len() {
+        if let Some(unsynced) = lost_at(alloc, disk, acknowledged, moment)? {
+            return Ok(Some((moment, unsynced)));
+        }
+    }
+    Ok(None)
+}
+
+// The same of four appends to a new journal.
+fn lost_of_four(alloc: Global, failing: u64) -> Result<Option<(usize, Unsynced)>, JournalFault> {
+    let acknowledged = acknowledged(alloc, failing)?;
+    let (disk, _) = after_appends(alloc, failing, 4)?;
+    first_lost(alloc, &disk, &acknowledged)
+}
+
 #[test]
 fn each_image_at_each_call_has_what_was_acknowledged(rt: HostRuntime) {
     for failing in 6..30 {
-        let lost = first_lost(rt.alloc(), failing);
+        let lost = lost_of_four(rt.alloc(), failing);
         assert_eq!(rt; lost, Ok(None), "call {failing} fails");
     }
 }
