@@ -6,14 +6,14 @@ use apron_base::{Listed, Name, VisitNo};
 use apron_rules::{Airport, TypeRow};
 use season_files::{SeasonFault, read_season, write_season};
 use small_airports::{on_one_frontage, stand_on_n, type_of_40};
-use std::alloc::Global;
+use std::alloc::{AllocError, Global};
 use std::test::Fail;
 use visit_book::{End, NewVisit, Visit, added_visit};
 
-const HEADER: &[u8] = b"name,type,class,on,off,arr,arrday,dep,depday\n";
+const HEADER: &str = "name,type,class,on,off,arr,arrday,dep,depday\n";
 
-const TWO: &[u8] =
-    b"name,type,class,on,off,arr,arrday,dep,depday\nV1,A320,3,600,660,LH123,1,LH124,1\nV2,AT76,5,700,760,,,,\n";
+const TWO: &str =
+    "name,type,class,on,off,arr,arrday,dep,depday\nV1,A320,3,600,660,LH123,1,LH124,1\nV2,AT76,5,700,760,,,,\n";
 
 // No more bytes than this are read.
 const MOST: usize = 1_000_000;
@@ -43,23 +43,19 @@ fn season(alloc: Global, airport: &Airport, text: &[u8]) -> Result<Listed<NewVis
 }
 
 // The number of the first record that is refused, 0 where none is.
-fn refused(alloc: Global, airport: &Airport, text: &[u8]) -> Option<u32> {
-    match season(alloc, airport, text) {
+fn refused(alloc: Global, text: &str) -> Result<Option<u32>, Fail> {
+    let airport = airport(alloc)?;
+    Ok(match season(alloc, &airport, text.as_bytes()) {
         Ok(_) => Some(0),
         Err(SeasonFault::BadRow(record)) => Some(record),
         Err(SeasonFault::Memory) => None,
-    }
+    })
 }
 
 // The same of the header and these records.
-fn refused_behind(alloc: Global, airport: &Airport, records: &[u8]) -> Option<u32> {
-    let Ok(mut text) = Vec::from_slice(alloc, HEADER) else {
-        return None;
-    };
-    if text.extend_from_slice(records).is_err() {
-        return None;
-    }
-    refused(alloc, airport, text.as_slice())
+fn refused_behind(alloc: Global, records: &str) -> Result<Option<u32>, Fail> {
+    let text = format!(in alloc; "{HEADER}{records}")?;
+    refused(alloc, text.as_str())
 }
 
 // Visits that were added with these, of which the first so many are cancelled.
@@ -88,165 +84,176 @@ fn visit_of(new: &NewVisit, cancelled: bool) -> Visit
 }
 
 // What is written of the visits that a text tells, of which the first so many are cancelled.
-fn rewritten(
-    alloc: Global,
-    airport: &Airport,
-    text: &[u8],
-    cancelled: usize,
-) -> Result<Listed<u8>, Fail> {
-    let Ok(season) = season(alloc, airport, text) else {
+fn rewritten(alloc: Global, text: &str, cancelled: usize) -> Result<Listed<u8>, Fail> {
+    let airport = airport(alloc)?;
+    let Ok(season) = season(alloc, &airport, text.as_bytes()) else {
         return Err(Fail::new("a season"));
     };
-    let visits = visits(alloc, airport, season.as_slice(), cancelled)?;
-    match write_season(alloc, airport, visits.as_slice()) {
+    let visits = visits(alloc, &airport, season.as_slice(), cancelled)?;
+    match write_season(alloc, &airport, visits.as_slice()) {
         Ok(text) => Ok(text),
         Err(_) => Err(Fail::new("memory")),
     }
 }
 
+// Whether that is this text.
+fn is_rewritten(alloc: Global, text: &str, cancelled: usize, want: &str) -> Result<bool, Fail> {
+    let found = rewritten(alloc, text, cancelled)?;
+    Ok(found.as_slice() == want.as_bytes())
+}
+
+// What a text has, the text, how many of its two visits are cancelled, and what is written.
+const TEXTS: [(&'static str, &'static str, usize, &'static str); 8] = [
+    ("as it is written", TWO, 0, TWO),
+    (
+        "a byte order mark",
+        "\u{feff}name,type,class,on,off,arr,arrday,dep,depday\nV1,A320,3,600,660,LH123,1,LH124,1\nV2,AT76,5,700,760,,,,\n",
+        0,
+        TWO,
+    ),
+    (
+        "CR LF, and none behind the last record",
+        "name,type,class,on,off,arr,arrday,dep,depday\r\nV1,A320,3,600,660,LH123,1,LH124,1\r\nV2,AT76,5,700,760,,,,",
+        0,
+        TWO,
+    ),
+    (
+        "quotes",
+        "\"name\",type,class,on,off,arr,arrday,dep,depday\n\"V1\",A320,\"3\",600,660,\"LH123\",1,LH124,1\nV2,AT76,5,700,760,\"\",,,\n",
+        0,
+        TWO,
+    ),
+    (
+        "empty lines",
+        "\n\nname,type,class,on,off,arr,arrday,dep,depday\n\nV1,A320,3,600,660,LH123,1,LH124,1\n\r\nV2,AT76,5,700,760,,,,\n\n",
+        0,
+        TWO,
+    ),
+    (
+        "leading zeros",
+        "name,type,class,on,off,arr,arrday,dep,depday\nV1,A320,03,000000600,0660,LH0123,001,LH124,1\nV2,AT76,5,700,760,,,,\n",
+        0,
+        TWO,
+    ),
+    (
+        "the first is cancelled",
+        TWO,
+        1,
+        "name,type,class,on,off,arr,arrday,dep,depday\nV2,AT76,5,700,760,,,,\n",
+    ),
+    ("both are cancelled", TWO, 2, HEADER),
+];
+
 #[test]
 fn two_visits_are_written_as_they_were_read(rt: HostRuntime) -> Result<(), Fail> {
-    let airport = airport(rt.alloc())?;
-    let texts: [(&str, &[u8], usize, &[u8]); 8] = [
-        ("as it is written", TWO, 0, TWO),
-        (
-            "a byte order mark",
-            b"\xEF\xBB\xBFname,type,class,on,off,arr,arrday,dep,depday\nV1,A320,3,600,660,LH123,1,LH124,1\nV2,AT76,5,700,760,,,,\n",
-            0,
-            TWO,
-        ),
-        (
-            "CR LF, and none behind the last record",
-            b"name,type,class,on,off,arr,arrday,dep,depday\r\nV1,A320,3,600,660,LH123,1,LH124,1\r\nV2,AT76,5,700,760,,,,",
-            0,
-            TWO,
-        ),
-        (
-            "quotes",
-            b"\"name\",type,class,on,off,arr,arrday,dep,depday\n\"V1\",A320,\"3\",600,660,\"LH123\",1,LH124,1\nV2,AT76,5,700,760,\"\",,,\n",
-            0,
-            TWO,
-        ),
-        (
-            "empty lines",
-            b"\n\nname,type,class,on,off,arr,arrday,dep,depday\n\nV1,A320,3,600,660,LH123,1,LH124,1\n\r\nV2,AT76,5,700,760,,,,\n\n",
-            0,
-            TWO,
-        ),
-        (
-            "leading zeros",
-            b"name,type,class,on,off,arr,arrday,dep,depday\nV1,A320,03,000000600,0660,LH0123,001,LH124,1\nV2,AT76,5,700,760,,,,\n",
-            0,
-            TWO,
-        ),
-        (
-            "the first is cancelled",
-            TWO,
-            1,
-            b"name,type,class,on,off,arr,arrday,dep,depday\nV2,AT76,5,700,760,,,,\n",
-        ),
-        ("both are cancelled", TWO, 2, HEADER),
-    ];
-    for (what, text, cancelled, want) in texts {
-        let found = rewritten(rt.alloc(), &airport, text, cancelled)?;
-        assert_eq!(rt; found.as_slice(), want, "{what}");
+    for (what, text, cancelled, want) in TEXTS {
+        let is = is_rewritten(rt.alloc(), text, cancelled, want)?;
+        assert!(rt; is, "{what}");
     }
     Ok(())
 }
+
+const WITHOUT_THE_HEADER: [&'static str; 6] = [
+    "",
+    "\n\r\n",
+    "V1,A320,3,600,660,LH123,1,LH124,1\n",
+    "name,type,class,on,off,arr,arrday,dep\n",
+    "name,type,class,on,off,arr,arrday,dep,depday,\n",
+    "name,type,class,on,off,arr,arrday,dep,Depday\n",
+];
 
 #[test]
 fn a_text_without_the_header_is_refused_at_it(rt: HostRuntime) -> Result<(), Fail> {
-    let airport = airport(rt.alloc())?;
-    let texts: [&[u8]; 6] = [
-        b"",
-        b"\n\r\n",
-        b"V1,A320,3,600,660,LH123,1,LH124,1\n",
-        b"name,type,class,on,off,arr,arrday,dep\n",
-        b"name,type,class,on,off,arr,arrday,dep,depday,\n",
-        b"name,type,class,on,off,arr,arrday,dep,Depday\n",
-    ];
-    for text in texts {
-        assert_eq!(rt; refused(rt.alloc(), &airport, text), Some(1));
+    for text in WITHOUT_THE_HEADER {
+        let found = refused(rt.alloc(), text)?;
+        assert!(rt; found == Some(1), "{text}");
     }
     Ok(())
 }
 
+// Records behind the header, and the number of the first that is refused, where the header is the first of all.
+const RECORDS: [(&'static str, u32); 47] = [
+    ("", 0),
+    ("V1,A320,3,600,660,LH123,1,LH124\n", 2),
+    ("V1,A320,3,600,660,LH123,1,LH124,1,\n", 2),
+    (",A320,3,600,660,,,,\n", 2),
+    ("v1,A320,3,600,660,,,,\n", 2),
+    ("V 1,A320,3,600,660,,,,\n", 2),
+    (" V1,A320,3,600,660,,,,\n", 2),
+    ("V-1234567890,A320,3,600,660,,,,\n", 0),
+    ("V-12345678901,A320,3,600,660,,,,\n", 2),
+    ("V1,,3,600,660,,,,\n", 2),
+    ("V1,A321,3,600,660,,,,\n", 2),
+    ("V1,a320,3,600,660,,,,\n", 2),
+    ("V1,A320,,600,660,,,,\n", 2),
+    ("V1,A320,9,600,660,,,,\n", 0),
+    ("V1,A320,10,600,660,,,,\n", 2),
+    ("V1,A320,C,600,660,,,,\n", 2),
+    ("V1,A320,3,,660,,,,\n", 2),
+    ("V1,A320,3,-1,660,,,,\n", 2),
+    ("V1,A320,3,+600,660,,,,\n", 2),
+    ("V1,A320,3,6.0,660,,,,\n", 2),
+    ("V1,A320,3,0000000600,660,,,,\n", 2),
+    ("V1,AT76,3,4320,4320,,,,\n", 2),
+    ("V1,AT76,3,4295,4320,,,,\n", 0),
+    ("V1,AT76,3,4296,4321,,,,\n", 2),
+    ("V1,A320,3,600,,,,,\n", 2),
+    ("V1,A320,3,600,640,,,,\n", 0),
+    ("V1,A320,3,600,639,,,,\n", 2),
+    ("V1,A320,3,600,600,,,,\n", 2),
+    ("V1,A320,3,600,660,LH,1,,\n", 2),
+    ("V1,A320,3,600,660,LH12345,1,,\n", 2),
+    ("V1,A320,3,600,660,lh123,1,,\n", 2),
+    ("V1,A320,3,600,660,LH123,,,\n", 2),
+    ("V1,A320,3,600,660,,1,,\n", 2),
+    ("V1,A320,3,600,660,LH123,0,,\n", 0),
+    ("V1,A320,3,600,660,LH123,3,,\n", 0),
+    ("V1,A320,3,600,660,LH123,4,,\n", 2),
+    ("V1,A320,3,600,660,LH123,257,,\n", 2),
+    ("V1,A320,3,600,660,LH123,D,,\n", 2),
+    ("V1,A320,3,600,660,,,LH,1\n", 2),
+    ("V1,A320,3,600,660,,,LH123,\n", 2),
+    ("V1,A320,3,600,660,,,,1\n", 2),
+    ("V1,A320,3,600,660,,,LH123,3\n", 0),
+    ("V1,A320,3,600,660,,,LH123,4\n", 2),
+    (
+        "V1,A320,3,600,660,,,,\nV2,AT76,5,700,760,,,,\nV1,A320,4,600,660,,,,\n",
+        0,
+    ),
+    (
+        "V1,A320,3,600,660,,,,\n\nV2,AT77,5,700,760,,,,\nV1,A320,10,600,660,,,,\n",
+        3,
+    ),
+    ("V1,A320,3,600,660,,,,\nV2\nV1,A320,10,600,660,,,,\n", 3),
+    (
+        "V1,A320,3,600,660,,,,\n\"V2,AT76,5,700,760,,,,\nV3,A320,10,600,660,,,,\n",
+        3,
+    ),
+];
+
 #[test]
 fn the_first_refused_record_is_named(rt: HostRuntime) -> Result<(), Fail> {
-    let airport = airport(rt.alloc())?;
-    let records: [(&[u8], u32); 47] = [
-        (b"", 0),
-        (b"V1,A320,3,600,660,LH123,1,LH124\n", 2),
-        (b"V1,A320,3,600,660,LH123,1,LH124,1,\n", 2),
-        (b",A320,3,600,660,,,,\n", 2),
-        (b"v1,A320,3,600,660,,,,\n", 2),
-        (b"V 1,A320,3,600,660,,,,\n", 2),
-        (b" V1,A320,3,600,660,,,,\n", 2),
-        (b"V-1234567890,A320,3,600,660,,,,\n", 0),
-        (b"V-12345678901,A320,3,600,660,,,,\n", 2),
-        (b"V1,,3,600,660,,,,\n", 2),
-        (b"V1,A321,3,600,660,,,,\n", 2),
-        (b"V1,a320,3,600,660,,,,\n", 2),
-        (b"V1,A320,,600,660,,,,\n", 2),
-        (b"V1,A320,9,600,660,,,,\n", 0),
-        (b"V1,A320,10,600,660,,,,\n", 2),
-        (b"V1,A320,C,600,660,,,,\n", 2),
-        (b"V1,A320,3,,660,,,,\n", 2),
-        (b"V1,A320,3,-1,660,,,,\n", 2),
-        (b"V1,A320,3,+600,660,,,,\n", 2),
-        (b"V1,A320,3,6.0,660,,,,\n", 2),
-        (b"V1,A320,3,0000000600,660,,,,\n", 2),
-        (b"V1,AT76,3,4320,4320,,,,\n", 2),
-        (b"V1,AT76,3,4295,4320,,,,\n", 0),
-        (b"V1,AT76,3,4296,4321,,,,\n", 2),
-        (b"V1,A320,3,600,,,,,\n", 2),
-        (b"V1,A320,3,600,640,,,,\n", 0),
-        (b"V1,A320,3,600,639,,,,\n", 2),
-        (b"V1,A320,3,600,600,,,,\n", 2),
-        (b"V1,A320,3,600,660,LH,1,,\n", 2),
-        (b"V1,A320,3,600,660,LH12345,1,,\n", 2),
-        (b"V1,A320,3,600,660,lh123,1,,\n", 2),
-        (b"V1,A320,3,600,660,LH123,,,\n", 2),
-        (b"V1,A320,3,600,660,,1,,\n", 2),
-        (b"V1,A320,3,600,660,LH123,0,,\n", 0),
-        (b"V1,A320,3,600,660,LH123,3,,\n", 0),
-        (b"V1,A320,3,600,660,LH123,4,,\n", 2),
-        (b"V1,A320,3,600,660,LH123,257,,\n", 2),
-        (b"V1,A320,3,600,660,LH123,D,,\n", 2),
-        (b"V1,A320,3,600,660,,,LH,1\n", 2),
-        (b"V1,A320,3,600,660,,,LH123,\n", 2),
-        (b"V1,A320,3,600,660,,,,1\n", 2),
-        (b"V1,A320,3,600,660,,,LH123,3\n", 0),
-        (b"V1,A320,3,600,660,,,LH123,4\n", 2),
-        (
-            b"V1,A320,3,600,660,,,,\nV2,AT76,5,700,760,,,,\nV1,A320,4,600,660,,,,\n",
-            0,
-        ),
-        (
-            b"V1,A320,3,600,660,,,,\n\nV2,AT77,5,700,760,,,,\nV1,A320,10,600,660,,,,\n",
-            3,
-        ),
-        (b"V1,A320,3,600,660,,,,\nV2\nV1,A320,10,600,660,,,,\n", 3),
-        (
-            b"V1,A320,3,600,660,,,,\n\"V2,AT76,5,700,760,,,,\nV3,A320,10,600,660,,,,\n",
-            3,
-        ),
-    ];
-    for (text, want) in records {
-        assert_eq!(rt; refused_behind(rt.alloc(), &airport, text), Some(want));
+    for (records, want) in RECORDS {
+        let found = refused_behind(rt.alloc(), records)?;
+        assert!(rt; found == Some(want), "{records}");
     }
     Ok(())
+}
+
+// The season of a thousand visits.
+fn thousand(alloc: Global) -> Result<String, AllocError> {
+    let mut text = String::from_str(alloc, HEADER)?;
+    for number in 1..1001 {
+        let line = format!(in alloc; "V{number},AT76,5,700,760,LH{number}A,1,,\n")?;
+        text.push_str(line.as_str())?;
+    }
+    Ok(text)
 }
 
 #[test]
 fn a_thousand_visits_are_written_as_they_were_read(rt: HostRuntime) -> Result<(), Fail> {
-    let airport = airport(rt.alloc())?;
-    let mut text = Vec::from_slice(rt.alloc(), HEADER)?;
-    for number in 1..1001 {
-        let line = format!(in rt.alloc(); "V{number},AT76,5,700,760,LH{number}A,1,,\n")?;
-        text.extend_from_slice(line.as_bytes())?;
-    }
-    let found = rewritten(rt.alloc(), &airport, text.as_slice(), 0)?;
-    assert!(rt; found.as_slice() == text.as_slice());
+    let text = thousand(rt.alloc())?;
+    let is = is_rewritten(rt.alloc(), text.as_str(), 0, text.as_str())?;
+    assert!(rt; is);
     Ok(())
 }
