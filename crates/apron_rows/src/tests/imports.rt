@@ -1,11 +1,9 @@
 // Season files that are imported and exported. The worked-out texts are those of the format of season files.
-use apron_base::{ListSink, ListSource, MapShelf, Memory};
-use apron_run::run;
-use journal_disk::{MemoryDisk, Room};
-use run_inputs::{AIRPORT, ROOM, TYPES, kept, words};
+use apron_base::Memory;
+use run_inputs::{AIRPORT, TYPES};
 use std::alloc::Global;
 use std::test::Fail;
-use text_runs::{DEMO, Ended, Run, empty_journal};
+use text_runs::{DEMO, Run, empty_journal};
 
 const TWO: &[u8] =
     b"name,type,class,on,off,arr,arrday,dep,depday\nV1,A320,3,600,660,LH123,1,LH124,1\nV2,AT76,5,700,760,,,,\n";
@@ -15,11 +13,11 @@ const OTHER: &[u8] =
     b"name,type,class,on,off,arr,arrday,dep,depday\nV1,A320,3,600,660,LH123,1,LH124,1\nV2,AT76,5,700,760,,,,\nV1,A320,4,600,660,LH123,1,LH124,1\nV3,A320,3,800,860,,,,\n";
 
 // What is run one after the other on one disk.
-#[derive(Clone, Copy, Debug)]
-struct Step {
-    words: &'static str,
-    season: &'static [u8],
-    output: &'static [u8],
+#[derive(Clone, Copy)]
+struct Step<'a> {
+    words: &'a str,
+    season: &'a [u8],
+    output: &'a [u8],
     status: u8,
     // whether the journal is another one then
     changes: bool,
@@ -121,7 +119,7 @@ const STEPS: [Step; 13] = [
 ];
 
 // The disk after a step, and whether it was as it has to be. No byte of the input is taken.
-fn stepped(alloc: Global, stored: &[u8], step: Step) -> Result<(Vec<u8>, bool), Memory> {
+fn stepped<'a>(alloc: Global, stored: &'a [u8], step: Step<'a>) -> Result<(Vec<u8>, bool), Memory> {
     let run = Run {
         words: step.words,
         season: step.season,
@@ -130,57 +128,64 @@ fn stepped(alloc: Global, stored: &[u8], step: Step) -> Result<(Vec<u8>, bool), 
         failing_reads: &[0],
         ..DEMO
     };
-    let Ended {
-        output,
-        status,
-        disk,
-    } = run.ends(alloc)?;
-    let after = disk.bytes().to_vec(alloc)?;
-    let changed = after.as_slice() != stored;
-    let holds = output.as_slice() == step.output
-        && status == step.status
-        && changed == step.changes;
-    Ok((after, holds))
+    let ended = run.ends(alloc)?;
+    let after = ended.disk.bytes().to_vec(alloc)?;
+    let changes = after.as_slice() != stored;
+    Ok((
+        after,
+        changes == step.changes && ended.is(step.output, step.status),
+    ))
 }
 
-#[test]
-fn seasons_are_imported_and_exported(rt: HostRuntime) -> Result<(), Fail> {
-    let mut stored = empty_journal(rt.alloc(), AIRPORT, TYPES)?;
-    for step in STEPS {
-        let (after, holds) = stepped(rt.alloc(), &stored, step)?;
-        assert!(rt; holds, "{step:?}");
+// At `Err` a step is not as it has to be, which is told by its number from 0 on, or memory is wanting.
+fn each_holds(alloc: Global, steps: &[Step]) -> Result<(), Fail> {
+    let mut stored = empty_journal(alloc, AIRPORT, TYPES)?;
+    for (number, step) in steps.iter().enumerate() {
+        let (after, holds) = stepped(alloc, &stored, *step)?;
+        if !holds {
+            return Err(Fail::new(format_args!("step {number}")));
+        }
         stored = after;
     }
     Ok(())
 }
 
-// What an import of two visits comes to where this call of the disk fails: its status, and whether a second one then has both.
-fn import_failing(alloc: Global, call: u64) -> Result<(u8, bool), Fail> {
+#[test]
+fn seasons_are_imported_and_exported(rt: HostRuntime) -> Result<(), Fail> {
+    each_holds(rt.alloc(), &STEPS)
+}
+
+// Whether an import of the two visits succeeds on this disk, which has both then.
+fn is_done(alloc: Global, stored: &[u8]) -> Result<bool, Memory> {
+    let import = Run {
+        words: "import A T S",
+        season: TWO,
+        is_new: false,
+        stored,
+        ..DEMO
+    };
+    let imported = import.ends(alloc)?;
+    let export = Run {
+        words: "export A T",
+        stored: imported.disk.bytes(),
+        ..import
+    };
+    let exported = export.ends(alloc)?;
+    Ok(imported.status == 0 && exported.is(TWO, 0))
+}
+
+// Whether an import of two visits fails where this call of the disk does; and whether it tells so, and a second one has both.
+fn import_failing(alloc: Global, call: u64) -> Result<(bool, bool), Memory> {
     let run = Run {
         words: "import A T S",
         season: TWO,
         failing_calls: &[call],
         ..DEMO
     };
-    let first = run.ends(alloc)?;
-    let told = first.status == 0 || first.output.as_slice() == b"disk fault\n".as_slice();
-    let stored = first.disk.bytes().to_vec(alloc)?;
-    let run = Run {
-        failing_calls: &[],
-        is_new: false,
-        stored: &stored,
-        ..run
-    };
-    let second = run.ends(alloc)?;
-    let stored = second.disk.bytes().to_vec(alloc)?;
-    let run = Run {
-        words: "export A T",
-        stored: &stored,
-        ..run
-    };
-    let exported = run.ends(alloc)?;
-    let has_both = second.status == 0 && exported.output.as_slice() == TWO;
-    Ok((first.status, told && has_both))
+    let ended = run.ends(alloc)?;
+    let fails = ended.is(b"disk fault\n", 7);
+    let done = is_done(alloc, ended.disk.bytes())?;
+    Ok((fails, done && (fails || ended.status == 0)))
 }
 
 // An opening makes calls of its own, and each of the two entries four.
@@ -188,9 +193,9 @@ fn import_failing(alloc: Global, call: u64) -> Result<(u8, bool), Fail> {
 fn an_import_whose_disk_fails_is_done_by_a_second_one(rt: HostRuntime) -> Result<(), Fail> {
     let mut failed = 0u32;
     for call in 0..40 {
-        let (status, holds) = import_failing(rt.alloc(), call)?;
-        assert!(rt; holds && (status == 7 || status == 0), "{call}");
-        if status == 7 {
+        let (fails, holds) = import_failing(rt.alloc(), call)?;
+        assert!(rt; holds, "{call}");
+        if fails {
             failed = failed.saturating_add(1);
         }
     }
@@ -199,15 +204,16 @@ fn an_import_whose_disk_fails_is_done_by_a_second_one(rt: HostRuntime) -> Result
 }
 
 // What an import of two visits ends with where a put fails: the line's own status, unless all was done.
+const UNWRITTEN: [(&str, &[u8], u8); 4] = [
+    ("import A T S", TWO, 6),
+    ("import A T S", b"", 9),
+    ("import A T missing", TWO, 4),
+    ("export A T", b"", 6),
+];
+
 #[test]
 fn lines_of_imports_that_are_not_written(rt: HostRuntime) -> Result<(), Fail> {
-    let rows: [(&str, &[u8], u8); 4] = [
-        ("import A T S", TWO, 6),
-        ("import A T S", b"", 9),
-        ("import A T missing", TWO, 4),
-        ("export A T", b"", 6),
-    ];
-    for (words, season, status) in rows {
+    for (words, season, status) in UNWRITTEN {
         let run = Run {
             words,
             season,
@@ -231,7 +237,7 @@ fn nearly_spent(alloc: Global, left: u8) -> Result<Vec<u8>, Memory> {
     Ok(journal)
 }
 
-fn is_spent(alloc: Global, left: u8, output: &[u8], status: u8) -> Result<bool, Memory> {
+fn spends(alloc: Global, left: u8, output: &[u8], status: u8) -> Result<(), Fail> {
     let stored = nearly_spent(alloc, left)?;
     let run = Run {
         words: "import A T S",
@@ -240,20 +246,16 @@ fn is_spent(alloc: Global, left: u8, output: &[u8], status: u8) -> Result<bool, 
         stored: &stored,
         ..DEMO
     };
-    let ended = run.ends(alloc)?;
-    Ok(ended.output.as_slice() == output && ended.status == status)
+    run.gives(alloc, &left, output, status)
 }
 
 // With so many call numbers left: the first visit is there, and the second is added by the last number.
+const LEFT: [(u8, &[u8], u8); 3] = [(0, b"", 17), (1, b"", 17), (2, b"added 1 present 1\n", 0)];
+
 #[test]
 fn an_import_ends_where_the_call_numbers_do(rt: HostRuntime) -> Result<(), Fail> {
-    for (left, output, status) in [
-        (0, b"".as_slice(), 17),
-        (1, b"", 17),
-        (2, b"added 1 present 1\n", 0),
-    ] {
-        let spent = is_spent(rt.alloc(), left, output, status)?;
-        assert!(rt; spent, "{left}");
+    for (left, output, status) in LEFT {
+        spends(rt.alloc(), left, output, status)?;
     }
     Ok(())
 }
@@ -271,91 +273,51 @@ fn season_of(alloc: Global, visits: u32) -> Result<Vec<u8>, Fail> {
     Ok(text)
 }
 
-// Room for 2,000 visits.
-const MUCH: Room = Room {
-    bytes: 200_000,
-    written: 200_000,
-    calls: 40_000,
-};
-
-// What the words print on a shelf with this season file and on this disk, with at most so many bytes, and the status.
-fn printed(
-    alloc: Global,
-    asked: &str,
-    season: &[u8],
-    disk: &mut MemoryDisk,
-) -> Result<(Vec<u8>, u8), Fail> {
-    let files = Vec::from_array(
-        alloc,
-        [
-            kept(alloc, "A", AIRPORT.as_bytes())?,
-            kept(alloc, "T", TYPES.as_bytes())?,
-            kept(alloc, "S", season)?,
-        ],
-    )?;
-    let mut shelf = MapShelf::new(files, Vec::new(alloc));
-    let mut source = ListSource::new(Vec::new(alloc), Vec::new(alloc), Vec::new(alloc));
-    let mut sink = ListSink::new(alloc, 200_000, Vec::new(alloc))?;
-    let words = words(alloc, asked)?;
-    let status = run(
-        alloc,
-        words.as_slice(),
-        &mut shelf,
-        &mut source,
-        &mut sink,
-        disk,
-    );
-    Ok((sink.bytes().to_vec(alloc)?, status))
-}
-
-// A season file of so many visits is imported twice and exported: whether the imports print these lines, and the export has the
-// same bytes.
-fn goes_round(alloc: Global, visits: u32, lines: [&[u8]; 2]) -> Result<bool, Fail> {
-    let season = season_of(alloc, visits)?;
-    let stored = empty_journal(alloc, AIRPORT, TYPES)?;
-    let mut disk = MemoryDisk::new(alloc, stored, MUCH, Vec::new(alloc))?;
-    let first = printed(alloc, "import A T S", &season, &mut disk)?;
-    let second = printed(alloc, "import A T S", &season, &mut disk)?;
-    let exported = printed(alloc, "export A T", b"", &mut disk)?;
-    Ok(
-        first.0.as_slice() == lines[0]
-            && first.1 == 0
-            && second.0.as_slice() == lines[1]
-            && second.1 == 0
-            && exported.0.as_slice() == season.as_slice()
-            && exported.1 == 0,
-    )
-}
-
+// The visits of a season file are imported twice and exported.
 #[test]
 fn two_thousand_visits_go_round(rt: HostRuntime) -> Result<(), Fail> {
-    let whole = goes_round(
-        rt.alloc(),
-        2_000,
-        [b"added 2000 present 0\n", b"added 0 present 2000\n"],
-    )?;
-    assert!(rt; whole);
-    Ok(())
+    let season = season_of(rt.alloc(), 2_000)?;
+    let steps = [
+        Step {
+            words: "import A T S",
+            season: &season,
+            output: b"added 2000 present 0\n",
+            status: 0,
+            changes: true,
+        },
+        Step {
+            words: "import A T S",
+            season: &season,
+            output: b"added 0 present 2000\n",
+            status: 0,
+            changes: false,
+        },
+        Step {
+            words: "export A T",
+            season: b"",
+            output: &season,
+            status: 0,
+            changes: false,
+        },
+    ];
+    each_holds(rt.alloc(), &steps)
 }
 
-// What an import prints of a file of this many bytes whose first record is not the header.
-fn told_of(alloc: Global, bytes: usize) -> Result<(Vec<u8>, u8), Fail> {
+// Looks what an import prints of a file of this many bytes whose first record is not the header.
+fn prints(alloc: Global, bytes: usize, line: &[u8]) -> Result<(), Fail> {
     let mut text = Vec::from_slice(alloc, b"x")?;
     text.resize(bytes, b'\n')?;
-    let stored = empty_journal(alloc, AIRPORT, TYPES)?;
-    let mut disk = MemoryDisk::new(alloc, stored, ROOM, Vec::new(alloc))?;
-    printed(alloc, "import A T S", &text, &mut disk)
+    let run = Run {
+        words: "import A T S",
+        season: &text,
+        ..DEMO
+    };
+    run.gives(alloc, &bytes, line, 9)
 }
 
 // A file of 16 MiB, which is read, and of one byte more.
 #[test]
 fn a_file_over_16_mib_is_too_long(rt: HostRuntime) -> Result<(), Fail> {
-    for (bytes, line) in [
-        (16_777_216, b"season: record 1\n".as_slice()),
-        (16_777_217, b"season: too long\n"),
-    ] {
-        let (output, status) = told_of(rt.alloc(), bytes)?;
-        assert!(rt; output.as_slice() == line && status == 9, "{bytes}");
-    }
-    Ok(())
+    prints(rt.alloc(), 16_777_216, b"season: record 1\n")?;
+    prints(rt.alloc(), 16_777_217, b"season: too long\n")
 }

@@ -1,5 +1,6 @@
 // The words, and the files that they name.
 use run_inputs::{AIRPORT, FIRST, TYPES};
+use std::alloc::Global;
 use std::test::Fail;
 use text_runs::{DEMO, Run};
 
@@ -19,100 +20,111 @@ taxi_in = 5
 tow = 20
 "#;
 
+const USAGE: &[u8] = b"usage\n";
+
 // The words, what they print, and the status; and with a sink that fails at once.
+const WORDS: [(&str, &[u8], u8, u8); 42] = [
+    ("", USAGE, 2, 2),
+    ("desk", USAGE, 2, 2),
+    ("desk demo", USAGE, 2, 2),
+    ("desk A", USAGE, 2, 2),
+    ("desk A T T", USAGE, 2, 2),
+    ("Desk A T", USAGE, 2, 2),
+    ("A T desk", USAGE, 2, 2),
+    ("demo", USAGE, 2, 2),
+    ("init", USAGE, 2, 2),
+    ("init A", USAGE, 2, 2),
+    ("init A T T", USAGE, 2, 2),
+    ("init T A", b"airport file: not toml\n", 3, 3),
+    ("init A missing", b"shelf fault\n", 4, 4),
+    ("chart A T", USAGE, 2, 2),
+    ("import A T", USAGE, 2, 2),
+    ("import A T S S", USAGE, 2, 2),
+    ("import A missing S", b"shelf fault\n", 4, 4),
+    ("export A", USAGE, 2, 2),
+    ("export A T S", USAGE, 2, 2),
+    ("export T A", b"airport file: not toml\n", 3, 3),
+    ("chart A T 0", USAGE, 2, 2),
+    ("chart A T 4", USAGE, 2, 2),
+    ("chart A T 01", USAGE, 2, 2),
+    ("make 01", USAGE, 2, 2),
+    ("--version --help", USAGE, 2, 2),
+    ("--version A T", USAGE, 2, 2),
+    ("check", USAGE, 2, 2),
+    ("check A", USAGE, 2, 2),
+    ("checks A T", USAGE, 2, 2),
+    ("check A T T", USAGE, 2, 2),
+    ("--versio", USAGE, 2, 2),
+    ("make", USAGE, 2, 2),
+    ("make 0", USAGE, 2, 2),
+    ("make 5001", USAGE, 2, 2),
+    ("make ten", USAGE, 2, 2),
+    (
+        "make 1",
+        b"visits 1 placed 1 unplaced 0 refused 0 bumped 0 version 2\n",
+        0,
+        6,
+    ),
+    (
+        "make 50",
+        b"visits 50 placed 50 unplaced 0 refused 6 bumped 0 version 112\n",
+        0,
+        6,
+    ),
+    ("--version", b"apron 0.1.0\n", 0, 6),
+    ("--help", HELP, 0, 6),
+    ("check A T", b"ok: 13 stands, 7 types, 3 days\n", 0, 6),
+    ("check T A", b"airport file: not toml\n", 3, 3),
+    ("check A missing", b"shelf fault\n", 4, 4),
+];
+
+// Looks what a run gives, and that with a sink that fails at once it ends with the other status.
+fn gives(alloc: Global, run: Run, output: &[u8], status: u8, unwritten: u8) -> Result<(), Fail> {
+    let shows = (run.words, output);
+    run.gives(alloc, &shows, output, status)?;
+    let run = Run {
+        failing_puts: &[0],
+        ..run
+    };
+    run.gives(alloc, &shows, b"", unwritten)
+}
+
 #[test]
 fn words_that_print(rt: HostRuntime) -> Result<(), Fail> {
-    let usage = b"usage\n".as_slice();
-    let rows: [(&str, &[u8], u8, u8); 42] = [
-        ("", usage, 2, 2),
-        ("desk", usage, 2, 2),
-        ("desk demo", usage, 2, 2),
-        ("desk A", usage, 2, 2),
-        ("desk A T T", usage, 2, 2),
-        ("Desk A T", usage, 2, 2),
-        ("A T desk", usage, 2, 2),
-        ("demo", usage, 2, 2),
-        ("init", usage, 2, 2),
-        ("init A", usage, 2, 2),
-        ("init A T T", usage, 2, 2),
-        ("init T A", b"airport file: not toml\n", 3, 3),
-        ("init A missing", b"shelf fault\n", 4, 4),
-        ("chart A T", usage, 2, 2),
-        ("import A T", usage, 2, 2),
-        ("import A T S S", usage, 2, 2),
-        ("import A missing S", b"shelf fault\n", 4, 4),
-        ("export A", usage, 2, 2),
-        ("export A T S", usage, 2, 2),
-        ("export T A", b"airport file: not toml\n", 3, 3),
-        ("chart A T 0", usage, 2, 2),
-        ("chart A T 4", usage, 2, 2),
-        ("chart A T 01", usage, 2, 2),
-        ("make 01", usage, 2, 2),
-        ("--version --help", usage, 2, 2),
-        ("--version A T", usage, 2, 2),
-        ("check", usage, 2, 2),
-        ("check A", usage, 2, 2),
-        ("checks A T", usage, 2, 2),
-        ("check A T T", usage, 2, 2),
-        ("--versio", usage, 2, 2),
-        ("make", usage, 2, 2),
-        ("make 0", usage, 2, 2),
-        ("make 5001", usage, 2, 2),
-        ("make ten", usage, 2, 2),
-        (
-            "make 1",
-            b"visits 1 placed 1 unplaced 0 refused 0 bumped 0 version 2\n",
-            0,
-            6,
-        ),
-        (
-            "make 50",
-            b"visits 50 placed 50 unplaced 0 refused 6 bumped 0 version 112\n",
-            0,
-            6,
-        ),
-        ("--version", b"apron 0.1.0\n", 0, 6),
-        ("--help", HELP, 0, 6),
-        ("check A T", b"ok: 13 stands, 7 types, 3 days\n", 0, 6),
-        ("check T A", b"airport file: not toml\n", 3, 3),
-        ("check A missing", b"shelf fault\n", 4, 4),
-    ];
-    for (words, output, status, unwritten) in rows {
+    for (words, output, status, unwritten) in WORDS {
         let run = Run {
             words,
             input: FIRST,
             ..DEMO
         };
-        run.gives(rt.alloc(), &words, output, status)?;
-        let run = Run {
-            failing_puts: &[0],
-            ..run
-        };
-        run.gives(rt.alloc(), &words, b"", unwritten)?;
+        gives(rt.alloc(), run, output, status, unwritten)?;
     }
     Ok(())
 }
 
 // The two files, the failing calls of the shelf, the line and the status, of each word that begins with two files.
+const FAULTY: [(&str, &str, &[u64], &[u8], u8); 6] = [
+    (UNKNOWN_FRONTAGE, TYPES, &[], b"airport: unknown S\n", 3),
+    (TYPES, AIRPORT, &[], b"airport file: not toml\n", 3),
+    (AIRPORT, AIRPORT, &[], b"type file: record 1\n", 3),
+    (UNKNOWN_FRONTAGE, "", &[], b"type file: record 1\n", 3),
+    (AIRPORT, TYPES, &[0], b"shelf fault\n", 4),
+    (AIRPORT, TYPES, &[1], b"shelf fault\n", 4),
+];
+
+const OF_TWO_FILES: [&str; 6] = [
+    "desk A T",
+    "init A T",
+    "check A T",
+    "chart A T 1",
+    "import A T S",
+    "export A T",
+];
+
 #[test]
 fn faulty_files_are_told(rt: HostRuntime) -> Result<(), Fail> {
-    let rows: [(&str, &str, &[u64], &[u8], u8); 6] = [
-        (UNKNOWN_FRONTAGE, TYPES, &[], b"airport: unknown S\n", 3),
-        (TYPES, AIRPORT, &[], b"airport file: not toml\n", 3),
-        (AIRPORT, AIRPORT, &[], b"type file: record 1\n", 3),
-        (UNKNOWN_FRONTAGE, "", &[], b"type file: record 1\n", 3),
-        (AIRPORT, TYPES, &[0], b"shelf fault\n", 4),
-        (AIRPORT, TYPES, &[1], b"shelf fault\n", 4),
-    ];
-    for (airport, types, failing_files, line, status) in rows {
-        for words in [
-            "desk A T",
-            "init A T",
-            "check A T",
-            "chart A T 1",
-            "import A T S",
-            "export A T",
-        ] {
+    for (airport, types, failing_files, line, status) in FAULTY {
+        for words in OF_TWO_FILES {
             let run = Run {
                 words,
                 airport,
@@ -121,12 +133,7 @@ fn faulty_files_are_told(rt: HostRuntime) -> Result<(), Fail> {
                 failing_files,
                 ..DEMO
             };
-            run.gives(rt.alloc(), &(words, line), line, status)?;
-            let run = Run {
-                failing_puts: &[0],
-                ..run
-            };
-            run.gives(rt.alloc(), &(words, line), b"", status)?;
+            gives(rt.alloc(), run, line, status, status)?;
         }
     }
     Ok(())
