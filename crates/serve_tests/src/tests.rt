@@ -6,6 +6,7 @@ mod statuses;
 use apron_base::{ListListener, ListSink, ListSource, MapShelf, Memory};
 use apron_run::run;
 use apron_serve::serve;
+use desk_turns::Workplace;
 use journal_disk::{Disk, MemoryDisk};
 use run_inputs::{FIRST, ROOM, STANDS, kept, words};
 use std::alloc::Global;
@@ -56,6 +57,9 @@ const BY_B: &[u8] =
 
 const CLASH: &[u8] =
     b"HTTP/1.1 422 Unprocessable Entity\r\nContent-Type: application/json\r\nContent-Length: 106\r\nX-Version: 3\r\n\r\n{\"a\":{\"part\":1,\"visit\":1},\"b\":{\"part\":1,\"visit\":2},\"error\":\"clash\",\"minute\":600,\"rule\":\"same\",\"version\":3}";
+
+// The status and the line of a serving that nothing goes wrong in.
+const DONE: (u8, &[u8]) = (0, b"");
 
 // The two files, by the names `A` and `T`.
 fn shelf(alloc: Global, failing: &[u64]) -> Result<MapShelf, Memory> {
@@ -114,58 +118,75 @@ fn told(listener: &ListListener<ListSource, ListSink>) -> &[u8] {
     }
 }
 
-// What came of two desks at once: their status, what each was told, and the version afterwards.
-#[derive(Drop)]
-struct Both {
-    status: u8,
-    first: Vec<u8>,
-    second: Vec<u8>,
-    version: Vec<u8>,
+// Whether the journal on this disk is at the version that this reply tells.
+fn is_at<D: Disk>(alloc: Global, disk: &mut D, version: &[u8]) -> Result<bool, Memory> {
+    Ok(printed(alloc, "desk A T", VERSION, disk)?.as_slice() == version)
 }
 
-// Two desks at once, each over a connection of its own.
-fn serve_both<R: Wait + Threads + Sync>(
+// Serves at these listeners. It gives whether the status and the printed line are these, and the disk.
+fn served<L: Workplace + Send, D: Disk + Drop + Send, R: Wait + Threads + Sync>(
+    rt: &R,
+    alloc: Global,
+    texts: &str,
+    shelf: &mut MapShelf,
+    listeners: &mut [L],
+    disk: D,
+    want: (u8, &[u8]),
+) -> Result<(bool, D), Memory> {
+    let words = words(alloc, texts)?;
+    let mut sink = ListSink::new(alloc, 1_000, Vec::new(alloc))?;
+    let (status, disk) = serve(
+        rt,
+        alloc,
+        words.as_slice(),
+        shelf,
+        listeners,
+        &mut sink,
+        disk,
+    );
+    Ok((status == want.0 && sink.bytes() == want.1, disk))
+}
+
+// Whether two listeners of one connection each were told one of these pairs of replies.
+fn are_told(listeners: &[ListListener<ListSource, ListSink>], pairs: &[(&[u8], &[u8])]) -> bool {
+    match listeners {
+        [one, two] => pairs.contains(&(told(one), told(two))),
+        _ => false,
+    }
+}
+
+// Two desks at once, each over a connection of its own: whether they are told one of these pairs of replies, and the version
+// afterwards is this one.
+fn both_are_told<R: Wait + Threads + Sync>(
     rt: &R,
     alloc: Global,
     inputs: (&[u8], &[u8]),
     disk: MemoryDisk,
-) -> Result<Both, Memory> {
-    let one = listener(alloc, inputs.0)?;
-    let two = listener(alloc, inputs.1)?;
-    let mut listeners = Vec::from_array(alloc, [one, two])?;
+    pairs: &[(&[u8], &[u8])],
+    version: &[u8],
+) -> Result<bool, Memory> {
     let mut shelf = shelf(alloc, &[])?;
-    let mut sink = ListSink::new(alloc, 1_000, Vec::new(alloc))?;
-    let words = words(alloc, "serve A T 1")?;
-    let (status, mut disk) = serve(
+    let two = [listener(alloc, inputs.0)?, listener(alloc, inputs.1)?];
+    let mut listeners = Vec::from_array(alloc, two)?;
+    let (is_done, mut disk) = served(
         rt,
         alloc,
-        words.as_slice(),
+        "serve A T 1",
         &mut shelf,
         listeners.as_mut_slice(),
-        &mut sink,
         disk,
-    );
-    let version = printed(alloc, "desk A T", VERSION, &mut disk)?;
-    let (first, second) = match listeners.as_slice() {
-        [one, two] => (told(one).to_vec(alloc)?, told(two).to_vec(alloc)?),
-        _ => (Vec::new(alloc), Vec::new(alloc)),
-    };
-    Ok(Both {
-        status,
-        first,
-        second,
-        version,
-    })
+        DONE,
+    )?;
+    let is = is_done && are_told(listeners.as_slice(), pairs);
+    Ok(is && is_at(alloc, &mut disk, version)?)
 }
 
 #[test]
 fn a_desk_that_asks_the_version_is_told_one_that_there_was(rt: HostRuntime) -> Result<(), Fail> {
     let alloc = rt.alloc();
-    let both = serve_both(&rt, alloc, (FIRST, VERSION), journal(alloc)?)?;
-    assert_eq!(rt; both.status, 0);
-    assert_eq!(rt; both.first.as_slice(), STANDS);
-    assert!(rt; [AT_0, AT_1, AT_2].contains(&both.second.as_slice()));
-    assert_eq!(rt; both.version.as_slice(), AT_2);
+    let pairs = [(STANDS, AT_0), (STANDS, AT_1), (STANDS, AT_2)];
+    let is = both_are_told(&rt, alloc, (FIRST, VERSION), journal(alloc)?, &pairs, AT_2)?;
+    assert!(rt; is);
     Ok(())
 }
 
@@ -173,10 +194,8 @@ fn a_desk_that_asks_the_version_is_told_one_that_there_was(rt: HostRuntime) -> R
 fn one_gets_the_stand<R: Wait + Threads + Sync>(rt: &R, alloc: Global) -> Result<bool, Memory> {
     let mut disk = journal(alloc)?;
     printed(alloc, "desk A T", BOTH, &mut disk)?;
-    let both = serve_both(rt, alloc, (BY_A, BY_B), disk)?;
-    let replies = (both.first.as_slice(), both.second.as_slice());
-    let is_one = replies == (AT_3, CLASH) || replies == (CLASH, AT_3);
-    Ok(both.status == 0 && is_one && both.version.as_slice() == AT_3)
+    let pairs = [(AT_3, CLASH), (CLASH, AT_3)];
+    both_are_told(rt, alloc, (BY_A, BY_B), disk, &pairs, AT_3)
 }
 
 #[test]

@@ -1,10 +1,9 @@
 // Two workers that run beside each other, on a disk that counts its syncs.
 
-use super::{AT_0, AT_1, AT_2, VERSION, journal, printed, shelf};
+use super::{AT_0, AT_1, AT_2, DONE, VERSION, is_at, journal, served, shelf};
 use apron_base::{Failed, ListListener, ListSink, ListSource, Memory, Sink, Source};
-use apron_serve::serve;
 use journal_disk::Disk;
-use run_inputs::{FIRST, STANDS, words};
+use run_inputs::{FIRST, STANDS};
 use std::alloc::Global;
 use std::marker::Model;
 use std::sync::Wait;
@@ -197,36 +196,39 @@ fn is_told(listener: &ListListener<Patient<'_>, Watching<'_>>, texts: &[&[u8]]) 
     }
 }
 
-// Whether the first connection, which waits for the second one's reply, and the second one get all their replies, each after
-// its entries were kept, and the journal has both entries.
+// Whether the first connection, which waits for the second one's reply, and the second one got all their replies, each after
+// its entries were kept.
+fn are_told(listeners: &[ListListener<Patient<'_>, Watching<'_>>]) -> bool {
+    match listeners {
+        [one, two] => is_told(one, &[STANDS]) && is_told(two, &[AT_0, AT_1, AT_2]),
+        _ => false,
+    }
+}
+
+// Whether both connections are told so, and the journal has both entries.
 fn both_are_served<R: Wait + Threads + Sync>(
     rt: &R,
     alloc: Global,
     signals: &Signals,
 ) -> Result<bool, Memory> {
-    let one = listener(alloc, signals, FIRST.split_at(123), false)?;
-    let two = listener(alloc, signals, (VERSION, b""), true)?;
-    let mut listeners = Vec::from_array(alloc, [one, two])?;
     let mut shelf = shelf(alloc, &[])?;
-    let mut sink = ListSink::new(alloc, 1_000, Vec::new(alloc))?;
-    let words = words(alloc, "serve A T 1")?;
     let disk = journal(alloc)?;
-    let (status, counting) = serve(
+    let two = [
+        listener(alloc, signals, FIRST.split_at(123), false)?,
+        listener(alloc, signals, (VERSION, b""), true)?,
+    ];
+    let mut listeners = Vec::from_array(alloc, two)?;
+    let (is_done, mut disk) = served(
         rt,
         alloc,
-        words.as_slice(),
+        "serve A T 1",
         &mut shelf,
         listeners.as_mut_slice(),
-        &mut sink,
         Counting { disk, signals },
-    );
-    let mut counting = counting;
-    let version = printed(alloc, "desk A T", VERSION, &mut counting)?;
-    let are_told = match listeners.as_slice() {
-        [one, two] => is_told(one, &[STANDS]) && is_told(two, &[AT_0, AT_1, AT_2]),
-        _ => false,
-    };
-    Ok(status == 0 && are_told && version.as_slice() == AT_2)
+        DONE,
+    )?;
+    let is = is_done && are_told(listeners.as_slice());
+    Ok(is && is_at(alloc, &mut disk, AT_2)?)
 }
 
 #[test]
@@ -235,6 +237,7 @@ fn a_desk_is_served_while_another_one_is(rt: HostRuntime) -> Result<(), Fail> {
         is_replied: AtomicBool::new(false),
         syncs: AtomicU64::new(0),
     };
-    assert!(rt; both_are_served(&rt, rt.alloc(), &signals)?);
+    let is = both_are_served(&rt, rt.alloc(), &signals)?;
+    assert!(rt; is);
     Ok(())
 }
