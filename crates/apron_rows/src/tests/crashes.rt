@@ -2,7 +2,6 @@
 use journal_disk::{MemoryDisk, Unsynced};
 use run_inputs::FIRST;
 use std::alloc::Global;
-use std::process::Abort;
 use std::test::Fail;
 use text_runs::{DEMO, Ended, Run, Session};
 
@@ -94,68 +93,76 @@ const SYNC_FAILED: [(u32, u32); 18] = [
 
 // A desk on a disk of these bytes says that the plan has this version.
 fn has_version(alloc: Global, stored: &[u8], version: u32) -> Result<bool, Fail> {
-    let run = Run {
-        input: VERSION,
-        is_new: false,
-        stored,
-        ..DEMO
-    };
-    let ended = run.ends(alloc)?;
-    let mut session = Session::of(alloc, "")?;
-    session.tell(
-        alloc,
-        &format!(in alloc; "200 {version} {{\"version\":{version}}}")?,
-    )?;
-    Ok(ended.output.as_slice() == session.output.as_slice())
+    let mut session = Session::new(alloc);
+    let reply = format!(in alloc; "200 {version} {{\"version\":{version}}}")?;
+    session.tell(alloc, &reply)?;
+    Ok(session.is_told_on(alloc, stored, VERSION)?)
 }
 
-// After a stop at this moment, whatever became of what was not safe, a desk begins within these bounds.
+// What becomes of that which is not safe.
+const EACH_UNSYNCED: [Unsynced; 4] = [
+    Unsynced::LeftOut,
+    Unsynced::Whole,
+    Unsynced::LastHalf,
+    Unsynced::Ones,
+];
+
+// At `Err` a desk does not begin within these bounds after a stop at this moment, or memory is wanting.
 fn is_within(
     alloc: Global,
     disk: &MemoryDisk,
+    shows: &str,
     moment: usize,
-    unsynced: Unsynced,
-    least: u32,
-    most: u32,
-) -> Result<bool, Fail> {
-    let image = disk.image(alloc, moment, unsynced)?;
-    Ok(has_version(alloc, &image, least)? || has_version(alloc, &image, most)?)
+    bounds: (u32, u32),
+) -> Result<(), Fail> {
+    let (least, most) = bounds;
+    for unsynced in EACH_UNSYNCED {
+        let image = disk.image(alloc, moment, unsynced)?;
+        if !has_version(alloc, &image, least)? && !has_version(alloc, &image, most)? {
+            return Err(Fail::new(format_args!("{shows} {moment} {unsynced:?}")));
+        }
+    }
+    Ok(())
 }
 
-// The same after a stop at each moment.
-fn all_within(
-    rt: &impl Abort,
-    alloc: Global,
-    input: &'static [u8],
-    failing_calls: &'static [u64],
-    bounds: &'static [(u32, u32)],
-) -> Result<(), Fail> {
+// What the requests are, the call of the disk that fails, and the bounds behind each number of calls.
+type Stops = (
+    &'static str,
+    &'static [u8],
+    &'static [u64],
+    &'static [(u32, u32)],
+);
+
+const EACH_STOPS: [Stops; 4] = [
+    ("two entries", FIRST, &[], &TWO_DONE),
+    ("three entries", THREE, &[], &EACH_DONE),
+    ("a gate that fails", THREE, &[5], &GATE_FAILED),
+    ("a gate that is not made safe", THREE, &[6], &SYNC_FAILED),
+];
+
+// At `Err` a desk does not begin as it has to after one of these stops, or there are others, or memory is wanting.
+fn all_within(alloc: Global, stops: Stops) -> Result<(), Fail> {
+    let (shows, input, failing_calls, all_bounds) = stops;
     let run = Run {
         input,
         failing_calls,
         ..DEMO
     };
     let Ended { disk, .. } = run.ends(alloc)?;
-    assert_eq!(rt; disk.calls().len(), bounds.len().saturating_sub(1));
-    for (moment, (least, most)) in bounds.iter().enumerate() {
-        for unsynced in [
-            Unsynced::LeftOut,
-            Unsynced::Whole,
-            Unsynced::LastHalf,
-            Unsynced::Ones,
-        ] {
-            let within = is_within(alloc, &disk, moment, unsynced, *least, *most)?;
-            assert!(rt; within, "{failing_calls:?} {moment} {unsynced:?}");
-        }
+    let calls = disk.calls().len();
+    if calls != all_bounds.len().saturating_sub(1) {
+        return Err(Fail::new(format_args!("{shows}: {calls} calls")));
+    }
+    for (moment, bounds) in all_bounds.iter().enumerate() {
+        is_within(alloc, &disk, shows, moment, *bounds)?;
     }
     Ok(())
 }
 
 #[test]
 fn each_acknowledged_entry_is_found_again(rt: HostRuntime) -> Result<(), Fail> {
-    let alloc = rt.alloc();
-    all_within(&rt, alloc, FIRST, &[], &TWO_DONE)?;
-    all_within(&rt, alloc, THREE, &[], &EACH_DONE)?;
-    all_within(&rt, alloc, THREE, &[5], &GATE_FAILED)?;
-    all_within(&rt, alloc, THREE, &[6], &SYNC_FAILED)
+    for stops in EACH_STOPS {
+        all_within(rt.alloc(), stops)?;
+    }
+    Ok(())
 }

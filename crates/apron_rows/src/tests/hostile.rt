@@ -110,28 +110,38 @@ fn each_call_that_fails_has_its_status_or_reply(rt: HostRuntime) -> Result<(), F
     Ok(())
 }
 
-// As many bytes as a head may have at most, and one more, of a head that does not end; they come in one piece or in nine.
-#[test]
-fn a_head_without_an_end_is_refused(rt: HostRuntime) -> Result<(), Fail> {
-    let alloc = rt.alloc();
-    let refused = Session::of(alloc, "< 400 close {\"error\":\"head\"}")?;
-    for (length, output, status) in [
-        (8191, b"".as_slice(), 10),
-        (8192, refused.output.as_slice(), 13),
-        (8193, refused.output.as_slice(), 13),
-    ] {
-        let mut head = Vec::from_slice(alloc, b"GET /version HTTP/1.1\r\nX-Filled: ")?;
-        head.resize(length, b'x')?;
+// As many bytes as a head may have at most, and one less and more, of a head that does not end; the replies, and the status.
+const HEADS: [(usize, &str, u8); 3] = [(8191, "", 10), (8192, REFUSED, 13), (8193, REFUSED, 13)];
+
+const REFUSED: &str = "< 400 close {\"error\":\"head\"}";
+
+// It comes in one piece, or in nine.
+const PIECES: [&[usize]; 2] = [&[], &[1000; 9]];
+
+fn head_of(alloc: Global, length: usize) -> Result<Vec<u8>, Memory> {
+    let mut head = Vec::from_slice(alloc, b"GET /version HTTP/1.1\r\nX-Filled: ")?;
+    head.resize(length, b'x')?;
+    Ok(head)
+}
+
+fn answers(alloc: Global, head: &[u8], output: &[u8], status: u8) -> Result<(), Fail> {
+    for pieces in PIECES {
         let run = Run {
-            input: head.as_slice(),
+            input: head,
+            pieces,
             ..DEMO
         };
-        run.gives(alloc, &length, output, status)?;
-        let run = Run {
-            pieces: &[1000; 9],
-            ..run
-        };
-        run.gives(alloc, &length, output, status)?;
+        run.gives(alloc, &(head.len(), pieces), output, status)?;
+    }
+    Ok(())
+}
+
+#[test]
+fn a_head_without_an_end_is_refused(rt: HostRuntime) -> Result<(), Fail> {
+    for (length, replies, status) in HEADS {
+        let session = Session::of(rt.alloc(), replies)?;
+        let head = head_of(rt.alloc(), length)?;
+        answers(rt.alloc(), &head, &session.output, status)?;
     }
     Ok(())
 }
@@ -156,22 +166,16 @@ fn full_journal(alloc: Global) -> Result<Vec<u8>, Memory> {
 const AT_FULL: &[u8] =
     b"POST /mvt HTTP/1.1\r\nContent-Length: 30\r\n\r\nMVT\nLH999/27.DAIQA.APR\nAD1000\nPOST /commits HTTP/1.1\r\nContent-Length: 83\r\n\r\n{\"desk\":\"D\",\"draft\":1,\"base\":1,\"edits\":[{\"put\":{\"visit\":1,\"part\":1,\"stand\":\"N1\"}}]}POST /commits HTTP/1.1\r\nContent-Length: 88\r\n\r\n{\"desk\":\"D\",\"draft\":2,\"base\":200000,\"edits\":[{\"put\":{\"visit\":9,\"part\":1,\"stand\":\"N1\"}}]}";
 
-// A desk on the full journal takes no more entries, and goes on.
-fn goes_on_at_full(alloc: Global) -> Result<bool, Fail> {
-    let mut session = Session::of(alloc, "")?;
-    session.tell(alloc, "409 200000 {\"error\":\"full\",\"version\":200000}")?;
-    session.tell(alloc, "200 200000 {\"version\":2}")?;
-    session.tell(
-        alloc,
-        "422 200000 {\"edit\":1,\"error\":\"unknown\",\"version\":200000}",
-    )?;
-    let journal = full_journal(alloc)?;
-    Ok(session.is_told_on(alloc, journal.as_slice(), AT_FULL)?)
-}
+const AT_FULL_REPLIES: &str = r#"< 409 200000 {"error":"full","version":200000}
+< 200 200000 {"version":2}
+< 422 200000 {"edit":1,"error":"unknown","version":200000}"#;
 
+// A desk on the full journal takes no more entries, and goes on.
 #[test]
 fn a_full_history_takes_no_more(rt: HostRuntime) -> Result<(), Fail> {
-    let goes_on = goes_on_at_full(rt.alloc())?;
+    let session = Session::of(rt.alloc(), AT_FULL_REPLIES)?;
+    let journal = full_journal(rt.alloc())?;
+    let goes_on = session.is_told_on(rt.alloc(), journal.as_slice(), AT_FULL)?;
     assert!(rt; goes_on);
     Ok(())
 }

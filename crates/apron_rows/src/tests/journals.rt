@@ -3,7 +3,7 @@ use apron_base::Memory;
 use run_inputs::{AIRPORT, FIRST, TYPES};
 use std::alloc::Global;
 use std::test::Fail;
-use text_runs::{DEMO, Ended, Run, Session, empty_journal};
+use text_runs::{DEMO, Run, Session, empty_journal};
 
 // What is told of a journal whose type file's digest ends otherwise: the digests are those of the example's airport file and
 // type file, as `sha256sum` prints them.
@@ -45,32 +45,37 @@ pub(super) fn journal_of(alloc: Global, entries: &[&[u8]]) -> Result<Vec<u8>, Me
 }
 
 // The two requests make these entries, 132 bytes with the header.
-fn keeps_two(alloc: Global) -> Result<bool, Fail> {
+fn keeps_two(alloc: Global) -> Result<bool, Memory> {
     let run = Run {
         input: FIRST,
         ..DEMO
     };
-    let Ended { disk, .. } = run.ends(alloc)?;
+    let ended = run.ends(alloc)?;
     let journal = journal_of(alloc, &[V1, STANDS])?;
-    Ok(journal.len() == 132 && disk.bytes() == journal.as_slice())
+    Ok(journal.len() == 132 && ended.disk.bytes() == journal.as_slice())
 }
 
-// A desk on that journal begins with them, and goes on.
+// What a desk on that journal replies to AGAIN.
+const GOES_ON: &str = r#"< 200 2 {"version":2}
+< 200 2 {"version":2}
+< 200 3 {"version":3,"visit":2}"#;
+
 fn goes_on(alloc: Global) -> Result<bool, Fail> {
-    let mut session = Session::of(alloc, "")?;
-    session.tell(alloc, "200 2 {\"version\":2}")?;
-    session.tell(alloc, "200 2 {\"version\":2}")?;
-    session.tell(alloc, "200 3 {\"version\":3,\"visit\":2}")?;
+    let session = Session::of(alloc, GOES_ON)?;
     let journal = journal_of(alloc, &[V1, STANDS])?;
     Ok(session.is_told_on(alloc, journal.as_slice(), AGAIN)?)
 }
 
 #[test]
 fn two_requests_are_kept(rt: HostRuntime) -> Result<(), Fail> {
-    let alloc = rt.alloc();
-    let kept = keeps_two(alloc)?;
+    let kept = keeps_two(rt.alloc())?;
     assert!(rt; kept);
-    let goes_on = goes_on(alloc)?;
+    Ok(())
+}
+
+#[test]
+fn a_desk_goes_on_with_what_was_kept(rt: HostRuntime) -> Result<(), Fail> {
+    let goes_on = goes_on(rt.alloc())?;
     assert!(rt; goes_on);
     Ok(())
 }
@@ -91,13 +96,37 @@ fn stored_before(alloc: Global, before: Before) -> Result<Vec<u8>, Memory> {
     }
 }
 
-// What `init` prints on such a disk, its status, and whether the disk is an empty journal then.
+// A disk, the calls of it that fail, and the puts that do; the line that `init` prints, its status, and whether the disk is an
+// empty journal then.
+type Making = (
+    Before,
+    &'static [u64],
+    &'static [u64],
+    &'static [u8],
+    u8,
+    bool,
+);
+
+const MAKINGS: [Making; 8] = [
+    (Before::Nothing, &[], &[], b"ok\n", 0, true),
+    (Before::Nothing, &[], &[0], b"", 6, true),
+    (Before::Journal, &[], &[], b"journal not empty\n", 14, true),
+    (Before::Journal, &[], &[0], b"", 14, true),
+    (Before::Letter, &[], &[], b"journal not empty\n", 14, false),
+    (Before::Nothing, &[0], &[], b"disk fault\n", 7, false),
+    (Before::Nothing, &[1], &[], b"disk fault\n", 7, false),
+    (Before::Nothing, &[2], &[0], b"", 7, true),
+];
+
+// Whether `init` on a disk of these bytes prints this line and ends with this status, and whether that makes an empty journal.
 fn makes<'a>(
     alloc: Global,
     stored: &'a [u8],
     failing_calls: &'a [u64],
     failing_puts: &'a [u64],
-) -> Result<(Vec<u8>, u8, bool), Fail> {
+    line: &[u8],
+    status: u8,
+) -> Result<(bool, bool), Memory> {
     let run = Run {
         words: "init A T",
         is_new: false,
@@ -107,35 +136,28 @@ fn makes<'a>(
         failing_reads: &[0],
         ..DEMO
     };
-    let Ended {
-        output,
-        status,
-        disk,
-    } = run.ends(alloc)?;
-    let made = empty_journal(alloc, AIRPORT, TYPES)?;
-    let is_journal = made.len() == 73 && disk.bytes() == made.as_slice();
-    Ok((output, status, is_journal))
+    let ended = run.ends(alloc)?;
+    let empty = empty_journal(alloc, AIRPORT, TYPES)?;
+    let is_journal = empty.len() == 73 && ended.disk.bytes() == empty.as_slice();
+    Ok((ended.is(line, status), is_journal))
 }
 
-// What is made of an empty disk, and of one that isn't: the calls that fail, the line, the status, and whether it is an empty
-// journal then. The sink fails at a line, too.
 #[test]
 fn journals_are_made(rt: HostRuntime) -> Result<(), Fail> {
-    let rows: [(Before, &[u64], &[u64], &[u8], u8, bool); 8] = [
-        (Before::Nothing, &[], &[], b"ok\n", 0, true),
-        (Before::Nothing, &[], &[0], b"", 6, true),
-        (Before::Journal, &[], &[], b"journal not empty\n", 14, true),
-        (Before::Journal, &[], &[0], b"", 14, true),
-        (Before::Letter, &[], &[], b"journal not empty\n", 14, false),
-        (Before::Nothing, &[0], &[], b"disk fault\n", 7, false),
-        (Before::Nothing, &[1], &[], b"disk fault\n", 7, false),
-        (Before::Nothing, &[2], &[0], b"", 7, true),
-    ];
-    for (before, failing_calls, failing_puts, line, status, is_journal) in rows {
+    for (before, failing_calls, failing_puts, line, status, is_journal) in MAKINGS {
         let stored = stored_before(rt.alloc(), before)?;
-        let (output, ended, is) = makes(rt.alloc(), &stored, failing_calls, failing_puts)?;
-        let holds = output.as_slice() == line && ended == status && is == is_journal;
-        assert!(rt; holds, "{before:?} {failing_calls:?} {failing_puts:?}");
+        let (ends, is) = makes(
+            rt.alloc(),
+            &stored,
+            failing_calls,
+            failing_puts,
+            line,
+            status,
+        )?;
+        assert!(rt;
+            ends && is == is_journal,
+            "{before:?} {failing_calls:?} {failing_puts:?}"
+        );
     }
     Ok(())
 }
@@ -167,52 +189,58 @@ fn is_told(alloc: Global, stored: &[u8], line: &str) -> Result<bool, Fail> {
         ..DEMO
     };
     let ended = run.ends(alloc)?;
-    Ok(
-        ended.status == 8
-            && ended.output.as_slice() == line.as_bytes()
-            && ended.disk.bytes() == stored,
-    )
+    Ok(ended.is(line.as_bytes(), 8) && ended.disk.bytes() == stored)
 }
+
+const NO_HEADERS: [(usize, &[u8], &str); 7] = [
+    (0, b"", "journal: not a journal\n"),
+    (72, b"", "journal: not a journal\n"),
+    (72, b"\x01", "journal: record 1\n"),
+    (72, b"\x01\0\0\0", "journal: record 1\n"),
+    (72, b"\x01\x01\x04\0\0", "journal: record 1\n"),
+    (72, b"\x01\x01\0x\x01", "journal: record 2\n"),
+    (72, b"\x01\x01\0x\0", "journal: entry 1 unreadable\n"),
+];
 
 #[test]
 fn headers_that_are_none_are_told(rt: HostRuntime) -> Result<(), Fail> {
-    let alloc = rt.alloc();
-    let rows: [(usize, &[u8], &str); 7] = [
-        (0, b"", "journal: not a journal\n"),
-        (72, b"", "journal: not a journal\n"),
-        (72, b"\x01", "journal: record 1\n"),
-        (72, b"\x01\0\0\0", "journal: record 1\n"),
-        (72, b"\x01\x01\x04\0\0", "journal: record 1\n"),
-        (72, b"\x01\x01\0x\x01", "journal: record 2\n"),
-        (72, b"\x01\x01\0x\0", "journal: entry 1 unreadable\n"),
-    ];
-    for (length, others, line) in rows {
-        let stored = with(alloc, length, others)?;
-        let told = is_told(alloc, &stored, line)?;
+    for (length, others, line) in NO_HEADERS {
+        let stored = with(rt.alloc(), length, others)?;
+        let told = is_told(rt.alloc(), &stored, line)?;
         assert!(rt; told, "{length} {others:?}");
     }
-    for (at, byte, line) in [(5usize, b'2', "journal: not a journal\n"), (71, 255, OTHER)] {
-        let stored = changed(alloc, at, byte)?;
-        let told = is_told(alloc, &stored, line)?;
+    Ok(())
+}
+
+const CHANGED: [(usize, u8, &str); 2] = [(5, b'2', "journal: not a journal\n"), (71, 255, OTHER)];
+
+#[test]
+fn headers_of_others_are_told(rt: HostRuntime) -> Result<(), Fail> {
+    for (at, byte, line) in CHANGED {
+        let stored = changed(rt.alloc(), at, byte)?;
+        let told = is_told(rt.alloc(), &stored, line)?;
         assert!(rt; told, "{at}");
     }
     Ok(())
 }
 
+// A call number, and the tag of no kind of entry.
+const UNKNOWN: &[u8] = b"\x02\0\0\0\0\0\0\0\x06";
+
+const NO_ENTRIES: [(&[u8], &[u8], &str); 5] = [
+    (V1, UNKNOWN, "journal: entry 2 unreadable\n"),
+    (STANDS, V1, "journal: entry 1 refused\n"),
+    (V1, V1, "journal: entry 2 refused\n"),
+    (V2, V1, "journal: entry 2 refused\n"),
+    (V0, V1, "journal: entry 1 refused\n"),
+];
+
 #[test]
 fn entries_that_are_none_are_told(rt: HostRuntime) -> Result<(), Fail> {
-    let alloc = rt.alloc();
-    let unknown = b"\x02\0\0\0\0\0\0\0\x06".as_slice();
-    for (first, second, line) in [
-        (V1, unknown, "journal: entry 2 unreadable\n"),
-        (STANDS, V1, "journal: entry 1 refused\n"),
-        (V1, V1, "journal: entry 2 refused\n"),
-        (V2, V1, "journal: entry 2 refused\n"),
-        (V0, V1, "journal: entry 1 refused\n"),
-    ] {
-        let stored = journal_of(alloc, &[first, second])?;
-        let told = is_told(alloc, &stored, line)?;
-        assert!(rt; told, "{line}");
+    for (first, second, line) in NO_ENTRIES {
+        let stored = journal_of(rt.alloc(), &[first, second])?;
+        let told = is_told(rt.alloc(), &stored, line)?;
+        assert!(rt; told, "{first:?} {second:?}");
     }
     Ok(())
 }
@@ -220,11 +248,11 @@ fn entries_that_are_none_are_told(rt: HostRuntime) -> Result<(), Fail> {
 // With these calls of the disk failing these replies are sent, and so many calls are made.
 fn is_answered(
     alloc: Global,
-    failing_calls: &'static [u64],
-    replies: [&'static str; 4],
+    failing_calls: &[u64],
+    replies: [&str; 4],
     calls: usize,
 ) -> Result<bool, Fail> {
-    let mut session = Session::of(alloc, "")?;
+    let mut session = Session::new(alloc);
     for reply in replies {
         session.tell(alloc, reply)?;
     }
@@ -234,11 +262,7 @@ fn is_answered(
         ..DEMO
     };
     let ended = run.ends(alloc)?;
-    Ok(
-        ended.status == 0
-            && ended.output.as_slice() == session.output.as_slice()
-            && ended.disk.calls().len() == calls,
-    )
+    Ok(ended.is(&session.output, 0) && ended.disk.calls().len() == calls)
 }
 
 const FAILED: &str = "503 - {\"error\":\"keeper\"}";
@@ -249,36 +273,38 @@ const TWO: &str = "200 2 {\"version\":2,\"visit\":2}";
 
 const THIRD: &str = "200 3 {\"version\":3,\"visit\":3}";
 
+const AT_TWO: &str = "200 2 {\"version\":2}";
+
 // The calls that fail, the replies to the three visits and to the question, and how many calls of the disk were made. Opening
 // makes three, an append four, and two before them where the third or the fourth of the one before failed.
+const APPENDS: [(&[u64], [&str; 4], usize); 14] = [
+    (&[], [ONE, TWO, THIRD, "200 3 {\"version\":3}"], 15),
+    (&[3], [FAILED, ONE, TWO, AT_TWO], 12),
+    (&[4], [FAILED, ONE, TWO, AT_TWO], 13),
+    (&[5], [FAILED, ONE, TWO, AT_TWO], 16),
+    (&[6], [FAILED, ONE, TWO, AT_TWO], 17),
+    (&[7], [ONE, FAILED, TWO, AT_TWO], 12),
+    (&[8], [ONE, FAILED, TWO, AT_TWO], 13),
+    (&[9], [ONE, FAILED, TWO, AT_TWO], 16),
+    (&[10], [ONE, FAILED, TWO, AT_TWO], 17),
+    (&[14], [ONE, TWO, FAILED, AT_TWO], 15),
+    (&[6, 7], [FAILED, FAILED, ONE, "200 1 {\"version\":1}"], 14),
+    (&[6, 8], [FAILED, FAILED, ONE, "200 1 {\"version\":1}"], 15),
+    (
+        &[3, 4, 5],
+        [FAILED, FAILED, FAILED, "200 0 {\"version\":0}"],
+        6,
+    ),
+    (
+        &[6, 7, 8],
+        [FAILED, FAILED, FAILED, "200 0 {\"version\":0}"],
+        9,
+    ),
+];
+
 #[test]
 fn appends_that_fail_are_told(rt: HostRuntime) -> Result<(), Fail> {
-    let two = "200 2 {\"version\":2}";
-    let rows: [(&[u64], [&str; 4], usize); 14] = [
-        (&[], [ONE, TWO, THIRD, "200 3 {\"version\":3}"], 15),
-        (&[3], [FAILED, ONE, TWO, two], 12),
-        (&[4], [FAILED, ONE, TWO, two], 13),
-        (&[5], [FAILED, ONE, TWO, two], 16),
-        (&[6], [FAILED, ONE, TWO, two], 17),
-        (&[7], [ONE, FAILED, TWO, two], 12),
-        (&[8], [ONE, FAILED, TWO, two], 13),
-        (&[9], [ONE, FAILED, TWO, two], 16),
-        (&[10], [ONE, FAILED, TWO, two], 17),
-        (&[14], [ONE, TWO, FAILED, two], 15),
-        (&[6, 7], [FAILED, FAILED, ONE, "200 1 {\"version\":1}"], 14),
-        (&[6, 8], [FAILED, FAILED, ONE, "200 1 {\"version\":1}"], 15),
-        (
-            &[3, 4, 5],
-            [FAILED, FAILED, FAILED, "200 0 {\"version\":0}"],
-            6,
-        ),
-        (
-            &[6, 7, 8],
-            [FAILED, FAILED, FAILED, "200 0 {\"version\":0}"],
-            9,
-        ),
-    ];
-    for (failing_calls, replies, calls) in rows {
+    for (failing_calls, replies, calls) in APPENDS {
         let answered = is_answered(rt.alloc(), failing_calls, replies, calls)?;
         assert!(rt; answered, "{failing_calls:?}");
     }
@@ -286,10 +312,11 @@ fn appends_that_fail_are_told(rt: HostRuntime) -> Result<(), Fail> {
 }
 
 // Each call of an opening fails in turn.
+const OPENINGS: [&[u64]; 3] = [&[0], &[1], &[2]];
+
 #[test]
 fn openings_that_fail_are_told(rt: HostRuntime) -> Result<(), Fail> {
-    let rows: [&[u64]; 3] = [&[0], &[1], &[2]];
-    for failing_calls in rows {
+    for failing_calls in OPENINGS {
         let run = Run {
             input: FIRST,
             failing_reads: &[0],

@@ -1,5 +1,5 @@
 // Sessions that are long, and requests as great as they may be.
-use apron_base::{NullSink, SteadyShelf, SteadySource};
+use apron_base::{Memory, NullSink, SteadyShelf, SteadySource};
 use apron_run::run;
 use journal_disk::MemoryDisk;
 use run_inputs::{AIRPORT, ROOM, TYPES, kept, words};
@@ -34,21 +34,22 @@ fn commit_of(alloc: Global, number: u32, edits: u32) -> Result<String, Fail> {
     Ok(commit)
 }
 
+// Puts a commit of two edits behind the session, which is accepted.
+fn commit(alloc: Global, session: &mut Session, base: u32) -> Result<(), Fail> {
+    let version = base.saturating_add(1);
+    session.ask(alloc, &commit_of(alloc, base, 2)?, "")?;
+    let reply = format!(in alloc; "200 {version} {{\"version\":{version}}}")?;
+    session.tell(alloc, &reply)
+}
+
 // Each of five hundred commits is accepted, and none wants memory.
 #[test]
 fn five_hundred_commits_are_accepted(rt: HostRuntime) -> Result<(), Fail> {
-    let alloc = rt.alloc();
-    let mut session = Session::of(alloc, ADD)?;
-    for base in 1..501u32 {
-        let version = base + 1;
-        session.ask(alloc, &commit_of(alloc, base, 2)?, "")?;
-        session.tell(
-            alloc,
-            &format!(in alloc; "200 {version} {{\"version\":{version}}}")?,
-        )?;
+    let mut session = Session::of(rt.alloc(), ADD)?;
+    for base in 1..501 {
+        commit(rt.alloc(), &mut session, base)?;
     }
-    session.holds(alloc, "five hundred commits", 0)?;
-    Ok(())
+    session.holds(rt.alloc(), "five hundred commits", 0)
 }
 
 // The text, filled up to so many bytes.
@@ -60,86 +61,105 @@ fn filled(alloc: Global, text: &str, fill: char, length: usize) -> Result<String
     Ok(filled)
 }
 
-// The most edits of a commit and the greatest body are taken, and no more.
+// The most edits of a commit and the greatest body are taken, and no more: the edits, the least bytes of the body, the reply, and
+// the status.
+const COMMITS: [(&str, u32, usize, &str, u8); 4] = [
+    ("64 edits", 64, 0, "200 2 {\"version\":2}", 0),
+    ("65 edits", 65, 0, "400 - {\"error\":\"json\"}", 0),
+    ("65536 bytes", 1, MOST_OF_A_BODY, "200 2 {\"version\":2}", 0),
+    (
+        "65537 bytes",
+        1,
+        MOST_OF_A_BODY + 1,
+        "413 close {\"error\":\"large\"}",
+        13,
+    ),
+];
+
+// The session of a commit of so many edits, whose body is filled up to so many bytes.
+fn session_of(alloc: Global, edits: u32, length: usize, reply: &str) -> Result<Session, Fail> {
+    let commit = commit_of(alloc, 1, edits)?;
+    let length = length.saturating_add("POST /commits ".len());
+    let filled = filled(alloc, &commit, ' ', length)?;
+    let mut session = Session::of(alloc, ADD)?;
+    session.ask(alloc, &filled, "")?;
+    session.tell(alloc, reply)?;
+    Ok(session)
+}
+
 #[test]
 fn the_greatest_commits_are_taken(rt: HostRuntime) -> Result<(), Fail> {
-    let alloc = rt.alloc();
-    for (shows, edits, length, reply, status) in [
-        ("64 edits", 64, 0, "200 2 {\"version\":2}", 0),
-        ("65 edits", 65, 0, "400 - {\"error\":\"json\"}", 0),
-        ("65536 bytes", 1, MOST_OF_A_BODY, "200 2 {\"version\":2}", 0),
-        (
-            "65537 bytes",
-            1,
-            MOST_OF_A_BODY + 1,
-            "413 close {\"error\":\"large\"}",
-            13,
-        ),
-    ] {
-        let mut session = Session::of(alloc, ADD)?;
-        let commit = commit_of(alloc, 1, edits)?;
-        let length = length.saturating_add("POST /commits ".len());
-        session.ask(alloc, &filled(alloc, &commit, ' ', length)?, "")?;
-        session.tell(alloc, reply)?;
-        session.holds(alloc, shows, status)?;
+    for (shows, edits, length, reply, status) in COMMITS {
+        let session = session_of(rt.alloc(), edits, length, reply)?;
+        session.holds(rt.alloc(), shows, status)?;
     }
     Ok(())
 }
 
-// The greatest head is read, which comes in pieces, and one of one byte more is refused.
+// The greatest head is read, which comes in pieces, and one of one byte more is refused: its bytes, the reply, and the status.
+const HEADS: [(usize, &str, u8); 2] = [
+    (MOST_OF_A_HEAD, "< 200 0 {\"version\":0}", 0),
+    (MOST_OF_A_HEAD + 1, "< 400 close {\"error\":\"head\"}", 13),
+];
+
+fn head_of(alloc: Global, length: usize) -> Result<String, Fail> {
+    let length = length.saturating_sub("\r\n\r\n".len());
+    let mut head = filled(alloc, "GET /version HTTP/1.1\r\nX-Filled: ", 'x', length)?;
+    head.push_str("\r\n\r\n")?;
+    Ok(head)
+}
+
+fn answers(alloc: Global, length: usize, reply: &str, status: u8) -> Result<(), Fail> {
+    let session = Session::of(alloc, reply)?;
+    let head = head_of(alloc, length)?;
+    let run = Run {
+        input: head.as_bytes(),
+        pieces: &[1000; 9],
+        ..DEMO
+    };
+    run.gives(alloc, &length, &session.output, status)
+}
+
 #[test]
 fn the_greatest_head_is_read(rt: HostRuntime) -> Result<(), Fail> {
-    let alloc = rt.alloc();
-    for (shows, length, reply, status) in [
-        ("8192 bytes", MOST_OF_A_HEAD, "200 0 {\"version\":0}", 0),
-        (
-            "8193 bytes",
-            MOST_OF_A_HEAD + 1,
-            "400 close {\"error\":\"head\"}",
-            13,
-        ),
-    ] {
-        let length = length.saturating_sub("\r\n\r\n".len());
-        let mut head = filled(alloc, "GET /version HTTP/1.1\r\nX-Filled: ", 'x', length)?;
-        head.push_str("\r\n\r\n")?;
-        let mut session = Session::of(alloc, "")?;
-        session.tell(alloc, reply)?;
-        let run = Run {
-            input: head.as_bytes(),
-            pieces: &[1000; 9],
-            ..DEMO
-        };
-        run.gives(alloc, &shows, session.output.as_slice(), status)?;
+    for (length, reply, status) in HEADS {
+        answers(rt.alloc(), length, reply, status)?;
     }
     Ok(())
 }
 
-// One request more than a session answers, in as few bytes as there can be.
-#[test]
-fn a_session_ends_at_its_limit(rt: HostRuntime) -> Result<(), Fail> {
-    let alloc = rt.alloc();
-    let mut input = Vec::new(alloc);
-    for _ in 0..1_000_001u32 {
-        input.extend_from_slice(b"G / HTTP/1.1\n\n")?;
-    }
-    let files = Vec::from_array(
-        alloc,
-        [
-            kept(alloc, "A", AIRPORT.as_bytes())?,
-            kept(alloc, "T", TYPES.as_bytes())?,
-        ],
-    )?;
-    let words = words(alloc, DEMO.words)?;
+fn shelf_of_both(alloc: Global) -> Result<SteadyShelf, Memory> {
+    let mut files = Vec::new(alloc);
+    files.push(kept(alloc, "A", AIRPORT.as_bytes())?)?;
+    files.push(kept(alloc, "T", TYPES.as_bytes())?)?;
+    Ok(SteadyShelf::new(files))
+}
+
+fn new_disk(alloc: Global) -> Result<MemoryDisk, Memory> {
     let journal = empty_journal(alloc, AIRPORT, TYPES)?;
-    let mut disk = MemoryDisk::new(alloc, journal, ROOM, Vec::new(alloc))?;
-    let status = run(
+    MemoryDisk::new(alloc, journal, ROOM, Vec::new(alloc))
+}
+
+// The status of a session of so many requests, each in as few bytes as there can be.
+fn status_after(alloc: Global, requests: usize) -> Result<u8, Memory> {
+    let input = b"G / HTTP/1.1\n\n".as_slice().repeat(alloc, requests)?;
+    let words = words(alloc, DEMO.words)?;
+    let mut shelf = shelf_of_both(alloc)?;
+    let mut disk = new_disk(alloc)?;
+    Ok(run(
         alloc,
         words.as_slice(),
-        &mut SteadyShelf::new(files),
+        &mut shelf,
         &mut SteadySource::new(input, Vec::new(alloc)),
         &mut NullSink,
         &mut disk,
-    );
-    assert_eq!(rt; status, 16);
+    ))
+}
+
+// One request more than a session answers.
+#[test]
+fn a_session_ends_at_its_limit(rt: HostRuntime) -> Result<(), Fail> {
+    let status = status_after(rt.alloc(), 1_000_001)?;
+    assert!(rt; status == 16);
     Ok(())
 }

@@ -1,6 +1,6 @@
 // Which visit a movement message is of, which minute it tells, and what makes it say nothing.
 use std::test::Fail;
-use text_runs::{DEMO, Run, Session, all_hold};
+use text_runs::{all_hold, all_hold_at};
 
 #[test]
 fn messages_change_the_visit_that_they_mean(rt: HostRuntime) -> Result<(), Fail> {
@@ -9,17 +9,7 @@ fn messages_change_the_visit_that_they_mean(rt: HostRuntime) -> Result<(), Fail>
 
 #[test]
 fn days_are_those_of_the_calendar(rt: HostRuntime) -> Result<(), Fail> {
-    for session in AT_MONTHS_END.split('#') {
-        let (shows, lines) = session.split_once('\n').unwrap_or((session, ""));
-        let session = Session::of(rt.alloc(), lines)?;
-        let run = Run {
-            airport: MONTHS_END,
-            input: session.input.as_slice(),
-            ..DEMO
-        };
-        run.gives(rt.alloc(), &shows, session.output.as_slice(), 0)?;
-    }
-    Ok(())
+    all_hold_at(rt.alloc(), MONTHS_END, AT_MONTHS_END)
 }
 
 // An airport of one stand, whose plan has the last two days of a February and the first of March.

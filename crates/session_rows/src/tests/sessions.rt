@@ -1,5 +1,6 @@
 // Whole sessions: how their input comes and ends, and what fails on the way.
 use run_inputs::{ADDED, FIRST, STANDS};
+use std::alloc::Global;
 use std::test::Fail;
 use text_runs::{DEMO, Run, Session};
 
@@ -17,20 +18,22 @@ fn a_visit_is_added_and_stands_byte_for_byte(rt: HostRuntime) -> Result<(), Fail
     Ok(())
 }
 
-// The source gives 100 bytes at a time: four reads, of which the last finds the end.
+// The source gives 100 bytes at a time: four reads, of which the last finds the end. The reads and puts that fail, the output,
+// and the status.
+const FAULTS: [(&[u64], &[u64], &[u8], u8); 8] = [
+    (&[0], &[], b"", 5),
+    (&[1], &[], b"", 5),
+    (&[2], &[], ADDED, 5),
+    (&[3], &[], STANDS, 5),
+    (&[4], &[], STANDS, 0),
+    (&[], &[0], b"", 6),
+    (&[], &[1], ADDED, 6),
+    (&[], &[2], STANDS, 0),
+];
+
 #[test]
 fn each_read_and_each_put_that_fails_ends_the_session(rt: HostRuntime) -> Result<(), Fail> {
-    let rows: [(&[u64], &[u64], &[u8], u8); 8] = [
-        (&[0], &[], b"", 5),
-        (&[1], &[], b"", 5),
-        (&[2], &[], ADDED, 5),
-        (&[3], &[], STANDS, 5),
-        (&[4], &[], STANDS, 0),
-        (&[], &[0], b"", 6),
-        (&[], &[1], ADDED, 6),
-        (&[], &[2], STANDS, 0),
-    ];
-    for (failing_reads, failing_puts, output, status) in rows {
+    for (failing_reads, failing_puts, output, status) in FAULTS {
         let run = Run {
             input: FIRST,
             pieces: &[100; 4],
@@ -43,118 +46,128 @@ fn each_read_and_each_put_that_fails_ends_the_session(rt: HostRuntime) -> Result
     Ok(())
 }
 
-// The input, the replies in words, and the status; in one piece and in single bytes.
+const VERSION: &str = "< 200 0 {\"version\":0}";
+
+const ROUTE: &str = "< 404 - {\"error\":\"route\"}";
+
+const HEAD: &str = "< 400 close {\"error\":\"head\"}";
+
+// The input, the replies in words, and the status.
+const ENDS: [(&[u8], &str, u8); 28] = [
+    (b"", "", 0),
+    (b"\r\n\n\r", "", 0),
+    (b"\r\r", HEAD, 13),
+    (b"GET", "", 10),
+    (b"GET / HTTP/1.1\r\n\r\n", ROUTE, 0),
+    (b"GET / HTTP/1.1\r\n\r\n\r\nGET", ROUTE, 10),
+    (
+        b"GET /version HTTP/1.1\n\nGET /version HTTP/1.1\n\n",
+        "< 200 0 {\"version\":0}\n< 200 0 {\"version\":0}",
+        0,
+    ),
+    (b"GET /version HTTP/1.1\nContent-Length: 1\n\n{", VERSION, 0),
+    (
+        b"GET /version HTTP/1.1\nX-Seen: \t1 \n\n",
+        "< 409 0 {\"error\":\"ahead\",\"version\":0}",
+        0,
+    ),
+    (b"GET / HTTP/1.0\n\nGET / HTTP/1.1\n\n", ROUTE, 0),
+    (
+        b"GET / HTTP/1.1\nConnection: x, CLOSE \n\nGET / HTTP/1.1\n\n",
+        ROUTE,
+        0,
+    ),
+    (b"GET / HTTP/1.1\nConnection: closed\n\nG", ROUTE, 10),
+    (
+        b"POST /commits HTTP/1.1\nContent-Length: 1\n\n{",
+        "< 400 - {\"error\":\"json\"}",
+        0,
+    ),
+    (b"POST /commits HTTP/1.1\nContent-Length: 2\n\n{", "", 10),
+    (
+        b"POST /visits HTTP/1.0\nContent-Length: 1\n\n{GET",
+        "< 400 - {\"error\":\"json\"}",
+        0,
+    ),
+    (b"POST /other HTTP/1.1\nContent-Length: 1\n\n{", ROUTE, 0),
+    (
+        b"POST /commits HTTP/1.1\n\n",
+        "< 411 close {\"error\":\"length\"}",
+        13,
+    ),
+    (
+        b"POST /mvt HTTP/1.1\n\n",
+        "< 411 close {\"error\":\"length\"}",
+        13,
+    ),
+    (
+        b"PUT /mvt HTTP/1.1\n\n",
+        "< 405 POST {\"error\":\"method\"}",
+        0,
+    ),
+    (
+        FIRST,
+        "< 200 1 {\"version\":1,\"visit\":1}\n< 200 2 {\"version\":2}",
+        0,
+    ),
+    (
+        b"POST /visits HTTP/1.1\nContent-Length: 65537\n\n",
+        "< 413 close {\"error\":\"large\"}",
+        13,
+    ),
+    (
+        b"GET / HTTP/1.1\nTransfer-Encoding: chunked\n\n",
+        "< 501 close {\"error\":\"encoding\"}",
+        13,
+    ),
+    (
+        b"POST /mvt HTTP/1.1\nContent-Length: x\nTransfer-Encoding: chunked\n\n",
+        "< 501 close {\"error\":\"encoding\"}",
+        13,
+    ),
+    (
+        b"POST /mvt HTTP/1.1\nContent-Length: 65537\nContent-Length: 1\n\n",
+        HEAD,
+        13,
+    ),
+    (
+        b"GET /mvt HTTP/1.1\n\n",
+        "< 405 POST {\"error\":\"method\"}",
+        0,
+    ),
+    (b"GET /\xFF HTTP/1.1\n\n", HEAD, 13),
+    (
+        b"GET / HTTP/1.1\n\nGET  / HTTP/1.1\n\nGET / HTTP/1.1\n\n",
+        "< 404 - {\"error\":\"route\"}\n< 400 close {\"error\":\"head\"}",
+        13,
+    ),
+    (
+        b"POST /visits HTTP/1.1\r\nContent-Length: 78\r\n\r\n{\"name\":\"V1\",\"type\":\"A320\",\"class\":3,\"on\":600,\"off\":660,\"arr\":null,\"dep\":null}POST /commits HTTP/1.1\r\nContent-Length: 83\r\n\r\n{\"desk\":\"D\",\"draft\":1,\"base\":1,\"edits\":[{\"put\":{\"visit\":1,\"part\":1,\"stand\":\"N1\"}}]",
+        "< 200 1 {\"version\":1,\"visit\":1}",
+        10,
+    ),
+];
+
+// In one piece, and in single bytes.
+const PIECES: [&[usize]; 2] = [&[], &[1; 260]];
+
+fn answers(alloc: Global, input: &[u8], replies: &str, status: u8) -> Result<(), Fail> {
+    let session = Session::of(alloc, replies)?;
+    for pieces in PIECES {
+        let run = Run {
+            input,
+            pieces,
+            ..DEMO
+        };
+        run.gives(alloc, &input, &session.output, status)?;
+    }
+    Ok(())
+}
+
 #[test]
 fn how_input_ends(rt: HostRuntime) -> Result<(), Fail> {
-    let alloc = rt.alloc();
-    let version = "< 200 0 {\"version\":0}";
-    let route = "< 404 - {\"error\":\"route\"}";
-    let head = "< 400 close {\"error\":\"head\"}";
-    let rows: [(&[u8], &str, u8); 28] = [
-        (b"", "", 0),
-        (b"\r\n\n\r", "", 0),
-        (b"\r\r", head, 13),
-        (b"GET", "", 10),
-        (b"GET / HTTP/1.1\r\n\r\n", route, 0),
-        (b"GET / HTTP/1.1\r\n\r\n\r\nGET", route, 10),
-        (
-            b"GET /version HTTP/1.1\n\nGET /version HTTP/1.1\n\n",
-            "< 200 0 {\"version\":0}\n< 200 0 {\"version\":0}",
-            0,
-        ),
-        (b"GET /version HTTP/1.1\nContent-Length: 1\n\n{", version, 0),
-        (
-            b"GET /version HTTP/1.1\nX-Seen: \t1 \n\n",
-            "< 409 0 {\"error\":\"ahead\",\"version\":0}",
-            0,
-        ),
-        (b"GET / HTTP/1.0\n\nGET / HTTP/1.1\n\n", route, 0),
-        (
-            b"GET / HTTP/1.1\nConnection: x, CLOSE \n\nGET / HTTP/1.1\n\n",
-            route,
-            0,
-        ),
-        (b"GET / HTTP/1.1\nConnection: closed\n\nG", route, 10),
-        (
-            b"POST /commits HTTP/1.1\nContent-Length: 1\n\n{",
-            "< 400 - {\"error\":\"json\"}",
-            0,
-        ),
-        (b"POST /commits HTTP/1.1\nContent-Length: 2\n\n{", "", 10),
-        (
-            b"POST /visits HTTP/1.0\nContent-Length: 1\n\n{GET",
-            "< 400 - {\"error\":\"json\"}",
-            0,
-        ),
-        (b"POST /other HTTP/1.1\nContent-Length: 1\n\n{", route, 0),
-        (
-            b"POST /commits HTTP/1.1\n\n",
-            "< 411 close {\"error\":\"length\"}",
-            13,
-        ),
-        (
-            b"POST /mvt HTTP/1.1\n\n",
-            "< 411 close {\"error\":\"length\"}",
-            13,
-        ),
-        (
-            b"PUT /mvt HTTP/1.1\n\n",
-            "< 405 POST {\"error\":\"method\"}",
-            0,
-        ),
-        (
-            FIRST,
-            "< 200 1 {\"version\":1,\"visit\":1}\n< 200 2 {\"version\":2}",
-            0,
-        ),
-        (
-            b"POST /visits HTTP/1.1\nContent-Length: 65537\n\n",
-            "< 413 close {\"error\":\"large\"}",
-            13,
-        ),
-        (
-            b"GET / HTTP/1.1\nTransfer-Encoding: chunked\n\n",
-            "< 501 close {\"error\":\"encoding\"}",
-            13,
-        ),
-        (
-            b"POST /mvt HTTP/1.1\nContent-Length: x\nTransfer-Encoding: chunked\n\n",
-            "< 501 close {\"error\":\"encoding\"}",
-            13,
-        ),
-        (
-            b"POST /mvt HTTP/1.1\nContent-Length: 65537\nContent-Length: 1\n\n",
-            head,
-            13,
-        ),
-        (
-            b"GET /mvt HTTP/1.1\n\n",
-            "< 405 POST {\"error\":\"method\"}",
-            0,
-        ),
-        (b"GET /\xFF HTTP/1.1\n\n", head, 13),
-        (
-            b"GET / HTTP/1.1\n\nGET  / HTTP/1.1\n\nGET / HTTP/1.1\n\n",
-            "< 404 - {\"error\":\"route\"}\n< 400 close {\"error\":\"head\"}",
-            13,
-        ),
-        (
-            b"POST /visits HTTP/1.1\r\nContent-Length: 78\r\n\r\n{\"name\":\"V1\",\"type\":\"A320\",\"class\":3,\"on\":600,\"off\":660,\"arr\":null,\"dep\":null}POST /commits HTTP/1.1\r\nContent-Length: 83\r\n\r\n{\"desk\":\"D\",\"draft\":1,\"base\":1,\"edits\":[{\"put\":{\"visit\":1,\"part\":1,\"stand\":\"N1\"}}]",
-            "< 200 1 {\"version\":1,\"visit\":1}",
-            10,
-        ),
-    ];
-    for (input, lines, status) in rows {
-        let session = Session::of(alloc, lines)?;
-        let sizes: [&[usize]; 2] = [&[], &[1; 260]];
-        for pieces in sizes {
-            let run = Run {
-                input,
-                pieces,
-                ..DEMO
-            };
-            run.gives(alloc, &input, session.output.as_slice(), status)?;
-        }
+    for (input, replies, status) in ENDS {
+        answers(rt.alloc(), input, replies, status)?;
     }
     Ok(())
 }
