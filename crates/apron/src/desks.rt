@@ -2,10 +2,10 @@
 ghost use Rattle.std.specs.Prelude.{◌≡◌, IfOk, length};
 ghost use Rattle.apron.specs.Desks.{workers_named};
 
-use apron_base::{FileShelf, MAX_DIGITS, Memory, Sink, Word, number_of};
+use apron_base::{MAX_DIGITS, Memory, Sink, Word, number_of};
 use apron_run::{Status, is_plain_number};
 use apron_serve::{MAX_LISTENERS, serve};
-use journal_disk::FileDisk;
+use host_files::{FileDisk, FileShelf};
 use std::alloc::Global;
 use std::fs::File;
 use std::net::{Net, TcpListener, TcpStream};

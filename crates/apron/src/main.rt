@@ -4,9 +4,10 @@
 
 mod desks;
 
-use apron_base::{FileShelf, Memory, Reading, Word, Writing};
+use apron_base::{Memory, Reading, Word, Writing};
 use apron_run::{Status, run};
-use journal_disk::{Disk, FileDisk, MemoryDisk, Room};
+use host_files::{FileDisk, FileShelf};
+use journal_disk::{Disk, MemoryDisk, Room};
 use std::alloc::Global;
 use std::process::ExitCode;
 use std::rt::Env;

@@ -1,4 +1,4 @@
--- What contracts see of the shelves in memory and of the files of the system.
+-- What contracts see of the shelves in memory.
 use Rattle.std.specs.Prelude.{ℕ, ◌||◌, Bool, List, [], Option, None, Some, find, is_none}
 use Rattle.std.specs.Option.{option_map}
 use Rattle.std.specs.Str.{bytes_eq}
@@ -45,8 +45,3 @@ pub record SteadyShelfHeld : Type 0 where
 -- what is known of a shelf that never fails
 abbrev pub steady_shelf_state : SteadyShelfHeld → ShelfState
 steady_shelf_state shelf = record { file = λ name. Some (file_or_empty shelf.files name); faults = 0; read = shelf.read }
-
--- how often a call has failed, and how many bytes were read
-pub record ShelfCounts : Type 0 where
-  pub faults : ℕ
-  pub read : ℕ

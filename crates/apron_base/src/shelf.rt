@@ -3,10 +3,8 @@ ghost use Rattle.apron_base.specs.Shelf.{Gives, ShelfState};
 
 use std::alloc::Global;
 
-mod file_shelf;
 mod map_shelf;
 
-pub use file_shelf::FileShelf;
 pub use map_shelf::{Kept, MapShelf, SteadyShelf};
 
 /// Why a file wasn't given.

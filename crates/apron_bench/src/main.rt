@@ -7,8 +7,9 @@ mod requests;
 
 use crate::replies::Replies;
 use crate::requests::{Requests, requests_of};
-use apron_base::{FileShelf, Memory, NullSink, SteadySource, Word};
+use apron_base::{Memory, NullSink, SteadySource, Word};
 use apron_run::run;
+use host_files::FileShelf;
 use journal_disk::{MemoryDisk, Room};
 use std::alloc::Global;
 use std::time::Instant;

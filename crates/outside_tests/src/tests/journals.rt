@@ -1,8 +1,7 @@
 // Journals on disks in memory and in a file: what was acknowledged is found again.
 use apron_base::{Failed, Keeper, Listed, MAX_ENTRIES, MAX_ENTRY};
-use journal_disk::{
-    Disk, FileDisk, Journal, JournalFault, MemoryDisk, Room, Unsynced, digest_of, init,
-};
+use host_files::FileDisk;
+use journal_disk::{Disk, Journal, JournalFault, MemoryDisk, Room, Unsynced, digest_of, init};
 use std::alloc::Global;
 use std::fs;
 use std::fs::File;

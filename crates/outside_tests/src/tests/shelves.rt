@@ -1,5 +1,6 @@
 // Files in memory, and those of the system.
-use apron_base::{FileShelf, Kept, Listed, MapShelf, Memory, Shelf, ShelfFault, SteadyShelf, Word};
+use apron_base::{Kept, Listed, MapShelf, Memory, Shelf, ShelfFault, SteadyShelf, Word};
+use host_files::FileShelf;
 use std::alloc::Global;
 use std::fs;
 use std::test::Fail;

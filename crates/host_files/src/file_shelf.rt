@@ -1,7 +1,7 @@
 // The files of the system as a shelf.
 ghost use Rattle.std.specs.Prelude.{◌≡◌, ◌+◌, IfOk, IfSome, None, take};
 
-use crate::{Shelf, ShelfFault};
+use apron_base::{Shelf, ShelfFault};
 use std::alloc::Global;
 use std::io::Read;
 use std::marker::Model;
@@ -18,7 +18,7 @@ pub struct FileShelf<'a, R> {
 }
 
 impl<'a, R> Model for FileShelf<'a, R> {
-    ghost use Rattle.apron_base.specs.MapShelf.{ShelfCounts};
+    ghost use Rattle.host_files.specs.Counts.{ShelfCounts};
 
     ghost Value = { ShelfCounts };
 

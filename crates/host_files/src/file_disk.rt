@@ -2,8 +2,8 @@
 ghost use Rattle.std.specs.Prelude.{◌≡◌, is_err};
 ghost use Rattle.apron_base.specs.Counts.{Counts};
 
-use crate::Disk;
 use apron_base::Failed;
+use journal_disk::Disk;
 use std::fs::{File, OpenOptions};
 use std::io;
 use std::marker::Model;
