@@ -20,9 +20,9 @@ pub record Extent : Type 0 where
   pub number : ℕ
   pub unclean : Bool
 
--- the extent of a journal that begins behind the header
-abbrev pub extent_to : ℕ → ℕ → Bool → Extent
-extent_to place number unclean = record { first = first_gate; place = place; number = number; unclean = unclean }
+-- the extent that has these, in order
+abbrev pub extent_of : ℕ → ℕ → ℕ → Bool → Extent
+extent_of first place number unclean = record { first = first; place = place; number = number; unclean = unclean }
 
 -- a journal as contracts see it
 pub record JournalHeld (D : Type 0) : Type 0 where

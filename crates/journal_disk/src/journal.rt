@@ -9,8 +9,7 @@ ghost use Rattle.journal_disk.specs.Header.{opening_of};
 ghost use Rattle.journal_disk.specs.Limits.{most_bytes};
 
 use crate::gates::{FRAME, OPEN, mend, set_gate, stage};
-use crate::header::HEADER;
-use crate::opening::read_journal;
+use crate::opening::{Opened, read_journal};
 use crate::records::Records;
 use crate::{Disk, JournalFault};
 use apron_base::{Failed, Keeper, Listed, MAX_ENTRIES, MAX_ENTRY, Memory};
@@ -22,7 +21,9 @@ use std::marker::Model;
 #[derive(Drop)]
 pub struct Journal<D: Disk> {
     disk: D,
-    // where the gate behind the last record stands
+    // where the first gate is
+    first: u32,
+    // where the gate after the last record is
     place: u32,
     number: u32,
     // that gate may have been opened for an entry that was not acknowledged
@@ -30,13 +31,13 @@ pub struct Journal<D: Disk> {
 }
 
 impl<D: Disk> Model for Journal<D> {
-    ghost use Rattle.journal_disk.specs.Extent.{JournalHeld, IsKept, extent_to};
+    ghost use Rattle.journal_disk.specs.Extent.{JournalHeld, IsKept, extent_of};
 
     ghost Value = { JournalHeld D };
 
-    ghost view = { λ j. record { disk = j.disk; extent = extent_to j.place j.number j.unclean } };
+    ghost view = { λ j. record { disk = j.disk; extent = extent_of j.first j.place j.number j.unclean } };
 
-    ghost invariant = { λ j. IsKept (extent_to j.place j.number j.unclean) (D.state j.disk) };
+    ghost invariant = { λ j. IsKept (extent_of j.first j.place j.number j.unclean) (D.state j.disk) };
 }
 
 impl<D: Disk> Journal<D> {
@@ -64,10 +65,12 @@ impl<D: Disk> Journal<D> {
     {
         let mut disk = disk;
         match read_journal(alloc, &mut disk, digests) {
-            Ok(Records { entries, length }) => {
+            Ok(Opened { first, records }) => {
+                let Records { entries, length } = records;
                 let journal = Journal {
                     disk,
-                    place: (HEADER + length) as u32,
+                    first: first as u32,
+                    place: (first + length) as u32,
                     number: entries.len() as u32,
                     unclean: false,
                 };

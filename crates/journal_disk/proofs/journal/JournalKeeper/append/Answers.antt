@@ -2,7 +2,7 @@ use Rattle.std.proofs.Common.{rules, ◌∙◌, ◌<◌, ap, arith, refl}
 use Rattle.std.specs.Prelude.{true, false}
 use Rattle.apron_base.specs.Keeper.{AddsEntry, FailsToAdd}
 use Rattle.journal_disk.specs.Entries.{IsEntry}
-use Rattle.journal_disk.specs.Extent.{extent_to, keeper_of}
+use Rattle.journal_disk.specs.Extent.{extent_of, keeper_of}
 use Rattle.journal_disk.specs.Limits.{most_entries}
 use Rattle.journal_disk.proofs.Appending.{inside, mending_failed, stage_inside, staging_failed, set_inside, opening_failed, has_added, with_entry, with_gate}
 use Rattle.journal_disk.proofs.Tells.{continues_both, counts_then, on_err}
@@ -10,14 +10,14 @@ use Rattle.journal_disk.proofs.journal.JournalKeeper.append.Goals as goal
 
 pub mend-requires : goal.mend-requires
 mend-requires g c =
-    let extent = extent_to c.self.inside.place c.self.inside.number c.self.inside.unclean in
+    let extent = extent_of c.self.inside.first c.self.inside.place c.self.inside.number c.self.inside.unclean in
     let before = g.D.Disk.state c.self.inside.disk in
     let reads = g.met.D.Disk.reads c.self.inside.disk in
     record { inside = inside extent before c.self.invariant reads }
 
 pub invariant_of-self : goal.invariant_of-self
 invariant_of-self g c =
-    let extent = extent_to c.self.inside.place c.self.inside.number c.self.inside.unclean in
+    let extent = extent_of c.self.inside.first c.self.inside.place c.self.inside.number c.self.inside.unclean in
     let before = g.D.Disk.state c.self.inside.disk in
     let reads = g.met.D.Disk.reads c.self.inside.disk in
     let size : IsEntry c.args.entry.now = (c.requires.some, c.requires.most) in
@@ -27,7 +27,7 @@ invariant_of-self g c =
 
 pub returns-in_err-mend : goal.returns-in_err-mend
 returns-in_err-mend g c =
-    let extent = extent_to c.self.inside.place c.self.inside.number c.self.inside.unclean in
+    let extent = extent_of c.self.inside.first c.self.inside.place c.self.inside.number c.self.inside.unclean in
     let before = g.D.Disk.state c.self.inside.disk in
     let reads = g.met.D.Disk.reads c.self.inside.disk in
     let size : IsEntry c.args.entry.now = (c.requires.some, c.requires.most) in
@@ -44,7 +44,7 @@ returns-in_err-mend g c =
 
 pub stage-requires-clause-inside : goal.stage-requires-clause-inside
 stage-requires-clause-inside g c =
-    let extent = extent_to c.self.inside.place c.self.inside.number c.self.inside.unclean in
+    let extent = extent_of c.self.inside.first c.self.inside.place c.self.inside.number c.self.inside.unclean in
     let before = g.D.Disk.state c.self.inside.disk in
     let reads = g.met.D.Disk.reads c.self.inside.disk in
     let size : IsEntry c.args.entry.now = (c.requires.some, c.requires.most) in
@@ -53,7 +53,7 @@ stage-requires-clause-inside g c =
 
 pub invariant_of-self-in_err-stage : goal.invariant_of-self-in_err-stage
 invariant_of-self-in_err-stage g c =
-    let extent = extent_to c.self.inside.place c.self.inside.number c.self.inside.unclean in
+    let extent = extent_of c.self.inside.first c.self.inside.place c.self.inside.number c.self.inside.unclean in
     let before = g.D.Disk.state c.self.inside.disk in
     let reads = g.met.D.Disk.reads c.self.inside.disk in
     let size : IsEntry c.args.entry.now = (c.requires.some, c.requires.most) in
@@ -63,7 +63,7 @@ invariant_of-self-in_err-stage g c =
 
 pub returns-in_err-stage : goal.returns-in_err-stage
 returns-in_err-stage g c =
-    let extent = extent_to c.self.inside.place c.self.inside.number c.self.inside.unclean in
+    let extent = extent_of c.self.inside.first c.self.inside.place c.self.inside.number c.self.inside.unclean in
     let before = g.D.Disk.state c.self.inside.disk in
     let reads = g.met.D.Disk.reads c.self.inside.disk in
     let size : IsEntry c.args.entry.now = (c.requires.some, c.requires.most) in
@@ -81,7 +81,7 @@ returns-in_err-stage g c =
 
 pub set_gate-requires : goal.set_gate-requires
 set_gate-requires g c =
-    let extent = extent_to c.self.inside.place c.self.inside.number c.self.inside.unclean in
+    let extent = extent_of c.self.inside.first c.self.inside.place c.self.inside.number c.self.inside.unclean in
     let before = g.D.Disk.state c.self.inside.disk in
     let reads = g.met.D.Disk.reads c.self.inside.disk in
     let size : IsEntry c.args.entry.now = (c.requires.some, c.requires.most) in
@@ -90,7 +90,7 @@ set_gate-requires g c =
 
 pub invariant_of-self-in_err-set_gate : goal.invariant_of-self-in_err-set_gate
 invariant_of-self-in_err-set_gate g c =
-    let extent = extent_to c.self.inside.place c.self.inside.number c.self.inside.unclean in
+    let extent = extent_of c.self.inside.first c.self.inside.place c.self.inside.number c.self.inside.unclean in
     let before = g.D.Disk.state c.self.inside.disk in
     let reads = g.met.D.Disk.reads c.self.inside.disk in
     let size : IsEntry c.args.entry.now = (c.requires.some, c.requires.most) in
@@ -100,7 +100,7 @@ invariant_of-self-in_err-set_gate g c =
 
 pub returns-in_err-set_gate : goal.returns-in_err-set_gate
 returns-in_err-set_gate g c =
-    let extent = extent_to c.self.inside.place c.self.inside.number c.self.inside.unclean in
+    let extent = extent_of c.self.inside.first c.self.inside.place c.self.inside.number c.self.inside.unclean in
     let before = g.D.Disk.state c.self.inside.disk in
     let reads = g.met.D.Disk.reads c.self.inside.disk in
     let size : IsEntry c.args.entry.now = (c.requires.some, c.requires.most) in
@@ -120,7 +120,7 @@ returns-in_err-set_gate g c =
 
 pub invariant_of-self-2 : goal.invariant_of-self-2
 invariant_of-self-2 g c =
-    let extent = extent_to c.self.inside.place c.self.inside.number c.self.inside.unclean in
+    let extent = extent_of c.self.inside.first c.self.inside.place c.self.inside.number c.self.inside.unclean in
     let before = g.D.Disk.state c.self.inside.disk in
     let reads = g.met.D.Disk.reads c.self.inside.disk in
     let size : IsEntry c.args.entry.now = (c.requires.some, c.requires.most) in
@@ -130,7 +130,7 @@ invariant_of-self-2 g c =
 
 pub returns : goal.returns
 returns g c =
-    let extent = extent_to c.self.inside.place c.self.inside.number c.self.inside.unclean in
+    let extent = extent_of c.self.inside.first c.self.inside.place c.self.inside.number c.self.inside.unclean in
     let before = g.D.Disk.state c.self.inside.disk in
     let reads = g.met.D.Disk.reads c.self.inside.disk in
     let size : IsEntry c.args.entry.now = (c.requires.some, c.requires.most) in
