@@ -3,10 +3,10 @@ use Rattle.std.proofs.Common.{◌≡◌, ℕ, true, false, true≢false, List, [
 use Rattle.std.proofs.lemmas.List.{take_at, drop_at}
 use Rattle.httparse.specs.Grammar.{RequestHead}
 use Rattle.http_framing.specs.Fields.{pairs}
-use Rattle.http_framing.specs.Heads.{HasHead}
+use Rattle.http_framing.specs.Heads.{HasHead, IsHopeless, IsUnfinished}
 use Rattle.http_framing.specs.Bodies.{framed}
 use Rattle.http_framing.specs.Closing.{is_closing}
-use Rattle.http_framing.specs.Laws.{IsChoice, HaveOneReading, IsHeadRefusal}
+use Rattle.http_framing.specs.Laws.{EndsInHopelessHead, IsChoice, HaveOneReading, IsHeadRefusal}
 use Rattle.http_framing.specs.Requests.{Request, HasRequest, IsPartial, IsMalformed}
 use Rattle.http_framing.specs.Streams.{Ends, Ending, ended, cut, closed, malformed, Requests}
 use Rattle.http_framing.specs.declared.bodies.Refusal.{Refusal}
@@ -85,7 +85,9 @@ request_ends bytes r rest (malformed why) x y = on_malformed y
     on_malformed (inr (h, after, z)) =
         let e = same_framing bytes r.head h _ after _ _ x.head z.head x.body z.framed_as in absurd (cc)
 
-pub one_reading : HaveOneReading
+-- a stream has one list of requests, and one ending, but for the choice
+pub one_reading : (bytes : List ℕ) (requests others : List Request) (ending other : Ending) → Requests bytes requests ending → Requests bytes others other
+    → (requests ≡ others) × ((ending ≡ other) ⊎ IsChoice ending other)
 one_reading bytes [] [] e f x y = (refl, Ends-unique bytes e f x y)
 one_reading bytes [] (q ∷ qs) e f x y = absurd (request_ends bytes q y.0 e y.1 x)
 one_reading bytes (r ∷ rs) [] e f x y = absurd (request_ends bytes r x.0 f x.1 y)
@@ -102,3 +104,45 @@ one_reading bytes (r ∷ rs) (q ∷ qs) e f x y =
           let rest = one_reading x.0 rs qs e f a (subst (λ t. Requests t qs f) (sym same.1) b) in
           (ap₂ (λ r rs. r ∷ rs) same.0 rest.0, rest.1)
     ] refl
+
+-- a head that is partial and malformed is unfinished and hopeless
+hopeless_head : (bytes : List ℕ) (why : Refusal) → IsHeadRefusal why → IsPartial bytes → IsMalformed bytes why → IsUnfinished bytes × IsHopeless bytes
+hopeless_head bytes why refusal (inl x) (inl (e, inl hopeless)) = (x, hopeless)
+hopeless_head bytes why refusal (inl x) (inl (e, inr long)) = let a = x.short in let b = long.long in absurd (omega arith)
+hopeless_head bytes why refusal (inl x) (inr (h, after, y)) = absurd (HasHead-finished bytes h after y.head x)
+hopeless_head bytes why refusal (inr (h, after, wanted, x)) (inl (e, bad)) = absurd (HasHead-good bytes h after x.head bad)
+hopeless_head bytes why refusal (inr (h, after, wanted, x)) (inr (k, rest, y)) =
+    let e = same_framing bytes h k after rest _ _ x.head y.head x.framed_as y.framed_as in absurd (cc)
+
+-- one list of requests with the two endings of the choice ends so
+chosen_ends : (bytes : List ℕ) (e f : Ending) → Ends bytes e → Ends bytes f → IsChoice e f → IsUnfinished bytes × IsHopeless bytes
+chosen_ends bytes cut (malformed why) x y choice = hopeless_head bytes why choice x.0 y
+chosen_ends bytes (malformed why) cut x y choice = hopeless_head bytes why choice y.0 x
+chosen_ends bytes e f x y choice = absurd choice
+
+not_closed : (e f : Ending) → IsChoice e f → e ≡ closed → ⊥
+not_closed cut f choice is = cc
+not_closed (malformed why) f choice is = cc
+not_closed e f choice is = choice
+
+chosen : (bytes : List ℕ) (requests : List Request) (e f : Ending) → Requests bytes requests e → Requests bytes requests f → IsChoice e f → EndsInHopelessHead bytes requests
+chosen bytes [] e f x y choice =
+    let ends = chosen_ends bytes e f x y choice in (bytes, refl, ends.0, ends.1)
+chosen bytes (r ∷ rs) e f x y choice =
+    let same = HasRequest-unique bytes r r x.0 y.0 x.1 y.1 in
+    elim (is_closing r.head) as (λ b. is_closing r.head ≡ b → EndsInHopelessHead bytes (r ∷ rs)) [
+      | true ↦ λ on. absurd (not_closed e f choice (x.2 on).1)
+      | false ↦ λ on.
+          let rest = chosen x.0 rs e f (x.3 on) (subst (λ t. Requests t rs f) (sym same.1) (y.3 on)) choice in
+          (rest.0, (x.0, x.1, rest.1), rest.2, rest.3)
+    ] refl
+
+pub one_reading_law : HaveOneReading
+one_reading_law bytes requests others e f x y =
+    let same = one_reading bytes requests others e f x y in (
+      same.0,
+      elim (same.1) [
+        | inl is ↦ inl is
+        | inr choice ↦ inr (choice, chosen bytes requests e f x (subst (λ rs. Requests bytes rs f) (sym same.0) y) choice)
+      ],
+    )

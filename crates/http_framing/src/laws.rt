@@ -1,8 +1,8 @@
 // What holds of every stream.
 ghost use Rattle.http_framing.specs.Laws.{HaveOneReading, StayWithMore, RefusalsStay};
 
-/// A stream has one list of requests and one ending, but where it ends inside a head that no
-/// bytes complete: that is cut or malformed.
+/// A stream has one list of requests, and one ending, with one exception: a stream that ends inside
+/// a head that no bytes complete is cut or malformed.
 pub fn requests_have_one_reading()
     ensures one { HaveOneReading }
 {}
