@@ -1,11 +1,13 @@
 -- Each message that is read is readable.
 use Rattle.std.proofs.Common.{◌≡◌, ℕ, cond, Bool, true, false, List, [], ◌∷◌, ◌++◌, length, drop, refl, sym, subst, Option, Some, None, Result, Ok, Err}
-use Rattle.std.specs.Prelude.{IfOk, nat_lt, codes}
+use Rattle.std.specs.Prelude.{IfOk, IfSome, nat_lt, codes}
+use Rattle.std.specs.Option.{option_map}
+use Rattle.apron_base.specs.OptionChain.{◌>>=◌}
 use Rattle.std.specs.List.{flat_map}
 use Rattle.mvt_grammar.specs.Bytes.{is_station}
 use Rattle.mvt_grammar.specs.Clocks.{clock_of, times_of}
 use Rattle.mvt_grammar.specs.Pieces.{Piece, piece, is_empty, lines_of, words_of}
-use Rattle.mvt_grammar.specs.Words.{begins, begins_element, departure, arrival, arrival_estimate, departure_estimate, element_kind, kind_of, marks_from, marks_of_words, marks_of_line}
+use Rattle.mvt_grammar.specs.Words.{begins, begins_element, element_of, ends_line, estimate_of, estimated, mark_of, marks_from, marks_of_words, marks_of_line, with_estimate}
 use Rattle.mvt_grammar.specs.Reading.{◌>>-◌, heading_of, after_identifier, with_heading, after_heading, has_element, with_element, with_marks, read_lines, read_mvt_of}
 use Rattle.mvt_grammar.specs.Readable.{IsClock, AreTimes, IsEstimate, IsReadable}
 use Rattle.mvt_grammar.specs.declared.message.Clock.{Clock}
@@ -14,8 +16,6 @@ use Rattle.mvt_grammar.specs.declared.message.MvtFault.{MvtFault}
 use Rattle.mvt_grammar.specs.declared.message.MvtFault.TheVariants.{TooLong, Twice}
 use Rattle.mvt_grammar.specs.declared.words.Element.{Element}
 use Rattle.mvt_grammar.specs.declared.words.Element.TheVariants.{Ad, Aa, Ea, Ed}
-use Rattle.mvt_grammar.specs.declared.words.Kind.{Kind}
-use Rattle.mvt_grammar.specs.declared.words.Kind.TheVariants.{ReadingEnds, LineEnds, NoElement, Estimate, Whole}
 use Rattle.mvt_grammar.specs.declared.words.Mark.{Mark}
 use Rattle.mvt_grammar.specs.declared.words.Mark.TheVariants.{Found, Bad, End}
 use Rattle.mvt_grammar.proofs.Ranges.{clock-range, times-range, heading-range}
@@ -25,13 +25,6 @@ IsElement (Ad times) = AreTimes times
 IsElement (Aa times) = AreTimes times
 IsElement (Ea clock station) = IsEstimate (clock, station)
 IsElement (Ed clock) = IsClock clock
-
-abbrev IsKind : Kind → Type 0
-IsKind ReadingEnds = Unit {0}
-IsKind LineEnds = Unit {0}
-IsKind NoElement = Unit {0}
-IsKind (Estimate clock) = IsClock clock
-IsKind (Whole element) = IsElement element
 
 abbrev IsMark : Mark → Type 0
 IsMark (Found at element) = IsElement element
@@ -50,48 +43,52 @@ either_way : {A : Type 0} (P : A → Type 0) (b : Bool) (x y : A) → P x → P 
 either_way P true x y h k = h
 either_way P false x y h k = k
 
-departure_is : (o : Option (Clock × Option Clock)) → ((times : Clock × Option Clock) → o ≡ Some times → AreTimes times) → IsKind (departure o)
-departure_is None h = tt
-departure_is (Some times) h = h times refl
+some_is : {A : Type 0} (f : A → Element) (o : Option A) → ((x : A) → o ≡ Some x → IsElement (f x)) → IfSome (option_map f o) IsElement
+some_is f None h = tt
+some_is f (Some x) h = h x refl
 
-arrival_is : (o : Option (Clock × Option Clock)) → ((times : Clock × Option Clock) → o ≡ Some times → AreTimes times) → IsKind (arrival o)
-arrival_is None h = tt
-arrival_is (Some times) h = h times refl
+element_of_is : (text : List ℕ) → IfSome (element_of text) IsElement
+element_of_is text =
+    let P : Option Element → Type 0 = λ o. IfSome o IsElement in
+    let ad = some_is Ad (times_of (drop 2 text)) (times-range (drop 2 text)) in
+    let aa = some_is Aa (times_of (drop 2 text)) (times-range (drop 2 text)) in
+    let ed = some_is Ed (clock_of (drop 2 text)) (clock-range (drop 2 text)) in
+    either_way P (begins text (codes "AD")) _ _ ad (either_way P (begins text (codes "AA")) _ _ aa (either_way P (begins text (codes "ED")) _ None ed tt))
 
-arrival_estimate_is : (o : Option Clock) → ((clock : Clock) → o ≡ Some clock → IsClock clock) → IsKind (arrival_estimate o)
-arrival_estimate_is None h = tt
-arrival_estimate_is (Some clock) h = h clock refl
+station_is : (clock : Clock) (next : List ℕ) (b : Bool) → is_station next ≡ b → IsClock clock → IfSome (cond b (Some (Ea clock next)) None) IsElement
+station_is clock next true e h = record { clock = h; station = e }
+station_is clock next false e h = tt
 
-departure_estimate_is : (o : Option Clock) → ((clock : Clock) → o ≡ Some clock → IsClock clock) → IsKind (departure_estimate o)
-departure_estimate_is None h = tt
-departure_estimate_is (Some clock) h = h clock refl
+with_station_is : (o : Option Clock) (next : List ℕ) → ((clock : Clock) → o ≡ Some clock → IsClock clock) → IfSome (o >>= λ clock. cond (is_station next) (Some (Ea clock next)) None) IsElement
+with_station_is None next h = tt
+with_station_is (Some clock) next h = station_is clock next (is_station next) refl (h clock refl)
 
-element_kind_is : (text : List ℕ) → IsKind (element_kind text)
-element_kind_is text =
-    let ad = departure_is (times_of (drop 2 text)) (times-range (drop 2 text)) in
-    let aa = arrival_is (times_of (drop 2 text)) (times-range (drop 2 text)) in
-    let ea = arrival_estimate_is (clock_of (drop 2 text)) (clock-range (drop 2 text)) in
-    let ed = departure_estimate_is (clock_of (drop 2 text)) (clock-range (drop 2 text)) in
-    either_way IsKind (begins text (codes "AD")) _ _ ad (either_way IsKind (begins text (codes "AA")) _ _ aa (either_way IsKind (begins text (codes "EA")) _ _ ea ed))
+estimated_is : (text : List ℕ) (b : Bool) (clock : Clock) → cond b (clock_of (drop 2 text)) None ≡ Some clock → IsClock clock
+estimated_is text true clock h = clock-range (drop 2 text) clock h
+estimated_is text false clock h = absurd (cc h)
 
-kind_is : (text : List ℕ) → IsKind (kind_of text)
-kind_is text = either_way IsKind (begins text (codes "SI")) ReadingEnds _ tt (either_way IsKind (begins_element text) (element_kind text) LineEnds (element_kind_is text) tt)
+estimate_of_is : (text next : List ℕ) → IfSome (estimate_of text next) IsElement
+estimate_of_is text next = with_station_is (estimated text) next (estimated_is text (begins text (codes "EA")))
 
-estimate_marks : (at : ℕ) (clock : Clock) (next : List ℕ) (beyond : List Mark) (b : Bool) → is_station next ≡ b → IsClock clock → AreMarks beyond → AreMarks (cond b (Found at (Ea clock next) ∷ beyond) [])
-estimate_marks at clock next beyond true e h k = (record { clock = h; station = e }, k)
-estimate_marks at clock next beyond false e h k = tt
+mark_of_is : (at : ℕ) (o : Option Element) → IfSome o IsElement → IsMark (mark_of at o)
+mark_of_is at None h = tt
+mark_of_is at (Some element) h = h
 
-marks_from_are : (kind : Kind) (at : ℕ) (next : List ℕ) (after beyond : List Mark) → IsKind kind → AreMarks after → AreMarks beyond → AreMarks (marks_from kind at next after beyond)
-marks_from_are ReadingEnds at next after beyond h k l = (tt, tt)
-marks_from_are LineEnds at next after beyond h k l = tt
-marks_from_are NoElement at next after beyond h k l = (tt, tt)
-marks_from_are (Whole element) at next after beyond h k l = (h, k)
-marks_from_are (Estimate clock) at next after beyond h k l = estimate_marks at clock next beyond (is_station next) refl h l
+with_estimate_are : (at : ℕ) (o : Option Element) (behind others : List Mark) → IfSome o IsElement → AreMarks behind → AreMarks others → AreMarks (with_estimate at o behind others)
+with_estimate_are at None behind others h k l = l
+with_estimate_are at (Some element) behind others h k l = (h, k)
+
+marks_from_are : (word : Piece) (after : List Mark) → AreMarks after → AreMarks (marks_from word after)
+marks_from_are word after h =
+    either_way AreMarks (begins word.text (codes "SI")) (End ∷ []) _ (tt, tt)
+    (either_way AreMarks (ends_line word.text) [] _ tt (mark_of_is word.at (element_of word.text) (element_of_is word.text), h))
 
 words_are : (words : List Piece) → AreMarks (marks_of_words words)
 words_are [] = tt
-words_are (word ∷ []) = marks_from_are (kind_of word.text) word.at [] [] [] (kind_is word.text) tt tt
-words_are (word ∷ next ∷ words) = marks_from_are (kind_of word.text) word.at next.text (marks_of_words (next ∷ words)) (marks_of_words words) (kind_is word.text) (words_are (next ∷ words)) (words_are words)
+words_are (word ∷ []) = marks_from_are word [] tt
+words_are (word ∷ next ∷ words) =
+    with_estimate_are word.at (estimate_of word.text next.text) (marks_of_words words) _
+    (estimate_of_is word.text next.text) (words_are words) (marks_from_are word _ (words_are (next ∷ words)))
 
 line_is : (line : Piece) → AreMarks (marks_of_line line)
 line_is line = either_way AreMarks (begins line.text (codes "SI")) (End ∷ []) _ (tt, tt) (either_way AreMarks (begins_element line.text) (marks_of_words (words_of line)) [] (words_are (words_of line)) tt)

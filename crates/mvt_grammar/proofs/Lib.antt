@@ -13,3 +13,4 @@ pub mod FlightsBack
 pub mod LinesBack
 pub mod MarksBack
 pub mod RoundTrip
+pub mod Estimates

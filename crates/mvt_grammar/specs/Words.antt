@@ -1,61 +1,85 @@
--- What the words of an element line tell: elements, faults, and where the line or the whole reading ends.
-use Rattle.std.specs.Prelude.{ℕ, nat_eq, Bool, not, ◌&&◌, ◌||◌, List, [], ◌∷◌, drop, slice_index, codes, Option, Some, None, if◌then◌else◌}
+-- What the words of an element line tell: elements, faults, and where the line or the whole reading
+-- ends.
+use Rattle.std.specs.Prelude.{ℕ, nat_eq, Bool, not, ◌&&◌, ◌||◌, List, [], ◌∷◌, drop, slice_index, codes, Option, Some, None, is_some, if◌then◌else◌}
 use Rattle.std.specs.List.{starts_with}
+use Rattle.std.specs.Option.{option_map}
+use Rattle.apron_base.specs.OptionChain.{◌>>=◌}
 use Rattle.mvt_grammar.specs.Bytes.{is_capital, is_station}
 use Rattle.mvt_grammar.specs.Clocks.{clock_of, times_of}
 use Rattle.mvt_grammar.specs.Pieces.{Piece, words_of}
 use Rattle.mvt_grammar.specs.declared.message.Clock.{Clock}
+use Rattle.mvt_grammar.specs.declared.words.Element.{Element}
 use Rattle.mvt_grammar.specs.declared.words.Element.TheVariants.{Ad, Aa, Ea, Ed}
-use Rattle.mvt_grammar.specs.declared.words.Kind.{Kind}
-use Rattle.mvt_grammar.specs.declared.words.Kind.TheVariants.{ReadingEnds, LineEnds, NoElement, Estimate, Whole}
 use Rattle.mvt_grammar.specs.declared.words.Mark.{Mark}
 use Rattle.mvt_grammar.specs.declared.words.Mark.TheVariants.{Found, Bad, End}
 
+-- the text begins with these bytes
 abbrev pub begins : List ℕ → List ℕ → Bool
 begins text front = starts_with nat_eq text front
 
 -- one of the four pairs, and no capital after it
 abbrev pub begins_element : List ℕ → Bool
-begins_element text = (begins text (codes "AD") || begins text (codes "AA") || begins text (codes "EA") || begins text (codes "ED")) && not (is_capital (slice_index text 2))
+begins_element text =
+    (begins text (codes "AD")
+    || begins text (codes "AA")
+    || begins text (codes "EA")
+    || begins text (codes "ED"))
+    && not (is_capital (slice_index text 2))
 
-abbrev pub departure : Option (Clock × Option Clock) → Kind
-departure None = NoElement
-departure (Some times) = Whole (Ad times)
+-- the time of an estimate of arrival: EA and a time
+abbrev pub estimated : List ℕ → Option Clock
+estimated text = if begins text (codes "EA") then clock_of (drop 2 text) else None
 
-abbrev pub arrival : Option (Clock × Option Clock) → Kind
-arrival None = NoElement
-arrival (Some times) = Whole (Aa times)
+-- an estimate of arrival and the word right after it, its station of three capitals
+abbrev pub estimate_of : List ℕ → List ℕ → Option Element
+estimate_of text next = do
+  clock ← estimated text
+  if is_station next then Some (Ea clock next) else None
 
-abbrev pub arrival_estimate : Option Clock → Kind
-arrival_estimate None = NoElement
-arrival_estimate (Some clock) = Estimate clock
+-- an element of one word: AD or AA and one or two times, or ED and a time
+abbrev pub element_of : List ℕ → Option Element
+element_of text =
+    if begins text (codes "AD") then option_map Ad (times_of (drop 2 text))
+    else if begins text (codes "AA") then option_map Aa (times_of (drop 2 text))
+    else if begins text (codes "ED") then option_map Ed (clock_of (drop 2 text))
+    else None
 
-abbrev pub departure_estimate : Option Clock → Kind
-departure_estimate None = NoElement
-departure_estimate (Some clock) = Whole (Ed clock)
+-- the element that was found at a place, or the fault there
+abbrev pub mark_of : ℕ → Option Element → Mark
+mark_of at (Some element) = Found at element
+mark_of at None = Bad at
 
--- the element that stands after its pair of letters; an estimate of arrival still needs its station
-abbrev pub element_kind : List ℕ → Kind
-element_kind text = if begins text (codes "AD") then departure (times_of (drop 2 text)) else if begins text (codes "AA") then arrival (times_of (drop 2 text)) else if begins text (codes "EA") then arrival_estimate (clock_of (drop 2 text)) else departure_estimate (clock_of (drop 2 text))
+-- a word that ends its line: one that is no element, or an estimate whose station isn't there
+abbrev pub ends_line : List ℕ → Bool
+ends_line text = not (begins_element text) || is_some (estimated text)
 
--- what a word is by itself
-abbrev pub kind_of : List ℕ → Kind
-kind_of text = if begins text (codes "SI") then ReadingEnds else if begins_element text then element_kind text else LineEnds
+-- the marks from a word on that has no station after it, by the marks of the words after it
+abbrev pub marks_from : Piece → List Mark → List Mark
+marks_from word after =
+    if begins word.text (codes "SI") then End ∷ []
+    else if ends_line word.text then []
+    else mark_of word.at (element_of word.text) ∷ after
 
--- the marks from a word on: by its kind, its place, the text of the word right after it, the marks from that word on, and those from the word behind that one on
-abbrev pub marks_from : Kind → ℕ → List ℕ → List Mark → List Mark → List Mark
-marks_from ReadingEnds at next after beyond = End ∷ []
-marks_from LineEnds at next after beyond = []
-marks_from NoElement at next after beyond = Bad at ∷ []
-marks_from (Whole element) at next after beyond = Found at element ∷ after
-marks_from (Estimate clock) at next after beyond = if is_station next then Found at (Ea clock next) ∷ beyond else []
+-- the estimate found at a place and the marks behind its station, or without an estimate the others
+abbrev pub with_estimate : ℕ → Option Element → List Mark → List Mark → List Mark
+with_estimate at (Some estimate) behind others = Found at estimate ∷ behind
+with_estimate at None behind others = others
 
--- the marks of the words from left to right
+-- The marks of the words of a line, from left to right. Of these rules the first that fits a word
+-- holds: it is an estimate with its station after it; it ends the reading; it ends the line; it is
+-- an element of one word, or a fault.
 abbrev pub marks_of_words : List Piece → List Mark
 marks_of_words [] = []
-marks_of_words (word ∷ []) = marks_from (kind_of word.text) word.at [] [] []
-marks_of_words (word ∷ next ∷ words) = marks_from (kind_of word.text) word.at next.text (marks_of_words (next ∷ words)) (marks_of_words words)
+marks_of_words (word ∷ []) = marks_from word []
+marks_of_words (word ∷ next ∷ words) =
+    with_estimate word.at (estimate_of word.text next.text)
+    (marks_of_words words)
+    (marks_from word (marks_of_words (next ∷ words)))
 
--- the marks of a line: a line that is no element line tells nothing, unless it ends the reading
+-- the marks of a line: one that begins with SI ends the reading, and one that is no element line
+-- tells nothing
 abbrev pub marks_of_line : Piece → List Mark
-marks_of_line line = if begins line.text (codes "SI") then End ∷ [] else if begins_element line.text then marks_of_words (words_of line) else []
+marks_of_line line =
+    if begins line.text (codes "SI") then End ∷ []
+    else if begins_element line.text then marks_of_words (words_of line)
+    else []
