@@ -2,7 +2,7 @@
 ghost use Rattle.std.specs.Prelude.{◌<◌, length};
 
 use apron_base::{StandNo, TypeNo};
-use apron_rules::Airport;
+use apron_rules::{Airport, Wing};
 
 /// How many pairs there are, and how many of them exclude each other.
 #[derive(Clone, Copy, Debug)]
@@ -34,7 +34,14 @@ fn add_pairs_of(airport: &Airport, s: StandNo, t: TypeNo, count: &mut Count)
         for t2 in 0..airport.parts().types.len() {
             count.pairs = count.pairs.saturating_add(1);
             if airport
-                .breaks(s, t, StandNo(s2 as u16), TypeNo(t2 as u16))
+                .breaks(
+                    s,
+                    t,
+                    Wing::Full,
+                    StandNo(s2 as u16),
+                    TypeNo(t2 as u16),
+                    Wing::Full,
+                )
                 .is_some()
             {
                 count.excluded = count.excluded.saturating_add(1);

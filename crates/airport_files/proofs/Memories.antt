@@ -6,7 +6,7 @@ use Rattle.apron_rules.specs.declared.parts.AirportParts.{AirportParts}
 use Rattle.apron_rules.specs.declared.parts.TypeRow.{TypeRow}
 use Rattle.apron_rules.specs.declared.refusals.AirportFault.{AirportFault}
 use Rattle.apron_rules.specs.declared.refusals.AirportFault.TheVariants as refused
-use Rattle.apron_rules.specs.Refusals.{fault_of, later_fault_of, duplicate_of, unknown_of, bad_half_of, limit_of, bad_span_of}
+use Rattle.apron_rules.specs.Refusals.{fault_of, later_fault_of, duplicate_of, unknown_of, bad_half_of, limit_of, bad_fold_of, bad_span_of}
 use Rattle.airport_files.specs.declared.keys.HeadKey.{HeadKey}
 use Rattle.airport_files.specs.declared.keys.HeadKey.TheVariants.{Station, FirstDay, Days, TaxiIn, Tow}
 use Rattle.airport_files.specs.declared.keys.FrontageKey.TheVariants as frontage
@@ -26,8 +26,9 @@ use Rattle.airport_files.specs.Forms.{number_of, station_of, date_of, name_of, l
 use Rattle.airport_files.specs.Words.{head_word, frontage_word, stand_word, pair_word}
 use Rattle.airport_files.specs.Rows.{head_number, head_in, head_value, numbers_from, numbers_value, numbers_at, frontage_in, frontage_value, stand_in, stand_value, pair_in, pair_value}
 use Rattle.airport_files.specs.Layout.{rows_from, are_tables, rows_value, layout_of}
-use Rattle.airport_files.specs.Table.{in_form as row_in_form, rows_from as records_from, table_of, table_in}
-use Rattle.airport_files.specs.TypeRows.{is_header, row_of}
+use Rattle.airport_files.specs.Table.{in_form as row_in_form, rows_behind, rows_from as records_from, table_of, table_in}
+use Rattle.airport_files.specs.declared.type_rows.Columns.{Columns}
+use Rattle.airport_files.specs.TypeRows.{columns_of, row_of}
 use Rattle.airport_files.specs.Meaning.{named_layout, layout_of_table, layout_in, types_of_table, types_in, parts_of, made_of, unless_refused, meaning}
 
 -- a step, and the next where it went well
@@ -157,19 +158,19 @@ listed_row : (k : ℕ) (row : Option TypeRow) → IsListed (row_in_form k row)
 listed_row k None = λ p. cc
 listed_row k (Some row) = λ p. cc
 
-listed_rows : (k : ℕ) (records : List (List (List ℕ))) → IsListed (records_from k records)
+listed_rows : (columns : Columns) (k : ℕ) (records : List (List (List ℕ))) → IsListed (records_from columns k records)
 unfolding records_from
-listed_rows k [] = λ p. cc
-listed_rows k (fields ∷ rest) = never _ _ _ (listed_row k (row_of fields)) (λ row. never _ _ _ (listed_rows (k + 1) rest) (λ more. listed_ok _))
+listed_rows columns k [] = λ p. cc
+listed_rows columns k (fields ∷ rest) = never _ _ _ (listed_row k (row_of columns fields)) (λ row. never _ _ _ (listed_rows columns (k + 1) rest) (λ more. listed_ok _))
 
-listed_header : (right : Bool) (read : Result (List TypeRow) TableFault) → IsListed read → IsListed (if right then read else Err (rows.BadRow 1))
-listed_header true read h = h
-listed_header false read h = λ p. cc
+listed_behind : (columns : Option Columns) (records : List (List (List ℕ))) → IsListed (rows_behind columns records)
+listed_behind None records = λ p. cc
+listed_behind (Some columns) records = listed_rows columns 2 records
 
 listed_table : (records : List (List (List ℕ))) → IsListed (table_of records)
 unfolding table_of
 listed_table [] = λ p. cc
-listed_table (header ∷ records) = listed_header (is_header header) (records_from 2 records) (listed_rows 2 records)
+listed_table (header ∷ records) = listed_behind (columns_of header) records
 
 said_table : (read : Result (List TypeRow) TableFault) → IsListed read → IsSaid (types_of_table read)
 said_table (Ok types) h = (λ p. cc, λ p. cc)
@@ -195,7 +196,7 @@ reason made h (Some x) = λ p. h x cc
 fault-reason : (parts : AirportParts) → IsReason (fault_of parts)
 unfolding fault_of later_fault_of
 fault-reason parts =
-    either _ _ (reason refused.DuplicateName (λ x p. cc) (duplicate_of parts)) (either _ _ (reason refused.UnknownName (λ x p. cc) (unknown_of parts)) (either _ _ (reason refused.BadHalf (λ x p. cc) (bad_half_of parts)) (either _ _ (reason refused.LimitPassed (λ x p. cc) (limit_of parts)) (either _ _ (reason refused.BadSpan (λ x p. cc) (bad_span_of parts)) (λ p. cc)))))
+    either _ _ (reason refused.DuplicateName (λ x p. cc) (duplicate_of parts)) (either _ _ (reason refused.UnknownName (λ x p. cc) (unknown_of parts)) (either _ _ (reason refused.BadHalf (λ x p. cc) (bad_half_of parts)) (either _ _ (reason refused.LimitPassed (λ x p. cc) (limit_of parts)) (either _ _ (reason refused.BadSpan (λ x p. cc) (bad_span_of parts)) (either _ _ (reason refused.BadFold (λ x p. cc) (bad_fold_of parts)) (λ p. cc))))))
 
 said_unless : (parts : AirportParts) (fault : Option AirportFault) → IsReason fault → IsSaid (unless_refused parts fault)
 said_unless parts None h = (λ p. cc, λ p. cc)

@@ -7,7 +7,8 @@ use Rattle.csv.specs.declared.parser.State.{State}
 use Rattle.apron_rules.specs.declared.parts.TypeRow.{TypeRow}
 use Rattle.airport_files.specs.declared.types.TableFault.{TableFault}
 use Rattle.airport_files.specs.declared.types.TableFault.TheVariants.{BadRow}
-use Rattle.airport_files.specs.TypeRows.{is_header, row_of}
+use Rattle.airport_files.specs.declared.type_rows.Columns.{Columns}
+use Rattle.airport_files.specs.TypeRows.{columns_of, row_of}
 use Rattle.apron_base.specs.ResultChain.{◌>>=◌}
 use Rattle.airport_files.specs.Table.{rows_from, table_of, rows_left, table_from}
 
@@ -23,36 +24,36 @@ pub joined-nil : (rest : Result (List TypeRow) TableFault) → joined [] rest �
 joined-nil (Ok more) = refl
 joined-nil (Err e) = refl
 
-pub step-row : (k j m n : ℕ) (s : State) (left : List ℕ) (p : Read) (found : List TypeRow) (row : TypeRow) → j ≡ k + 1 → m ≡ n + 1 → next_record default_config s [] [] left ≡ Some p → row_of p.0 ≡ Some row
-    → joined found (rows_left k m s left) ≡ joined (found ++ row ∷ []) (rows_left j n p.1 p.2)
+pub step-row : (columns : Columns) (k j m n : ℕ) (s : State) (left : List ℕ) (p : Read) (found : List TypeRow) (row : TypeRow) → j ≡ k + 1 → m ≡ n + 1 → next_record default_config s [] [] left ≡ Some p → row_of columns p.0 ≡ Some row
+    → joined found (rows_left columns k m s left) ≡ joined (found ++ row ∷ []) (rows_left columns j n p.1 p.2)
 unfolding records_from rows_from
-step-row k j m n s left p found row after turn next good = rw (after, turn, add-one n, next, good) (joined-cons found row _)
+step-row columns k j m n s left p found row after turn next good = rw (after, turn, add-one n, next, good) (joined-cons found row _)
 
-pub walk-start : (m n : ℕ) (s : State) (left : List ℕ) (found : List TypeRow) → found ≡ [] → m ≡ n → joined found (rows_left 2 m s left) ≡ rows_left 2 n s left
-walk-start m n s left found none same = rw (none, same) (joined-nil (rows_left 2 n s left))
+pub walk-start : (columns : Columns) (m n : ℕ) (s : State) (left : List ℕ) (found : List TypeRow) → found ≡ [] → m ≡ n → joined found (rows_left columns 2 m s left) ≡ rows_left columns 2 n s left
+walk-start columns m n s left found none same = rw (none, same) (joined-nil (rows_left columns 2 n s left))
 
-pub step-bad : (k m n : ℕ) (s : State) (left : List ℕ) (p : Read) (found : List TypeRow) → m ≡ n + 1 → next_record default_config s [] [] left ≡ Some p → row_of p.0 ≡ None
-    → joined found (rows_left k m s left) ≡ Err (BadRow k)
+pub step-bad : (columns : Columns) (k m n : ℕ) (s : State) (left : List ℕ) (p : Read) (found : List TypeRow) → m ≡ n + 1 → next_record default_config s [] [] left ≡ Some p → row_of columns p.0 ≡ None
+    → joined found (rows_left columns k m s left) ≡ Err (BadRow k)
 unfolding records_from rows_from
-step-bad k m n s left p found turn next bad = rw (turn, add-one, next, bad)
+step-bad columns k m n s left p found turn next bad = rw (turn, add-one, next, bad)
 
-pub step-end : (k n : ℕ) (s : State) (left : List ℕ) (found : List TypeRow) → next_record default_config s [] [] left ≡ None → joined found (rows_left k n s left) ≡ Ok found
+pub step-end : (columns : Columns) (k n : ℕ) (s : State) (left : List ℕ) (found : List TypeRow) → next_record default_config s [] [] left ≡ None → joined found (rows_left columns k n s left) ≡ Ok found
 unfolding records_from rows_from
-step-end k zero s left found none = rw (append-nil found)
-step-end k (suc n) s left found none = rw (none, append-nil found)
+step-end columns k zero s left found none = rw (append-nil found)
+step-end columns k (suc n) s left found none = rw (none, append-nil found)
 
-pub out_of_turns : (k n : ℕ) (s : State) (left : List ℕ) (found : List TypeRow) → n ≡ 0 → joined found (rows_left k n s left) ≡ Ok found
+pub out_of_turns : (columns : Columns) (k n : ℕ) (s : State) (left : List ℕ) (found : List TypeRow) → n ≡ 0 → joined found (rows_left columns k n s left) ≡ Ok found
 unfolding records_from rows_from
-out_of_turns k n s left found over = rw (over, append-nil found)
+out_of_turns columns k n s left found over = rw (over, append-nil found)
 
 pub header-none : (n : ℕ) (s : State) (left : List ℕ) → next_record default_config s [] [] left ≡ None → table_from (n + 1) s left ≡ Err (BadRow 1)
 unfolding records_from table_of
 header-none n s left none = rw (add-one, none)
 
-pub header-bad : (n : ℕ) (s : State) (left : List ℕ) (p : Read) → next_record default_config s [] [] left ≡ Some p → is_header p.0 ≡ false → table_from (n + 1) s left ≡ Err (BadRow 1)
+pub header-bad : (n : ℕ) (s : State) (left : List ℕ) (p : Read) → next_record default_config s [] [] left ≡ Some p → columns_of p.0 ≡ None → table_from (n + 1) s left ≡ Err (BadRow 1)
 unfolding records_from table_of
 header-bad n s left p next bad = rw (add-one, next, bad)
 
-pub header-good : (n : ℕ) (s : State) (left : List ℕ) (p : Read) → next_record default_config s [] [] left ≡ Some p → is_header p.0 ≡ true → table_from (n + 1) s left ≡ rows_left 2 n p.1 p.2
+pub header-good : (n : ℕ) (s : State) (left : List ℕ) (p : Read) (columns : Columns) → next_record default_config s [] [] left ≡ Some p → columns_of p.0 ≡ Some columns → table_from (n + 1) s left ≡ rows_left columns 2 n p.1 p.2
 unfolding records_from table_of
-header-good n s left p next good = rw (add-one, next, good)
+header-good n s left p columns next good = rw (add-one, next, good)

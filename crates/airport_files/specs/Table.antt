@@ -1,5 +1,5 @@
 -- The table of a text, or its first bad record.
-use Rattle.std.specs.Prelude.{ℕ, ◌+◌, List, [], ◌∷◌, length, Option, Some, None, Result, Ok, Err, if◌then◌else◌}
+use Rattle.std.specs.Prelude.{ℕ, ◌+◌, List, [], ◌∷◌, length, Option, Some, None, Result, Ok, Err}
 use Rattle.apron_base.specs.ResultChain.{◌>>=◌}
 use Rattle.csv.specs.Reading.{default_config, records_from, strip_bom}
 use Rattle.csv.specs.declared.parser.State.{State}
@@ -7,7 +7,8 @@ use Rattle.csv.specs.declared.parser.State.TheVariants as st
 use Rattle.apron_rules.specs.declared.parts.TypeRow.{TypeRow}
 use Rattle.airport_files.specs.declared.types.TableFault.{TableFault}
 use Rattle.airport_files.specs.declared.types.TableFault.TheVariants.{BadRow}
-use Rattle.airport_files.specs.TypeRows.{is_header, row_of}
+use Rattle.airport_files.specs.declared.type_rows.Columns.{Columns}
+use Rattle.airport_files.specs.TypeRows.{columns_of, row_of}
 
 -- record k in its form
 abbrev pub in_form : ℕ → Option TypeRow → Result TypeRow TableFault
@@ -15,21 +16,26 @@ in_form k None = Err (BadRow k)
 in_form k (Some row) = Ok row
 
 -- the records from the k-th on
-unfoldable pub rows_from : ℕ → List (List (List ℕ)) → Result (List TypeRow) TableFault
-rows_from k [] = Ok []
-rows_from k (fields ∷ rest) = do
-  row ← in_form k (row_of fields)
-  more ← rows_from (k + 1) rest
+unfoldable pub rows_from : Columns → ℕ → List (List (List ℕ)) → Result (List TypeRow) TableFault
+rows_from columns k [] = Ok []
+rows_from columns k (fields ∷ rest) = do
+  row ← in_form k (row_of columns fields)
+  more ← rows_from columns (k + 1) rest
   Ok (row ∷ more)
+
+-- the records behind a header with these columns
+abbrev pub rows_behind : Option Columns → List (List (List ℕ)) → Result (List TypeRow) TableFault
+rows_behind None rows = Err (BadRow 1)
+rows_behind (Some columns) rows = rows_from columns 2 rows
 
 -- the records behind the header
 unfoldable pub table_of : List (List (List ℕ)) → Result (List TypeRow) TableFault
 table_of [] = Err (BadRow 1)
-table_of (header ∷ rows) = if is_header header then rows_from 2 rows else Err (BadRow 1)
+table_of (header ∷ rows) = rows_behind (columns_of header) rows
 
 -- the rest of the walk, from a state and the bytes that are left: at most so many records
-abbrev pub rows_left : ℕ → ℕ → State → List ℕ → Result (List TypeRow) TableFault
-rows_left k turns s left = rows_from k (records_from default_config turns s left)
+abbrev pub rows_left : Columns → ℕ → ℕ → State → List ℕ → Result (List TypeRow) TableFault
+rows_left columns k turns s left = rows_from columns k (records_from default_config turns s left)
 
 -- the whole of it
 abbrev pub table_from : ℕ → State → List ℕ → Result (List TypeRow) TableFault

@@ -1,10 +1,10 @@
 // The table of a type file, read record by record.
-ghost use Rattle.std.specs.Prelude.{◌≡◌, ◌⊎◌, ℕ, List, Some, OnOk, IfErr, ◌<◌, ◌+◌, ◌^◌, length, MatchResult, Ok, Err};
+ghost use Rattle.std.specs.Prelude.{◌≡◌, ◌⊎◌, ℕ, List, Some, IfOk, IfErr, ◌<◌, ◌+◌, ◌^◌, length, MatchResult, Ok, Err};
 ghost use Rattle.csv.specs.declared.parser.State.{State};
 ghost use Rattle.csv_records.specs.Reading.{IsReading};
 ghost use Rattle.airport_files.specs.Table.{table_in, table_from, rows_left};
 
-use crate::type_rows::{is_header, row_of};
+use crate::type_rows::{Columns, columns_of, row_of};
 use apron_base::{Listed, Memory};
 use apron_rules::TypeRow;
 use csv::{ByteRecord, Reader};
@@ -29,20 +29,19 @@ impl From<Memory> for TableFault {
     }
 }
 
-// Reads the first record, which is the header.
-fn read_header(rdr: &mut Reader<&[u8]>, row: &mut ByteRecord) -> Result<(), TableFault>
-    ensures ok { OnOk result ((turns : ℕ) (s : State) (left : List ℕ) → IsReading (λ b. Some b.now) rdr.old s left
-        → (t : State) × (rest : List ℕ) × IsReading (λ b. Some b.now) rdr.new t rest × (table_from (turns + 1) s left ≡ rows_left 2 turns t rest)) }
+// Reads the first record, which is the header, and tells its columns.
+fn read_header(rdr: &mut Reader<&[u8]>, row: &mut ByteRecord) -> Result<Columns, TableFault>
+    ensures ok { IfOk result (λ columns. (turns : ℕ) (s : State) (left : List ℕ) → IsReading (λ b. Some b.now) rdr.old s left
+        → (t : State) × (rest : List ℕ) × IsReading (λ b. Some b.now) rdr.new t rest × (table_from (turns + 1) s left ≡ rows_left columns 2 turns t rest)) }
     ensures err { IfErr result (λ e. (turns : ℕ) (s : State) (left : List ℕ) → IsReading (λ b. Some b.now) rdr.old s left
         → (e ≡ TableFault.Memory) ⊎ (table_from (turns + 1) s left ≡ Err e)) }
 {
     if !read_row(rdr, row)? {
         return Err(TableFault::BadRow(1));
     }
-    if is_header(row) {
-        Ok(())
-    } else {
-        Err(TableFault::BadRow(1))
+    match columns_of(row) {
+        Some(columns) => Ok(columns),
+        None => Err(TableFault::BadRow(1)),
     }
 }
 
@@ -51,19 +50,20 @@ fn read_rows(
     alloc: Global,
     rdr: &mut Reader<&[u8]>,
     row: &mut ByteRecord,
+    columns: Columns,
     turns: usize,
 ) -> Result<Listed<TypeRow>, TableFault>
     requires few { turns < 2 ^ 31 }
     ensures value { (s : State) (left : List ℕ) → IsReading (λ b. Some b.now) rdr.old s left
-        → MatchResult result (λ v. rows_left 2 turns s left ≡ Ok v)
-        (λ e. (e ≡ TableFault.Memory) ⊎ (rows_left 2 turns s left ≡ Err e)) }
+        → MatchResult result (λ v. rows_left columns 2 turns s left ≡ Ok v)
+        (λ e. (e ≡ TableFault.Memory) ⊎ (rows_left columns 2 turns s left ≡ Err e)) }
 {
     let mut rows = Listed::new(alloc);
     for k in 0..turns {
         if !read_row(rdr, row)? {
             return Ok(rows);
         }
-        let Some(next) = row_of(row) else {
+        let Some(next) = row_of(columns, row) else {
             return Err(TableFault::BadRow(k as u32 + 2));
         };
         if rows.push(next).is_err() {
@@ -81,6 +81,6 @@ pub(crate) fn read_table(alloc: Global, text: &[u8]) -> Result<Listed<TypeRow>, 
 {
     let mut rdr = start(alloc, text);
     let mut row = ByteRecord::new(alloc);
-    read_header(&mut rdr, &mut row)?;
-    read_rows(alloc, &mut rdr, &mut row, text.len())
+    let columns = read_header(&mut rdr, &mut row)?;
+    read_rows(alloc, &mut rdr, &mut row, columns, text.len())
 }

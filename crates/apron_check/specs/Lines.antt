@@ -35,6 +35,7 @@ airport_text (airport.UnknownName name) = codes "airport: unknown " ++ name
 airport_text (airport.BadHalf name) = codes "airport: half " ++ name
 airport_text (airport.LimitPassed limit) = codes "airport: limit " ++ limit_word limit
 airport_text (airport.BadSpan name) = codes "airport: span " ++ name
+airport_text (airport.BadFold name) = codes "airport: fold " ++ name
 airport_text airport.Memory = memory_text
 
 -- what tells the first fault in two files

@@ -66,6 +66,7 @@ fn put_airport_fault<W: Sink>(sink: &mut W, fault: &AirportFault) -> Result<(), 
             put_both(sink, b"airport: limit ", limit_word(*limit).as_bytes())
         }
         AirportFault::BadSpan(name) => put_both(sink, b"airport: span ", name.bytes()),
+        AirportFault::BadFold(name) => put_both(sink, b"airport: fold ", name.bytes()),
         AirportFault::Memory => sink.put(b"memory"),
     }
 }

@@ -1,6 +1,6 @@
 -- Parts that are refused for no reason are an airport.
 use Rattle.std.proofs.Common.{◌≡◌, ◌<◌, ◌≤◌, ℕ, Bool, true, false, List, [], ◌∷◌, length, refl, arith, Option, None, Some}
-use Rattle.std.specs.Prelude.{IsTrue, nat_le, find, is_none}
+use Rattle.std.specs.Prelude.{IsTrue, nat_le, find, is_none, not}
 use Rattle.apron_base.specs.Letter.{letter_for}
 use Rattle.std.specs.Option.{option_map, option_or}
 use Rattle.std.specs.List.{list_all, AllByRecursion}
@@ -14,9 +14,9 @@ use Rattle.apron_rules.specs.declared.parts.TypeRow.{TypeRow}
 use Rattle.apron_rules.specs.declared.limits.TheConstants.{MAX_BUFFER, MAX_DAYS, MAX_LEAST, MAX_OBJECTS, MAX_STANDS, MAX_TOW, MAX_TYPES}
 use Rattle.apron_rules.specs.declared.refusals.Limit.{Limit}
 use Rattle.apron_rules.specs.declared.refusals.Limit.TheVariants as limit
-use Rattle.apron_rules.specs.declared.refusals.AirportFault.TheVariants.{UnknownName, BadHalf, LimitPassed, BadSpan}
+use Rattle.apron_rules.specs.declared.refusals.AirportFault.TheVariants.{UnknownName, BadHalf, LimitPassed, BadSpan, BadFold}
 use Rattle.apron_rules.specs.Names.{is_station, frontage_names, stand_names, first_repeated}
-use Rattle.apron_rules.specs.Refusals.{duplicate_of, unknown_of, bad_half_of, limit_of, bad_span_of, first_reason, first_some, later_fault_of, fault_of, passed_limits, unless_kept, is_within, are_objects_kept}
+use Rattle.apron_rules.specs.Refusals.{duplicate_of, unknown_of, bad_half_of, limit_of, bad_fold_of, bad_span_of, is_fold_kept, first_reason, first_some, later_fault_of, fault_of, passed_limits, unless_kept, is_within, are_objects_kept}
 use Rattle.apron_rules.specs.Rules.{IsAirport}
 
 pub left_none : {A : Type 0} (o p : Option A) → option_or o p ≡ None → o ≡ None
@@ -75,7 +75,7 @@ limited parts none = limited_from parts (all_none (passed_limits parts) none)
 limit_none : (parts : AirportParts) → fault_of parts ≡ None → limit_of parts ≡ None
 unfolding fault_of later_fault_of
 limit_none parts h =
-    let later = right_none _ (first_reason (unknown_of parts) (bad_half_of parts) (limit_of parts) (bad_span_of parts)) h in
+    let later = right_none _ (first_reason (unknown_of parts) (bad_half_of parts) (limit_of parts) (bad_span_of parts) (bad_fold_of parts)) h in
     let third = right_none _ _ (right_none _ _ later) in
     unmapped _ (limit_of parts) (left_none _ _ third)
 
@@ -83,7 +83,7 @@ limit_none parts h =
 pub unknown_none : (parts : AirportParts) → fault_of parts ≡ None → unknown_of parts ≡ None
 unfolding fault_of later_fault_of
 unknown_none parts h =
-    let later = right_none _ (first_reason (unknown_of parts) (bad_half_of parts) (limit_of parts) (bad_span_of parts)) h in
+    let later = right_none _ (first_reason (unknown_of parts) (bad_half_of parts) (limit_of parts) (bad_span_of parts) (bad_fold_of parts)) h in
     unmapped _ (unknown_of parts) (left_none _ _ later)
 
 -- no name of a stand is there twice
@@ -112,13 +112,23 @@ airport_of parts station first none =
       objects = All-from_recursion _ _ (each (λ (f : Frontage). length f.objects ≤ MAX_OBJECTS) _ parts.frontages (λ f h. grind (arith, nat_tests)) l.objects);
     }
 
+-- none of the reasons behind a name that is there twice
+reasons_none : (parts : AirportParts) → fault_of parts ≡ None
+    → AllNone (option_map UnknownName (unknown_of parts) ∷ option_map BadHalf (bad_half_of parts) ∷ option_map LimitPassed (limit_of parts) ∷ option_map BadSpan (bad_span_of parts) ∷ option_map BadFold (bad_fold_of parts) ∷ [])
+unfolding fault_of later_fault_of
+reasons_none parts h =
+    all_none (option_map UnknownName (unknown_of parts) ∷ option_map BadHalf (bad_half_of parts) ∷ option_map LimitPassed (limit_of parts) ∷ option_map BadSpan (bad_span_of parts) ∷ option_map BadFold (bad_fold_of parts) ∷ [])
+    (right_none _ (first_reason (unknown_of parts) (bad_half_of parts) (limit_of parts) (bad_span_of parts) (bad_fold_of parts)) h)
+
 -- each type has a letter
 pub spans_known : (parts : AirportParts) → fault_of parts ≡ None → find (λ (row : TypeRow). is_none (letter_for row.span)) parts.types ≡ None
-unfolding fault_of later_fault_of
 spans_known parts h =
-    let later = right_none _ (first_reason (unknown_of parts) (bad_half_of parts) (limit_of parts) (bad_span_of parts)) h in
-    let nones = all_none (option_map UnknownName (unknown_of parts) ∷ option_map BadHalf (bad_half_of parts) ∷ option_map LimitPassed (limit_of parts) ∷ option_map BadSpan (bad_span_of parts) ∷ []) later in
-    unmapped (λ (row : TypeRow). row.name) (find (λ (row : TypeRow). is_none (letter_for row.span)) parts.types) (unmapped BadSpan (bad_span_of parts) nones.1.1.1.0)
+    unmapped (λ (row : TypeRow). row.name) (find (λ (row : TypeRow). is_none (letter_for row.span)) parts.types) (unmapped BadSpan (bad_span_of parts) (reasons_none parts h).1.1.1.0)
+
+-- each type folds its wing tips to a span of at most its own
+pub folds_kept : (parts : AirportParts) → fault_of parts ≡ None → find (λ (row : TypeRow). not (is_fold_kept row)) parts.types ≡ None
+folds_kept parts h =
+    unmapped (λ (row : TypeRow). row.name) (find (λ (row : TypeRow). not (is_fold_kept row)) parts.types) (unmapped BadFold (bad_fold_of parts) (reasons_none parts h).1.1.1.1.0)
 
 -- there is a type
 pub some_type : (parts : AirportParts) → fault_of parts ≡ None → 0 < length parts.types

@@ -21,7 +21,8 @@ use Rattle.apron_rules.specs.declared.parts.StandRow.{StandRow}
 use Rattle.apron_rules.specs.declared.parts.TypeRow.{TypeRow}
 use Rattle.apron_rules.specs.Names.{frontage_names, stand_names, place_of, is_known, is_named, repeated_after, first_repeated}
 use Rattle.apron_rules.specs.Refusals.{first_found, unknown_of, unknown_of_stand, fault_of}
-use Rattle.apron_rules.specs.Rules.{is_restricted, rule_between, breaks_of}
+use Rattle.apron_rules.specs.declared.rules.Wing.{Wing}
+use Rattle.apron_rules.specs.Rules.{is_restricted, rule_between, breaks_with_wings, span_of}
 use Rattle.apron_rules.specs.Kept.{IsLinked}
 use Rattle.apron_rules.specs.Links.{is_place, is_one_place, links_of, is_split_at, is_near_at, pairs_at, is_barred, first_rule, is_restricted_at}
 use Rattle.apron_rules.proofs.Symmetry.{bytes_eq_sym}
@@ -124,7 +125,7 @@ half_is name names s2 None at = refl
 half_is name names s2 (Some whole) at = sym (same_place name whole names s2 at) ∙ bytes_eq_sym name whole
 
 -- a restriction of two stands is told by their places
-restricted_is : (names : List (List ℕ)) (s s2 : ℕ) (x y : StandRow) (k l : TypeRow) (pairs : List PairRow) → place_of x.name names ≡ Some s → place_of y.name names ≡ Some s2
+restricted_is : (names : List (List ℕ)) (s s2 : ℕ) (x y : StandRow) (k l : ℕ) (pairs : List PairRow) → place_of x.name names ≡ Some s → place_of y.name names ≡ Some s2
     → list_any (is_restricted_at names s k s2 l) pairs ≡ list_any (is_restricted x k y l) pairs
 restricted_is names s s2 x y k l [] at_x at_y = refl
 restricted_is names s s2 x y k l (pair ∷ pairs) at_x at_y =
@@ -139,7 +140,7 @@ stand_place parts s x none at =
 
 -- of two rows, what places say is what the names say
 by_rows : (parts : AirportParts) (links : List StandLinks) (pairs : List (List StandPair)) → IsLinked parts links pairs
-    → (s s2 : ℕ) (x y : StandRow) (k l : TypeRow) → slice_get parts.stands s ≡ Some x → slice_get parts.stands s2 ≡ Some y
+    → (s s2 : ℕ) (x y : StandRow) (k l : ℕ) → slice_get parts.stands s ≡ Some x → slice_get parts.stands s2 ≡ Some y
     → first_rule (s == s2) (is_split_at s (links_of (frontage_names parts) (stand_names parts) x) s2 (links_of (frontage_names parts) (stand_names parts) y)) (is_near_at (links_of (frontage_names parts) (stand_names parts) x) k (links_of (frontage_names parts) (stand_names parts) y) l) (list_any (is_barred s2 k l) (pairs_at pairs s))
     ≡ rule_between parts.pairs (s == s2) x k y l
 by_rows parts links pairs kept s s2 x y k l at_x at_y =
@@ -173,11 +174,12 @@ links_at parts links pairs kept s row x at_row at =
 
 -- the first rule that the places say is the first rule
 pub breaks_by_place : (parts : AirportParts) (links : List StandLinks) (pairs : List (List StandPair)) → IsLinked parts links pairs
-    → (s : StandNo) (t : TypeNo) (s2 : StandNo) (t2 : TypeNo) → s.0 < length parts.stands → t.0 < length parts.types → s2.0 < length parts.stands → t2.0 < length parts.types
+    → (s : StandNo) (t : TypeNo) (w : Wing) (s2 : StandNo) (t2 : TypeNo) (w2 : Wing) → s.0 < length parts.stands → t.0 < length parts.types → s2.0 < length parts.stands → t2.0 < length parts.types
     → (d e : StandLinks) (k l : TypeRow) (own : List StandPair)
     → k ≡ get_or parts.types t.0 k → l ≡ get_or parts.types t2.0 l → own ≡ get_or pairs s.0 own
-    → first_rule (s.0 == s2.0) (is_split_at s.0 (get_or links s.0 d) s2.0 (get_or links s2.0 e)) (is_near_at (get_or links s.0 d) k (get_or links s2.0 e) l) (list_any (is_barred s2.0 k l) own) ≡ breaks_of parts s t s2 t2
-breaks_by_place parts links pairs kept s t s2 t2 inside inside_t inside_2 inside_t2 d e k l own is_k is_l is_own =
+    → first_rule (s.0 == s2.0) (is_split_at s.0 (get_or links s.0 d) s2.0 (get_or links s2.0 e)) (is_near_at (get_or links s.0 d) (span_of w k) (get_or links s2.0 e) (span_of w2 l)) (list_any (is_barred s2.0 (span_of w k) (span_of w2 l)) own)
+    ≡ breaks_with_wings parts s t w s2 t2 w2
+breaks_by_place parts links pairs kept s t w s2 t2 w2 inside inside_t inside_2 inside_t2 d e k l own is_k is_l is_own =
     let x = get_or links s.0 d in
     let y = get_or links s2.0 e in
     let row = row_at parts.stands s.0 inside in
@@ -191,5 +193,5 @@ breaks_by_place parts links pairs kept s t s2 t2 inside inside_t inside_2 inside
     let at_own : slice_get pairs s.0 ≡ Some own = slice_get_read pairs (length pairs) s.0 own refl (omega (arith, kept.counted, inside)) is_own in
     let same_x = links_at parts links pairs kept s.0 row.0 x row.1 at_x in
     let same_y = links_at parts links pairs kept s2.0 row_2.0 y row_2.1 at_y in
-    let rule = by_rows parts links pairs kept s.0 s2.0 row.0 row_2.0 k l row.1 row_2.1 in
+    let rule = by_rows parts links pairs kept s.0 s2.0 row.0 row_2.0 (span_of w k) (span_of w2 l) row.1 row_2.1 in
     rw (at_k, at_l, row.1, row_2.1, same_x, same_y) (rw at_own at rule)

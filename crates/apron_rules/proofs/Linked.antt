@@ -5,7 +5,6 @@ use Rattle.std.proofs.lemmas.Bool.Decides.{nat_tests}
 use Rattle.std.proofs.lemmas.List.Folds.{list_any-append, list_any_more}
 use Rattle.apron_rules.specs.declared.links.StandPair.{StandPair}
 use Rattle.apron_rules.specs.declared.parts.PairRow.{PairRow}
-use Rattle.apron_rules.specs.declared.parts.TypeRow.{TypeRow}
 use Rattle.apron_rules.specs.Names.{place_of}
 use Rattle.apron_rules.specs.Rules.{has_letter}
 use Rattle.apron_rules.specs.Links.{is_place, pairs_at, is_barred, is_restricted_so_at, is_restricted_at}
@@ -48,7 +47,7 @@ turned false false c d = refl
 
 -- a restriction of two stands bars as each of them sees it
 pub added_both : (stands : List (List ℕ)) (row : PairRow) (a b : ℕ) (before : Bool) → place_of row.a stands ≡ Some a → place_of row.b stands ≡ Some b
-    → (s s2 : ℕ) (k l : TypeRow)
+    → (s s2 k l : ℕ)
     → ((before || (s == a && is_barred s2 k l (record { other = b; own = row.la; least = row.lb }))) || (s == b && is_barred s2 k l (record { other = a; own = row.lb; least = row.la })))
     ≡ (before || is_restricted_at stands s k s2 l row)
 added_both stands row a b before at_a at_b s s2 k l =
@@ -59,12 +58,12 @@ added_both stands row a b before at_a at_b s s2 k l =
     rw (first, second) (or_assoc before (is_restricted_so_at stands row s k s2 l) (is_restricted_so_at stands row s2 l s k))
 
 -- a restriction that names no stand restricts none
-pub added_none : (stands : List (List ℕ)) (row : PairRow) (s s2 : ℕ) (k l : TypeRow) (before : Bool) → place_of row.b stands ≡ None → before ≡ (before || is_restricted_at stands s k s2 l row)
+pub added_none : (stands : List (List ℕ)) (row : PairRow) (s s2 k l : ℕ) (before : Bool) → place_of row.b stands ≡ None → before ≡ (before || is_restricted_at stands s k s2 l row)
 added_none stands row s s2 k l before none =
     rw (none, and_false (is_place s (place_of row.a stands)), and_false (is_place s2 (place_of row.a stands))) (sym (or_false before))
 
 -- one more row
-pub any_next : (before after : Bool) (stands : List (List ℕ)) (rows : List PairRow) (i : ℕ) (row : PairRow) (s s2 : ℕ) (k l : TypeRow) → i < length rows → row ≡ get_or rows i row
+pub any_next : (before after : Bool) (stands : List (List ℕ)) (rows : List PairRow) (i : ℕ) (row : PairRow) (s s2 k l : ℕ) → i < length rows → row ≡ get_or rows i row
     → before ≡ list_any (is_restricted_at stands s k s2 l) (take i rows) → after ≡ (before || is_restricted_at stands s k s2 l row)
     → after ≡ list_any (is_restricted_at stands s k s2 l) (take (i + 1) rows)
 any_next before after stands rows i row s s2 k l inside at h e =

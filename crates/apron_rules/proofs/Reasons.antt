@@ -5,12 +5,12 @@ use Rattle.apron_rules.specs.declared.refusals.AirportFault.{AirportFault}
 use Rattle.apron_rules.specs.declared.refusals.AirportFault.TheVariants.{DuplicateName, Memory}
 use Rattle.apron_rules.specs.declared.parts.AirportParts.{AirportParts}
 use Rattle.apron_rules.specs.declared.refusals.Limit.{Limit}
-use Rattle.apron_rules.specs.Refusals.{unknown_of, bad_half_of, limit_of, bad_span_of, duplicate_of, first_reason, later_fault_of, fault_of}
+use Rattle.apron_rules.specs.Refusals.{unknown_of, bad_half_of, limit_of, bad_fold_of, bad_span_of, duplicate_of, first_reason, later_fault_of, fault_of}
 
-pub reason_is : (parts : AirportParts) (u h : Option (List ℕ)) (l : Option Limit) (s : Option (List ℕ)) → u ≡ unknown_of parts → h ≡ bad_half_of parts → l ≡ limit_of parts → s ≡ bad_span_of parts
-    → first_reason u h l s ≡ later_fault_of parts
+pub reason_is : (parts : AirportParts) (u h : Option (List ℕ)) (l : Option Limit) (s f : Option (List ℕ)) → u ≡ unknown_of parts → h ≡ bad_half_of parts → l ≡ limit_of parts → s ≡ bad_span_of parts → f ≡ bad_fold_of parts
+    → first_reason u h l s f ≡ later_fault_of parts
 unfolding later_fault_of
-reason_is parts u h l s a b c d = rw (a, b, c, d) refl
+reason_is parts u h l s f a b c d e = rw (a, b, c, d, e) refl
 
 or_some : {A : Type 0} (o p : Option A) (x : A) → o ≡ Some x → option_or o p ≡ Some x
 or_some o p x h = rw h refl

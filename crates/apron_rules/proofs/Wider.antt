@@ -10,7 +10,6 @@ use Rattle.apron_base.specs.declared.letter.Letter.{Letter}
 use Rattle.apron_base.specs.declared.letter.Letter.TheVariants.{A, B, C, D, E, F}
 use Rattle.apron_rules.specs.declared.parts.PairRow.{PairRow}
 use Rattle.apron_rules.specs.declared.parts.StandRow.{StandRow}
-use Rattle.apron_rules.specs.declared.parts.TypeRow.{TypeRow}
 use Rattle.apron_rules.specs.declared.rules.Rule.{Rule}
 use Rattle.apron_rules.specs.declared.rules.Rule.TheVariants.{Same, Split, Clearance, Pair}
 use Rattle.apron_rules.specs.Rules.{is_half_of, is_too_near, is_restricted, is_restricted_so, has_letter, distance, rule_between}
@@ -114,39 +113,51 @@ at_least rank a b order h = grind (arith, nat_tests)
 clear_of : (span : ℕ) (letter : Letter) → letter_for span ≡ Some letter → clearance_of_span span ≡ clearance_of_letter letter
 clear_of span letter e = rw e refl
 
--- of two spans with letters, the greater
-pub is_wider : (span wide : ℕ) → is_none (letter_for span) ≡ false → is_none (letter_for wide) ≡ false → span ≤ wide → IsWider span wide
-is_wider span wide known known_w less =
-    let a = there (letter_for span) known in
-    let b = there (letter_for wide) known_w in
-    let low = in_bounds span a.0 a.1 in
-    let high = in_bounds wide b.0 b.1 in
-    let order = ordered a.0 b.0 (omega (arith, low.0, high.1, less)) in
-    let clear = clear_of span a.0 a.1 in
-    let clear_w = clear_of wide b.0 b.1 in
+unclear : (span : ℕ) → letter_for span ≡ None → clearance_of_span span ≡ 0
+unclear span e = rw e refl
+
+wider_by : (span wide : ℕ) (found : Option Letter) (other : Letter) → letter_for span ≡ found → letter_for wide ≡ Some other → span ≤ wide → IsWider span wide
+wider_by span wide None other none at less = record {
+  order = less;
+  clear = omega (arith, unclear span none);
+  letter = λ least h. let no : ◌≡◌ {A = Bool} false true = subst (λ (found : Option Letter). is_letter_at_least least found ≡ true) none h in absurd (cc);
+}
+wider_by span wide (Some letter) other own at less =
+    let low = in_bounds span letter own in
+    let high = in_bounds wide other at in
+    let order = ordered letter other (omega (arith, low.0, high.1, less)) in
+    let clear = clear_of span letter own in
+    let clear_w = clear_of wide other at in
     record {
       order = less;
       clear = omega (arith, clear, clear_w, order.1);
       letter = λ least h.
-          let own : nat_le (letter_rank least) (letter_rank a.0) ≡ true = subst (λ (found : Option Letter). is_letter_at_least least found ≡ true) a.1 h in
-          subst (λ (found : Option Letter). is_letter_at_least least found ≡ true) (sym b.1) (at_least (letter_rank least) (letter_rank a.0) (letter_rank b.0) order.0 own);
+          let has : nat_le (letter_rank least) (letter_rank letter) ≡ true = subst (λ (found : Option Letter). is_letter_at_least least found ≡ true) own h in
+          subst (λ (found : Option Letter). is_letter_at_least least found ≡ true) (sym at) (at_least (letter_rank least) (letter_rank letter) (letter_rank other) order.0 has);
     }
 
-near_by : (one : Bool) (d s t u c e f : ℕ) → s ≤ u → t ≤ u → c ≤ f → e ≤ f → (one && nat_lt d (s + t + 2 * max c e)) ≡ true → (one && nat_lt d (u + u + 2 * max f f)) ≡ true
-near_by true d s t u c e f p q r o h = let lt : d < s + t + 2 * max c e = grind (arith, nat_tests) in let more : d < u + u + 2 * max f f = omega arith in grind (arith, nat_tests)
-near_by false d s t u c e f p q r o h = absurd (cc)
+pub wide_as_itself : (span : ℕ) → IsWider span span
+wide_as_itself span = record { order = omega arith; clear = omega arith; letter = λ least h. h }
 
-near_wider : (x y : StandRow) (k l w : TypeRow) → IsWider k.span w.span → IsWider l.span w.span → is_too_near x k y l ≡ true → is_too_near x w y w ≡ true
-near_wider x y k l w wide_k wide_l h =
-    near_by (bytes_eq x.frontage y.frontage) (2 * distance x.centre y.centre) k.span l.span w.span (clearance_of_span k.span) (clearance_of_span l.span) (clearance_of_span w.span)
+-- a span is at most as wide as a greater one that has a letter
+pub is_wider : (span wide : ℕ) → is_none (letter_for wide) ≡ false → span ≤ wide → IsWider span wide
+is_wider span wide known less = let b = there (letter_for wide) known in wider_by span wide (letter_for span) b.0 refl b.1 less
+
+near_by : (one : Bool) (d s t u v c e f g : ℕ) → s ≤ u → t ≤ v → c ≤ f → e ≤ g → (one && nat_lt d (s + t + 2 * max c e)) ≡ true → (one && nat_lt d (u + v + 2 * max f g)) ≡ true
+near_by true d s t u v c e f g p q r o h = let lt : d < s + t + 2 * max c e = grind (arith, nat_tests) in let more : d < u + v + 2 * max f g = omega arith in grind (arith, nat_tests)
+near_by false d s t u v c e f g p q r o h = absurd (cc)
+
+near_wider : (x y : StandRow) (k l u v : ℕ) → IsWider k u → IsWider l v → is_too_near x k y l ≡ true → is_too_near x u y v ≡ true
+near_wider x y k l u v wide_k wide_l h =
+    near_by (bytes_eq x.frontage y.frontage) (2 * distance x.centre y.centre) k l u v (clearance_of_span k) (clearance_of_span l) (clearance_of_span u) (clearance_of_span v)
     wide_k.order wide_l.order wide_k.clear wide_l.clear h
 
 both : (a b : Bool) → (a && b) ≡ true → (a ≡ true) × (b ≡ true)
 both true b h = (refl, h)
 both false b h = absurd (cc)
 
-so_wider : (pair : PairRow) (x y : StandRow) (k l w : TypeRow) → IsWider k.span w.span → IsWider l.span w.span → is_restricted_so pair x k y l ≡ true → is_restricted_so pair x w y w ≡ true
-so_wider pair x y k l w wide_k wide_l h =
+so_wider : (pair : PairRow) (x y : StandRow) (k l u v : ℕ) → IsWider k u → IsWider l v → is_restricted_so pair x k y l ≡ true → is_restricted_so pair x u y v ≡ true
+so_wider pair x y k l u v wide_k wide_l h =
     let last = both (bytes_eq x.name pair.a && bytes_eq y.name pair.b && has_letter pair.la k) (has_letter pair.lb l) h in
     let third = both (bytes_eq x.name pair.a && bytes_eq y.name pair.b) (has_letter pair.la k) last.0 in
     rw (third.0, wide_k.letter pair.la third.1, wide_l.letter pair.lb last.1) refl
@@ -156,13 +167,13 @@ either true b c d f g h = let first : c ≡ true = f refl in rw first refl
 either false b true d f g h = refl
 either false b false d f g h = g h
 
-restricted_wider : (x y : StandRow) (k l w : TypeRow) (pairs : List PairRow) → IsWider k.span w.span → IsWider l.span w.span → list_any (is_restricted x k y l) pairs ≡ true → list_any (is_restricted x w y w) pairs ≡ true
-restricted_wider x y k l w [] wide_k wide_l h = h
-restricted_wider x y k l w (pair ∷ pairs) wide_k wide_l h =
-    either (is_restricted x k y l pair) (list_any (is_restricted x k y l) pairs) (is_restricted x w y w pair) (list_any (is_restricted x w y w) pairs)
-    (either (is_restricted_so pair x k y l) (is_restricted_so pair y l x k) (is_restricted_so pair x w y w) (is_restricted_so pair y w x w)
-    (so_wider pair x y k l w wide_k wide_l) (so_wider pair y x l k w wide_l wide_k))
-    (restricted_wider x y k l w pairs wide_k wide_l) h
+restricted_wider : (x y : StandRow) (k l u v : ℕ) (pairs : List PairRow) → IsWider k u → IsWider l v → list_any (is_restricted x k y l) pairs ≡ true → list_any (is_restricted x u y v) pairs ≡ true
+restricted_wider x y k l u v [] wide_k wide_l h = h
+restricted_wider x y k l u v (pair ∷ pairs) wide_k wide_l h =
+    either (is_restricted x k y l pair) (list_any (is_restricted x k y l) pairs) (is_restricted x u y v pair) (list_any (is_restricted x u y v) pairs)
+    (either (is_restricted_so pair x k y l) (is_restricted_so pair y l x k) (is_restricted_so pair x u y v) (is_restricted_so pair y v x u)
+    (so_wider pair x y k l u v wide_k wide_l) (so_wider pair y x l k v u wide_l wide_k))
+    (restricted_wider x y k l u v pairs wide_k wide_l) h
 
 -- a rule that some conditions give is given by weaker ones, or one before it is
 rule_by : (one split near near_w paired paired_w : Bool) (rule : Rule) → (near ≡ true → near_w ≡ true) → (paired ≡ true → paired_w ≡ true)
@@ -176,8 +187,9 @@ rule_by false false false false paired true rule f g h = (Pair, refl)
 rule_by false false false false true false rule f g h = absurd (cc (g refl))
 rule_by false false false false false false rule f g h = absurd (cc)
 
-pub rule_wider : (pairs : List PairRow) (one : Bool) (x y : StandRow) (k l w : TypeRow) (rule : Rule) → IsWider k.span w.span → IsWider l.span w.span → rule_between pairs one x k y l ≡ Some rule
-    → (other : Rule) × (rule_between pairs one x w y w ≡ Some other)
-rule_wider pairs one x y k l w rule wide_k wide_l h =
-    rule_by one (is_half_of x y || is_half_of y x) (is_too_near x k y l) (is_too_near x w y w) (list_any (is_restricted x k y l) pairs) (list_any (is_restricted x w y w) pairs) rule
-    (near_wider x y k l w wide_k wide_l) (restricted_wider x y k l w pairs wide_k wide_l) h
+-- wider aircraft have a rule where these have one
+pub rule_wider : (pairs : List PairRow) (one : Bool) (x y : StandRow) (k l u v : ℕ) (rule : Rule) → IsWider k u → IsWider l v → rule_between pairs one x k y l ≡ Some rule
+    → (other : Rule) × (rule_between pairs one x u y v ≡ Some other)
+rule_wider pairs one x y k l u v rule wide_k wide_l h =
+    rule_by one (is_half_of x y || is_half_of y x) (is_too_near x k y l) (is_too_near x u y v) (list_any (is_restricted x k y l) pairs) (list_any (is_restricted x u y v) pairs) rule
+    (near_wider x y k l u v wide_k wide_l) (restricted_wider x y k l u v pairs wide_k wide_l) h

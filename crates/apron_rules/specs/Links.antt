@@ -5,7 +5,6 @@ use Rattle.apron_rules.specs.declared.links.StandLinks.{StandLinks}
 use Rattle.apron_rules.specs.declared.links.StandPair.{StandPair}
 use Rattle.apron_rules.specs.declared.parts.PairRow.{PairRow}
 use Rattle.apron_rules.specs.declared.parts.StandRow.{StandRow}
-use Rattle.apron_rules.specs.declared.parts.TypeRow.{TypeRow}
 use Rattle.apron_rules.specs.declared.rules.Rule.{Rule}
 use Rattle.apron_rules.specs.declared.rules.Rule.TheVariants.{Same, Split, Clearance, Pair}
 use Rattle.apron_rules.specs.Names.{place_of}
@@ -34,17 +33,17 @@ links_of frontages stands row = record { frontage = place_of row.frontage fronta
 abbrev pub is_split_at : ℕ → StandLinks → ℕ → StandLinks → Bool
 is_split_at s x s2 y = is_place s2 x.whole || is_place s y.whole
 
--- the stands are on one frontage, and the aircraft come nearer to each other than the greater clearance
-abbrev pub is_near_at : StandLinks → TypeRow → StandLinks → TypeRow → Bool
+-- the stands are on one frontage, and aircraft of the spans k and l come nearer to each other than the greater clearance
+abbrev pub is_near_at : StandLinks → ℕ → StandLinks → ℕ → Bool
 is_near_at x k y l = is_one_place x.frontage y.frontage
-    && nat_lt (2 * distance x.centre y.centre) (k.span + l.span + 2 * max (clearance_of_span k.span) (clearance_of_span l.span))
+    && nat_lt (2 * distance x.centre y.centre) (k + l + 2 * max (clearance_of_span k) (clearance_of_span l))
 
 -- the restrictions of the stand at a place
 abbrev pub pairs_at : List (List StandPair) → ℕ → List StandPair
 pairs_at pairs s = unwrap_or (slice_get pairs s) []
 
--- the restriction bars type k on its own stand and type l on the other one
-abbrev pub is_barred : ℕ → TypeRow → TypeRow → StandPair → Bool
+-- the restriction bars span k on its own stand and span l on the other one
+abbrev pub is_barred : ℕ → ℕ → ℕ → StandPair → Bool
 is_barred other k l pair = other == pair.other && has_letter pair.own k && has_letter pair.least l
 
 -- the first rule that holds
@@ -55,14 +54,14 @@ first_rule is_one is_split is_near is_paired =
     else (if is_near then Some Clearance
     else (if is_paired then Some Pair else None)))
 
--- the restriction is of the stands at the two places in this order, and both types are of its letters
-abbrev pub is_restricted_so_at : List (List ℕ) → PairRow → ℕ → TypeRow → ℕ → TypeRow → Bool
+-- the restriction is of the stands at the two places in this order, and both spans are of its letters
+abbrev pub is_restricted_so_at : List (List ℕ) → PairRow → ℕ → ℕ → ℕ → ℕ → Bool
 is_restricted_so_at stands pair s k s2 l = is_place s (place_of pair.a stands) && is_place s2 (place_of pair.b stands) && has_letter pair.la k && has_letter pair.lb l
 
 -- the same in either order
-abbrev pub is_restricted_at : List (List ℕ) → ℕ → TypeRow → ℕ → TypeRow → PairRow → Bool
+abbrev pub is_restricted_at : List (List ℕ) → ℕ → ℕ → ℕ → ℕ → PairRow → Bool
 is_restricted_at stands s k s2 l pair = is_restricted_so_at stands pair s k s2 l || is_restricted_so_at stands pair s2 l s k
 
 -- each stand has the restrictions that name it
 abbrev pub ArePairs : List (List ℕ) → List PairRow → List (List StandPair) → Type 0
-ArePairs stands rows pairs = (s s2 : ℕ) (k l : TypeRow) → list_any (is_barred s2 k l) (pairs_at pairs s) ≡ list_any (is_restricted_at stands s k s2 l) rows
+ArePairs stands rows pairs = (s s2 k l : ℕ) → list_any (is_barred s2 k l) (pairs_at pairs s) ≡ list_any (is_restricted_at stands s k s2 l) rows

@@ -4,7 +4,8 @@ use Rattle.std.specs.List.{list_any}
 use Rattle.apron_base.specs.declared.numbers.StandNo.{StandNo}
 use Rattle.apron_base.specs.declared.numbers.TypeNo.{TypeNo}
 use Rattle.apron_rules.specs.declared.parts.AirportParts.{AirportParts}
-use Rattle.apron_rules.specs.Rules.{breaks_of}
+use Rattle.apron_rules.specs.declared.rules.Wing.TheVariants.{Full}
+use Rattle.apron_rules.specs.Rules.{breaks_with_wings}
 
 -- the first n stands, in rising order
 abbrev pub first_stands : ℕ → List StandNo
@@ -16,11 +17,11 @@ abbrev pub first_types : ℕ → List TypeNo
 first_types zero = []
 first_types (suc n) = first_types n ++ record { 0 = n } ∷ []
 
--- with type t on the first stand, some type of the table has a rule
+-- with type t on the first stand, some type of the table has a rule, the wing tips of both unfolded
 abbrev pub breaks_with : AirportParts → StandNo → StandNo → TypeNo → Bool
-breaks_with airport s s2 t = list_any (λ t2. is_some (breaks_of airport s t s2 t2)) (first_types (length airport.types))
+breaks_with airport s s2 t = list_any (λ t2. is_some (breaks_with_wings airport s t Full s2 t2 Full)) (first_types (length airport.types))
 
--- some two types of the table have a rule on the two stands, whether they fit there or not
+-- some two types of the table have a rule on the two stands with unfolded wing tips, whether they fit there or not
 abbrev pub is_neighbour : AirportParts → StandNo → StandNo → Bool
 is_neighbour airport s s2 = list_any (breaks_with airport s s2) (first_types (length airport.types))
 

@@ -8,12 +8,13 @@ use Rattle.apron_rules.specs.declared.parts.AirportParts.{AirportParts}
 use Rattle.apron_rules.specs.declared.parts.StandRow.{StandRow}
 use Rattle.apron_rules.specs.declared.parts.PairRow.{PairRow}
 use Rattle.apron_rules.specs.declared.parts.Frontage.{Frontage}
+use Rattle.apron_rules.specs.declared.parts.TypeRow.{TypeRow}
 use Rattle.apron_rules.specs.Names.{frontage_names, stand_names, type_names, is_known, is_named, first_repeated}
-use Rattle.apron_rules.specs.declared.limits.TheConstants.{MAX_BUFFER, MAX_DAYS, MAX_FRONTAGES, MAX_HALVES, MAX_LEAST, MAX_OBJECTS, MAX_PAIRS, MAX_PLACE, MAX_STANDS, MAX_TAXI_IN, MAX_TOW, MAX_TYPES}
+use Rattle.apron_rules.specs.declared.limits.TheConstants.{MAX_BUFFER, MAX_DAYS, MAX_FOLD, MAX_FRONTAGES, MAX_HALVES, MAX_LEAST, MAX_OBJECTS, MAX_PAIRS, MAX_PLACE, MAX_STANDS, MAX_TAXI_IN, MAX_TOW, MAX_TYPES}
 use Rattle.apron_rules.specs.declared.refusals.Limit.{Limit}
 use Rattle.apron_rules.specs.declared.refusals.Limit.TheVariants as limit
 use Rattle.apron_rules.specs.declared.refusals.AirportFault.{AirportFault}
-use Rattle.apron_rules.specs.declared.refusals.AirportFault.TheVariants.{DuplicateName, UnknownName, BadHalf, LimitPassed, BadSpan}
+use Rattle.apron_rules.specs.declared.refusals.AirportFault.TheVariants.{DuplicateName, UnknownName, BadHalf, LimitPassed, BadSpan, BadFold}
 
 -- the first that is there
 abbrev pub first_some : {A : Type 0} → List (Option A) → Option A
@@ -106,14 +107,22 @@ limit_of parts = first_some (passed_limits parts)
 abbrev pub bad_span_of : AirportParts → Option (List ℕ)
 bad_span_of parts = option_map (λ row. row.name) (find (λ row. is_none (letter_for row.span)) parts.types)
 
+-- a span of 1 to the wing span with folded wing tips, and few minutes
+abbrev pub is_fold_kept : TypeRow → Bool
+is_fold_kept row = is_within 1 row.span row.parked && nat_le row.fold MAX_FOLD
+
+-- the first type that folds its wing tips to another span, or takes too long
+abbrev pub bad_fold_of : AirportParts → Option (List ℕ)
+bad_fold_of parts = option_map (λ row. row.name) (find (λ row. not (is_fold_kept row)) parts.types)
+
 -- the first reason in this order
-abbrev pub first_reason : Option (List ℕ) → Option (List ℕ) → Option Limit → Option (List ℕ) → Option AirportFault
-first_reason unknown half passed span =
-    first_some (option_map UnknownName unknown ∷ option_map BadHalf half ∷ option_map LimitPassed passed ∷ option_map BadSpan span ∷ [])
+abbrev pub first_reason : Option (List ℕ) → Option (List ℕ) → Option Limit → Option (List ℕ) → Option (List ℕ) → Option AirportFault
+first_reason unknown half passed span fold =
+    first_some (option_map UnknownName unknown ∷ option_map BadHalf half ∷ option_map LimitPassed passed ∷ option_map BadSpan span ∷ option_map BadFold fold ∷ [])
 
 -- the refusals behind that of a name that is there twice
 unfoldable pub later_fault_of : AirportParts → Option AirportFault
-later_fault_of parts = first_reason (unknown_of parts) (bad_half_of parts) (limit_of parts) (bad_span_of parts)
+later_fault_of parts = first_reason (unknown_of parts) (bad_half_of parts) (limit_of parts) (bad_span_of parts) (bad_fold_of parts)
 
 -- why the airport is refused, or none where it is an airport
 unfoldable pub fault_of : AirportParts → Option AirportFault

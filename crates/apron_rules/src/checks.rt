@@ -5,13 +5,13 @@ ghost use Rattle.std.specs.List.{list_all};
 ghost use Rattle.std.specs.Str.{bytes_eq};
 ghost use Rattle.apron_base.specs.Letter.{letter_for};
 ghost use Rattle.apron_rules.specs.Names.{frontage_names, stand_names, type_names, is_named};
-ghost use Rattle.apron_rules.specs.Refusals.{duplicate_of, unknown_of, unknown_of_stand, unknown_of_pair, first_found, are_objects_kept, is_bad_half, stand_named, first_some, is_place_kept, is_within, limit_of, unless_kept, later_fault_of};
+ghost use Rattle.apron_rules.specs.Refusals.{duplicate_of, unknown_of, unknown_of_stand, unknown_of_pair, first_found, are_objects_kept, is_bad_half, stand_named, first_some, is_place_kept, is_within, limit_of, unless_kept, is_fold_kept, later_fault_of};
 ghost use Rattle.apron_rules.specs.Tables.{Checks, AreHalves, half_count};
 ghost use Rattle.apron_rules.specs.declared.refusals.AirportFault.TheVariants.{DuplicateName};
 
 use crate::limits::{
-    MAX_BUFFER, MAX_DAYS, MAX_FRONTAGES, MAX_HALVES, MAX_LEAST, MAX_OBJECTS, MAX_PAIRS, MAX_PLACE,
-    MAX_STANDS, MAX_TAXI_IN, MAX_TOW, MAX_TYPES,
+    MAX_BUFFER, MAX_DAYS, MAX_FOLD, MAX_FRONTAGES, MAX_HALVES, MAX_LEAST, MAX_OBJECTS, MAX_PAIRS,
+    MAX_PLACE, MAX_STANDS, MAX_TAXI_IN, MAX_TOW, MAX_TYPES,
 };
 use crate::names::NameTable;
 use crate::{AirportFault, AirportParts, Frontage, Limit, PairRow, StandRow, TypeRow};
@@ -115,8 +115,11 @@ fn later_fault(
     if let Some(limit) = passed_limit(parts) {
         return Some(AirportFault::LimitPassed(limit));
     }
-    match bad_span(parts.types.as_slice()) {
-        Some(name) => Some(AirportFault::BadSpan(name)),
+    if let Some(name) = bad_span(parts.types.as_slice()) {
+        return Some(AirportFault::BadSpan(name));
+    }
+    match bad_fold(parts.types.as_slice()) {
+        Some(name) => Some(AirportFault::BadFold(name)),
         None => None,
     }
 }
@@ -386,4 +389,25 @@ fn first_without_letter(rows: &[TypeRow]) -> Option<&TypeRow>
     ensures is { option_copied result ≡ find (λ row. is_none (letter_for row.span)) rows.now }
 {
     rows.iter().find(|row| letter_of(row.span).is_none())
+}
+
+fn bad_fold(rows: &[TypeRow]) -> Option<Name>
+    ensures is { result ≡ option_map (λ row. row.name) (find (λ row. not (is_fold_kept row)) rows.now) }
+{
+    match first_bad_fold(rows) {
+        Some(row) => Some(row.name),
+        None => None,
+    }
+}
+
+fn first_bad_fold(rows: &[TypeRow]) -> Option<&TypeRow>
+    ensures is { option_copied result ≡ find (λ row. not (is_fold_kept row)) rows.now }
+{
+    rows.iter().find(|row| !is_fold_kept(row))
+}
+
+fn is_fold_kept(row: &TypeRow) -> bool
+    ensures is { result ≡ is_fold_kept row.now }
+{
+    is_within(1, row.span, row.parked) && row.fold <= MAX_FOLD
 }

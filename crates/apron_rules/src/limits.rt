@@ -33,5 +33,8 @@ pub const MAX_PAIRS: usize = 1_000;
 /// The most types; the least is 1.
 pub const MAX_TYPES: usize = 400;
 
+/// The most minutes for which the wing tips of a type are unfolded at the start and at the end of a part.
+pub const MAX_FOLD: u32 = 60;
+
 /// The most least minutes of a type; the least is 1.
 pub const MAX_LEAST: u32 = 600;

@@ -2,14 +2,13 @@
 ghost use Rattle.std.specs.Prelude.{◌≡◌, ◌<◌, ◌||◌, ◌&&◌, ◌==◌, ◌^◌, [], ℕ, Bool, List, length, map, replicate, IfOk, IfErr, OnOk};
 ghost use Rattle.std.specs.List.{list_any};
 ghost use Rattle.apron_rules.specs.declared.links.StandPair.{StandPair};
-ghost use Rattle.apron_rules.specs.declared.parts.TypeRow.{TypeRow};
 ghost use Rattle.apron_rules.specs.Links.{is_place, is_one_place, links_of, whole_of, pairs_at, is_split_at, is_near_at, is_barred, first_rule, is_restricted_at, ArePairs};
 ghost use Rattle.apron_base.specs.Letter.{clearance_of_span};
 ghost use Rattle.apron_rules.specs.Kept.{IsLinked};
-ghost use Rattle.apron_rules.specs.Rules.{breaks_of, has_letter};
+ghost use Rattle.apron_rules.specs.Rules.{breaks_with_wings, has_letter, span_of};
 
 use crate::names::NameTable;
-use crate::{AirportFault, AirportParts, PairRow, Rule, StandRow, TypeRow};
+use crate::{AirportFault, AirportParts, PairRow, Rule, StandRow, TypeRow, Wing};
 use apron_base::{Letter, Listed, StandNo, TypeNo, clearance, letter_of};
 use std::alloc::Global;
 
@@ -111,7 +110,7 @@ fn add_row(
 ) -> Result<(), AirportFault>
     requires length { length pairs.old.items ≡ length stands.now }
     ensures length { OnOk result (length pairs.new.items ≡ length pairs.old.items) }
-    ensures added { OnOk result ((s s2 : ℕ) (k l : TypeRow)
+    ensures added { OnOk result ((s s2 k l : ℕ)
         → list_any (is_barred s2 k l) (pairs_at pairs.new.items s)
         ≡ (list_any (is_barred s2 k l) (pairs_at pairs.old.items s) || is_restricted_at stands.now s k s2 l row.now)) }
     ensures memory { IfErr result (λ fault. fault ≡ AirportFault.Memory) }
@@ -154,44 +153,56 @@ fn add(
     }
 }
 
-/// The first rule by which two stands exclude each other, with the types on them.
+/// The first rule by which two stands exclude each other, with the types on them, whose wing tips are so.
 pub(crate) fn breaks_by_place(
     parts: &AirportParts,
     links: &[StandLinks],
     pairs: &[Listed<StandPair>],
     s: StandNo,
     t: TypeNo,
+    w: Wing,
     s2: StandNo,
     t2: TypeNo,
+    w2: Wing,
 ) -> Option<Rule>
     requires linked { IsLinked parts.now links.now pairs.now }
     requires s { s.0 < length parts.now.stands }
     requires t { t.0 < length parts.now.types }
     requires s2 { s2.0 < length parts.now.stands }
     requires t2 { t2.0 < length parts.now.types }
-    ensures is { result ≡ breaks_of parts.now s t s2 t2 }
+    ensures is { result ≡ breaks_with_wings parts.now s t w s2 t2 w2 }
 {
     let types = parts.types.as_slice();
     let x = &links[s.0 as usize];
-    let k = &types[t.0 as usize];
+    let k = span_of(w, &types[t.0 as usize]);
     let y = &links[s2.0 as usize];
-    let l = &types[t2.0 as usize];
+    let l = span_of(w2, &types[t2.0 as usize]);
     first_rule(s, x, k, s2, y, l, pairs[s.0 as usize].as_slice())
 }
 
-// The first rule by which two stands exclude each other with types k and l on them, from the links of
-// both and the pair restrictions of the first.
+// The span of a type in centimetres, with the wing tips so.
+fn span_of(wing: Wing, row: &TypeRow) -> u32
+    ensures is { result ≡ span_of wing row.now }
+{
+    match wing {
+        Wing::Full => row.span,
+        Wing::Parked => row.parked,
+    }
+}
+
+// The first rule by which two stands exclude each other with aircraft of the spans k and l on them, from the
+// links of both and the pair restrictions of the first.
 fn first_rule(
     s: StandNo,
     x: &StandLinks,
-    k: &TypeRow,
+    k: u32,
     s2: StandNo,
     y: &StandLinks,
-    l: &TypeRow,
+    l: u32,
     pairs: &[StandPair],
 ) -> Option<Rule>
-    ensures is { result ≡ first_rule (s.0 == s2.0) (is_split_at s.0 x.now s2.0 y.now) (is_near_at x.now k.now y.now l.now)
-        (list_any (is_barred s2.0 k.now l.now) pairs.now) }
+    ensures is { result ≡ first_rule (s.0 == s2.0) (is_split_at s.0 x.now s2.0 y.now) (is_near_at x.now k y.now l)
+        (list_any (is_barred s2.0 k l) pairs.now) }
 {
     if s == s2 {
         Some(Rule::Same)
@@ -213,32 +224,32 @@ fn is_split(s: StandNo, x: &StandLinks, s2: StandNo, y: &StandLinks) -> bool
     is_place(s2.0 as usize, x.whole) || is_place(s.0 as usize, y.whole)
 }
 
-// Whether two stands are on one frontage, and aircraft of the two types come too near to each other.
-fn is_near(x: &StandLinks, k: &TypeRow, y: &StandLinks, l: &TypeRow) -> bool
-    ensures is { result ≡ is_near_at x.now k.now y.now l.now }
+// Whether two stands are on one frontage, and aircraft of the two spans come too near to each other.
+fn is_near(x: &StandLinks, k: u32, y: &StandLinks, l: u32) -> bool
+    ensures is { result ≡ is_near_at x.now k y.now l }
 {
     let apart = x.centre.abs_diff(y.centre) as u64;
-    let clear = clearance_of(k.span).max(clearance_of(l.span));
-    is_one_place(x.frontage, y.frontage) && 2 * apart < k.span as u64 + l.span as u64 + 2 * clear
+    let clear = clearance_of(k).max(clearance_of(l));
+    is_one_place(x.frontage, y.frontage) && 2 * apart < k as u64 + l as u64 + 2 * clear
 }
 
-// Whether one of a stand's restrictions bars the two types from it and from the other stand at once.
-fn is_barred_by_any(pairs: &[StandPair], other: StandNo, k: &TypeRow, l: &TypeRow) -> bool
-    ensures is { result ≡ list_any (is_barred other.0 k.now l.now) pairs.now }
+// Whether one of a stand's restrictions bars the two spans from it and from the other stand at once.
+fn is_barred_by_any(pairs: &[StandPair], other: StandNo, k: u32, l: u32) -> bool
+    ensures is { result ≡ list_any (is_barred other.0 k l) pairs.now }
 {
     pairs.iter().any(|pair| is_barred_by(pair, other, k, l))
 }
 
-fn is_barred_by(pair: &StandPair, other: StandNo, k: &TypeRow, l: &TypeRow) -> bool
-    ensures is { result ≡ is_barred other.0 k.now l.now pair.now }
+fn is_barred_by(pair: &StandPair, other: StandNo, k: u32, l: u32) -> bool
+    ensures is { result ≡ is_barred other.0 k l pair.now }
 {
     other.0 as usize == pair.other && has_letter_of(pair.own, k) && has_letter_of(pair.least, l)
 }
 
-fn has_letter_of(least: Letter, k: &TypeRow) -> bool
-    ensures is { result ≡ has_letter least k.now }
+fn has_letter_of(least: Letter, span: u32) -> bool
+    ensures is { result ≡ has_letter least span }
 {
-    match letter_of(k.span) {
+    match letter_of(span) {
         Some(letter) => least <= letter,
         None => false,
     }

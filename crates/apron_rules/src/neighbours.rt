@@ -1,17 +1,19 @@
 // Which stands can exclude each other at all. All rules get stricter with the span, so only the widest type is
-// tried.
-ghost use Rattle.std.specs.Prelude.{◌≡◌, ◌<◌, ◌≤◌, ◌++◌, ◌∷◌, [], IfOk, IfErr, OnOk, Contains, IsSome, length, if◌then◌else◌};
+// tried, with unfolded wing tips.
+ghost use Rattle.std.specs.Prelude.{◌≡◌, ◌<◌, ◌≤◌, ◌++◌, ◌∷◌, [], IfOk, IfErr, OnOk, Contains, IsSome, None, length, if◌then◌else◌};
 ghost use Rattle.apron_base.specs.declared.numbers.StandNo.{StandNo};
 ghost use Rattle.apron_base.specs.declared.numbers.TypeNo.{TypeNo};
 ghost use Rattle.apron_rules.specs.declared.parts.AirportParts.{AirportParts};
-ghost use Rattle.apron_rules.specs.Rules.{breaks_of};
+ghost use Rattle.apron_rules.specs.declared.rules.Wing.{Wing};
+ghost use Rattle.apron_rules.specs.Refusals.{fault_of};
+ghost use Rattle.apron_rules.specs.Rules.{breaks_with_wings};
 ghost use Rattle.apron_rules.specs.Kept.{AreAllNeighbours, IsLinked};
 ghost use Rattle.apron_rules.specs.Neighbours.{neighbours_of};
 ghost use Rattle.apron_rules.specs.Widest.{IsWidest};
 
 use crate::limits::MAX_TYPES;
 use crate::links::{StandLinks, StandPair, breaks_by_place};
-use crate::{AirportFault, AirportParts, TypeRow};
+use crate::{AirportFault, AirportParts, TypeRow, Wing};
 use apron_base::{Listed, StandNo, TypeNo};
 use std::alloc::Global;
 
@@ -55,7 +57,17 @@ fn neighbours_of(
     let mut neighbours = Listed::new(alloc);
     for other in 0..parts.stands.len() as u16 {
         let other = StandNo(other);
-        let rule = breaks_by_place(parts, links, pairs, stand, widest, other, widest);
+        let rule = breaks_by_place(
+            parts,
+            links,
+            pairs,
+            stand,
+            widest,
+            Wing::Full,
+            other,
+            widest,
+            Wing::Full,
+        );
         push_if(&mut neighbours, other, rule.is_some())?;
     }
     Ok(neighbours)
@@ -91,10 +103,11 @@ fn widest_of(types: &[TypeRow]) -> TypeNo
     TypeNo(widest as u16)
 }
 
-/// The neighbours of a stand are all the stands with which some types have a rule, and no others.
+/// The neighbours of a stand of an airport are all the stands with which some types have a rule, whatever their
+/// wing tips, and no others.
 pub fn neighbours_are_all_that_break()
-    ensures all { (airport : AirportParts) (s : StandNo) (t : TypeNo) (s2 : StandNo) (t2 : TypeNo)
-        → IsSome (breaks_of airport s t s2 t2) → Contains (neighbours_of airport s) s2 }
+    ensures all { (airport : AirportParts) (s : StandNo) (t : TypeNo) (w : Wing) (s2 : StandNo) (t2 : TypeNo) (w2 : Wing) → fault_of airport ≡ None
+        → IsSome (breaks_with_wings airport s t w s2 t2 w2) → Contains (neighbours_of airport s) s2 }
     ensures no_others { (airport : AirportParts) (s s2 : StandNo) → Contains (neighbours_of airport s) s2
-        → (t t2 : TypeNo) × IsSome (breaks_of airport s t s2 t2) }
+        → (t t2 : TypeNo) × IsSome (breaks_with_wings airport s t Wing.Full s2 t2 Wing.Full) }
 {}

@@ -7,7 +7,8 @@ use Rattle.std.proofs.lemmas.List.Elements.{All-cons, All-map, All-nil}
 use Rattle.apron_base.specs.declared.slot.Slot.{Slot}
 use Rattle.apron_rules.specs.declared.parts.AirportParts.{AirportParts}
 use Rattle.apron_rules.specs.Clash.{IsSlotOf}
-use Rattle.clash_check.specs.Meetings.{Meeting, clash_with, clashes_with, meeting}
+use Rattle.apron_rules.specs.declared.rules.Meeting.{Meeting}
+use Rattle.clash_check.specs.Meetings.{clash_with, clashes_with, meeting}
 use Rattle.visit_book.specs.declared.visits.Part.{Part}
 use Rattle.visit_book.specs.declared.visits.Place.{Place}
 use Rattle.visit_book.specs.declared.visits.Place.TheVariants.{Unplaced, Planned, Actual}

@@ -11,7 +11,8 @@ use Rattle.apron_base.specs.declared.numbers.VisitNo.{VisitNo}
 use Rattle.apron_rules.specs.declared.parts.AirportParts.{AirportParts}
 use Rattle.apron_rules.specs.Clash.{IsSound}
 use Rattle.apron_base.specs.declared.slot.Slot.{Slot}
-use Rattle.clash_check.specs.Meetings.{Meeting, meeting}
+use Rattle.apron_rules.specs.declared.rules.Meeting.{Meeting}
+use Rattle.clash_check.specs.Meetings.{meeting}
 use Rattle.clash_check.proofs.Meetings.{meeting_sym}
 use Rattle.visit_book.specs.declared.visits.Part.{Part}
 use Rattle.visit_book.specs.declared.visits.Place.{Place}

@@ -6,7 +6,8 @@ use Rattle.std.proofs.lemmas.Bool.Decides.{nat_tests}
 use Rattle.apron_base.specs.declared.numbers.PartId.{PartId}
 use Rattle.apron_base.specs.declared.slot.Slot.{Slot}
 use Rattle.apron_rules.specs.declared.parts.AirportParts.{AirportParts}
-use Rattle.clash_check.specs.Meetings.{Meeting, meeting}
+use Rattle.apron_rules.specs.declared.rules.Meeting.{Meeting}
+use Rattle.clash_check.specs.Meetings.{meeting}
 use Rattle.visit_book.specs.declared.visits.Part.{Part}
 use Rattle.visit_book.specs.declared.visits.Place.{Place}
 use Rattle.visit_book.specs.declared.visits.Place.TheVariants.{Unplaced, Planned, Actual}

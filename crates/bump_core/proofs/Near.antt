@@ -8,9 +8,9 @@ use Rattle.std.proofs.lemmas.List.Elements.{filter-append, filter_map-append}
 use Rattle.apron_base.specs.declared.slot.Slot.{Slot}
 use Rattle.apron_base.specs.declared.numbers.VisitNo.{VisitNo}
 use Rattle.apron_rules.specs.declared.parts.AirportParts.{AirportParts}
-use Rattle.apron_rules.specs.Clash.{IsSound}
+use Rattle.apron_rules.specs.Clash.{IsSound, rule_at}
 use Rattle.clash_check.specs.Meetings.{meeting}
-use Rattle.clash_check.proofs.Meetings.{meeting_none, same_visit}
+use Rattle.clash_check.proofs.Meetings.{meeting_none}
 use Rattle.visit_book.specs.declared.visits.Part.{Part}
 use Rattle.visit_book.specs.declared.visits.Place.{Place}
 use Rattle.visit_book.specs.declared.visits.Place.TheVariants.{Unplaced, Planned, Actual}
@@ -80,6 +80,10 @@ apart_parts airport number (visit ∷ visits) holder h in' same = elim (among_ca
   | inl here ↦ h.0 (sym (part_of airport visit holder here).number ∙ same)
   | inr there ↦ apart_parts airport number visits holder h.1 there same
 ]
+
+-- slots of one visit don't clash
+same_visit : (airport : AirportParts) (p q : Slot) (m : ℕ) → (p.part.visit.0 == q.part.visit.0) ≡ true → rule_at airport p q m ≡ None
+same_visit airport p q m e = rw e refl
 
 -- parts of one visit don't block each other
 own_by : (airport : AirportParts) (other holder : Ranked) (found : Option Blocking) → blocking airport other holder ≡ found

@@ -6,7 +6,8 @@ use Rattle.apron_rules.specs.declared.parts.AirportParts.{AirportParts}
 use Rattle.bump_core.specs.Near.{meets}
 use Rattle.bump_core.specs.declared.ranks.Ranked.{Ranked}
 use Rattle.bump_core.specs.declared.ranks.Blocking.{Blocking}
-use Rattle.clash_check.specs.Meetings.{Meeting, meeting}
+use Rattle.apron_rules.specs.declared.rules.Meeting.{Meeting}
+use Rattle.clash_check.specs.Meetings.{meeting}
 use Rattle.bump_core.specs.Ranks.{Stay, blocking, blocks, may_block, is_better, is_lower, kept_of, rank}
 use Rattle.bump_core.proofs.Rounds.{GoesDown, fixed_one, rounds_fixed}
 

@@ -10,7 +10,8 @@ use Rattle.apron_rules.specs.declared.parts.AirportParts.{AirportParts}
 use Rattle.apron_rules.specs.declared.rules.Rule.{Rule}
 use Rattle.apron_rules.specs.Clash.{IsSound, rule_at}
 use Rattle.apron_rules.proofs.Symmetry.{rule_at_sym}
-use Rattle.clash_check.specs.Meetings.{Meeting, meeting}
+use Rattle.apron_rules.specs.declared.rules.Meeting.{Meeting}
+use Rattle.clash_check.specs.Meetings.{meeting}
 use Rattle.bump_core.specs.Near.{meets}
 use Rattle.clash_check.proofs.Meetings.{first_meeting, never_meeting}
 use Rattle.visit_book.specs.declared.visits.Visit.{Visit}

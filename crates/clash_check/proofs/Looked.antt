@@ -10,10 +10,11 @@ use Rattle.apron_base.specs.declared.slot.Slot.{Slot}
 use Rattle.apron_rules.specs.declared.parts.AirportParts.{AirportParts}
 use Rattle.apron_rules.specs.declared.rules.Clash.{Clash}
 use Rattle.apron_rules.specs.declared.rules.Rule.{Rule}
-use Rattle.apron_rules.specs.Clash.{IsSound, is_held, rule_at}
+use Rattle.apron_rules.specs.Clash.{IsSound, rule_at, wing_of}
 use Rattle.apron_rules.specs.Neighbours.{neighbours_of}
-use Rattle.apron_rules.specs.Rules.{breaks_of}
+use Rattle.apron_rules.specs.Refusals.{fault_of}
 use Rattle.apron_rules.proofs.Bordering.{filter_passed, neighbour_listed, neighbours_within, passes_filter}
+use Rattle.apron_rules.proofs.Phases.{meets}
 use Rattle.apron_rules.proofs.Symmetry.{rule_at_sym}
 use Rattle.stand_index.specs.Slots.{AreSlotsAt, IsIndex, IsSlotAt, StandSlots, at_stand, hits_of, is_hit, no_slots}
 use Rattle.clash_check.specs.Clear.{IsClear, is_of_other, others_of}
@@ -78,24 +79,6 @@ all_hits P index s from end inside all k d within =
     let hits = hits_of (at_stand index s) from end in
     All-contains P (all_slots index) _ all (of_index index s inside _ (hit_of (at_stand index s) from end _ (Contains-get_or hits k d within)))
 
--- what a rule at a minute says
-record Meets (airport : AirportParts) (p q : Slot) (m : ℕ) (rule : Rule) : Type 0 where
-  held : is_held p m ≡ true
-  held_too : is_held q m ≡ true
-  breaks : breaks_of airport p.stand p.kind q.stand q.kind ≡ Some rule
-
-meets_by : (one held held_too : Bool) (found : Option Rule) (rule : Rule) → ◌≡◌ {A = Option Rule} (if one then None else (if held && held_too then found else None)) (Some rule)
-    → (held ≡ true) × (held_too ≡ true) × (found ≡ Some rule)
-meets_by true held held_too found rule h = absurd (cc)
-meets_by false true true found rule h = (refl, refl, h)
-meets_by false true false found rule h = absurd (cc)
-meets_by false false held_too found rule h = absurd (cc)
-
-meets : (airport : AirportParts) (p q : Slot) (m : ℕ) (rule : Rule) → rule_at airport p q m ≡ Some rule → Meets airport p q m rule
-meets airport p q m rule h =
-    let all = meets_by (p.part.visit.0 == q.part.visit.0) (is_held p m) (is_held q m) (breaks_of airport p.stand p.kind q.stand q.kind) rule h in
-    record { held = all.0; held_too = all.1; breaks = all.2 }
-
 hit_by : (m from end f e : ℕ) → (nat_le from m && nat_lt m end) ≡ true → (nat_le f m && nat_lt m e) ≡ true → nat_lt (max from f) (min end e) ≡ true
 hit_by m from end f e held held_too =
     let a : from ≤ m = grind (arith, nat_tests) in
@@ -109,9 +92,20 @@ hit_by m from end f e held held_too =
 pub rule_hit : (airport : AirportParts) (p q : Slot) (m : ℕ) (rule : Rule) → rule_at airport p q m ≡ Some rule → is_hit p.from p.end q ≡ true
 rule_hit airport p q m rule h = let met = meets airport p q m rule h in hit_by m p.from p.end q.from q.end met.held met.held_too
 
+hit_within : (m first last from end f e : ℕ) → first ≤ m → m < last → (nat_le from m && nat_lt m end) ≡ true → (nat_le f m && nat_lt m e) ≡ true → nat_lt (max (max first from) f) (min (min last end) e) ≡ true
+hit_within m first last from end f e low high held held_too = hit_by m (max first from) (min last end) f e (narrow m first last from end low high held) held_too
+  where
+    narrow : (m first last from end : ℕ) → first ≤ m → m < last → (nat_le from m && nat_lt m end) ≡ true → (nat_le (max first from) m && nat_lt m (min last end)) ≡ true
+    narrow m first last from end low high held = grind (arith, nat_tests)
+
+-- also among the minutes from one to another
+pub rule_hit_within : (airport : AirportParts) (p q : Slot) (m from end : ℕ) (rule : Rule) → rule_at airport p q m ≡ Some rule → from ≤ m → m < end → is_hit (max from p.from) (min end p.end) q ≡ true
+rule_hit_within airport p q m from end rule h low high = let met = meets airport p q m rule h in hit_within m from end p.from p.end q.from q.end low high met.held met.held_too
+
 -- and their stands are neighbours
-pub rule_neighbour : (airport : AirportParts) (p q : Slot) (m : ℕ) (rule : Rule) → rule_at airport p q m ≡ Some rule → Contains (neighbours_of airport p.stand) q.stand
-rule_neighbour airport p q m rule h = neighbour_listed airport p.stand q.stand p.kind q.kind rule (meets airport p q m rule h).breaks
+pub rule_neighbour : (airport : AirportParts) (p q : Slot) (m : ℕ) (rule : Rule) → fault_of airport ≡ None → rule_at airport p q m ≡ Some rule → Contains (neighbours_of airport p.stand) q.stand
+rule_neighbour airport p q m rule none h =
+    neighbour_listed airport none p.stand q.stand p.kind (wing_of airport p m) q.kind (wing_of airport q m) rule (meets airport p q m rule h).breaks
 
 -- slots that clash have a rule, whichever part is the smaller
 rule_of_both : (airport : AirportParts) (p q : Slot) (c : Clash) → IsClashOfBoth airport p q c → rule_at airport p q c.minute ≡ Some c.rule
@@ -139,12 +133,12 @@ abbrev pub others_at : List StandSlots → List VisitNo → StandNo → List Slo
 others_at index without stand = filter (is_of_other without) (slots_at (at_stand index stand))
 
 -- a clash with one of other visits is with one at a neighbour
-pub clash_to_near : (airport : AirportParts) (index : List StandSlots) (without : List VisitNo) (p : Slot) (c : Clash) → (0 < length (neighbours_of airport p.stand) → IsIndex index)
+pub clash_to_near : (airport : AirportParts) (index : List StandSlots) (without : List VisitNo) (p : Slot) (c : Clash) → fault_of airport ≡ None → (0 < length (neighbours_of airport p.stand) → IsIndex index)
     → (q : Slot) × Contains (others_of index without) q × IsClashOfBoth airport p q c
     → (q : Slot) × Contains (flat_map (others_at index without) (neighbours_of airport p.stand)) q × IsClashOfBoth airport p q c
-clash_to_near airport index without p c is (q, listed, both) =
+clash_to_near airport index without p c none is (q, listed, both) =
     let passed = filter_passed (is_of_other without) (all_slots index) q listed in
-    let next = rule_neighbour airport p q c.minute c.rule (rule_of_both airport p q c both) in
+    let next = rule_neighbour airport p q c.minute c.rule none (rule_of_both airport p q c both) in
     let there = at_its_stand index (is (omega (arith, next.1))) q passed.0 in
     let here = passes_filter (is_of_other without) (slots_at (at_stand index q.stand)) q there passed.1 in
     (q, put_in (others_at index without) (neighbours_of airport p.stand) q q.stand next.0 next.1 (subst (λ (s : StandNo). Contains (others_at index without s) q) (sym next.2) here), both)

@@ -6,13 +6,8 @@ use Rattle.apron_base.specs.declared.slot.Slot.{Slot}
 use Rattle.apron_base.specs.Sorting.{sorted_by}
 use Rattle.apron_rules.specs.declared.parts.AirportParts.{AirportParts}
 use Rattle.apron_rules.specs.declared.rules.Clash.{Clash}
-use Rattle.apron_rules.specs.declared.rules.Rule.{Rule}
+use Rattle.apron_rules.specs.declared.rules.Meeting.{Meeting}
 use Rattle.apron_rules.specs.Clash.{rule_at}
-
--- a minute at which two slots clash, with the rule
-pub record Meeting : Type 0 where
-  pub minute : ℕ
-  pub rule : Rule
 
 -- the first of so many minutes from this one on at which the slots clash, with the rule
 unfoldable pub meeting_from : AirportParts → Slot → Slot → ℕ → ℕ → Option Meeting
@@ -31,6 +26,15 @@ clash_with airport slot other = option_map (λ at. record { minute = at.minute; 
 -- the clash of a slot with each of these that it clashes with, actual or planned, in their order
 abbrev pub clashes_with : AirportParts → Slot → List Slot → List Clash
 clashes_with airport slot others = filter_map (clash_with airport slot) others
+
+-- the clash of a slot with another, at the first of so many minutes from this one on
+abbrev pub clash_within : AirportParts → Slot → ℕ → ℕ → Slot → Option Clash
+clash_within airport slot minute more other =
+    option_map (λ at. record { minute = at.minute; a = slot.part; b = other.part; rule = at.rule }) (meeting_from airport slot other minute more)
+
+-- the clash of a slot with each of these with which it clashes at some of so many minutes from this one on
+abbrev pub clashes_within : AirportParts → Slot → ℕ → ℕ → List Slot → List Clash
+clashes_within airport slot minute more others = filter_map (clash_within airport slot minute more) others
 
 -- the part is of a smaller visit, or is a smaller part of the same visit
 abbrev pub is_smaller : PartId → PartId → Bool

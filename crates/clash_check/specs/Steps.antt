@@ -1,5 +1,5 @@
 -- How many steps it takes to look for clashes.
-use Rattle.std.specs.Prelude.{ℕ, zero, suc, ◌+◌, List, length, sum_by}
+use Rattle.std.specs.Prelude.{ℕ, zero, suc, ◌+◌, max, min, List, length, sum_by}
 use Rattle.apron_base.specs.declared.slot.Slot.{Slot}
 use Rattle.apron_rules.specs.declared.parts.AirportParts.{AirportParts}
 use Rattle.apron_rules.specs.Neighbours.{neighbours_of}
@@ -9,6 +9,10 @@ use Rattle.stand_index.specs.Steps.{most_steps}
 -- the most steps of one look at each neighbour of the slot's stand
 abbrev pub steps_near : AirportParts → List StandSlots → Slot → ℕ
 steps_near airport index slot = sum_by (λ stand. most_steps (at_stand index stand) slot.from slot.end) (neighbours_of airport slot.stand)
+
+-- the same for those of the slot's minutes that lie from the one to below the other
+abbrev pub steps_within : AirportParts → List StandSlots → Slot → ℕ → ℕ → ℕ
+steps_within airport index slot from end = sum_by (λ stand. most_steps (at_stand index stand) (max from slot.from) (min end slot.end)) (neighbours_of airport slot.stand)
 
 -- how many pairs there are among so many
 abbrev pub pairs_among : ℕ → ℕ

@@ -1,13 +1,13 @@
 // All clashes of one slot.
-ghost use Rattle.std.specs.Prelude.{◌≡◌, ◌≤◌, ◌+◌, ◌++◌, [], All, IfOk, OnOk, option_to_list};
+ghost use Rattle.std.specs.Prelude.{◌≡◌, ◌≤◌, ◌+◌, ◌-◌, ◌++◌, [], All, IfOk, OnOk, option_to_list};
 ghost use Rattle.apron_rules.specs.Clash.{IsSlotOf};
 ghost use Rattle.clash_check.specs.Clear.{IsClear};
 ghost use Rattle.clash_check.specs.Indexed.{all_slots};
-ghost use Rattle.clash_check.specs.Meetings.{by_part, clash_with, clashes_with};
-ghost use Rattle.clash_check.specs.Steps.{steps_near};
+ghost use Rattle.clash_check.specs.Meetings.{by_part, clash_within, clashes_with, clashes_within};
+ghost use Rattle.clash_check.specs.Steps.{steps_near, steps_within};
 
-use apron_base::{Listed, Memory, Slot, Steps};
-use apron_rules::{Airport, Clash};
+use apron_base::{Listed, Memory, Minute, Slot, Steps};
+use apron_rules::{Airport, Clash, first_meeting};
 use stand_index::StandIndex;
 use std::alloc::Global;
 use std::sync::ledger::Ledger;
@@ -27,7 +27,26 @@ pub fn clashes_of<L: Ledger>(
     ensures clashes { IfOk result (λ clashes. clashes ≡ clashes_with airport.now slot.now (by_part (all_slots index.now))) }
     ensures steps { steps.new ≤ steps.old + steps_near airport.now index.now slot.now }
 {
-    let mut clashes = clashes_near(alloc, airport, index, slot, steps)?;
+    clashes_within(alloc, airport, index, slot, 0, slot.end, steps)
+}
+
+/// The same at the first of the minutes from the one to below the other. Slots that clash at none of them are
+/// none of these.
+pub fn clashes_within<L: Ledger>(
+    alloc: Global,
+    airport: &Airport,
+    index: &StandIndex,
+    slot: &Slot,
+    from: Minute,
+    end: Minute,
+    steps: &mut Steps<L>,
+) -> Result<Listed<Clash>, Memory>
+    requires clear { IsClear airport.now index.now [] }
+    requires slot { IsSlotOf airport.now slot.now }
+    ensures clashes { IfOk result (λ clashes. clashes ≡ clashes_within airport.now slot.now from (end - from) (by_part (all_slots index.now))) }
+    ensures steps { steps.new ≤ steps.old + steps_within airport.now index.now slot.now from end }
+{
+    let mut clashes = clashes_near(alloc, airport, index, slot, from, end, steps)?;
     clashes.sort_unstable_by_key(|clash| clash.b);
     Ok(Listed::from_vec(clashes))
 }
@@ -38,35 +57,41 @@ fn clashes_near<L: Ledger>(
     airport: &Airport,
     index: &StandIndex,
     slot: &Slot,
+    from: Minute,
+    end: Minute,
     steps: &mut Steps<L>,
 ) -> Result<Vec<Clash>, Memory>
     requires clear { IsClear airport.now index.now [] }
     requires slot { IsSlotOf airport.now slot.now }
-    ensures clashes { IfOk result (λ clashes. clashes.items ≡ clashes_with airport.now slot.now (all_slots index.now)) }
-    ensures steps { steps.new ≤ steps.old + steps_near airport.now index.now slot.now }
+    ensures clashes { IfOk result (λ clashes. clashes.items ≡ clashes_within airport.now slot.now from (end - from) (all_slots index.now)) }
+    ensures steps { steps.new ≤ steps.old + steps_within airport.now index.now slot.now from end }
 {
     let neighbours = airport.neighbours(slot.stand);
+    let first = from.max(slot.from);
+    let last = end.min(slot.end);
     let mut clashes = Vec::new(alloc);
     for place in 0..neighbours.len() {
-        let hits = index.hits(alloc, neighbours[place], slot.from, slot.end, steps)?;
-        push_clashes(airport, &mut clashes, slot, &hits)?;
+        let hits = index.hits(alloc, neighbours[place], first, last, steps)?;
+        push_clashes(airport, &mut clashes, slot, &hits, from, end)?;
     }
     Ok(clashes)
 }
 
-// Puts the clashes of a slot with some others last.
+// Puts the clashes of a slot with some others last, at the first of the minutes.
 fn push_clashes(
     airport: &Airport,
     clashes: &mut Vec<Clash>,
     slot: &Slot,
     others: &[Slot],
+    from: Minute,
+    end: Minute,
 ) -> Result<(), Memory>
     requires slot { IsSlotOf airport.now slot.now }
     requires others { All (IsSlotOf airport.now) others.now }
-    ensures clashes { OnOk result (clashes.new.items ≡ clashes.old.items ++ clashes_with airport.now slot.now others.now) }
+    ensures clashes { OnOk result (clashes.new.items ≡ clashes.old.items ++ clashes_within airport.now slot.now from (end - from) others.now) }
 {
     for other in others {
-        push_some(clashes, clash_with(airport, slot, other))?;
+        push_some(clashes, clash_within(airport, slot, other, from, end))?;
     }
     Ok(())
 }
@@ -81,25 +106,25 @@ fn push_some(clashes: &mut Vec<Clash>, clash: Option<Clash>) -> Result<(), Memor
     Ok(())
 }
 
-// The clash of a slot with another at the first minute that both hold, if they clash at all.
-fn clash_with(airport: &Airport, slot: &Slot, other: &Slot) -> Option<Clash>
+// The clash of a slot with another at the first of the minutes from the one to below the other, if they clash at
+// any of them.
+fn clash_within(
+    airport: &Airport,
+    slot: &Slot,
+    other: &Slot,
+    from: Minute,
+    end: Minute,
+) -> Option<Clash>
     requires slot { IsSlotOf airport.now slot.now }
     requires other { IsSlotOf airport.now other.now }
-    ensures is { result ≡ clash_with airport.now slot.now other.now }
+    ensures is { result ≡ clash_within airport.now slot.now from (end - from) other.now }
 {
-    if slot.part.visit == other.part.visit {
-        return None;
-    }
-    let minute = slot.from.max(other.from);
-    if minute >= slot.end || minute >= other.end {
-        return None;
-    }
-    match airport.breaks(slot.stand, slot.kind, other.stand, other.kind) {
-        Some(rule) => Some(Clash {
-            minute,
+    match first_meeting(airport, slot, other, from, end) {
+        Some(at) => Some(Clash {
+            minute: at.minute,
             a: slot.part,
             b: other.part,
-            rule,
+            rule: at.rule,
         }),
         None => None,
     }

@@ -5,7 +5,8 @@ ghost use Rattle.apron_base.specs.declared.slot.Slot.{Slot};
 ghost use Rattle.apron_rules.specs.declared.parts.AirportParts.{AirportParts};
 ghost use Rattle.apron_rules.specs.Clash.{IsBefore, rule_at};
 ghost use Rattle.clash_check.specs.Clear.{HasPartsOnce, IsClear};
-ghost use Rattle.clash_check.specs.Meetings.{Meeting, by_part, meeting};
+ghost use Rattle.apron_rules.specs.declared.rules.Meeting.{Meeting};
+ghost use Rattle.clash_check.specs.Meetings.{by_part, meeting};
 ghost use Rattle.stand_index.specs.Slots.{StandSlots};
 
 /// Slots meet at the first minute at which they clash, and not where they never clash.

@@ -7,6 +7,6 @@ mod first;
 mod laws;
 mod near;
 
-pub use clashes::clashes_of;
+pub use clashes::{clashes_of, clashes_within};
 pub use first::{first_clash, first_clash_without};
 pub use laws::{clear_is_clear_without_any, meetings_are_first, order_by_part_is_one};

@@ -30,7 +30,7 @@ example_stand = record { name = codes "N1"; frontage = codes "N"; centre = 4000;
 
 -- a type
 abbrev pub example_type : TypeRow
-example_type = record { name = codes "A320"; span = 3580; least = 40 }
+example_type = record { name = codes "A320"; span = 3580; least = 40; parked = 3580; fold = 0 }
 
 -- an airport of that stand and that type
 abbrev pub example_airport : AirportParts

@@ -19,7 +19,7 @@ day_stands = map day_stand (range_with_len 1 STANDS)
 
 -- a type of this name, wing span and least minutes
 abbrev pub day_type : List ℕ → ℕ → ℕ → TypeRow
-day_type name span least = record { name = name; span = span; least = least }
+day_type name span least = record { name = name; span = span; least = least; parked = span; fold = 0 }
 
 -- the types
 abbrev pub day_types : List TypeRow

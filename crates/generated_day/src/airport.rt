@@ -102,5 +102,11 @@ fn day_types(alloc: Global) -> Result<Listed<TypeRow>, Memory>
 fn day_type(name: Name, span: u32, least: u32) -> TypeRow
     ensures is { result ≡ day_type name span least }
 {
-    TypeRow { name, span, least }
+    TypeRow {
+        name,
+        span,
+        least,
+        parked: span,
+        fold: 0,
+    }
 }

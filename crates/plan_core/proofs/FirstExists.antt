@@ -1,16 +1,18 @@
 -- There is a first clash, or none, among any slots.
 use Rattle.std.proofs.Common.{◌≡◌, ◌⊎◌, ◌<◌, ◌≤◌, ◌==◌, ◌&&◌, ◌∙◌, ℕ, Bool, true, false, List, [], ◌∷◌, arith, ap, inl, inr, max, nat_lt, refl, subst, sym, Option, None, Some}
-use Rattle.std.specs.Prelude.{Contains}
+use Rattle.std.specs.Prelude.{Contains, option_map}
 use Rattle.std.proofs.lemmas.Bool.Decides.{nat_tests}
 use Rattle.std.proofs.lemmas.List.Elements.{All-contains, All-from_recursion, Contains-append_cases, Contains-append_left, Contains-append_right, Contains-push}
 use Rattle.apron_base.specs.declared.numbers.PartId.{PartId}
 use Rattle.apron_base.specs.declared.slot.Slot.{Slot}
 use Rattle.apron_rules.specs.declared.parts.AirportParts.{AirportParts}
 use Rattle.apron_rules.specs.declared.rules.Clash.{Clash}
-use Rattle.apron_rules.specs.declared.rules.Rule.{Rule}
-use Rattle.apron_rules.specs.Rules.{breaks_of}
-use Rattle.apron_rules.specs.Clash.{IsAtMost, IsBefore, IsClashOf, IsFirstClash, IsLeast, IsNoLater, IsSooner, is_held, rule_at}
+use Rattle.apron_rules.specs.declared.rules.Meeting.{Meeting}
+use Rattle.apron_rules.specs.Clash.{IsAtMost, IsBefore, IsClashOf, IsFirstClash, IsLeast, IsNoLater, IsSooner}
 use Rattle.apron_rules.proofs.Least.{least_of_both}
+use Rattle.apron_rules.proofs.Phases.{least_between}
+use Rattle.clash_check.specs.Meetings.{meeting}
+use Rattle.clash_check.proofs.Meetings.{meeting_first}
 
 abbrev part_of : ℕ → ℕ → PartId
 part_of visit part = record { visit = record { 0 = visit }; part = part }
@@ -102,59 +104,13 @@ least_over F each (x ∷ xs) =
           (λ c r. (r.0, Contains-append_right (x ∷ []) xs r.0 r.1, r.2)),
     )
 
--- two slots that clash at a minute clash at the first minute that both hold, by the same rule
-record ClashesFirst (a : AirportParts) (p q : Slot) (m : ℕ) (rule : Rule) : Type 0 where
-  from_p : p.from ≤ m
-  from_q : q.from ≤ m
-  first : rule_at a p q (max p.from q.from) ≡ Some rule
-
-clashes_first : (a : AirportParts) (p q : Slot) (m : ℕ) (rule : Rule) (one held : Bool) → (p.part.visit.0 == q.part.visit.0) ≡ one → (is_held p m && is_held q m) ≡ held
-    → rule_at a p q m ≡ Some rule → ClashesFirst a p q m rule
-clashes_first a p q m rule true held is at e = let never : ◌≡◌ {A = Option Rule} None (Some rule) = rw is at e in absurd (cc)
-clashes_first a p q m rule false false is at e = let never : ◌≡◌ {A = Option Rule} None (Some rule) = rw (is, at) at e in absurd (cc)
-clashes_first a p q m rule false true is at e =
-    let breaks : breaks_of a p.stand p.kind q.stand q.kind ≡ Some rule = rw (is, at) at e in
-    let from_p : p.from ≤ m = grind (arith, nat_tests) in
-    let from_q : q.from ≤ m = grind (arith, nat_tests) in
-    let end_p : m < p.end = grind (arith, nat_tests) in
-    let end_q : m < q.end = grind (arith, nat_tests) in
-    let held : (is_held p (max p.from q.from) && is_held q (max p.from q.from)) ≡ true = grind (arith, nat_tests) in
-    record { from_p = from_p; from_q = from_q; first = rw (is, held) breaks }
-
-first_of : (a : AirportParts) (p q : Slot) (c : Clash) → IsClashOf a p q c → ClashesFirst a p q c.minute c.rule
-first_of a p q c h = clashes_first a p q c.minute c.rule (p.part.visit.0 == q.part.visit.0) (is_held p c.minute && is_held q c.minute) refl refl h.rule
-
-at_most_same : (p q : PartId) → p ≡ q → IsAtMost p q
-at_most_same p q same = subst (IsAtMost p) same (inr (refl, omega arith))
-
-no_later_first : (p q : Slot) (c d : Clash) → c.minute ≡ max p.from q.from → c.a ≡ p.part → c.b ≡ q.part → d.a ≡ p.part → d.b ≡ q.part
-    → p.from ≤ d.minute → q.from ≤ d.minute → IsNoLater c d
-no_later_first p q c d minute a b other_a other_b from_p from_q =
-    elim (ordered c.minute d.minute) [
-      | inl below ↦ inl below
-      | inr more ↦ elim more [
-        | inl same ↦ inr (same, inr (a ∙ sym other_a, at_most_same c.b d.b (b ∙ sym other_b)))
-        | inr above ↦ absurd (omega arith)
-      ]
-    ]
-
 -- two slots have a least clash, or none
-between_by : (a : AirportParts) (p q : Slot) (both : Bool) (rule : Option Rule) → (p.actual && q.actual) ≡ both → rule_at a p q (max p.from q.from) ≡ rule
-    → IsBefore p.part q.part ⊎ ((p.part ≡ q.part) ⊎ IsBefore q.part p.part) → HasLeast (IsClashOf a p q)
-between_by a p q true rule is at order = (None, λ c h. let planned : (p.actual && q.actual) ≡ false = h.planned in absurd (cc))
-between_by a p q false None is at order = (None, λ c h. let first : rule_at a p q (max p.from q.from) ≡ Some c.rule = (first_of a p q c h).first in absurd (cc))
-between_by a p q false (Some rule) is at order =
-    elim order [
-      | inl before ↦ (
-        Some (record { minute = max p.from q.from; a = p.part; b = q.part; rule = rule }),
-        (
-          record { a = refl; b = refl; order = before; rule = at; planned = is },
-          λ d h. let first : ClashesFirst a p q d.minute d.rule = first_of a p q d h in
-              no_later_first p q (record { minute = max p.from q.from; a = p.part; b = q.part; rule = rule }) d refl refl refl h.a h.b first.from_p first.from_q,
-        ),
-      )
-      | inr rest ↦ (None, λ c h. never c h rest)
-    ]
+between_by : (a : AirportParts) (p q : Slot) (both : Bool) → (p.actual && q.actual) ≡ both → IsBefore p.part q.part ⊎ ((p.part ≡ q.part) ⊎ IsBefore q.part p.part) → HasLeast (IsClashOf a p q)
+between_by a p q true is order = (None, λ c h. let planned : (p.actual && q.actual) ≡ false = h.planned in absurd (cc))
+between_by a p q false is (inl before) =
+    let found : Option Clash = option_map (λ (at : Meeting). record { minute = at.minute; a = p.part; b = q.part; rule = at.rule }) (meeting a p q) in
+    (found, least_between a p q (meeting a p q) found before is (meeting_first a p q) refl)
+between_by a p q false is (inr rest) = (None, λ c h. never c h rest)
   where
     never : (c : Clash) → IsClashOf a p q c → (p.part ≡ q.part) ⊎ IsBefore q.part p.part → ⊥
     never c h (inl same) =
@@ -164,7 +120,7 @@ between_by a p q false (Some rule) is at order =
     never c h (inr later) = let order : IsBefore p.part q.part = h.order in grind arith
 
 between : (a : AirportParts) (p q : Slot) → HasLeast (IsClashOf a p q)
-between a p q = between_by a p q (p.actual && q.actual) (rule_at a p q (max p.from q.from)) refl refl (before_total p.part q.part)
+between a p q = between_by a p q (p.actual && q.actual) refl (before_total p.part q.part)
 
 -- there is a first clash, or none
 pub first_exists : (a : AirportParts) (slots : List Slot) → (found : Option Clash) × IsFirstClash a slots found

@@ -14,8 +14,8 @@ use Rattle.apron_base.specs.declared.slot.Slot.{Slot}
 use Rattle.apron_base.proofs.Sorting.{listed_first, listed_later}
 use Rattle.apron_rules.specs.declared.parts.AirportParts.{AirportParts}
 use Rattle.apron_rules.specs.declared.rules.Rule.TheVariants.{Same}
-use Rattle.apron_rules.specs.Clash.{IsSlotOf, IsSound, is_held, rule_at}
-use Rattle.apron_rules.specs.Rules.{breaks_of}
+use Rattle.apron_rules.specs.Clash.{IsSlotOf, IsSound, breaks_at, is_held, rule_at, wing_of}
+use Rattle.apron_rules.specs.Rules.{breaks_with_wings}
 use Rattle.apron_rules.proofs.ByPlace.{row_at}
 use Rattle.apron_rules.proofs.Bordering.{filter_passed}
 use Rattle.clash_check.specs.Clear.{is_of_other, others_of}
@@ -41,8 +41,8 @@ ruled a p q m of_p kind_p kind_q same apart held held_too =
     let kind = row_at a.types p.kind.0 kind_p in
     let other = row_at a.types q.kind.0 kind_q in
     let one : (p.stand.0 == p.stand.0) ≡ true = grind (arith, nat_tests) in
-    let rule : breaks_of a p.stand p.kind p.stand q.kind ≡ Some Same = rw (row.1, kind.1, other.1, one) refl in
-    let rule_too : breaks_of a p.stand p.kind q.stand q.kind ≡ Some Same = subst (λ (s : StandNo). breaks_of a p.stand p.kind s q.kind ≡ Some Same) same rule in
+    let rule : breaks_with_wings a p.stand p.kind (wing_of a p m) p.stand q.kind (wing_of a q m) ≡ Some Same = rw (row.1, kind.1, other.1, one) refl in
+    let rule_too : breaks_at a p q m ≡ Some Same = subst (λ (s : StandNo). breaks_with_wings a p.stand p.kind (wing_of a p m) s q.kind (wing_of a q m) ≡ Some Same) same rule in
     let different : (p.part.visit.0 == q.part.visit.0) ≡ false = grind (arith, nat_tests) in
     rw (different, held, held_too) rule_too
 

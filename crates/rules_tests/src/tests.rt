@@ -2,12 +2,15 @@
 ghost use Rattle.std.specs.Prelude.{◌≡◌, ◌<◌, IfSome, length, nat_lt};
 
 use apron_base::{Letter, Listed, Name, StandNo, TypeNo};
-use apron_rules::{Airport, AirportParts, Frontage, PairRow, Rule, StandRow, TypeRow, UnfitBy};
+use apron_rules::{
+    Airport, AirportParts, Frontage, PairRow, Rule, StandRow, TypeRow, UnfitBy, Wing,
+};
 use small_airports::{airport_of, empty_parts};
 use std::alloc::Global;
 use std::test::Fail;
 
 mod dates;
+mod folding;
 
 const NARROW: u16 = 0;
 
@@ -60,11 +63,15 @@ fn airport(alloc: Global) -> Result<Airport, Fail> {
         name: Name::literal(b"A320"),
         span: 3_580,
         least: 40,
+        parked: 3_580,
+        fold: 0,
     };
     let wide = TypeRow {
         name: Name::literal(b"B77W"),
         span: 6_480,
         least: 40,
+        parked: 6_480,
+        fold: 0,
     };
     airport_of(
         alloc,
@@ -105,7 +112,14 @@ fn exclude_by(airport: &Airport, one: (&str, u16), other: (&str, u16), want: Opt
     };
     has_type(airport, one.1)
         && has_type(airport, other.1)
-        && airport.breaks(s, TypeNo(one.1), s2, TypeNo(other.1)) == want
+        && airport.breaks(
+            s,
+            TypeNo(one.1),
+            Wing::Full,
+            s2,
+            TypeNo(other.1),
+            Wing::Full,
+        ) == want
 }
 
 const RULES: [(&str, (&str, u16), (&str, u16), Option<Rule>); 10] = [

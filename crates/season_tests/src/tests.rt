@@ -24,6 +24,8 @@ fn airport(alloc: Global) -> Result<Airport, Fail> {
         name: Name::literal(b"AT76"),
         span: 2_705,
         least: 25,
+        parked: 2_705,
+        fold: 0,
     };
     on_one_frontage(
         alloc,

@@ -87,5 +87,7 @@ pub fn type_of_40(name: Name) -> TypeRow {
         name,
         span: 3_580,
         least: 40,
+        parked: 3_580,
+        fold: 0,
     }
 }

@@ -12,7 +12,7 @@ use Rattle.apron_rules.specs.declared.parts.AirportParts.{AirportParts}
 use Rattle.apron_rules.specs.declared.parts.TypeRow.{TypeRow}
 use Rattle.apron_rules.specs.declared.refusals.Limit.{Limit}
 use Rattle.apron_rules.specs.declared.refusals.Limit.TheVariants as limit
-use Rattle.apron_rules.specs.Refusals.{bad_half_of, bad_span_of, fault_of, first_reason, first_some, is_within, later_fault_of, limit_of, passed_limits, unknown_of, unless_kept}
+use Rattle.apron_rules.specs.Refusals.{bad_fold_of, bad_half_of, bad_span_of, fault_of, first_reason, first_some, is_within, later_fault_of, limit_of, passed_limits, unknown_of, unless_kept}
 use Rattle.apron_rules.specs.Rules.{IsAirport, least_of, least_of_row}
 use Rattle.apron_rules.proofs.Airports.{left_none, right_none}
 
@@ -27,7 +27,7 @@ kept which false none = absurd (cc)
 limit_none : (airport : AirportParts) → fault_of airport ≡ None → limit_of airport ≡ None
 unfolding fault_of later_fault_of
 limit_none airport none =
-    let later = right_none _ (first_reason (unknown_of airport) (bad_half_of airport) (limit_of airport) (bad_span_of airport)) none in
+    let later = right_none _ (first_reason (unknown_of airport) (bad_half_of airport) (limit_of airport) (bad_span_of airport) (bad_fold_of airport)) none in
     unmapped _ (limit_of airport) (left_none _ _ (right_none _ _ (right_none _ _ later)))
 
 -- nothing is there

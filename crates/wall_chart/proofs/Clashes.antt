@@ -1,4 +1,4 @@
--- The clashes of a slot on a day are those of the slot for the minutes of the day alone; and the alarms of a day.
+-- The alarms of a day.
 use Rattle.std.proofs.Common.{◌≡◌, ◌∙◌, ◌<◌, ◌≤◌, ◌+◌, ◌++◌, ◌==◌, ◌&&◌, ◌⊎◌, inl, inr, ℕ, zero, suc, min, max, nat_lt, Bool, true, false, cond, List, [], ◌∷◌, refl, sym, ap, subst, arith, Option, None, Some, length, get_or}
 use Rattle.std.proofs.lemmas.List.Elements.{All-contains, Contains-get_or}
 use Rattle.std.specs.Prelude.{Contains, filter, filter_map, nat_le, option_map}
@@ -10,49 +10,23 @@ use Rattle.apron_base.proofs.Sorting.{listed_first, listed_later}
 use Rattle.apron_rules.specs.declared.parts.AirportParts.{AirportParts}
 use Rattle.apron_rules.specs.declared.rules.Clash.{Clash}
 use Rattle.apron_rules.specs.declared.rules.Rule.{Rule}
+use Rattle.apron_rules.specs.declared.rules.Meeting.{Meeting}
 use Rattle.apron_rules.specs.Clash.{IsSlotOf, IsSound, is_held, rule_at}
-use Rattle.apron_rules.specs.Rules.{breaks_of}
 use Rattle.apron_rules.proofs.Bordering.{filter_passed}
 use Rattle.stand_index.specs.Slots.{StandSlots}
 use Rattle.clash_check.specs.Clear.{IsClear}
 use Rattle.clash_check.specs.Indexed.{all_slots}
-use Rattle.clash_check.specs.Meetings.{Meeting, by_part, clash_with, clashes_with, is_smaller, meeting, meeting_from}
+use Rattle.clash_check.specs.Meetings.{by_part, clash_within, clashes_within, is_smaller, meeting_from}
 use Rattle.clash_check.proofs.Among.{others_none}
-use Rattle.clash_check.proofs.Meetings.{first_meeting, never_meeting, not_held}
+use Rattle.clash_check.proofs.Meetings.{never_from, not_held}
 use Rattle.visit_book.specs.declared.visits.Visit.{Visit}
 use Rattle.visit_book.specs.Slots.{slots_of}
 use Rattle.plan_core.specs.Indexed.{IsIndexed}
 use Rattle.plan_lists.specs.Days.{day_length, day_start, minutes_of_day}
-use Rattle.wall_chart.specs.Alarms.{alarm, alarms, alarms_with, alarm_order, clash_on, is_actual_on, is_in_order, of_day}
+use Rattle.wall_chart.specs.Alarms.{alarm, alarms, alarms_with, alarm_order, clash_on, is_actual_on, is_in_order}
 use Rattle.wall_chart.specs.Cells.{is_held_at_some}
 use Rattle.wall_chart.specs.Order.{in_order}
 use Rattle.wall_chart.proofs.OfDay.{span_of_day}
-
-abbrev at_rule : ℕ → Rule → Meeting
-at_rule m rule = record { minute = m; rule = rule }
-
--- slots that clash at none of these minutes don't meet
-never_from : (airport : AirportParts) (p q : Slot) (m more : ℕ) → ((k : ℕ) → m ≤ k → k < m + more → rule_at airport p q k ≡ None) → meeting_from airport p q m more ≡ None
-unfolding meeting_from
-never_from airport p q m zero none = refl
-never_from airport p q m (suc more) none =
-    ap (λ (found : Option Rule). option_or (option_map (at_rule m) found) (meeting_from airport p q (m + 1) more)) (none m (omega arith) (omega arith))
-    ∙ never_from airport p q (m + 1) more (λ k low high. none k (omega (arith, low)) (omega (arith, high)))
-
-here_or_later : (m k : ℕ) → m ≤ k → (k ≡ m) ⊎ (m + 1 ≤ k)
-here_or_later m k h = grind arith
-
--- they meet at the first minute at which they clash
-first_from : (airport : AirportParts) (p q : Slot) (k : ℕ) (rule : Rule) → rule_at airport p q k ≡ Some rule → (m more : ℕ) → m ≤ k → k < m + more
-    → ((j : ℕ) → m ≤ j → j < k → rule_at airport p q j ≡ None) → meeting_from airport p q m more ≡ Some (at_rule k rule)
-unfolding meeting_from
-first_from airport p q k rule is m zero low high none = absurd (omega arith)
-first_from airport p q k rule is m (suc more) low high none = elim (here_or_later m k low) [
-  | inl here ↦ ap (λ (found : Option Rule). option_or (option_map (at_rule m) found) (meeting_from airport p q (m + 1) more)) (ap (rule_at airport p q) (sym here) ∙ is)
-      ∙ ap (λ (j : ℕ). Some (at_rule j rule)) (sym here)
-  | inr later ↦ ap (λ (found : Option Rule). option_or (option_map (at_rule m) found) (meeting_from airport p q (m + 1) more)) (none m (omega arith) (omega arith))
-      ∙ first_from airport p q k rule is (m + 1) more later (omega arith) (λ j from below. none j (omega (arith, from)) below)
-]
 
 and_no : (a b : Bool) → (a ≡ false) ⊎ (b ≡ false) → (a && b) ≡ false
 and_no false b e = refl
@@ -63,45 +37,8 @@ no_and : (a b : Bool) → (a && b) ≡ false → (a ≡ false) ⊎ (b ≡ false)
 no_and false b e = inl refl
 no_and true b e = inr e
 
--- the slot of a day is held on the day as the slot is, and at no other minute
-held_on_day : (from end start long k : ℕ) → start ≤ k → k < start + long → (nat_le (max from start) k && nat_lt k (min end (start + long))) ≡ (nat_le from k && nat_lt k end)
-held_on_day from end start long k low high = grind (arith, nat_tests)
-
-not_on_day : (from end start long k : ℕ) → (k < start) ⊎ (start + long ≤ k) → (nat_le (max from start) k && nat_lt k (min end (start + long))) ≡ false
-not_on_day from end start long k (inl low) = grind (arith, nat_tests)
-not_on_day from end start long k (inr high) = grind (arith, nat_tests)
-
-abbrev rule_if : AirportParts → Slot → Slot → ℕ → Bool → Option Rule
-rule_if airport p q k held = cond (p.part.visit.0 == q.part.visit.0) None (cond (held && is_held q k) (breaks_of airport p.stand p.kind q.stand q.kind) None)
-
-rule_on_day : (airport : AirportParts) (day : ℕ) (p q : Slot) (k : ℕ) → day_start day ≤ k → k < day_start day + day_length → rule_at airport (of_day day p) q k ≡ rule_at airport p q k
-rule_on_day airport day p q k low high = ap (rule_if airport p q k) (held_on_day p.from p.end (day_start day) day_length k low high)
-
-inside_by : (start long k : ℕ) → ((k < start) ⊎ (start + long ≤ k) → ⊥) → (start ≤ k) × (k < start + long)
-inside_by start long k never = (grind arith, grind arith)
-
-rule_inside : (airport : AirportParts) (day : ℕ) (p q : Slot) (k : ℕ) (rule : Rule) → rule_at airport (of_day day p) q k ≡ Some rule → (day_start day ≤ k) × (k < day_start day + day_length)
-rule_inside airport day p q k rule e = inside_by (day_start day) day_length k (λ outside.
-    let none : rule_at airport (of_day day p) q k ≡ None = not_held airport (of_day day p) q k
-    (and_no (is_held (of_day day p) k) (is_held q k) (inl (not_on_day p.from p.end (day_start day) day_length k outside))) in cc)
-
--- the first minute at which the slot of a day clashes with another is the first of the day at which the slot does
-met_on_day : (airport : AirportParts) (day : ℕ) (p q : Slot) → meeting airport (of_day day p) q ≡ meeting_from airport p q (day_start day) day_length
-met_on_day airport day p q = cases (meeting airport (of_day day p) q) refl
-  where
-    cases : (found : Option Meeting) → meeting airport (of_day day p) q ≡ found → found ≡ meeting_from airport p q (day_start day) day_length
-    cases None e = sym (never_from airport p q (day_start day) day_length (λ k low high. sym (rule_on_day airport day p q k low high) ∙ never_meeting airport (of_day day p) q k e))
-    cases (Some at) e =
-        let first = first_meeting airport (of_day day p) q at e in
-        let inside = rule_inside airport day p q at.minute at.rule first.rule in
-        sym (first_from airport p q at.minute at.rule (sym (rule_on_day airport day p q at.minute inside.0 inside.1) ∙ first.rule) (day_start day) day_length inside.0 inside.1
-        (λ j low below. sym (rule_on_day airport day p q j low (omega (arith, below, inside.1))) ∙ first.before j (omega arith) below))
-
 abbrev of_parts : Slot → Slot → Meeting → Clash
 of_parts p q at = record { minute = at.minute; a = p.part; b = q.part; rule = at.rule }
-
-clash_on_day : (airport : AirportParts) (day : ℕ) (p q : Slot) → clash_with airport (of_day day p) q ≡ clash_on airport day p q
-clash_on_day airport day p q = ap (option_map (of_parts p q)) (met_on_day airport day p q)
 
 abbrev kept : {Y : Type 0} → (Y → Bool) → Option Y → Option Y
 kept p None = None
@@ -145,21 +82,19 @@ alarm_by false second order found e none = absurd (cc)
 
 -- the clash of an actual slot of a sound plan with another on the day, if that is of a greater part, is their alarm
 alarm_of : (airport : AirportParts) (day : ℕ) (slots : List Slot) (p q : Slot) → IsSound airport slots → Contains slots p → p.actual ≡ true → Contains slots q
-    → kept is_in_order (clash_with airport (of_day day p) q) ≡ alarm airport day p q
+    → kept is_in_order (clash_within airport p (day_start day) day_length q) ≡ alarm airport day p q
 alarm_of airport day slots p q sound in_p actual in_q =
     let start = day_start day in
     let met = meeting_from airport p q start day_length in
     let none : q.actual ≡ false → clash_on airport day p q ≡ None =
     λ planned. ap (option_map (of_parts p q)) (never_from airport p q start day_length (λ k low high. planned_none airport slots p q k sound in_p in_q planned (rule_at airport p q k) refl)) in
-    ap (kept is_in_order) (clash_on_day airport day p q)
-    ∙ (kept_by (is_smaller p.part q.part) p q met refl
-    ∙ alarm_by p.actual q.actual (is_smaller p.part q.part) (clash_on airport day p q) actual none)
+    kept_by (is_smaller p.part q.part) p q met refl ∙ alarm_by p.actual q.actual (is_smaller p.part q.part) (clash_on airport day p q) actual none
 
 -- the clashes of an actual slot on the day with those of greater parts are its alarms
 pub alarms_of : (airport : AirportParts) (day : ℕ) (slots : List Slot) (slot : Slot) → IsSound airport slots → Contains slots slot → slot.actual ≡ true
-    → filter is_in_order (clashes_with airport (of_day day slot) slots) ≡ alarms_with airport day slots slot
+    → filter is_in_order (clashes_within airport slot (day_start day) day_length slots) ≡ alarms_with airport day slots slot
 alarms_of airport day slots slot sound listed actual =
-    filter_mapped is_in_order (clash_with airport (of_day day slot)) (alarm airport day slot) slots (λ other in_other. alarm_of airport day slots slot other sound listed actual in_other)
+    filter_mapped is_in_order (clash_within airport slot (day_start day) day_length) (alarm airport day slot) slots (λ other in_other. alarm_of airport day slots slot other sound listed actual in_other)
 
 off_day : (from end start long k : ℕ) → nat_lt (max from start) (min end (start + long)) ≡ false → start ≤ k → k < start + long → (nat_le from k && nat_lt k end) ≡ false
 off_day from end start long k e low high = grind (arith, nat_tests)
@@ -212,24 +147,23 @@ actual_listed airport visits day slots k d are inside =
     first_of true b e = refl
     first_of false b e = absurd (cc)
 
--- a slot of the plan for the minutes of a day has a stand and a type of the airport
-pub day_slot_of : (airport a : AirportParts) (index : List StandSlots) (visits : List Visit) (day : ℕ) (slot own : Slot) → airport ≡ a → IsClear a index [] → IsIndexed a index visits
-    → Contains (slots_of airport visits) slot → own ≡ of_day day slot → IsSlotOf airport own
-day_slot_of airport a index visits day slot own same clear indexed listed e =
+-- a slot of the plan has a stand and a type of the airport
+pub plan_slot_of : (airport a : AirportParts) (index : List StandSlots) (visits : List Visit) (slot : Slot) → airport ≡ a → IsClear a index [] → IsIndexed a index visits
+    → Contains (slots_of airport visits) slot → IsSlotOf airport slot
+plan_slot_of airport a index visits slot same clear indexed listed =
     let there : Contains (slots_of a visits) slot = subst (λ (b : AirportParts). Contains (slots_of b visits) slot) same listed in
     let is : IsSlotOf a slot = All-contains (IsSlotOf a) (all_slots index) slot clear.slots ((indexed.slots slot).1 there) in
-    let here : IsSlotOf airport slot = subst (λ (b : AirportParts). IsSlotOf b slot) (sym same) is in
-    subst (IsSlotOf airport) (sym e) (here.0, here.1)
+    subst (λ (b : AirportParts). IsSlotOf b slot) (sym same) is
 
 -- what is put last for one actual slot
-pub alarms_more : (airport a : AirportParts) (index : List StandSlots) (visits : List Visit) (day : ℕ) (slot own : Slot) (clashes kept old new : List Clash) → airport ≡ a → IsClear a index []
-    → IsIndexed a index visits → by_part (all_slots index) ≡ slots_of a visits → Contains (slots_of airport visits) slot → slot.actual ≡ true → own ≡ of_day day slot
-    → clashes ≡ clashes_with airport own (by_part (all_slots index)) → kept ≡ filter is_in_order clashes → new ≡ old ++ kept → new ≡ old ++ alarms_with airport day (slots_of airport visits) slot
-alarms_more airport a index visits day slot own clashes kept old new same clear indexed ordered listed actual cut are left then =
+pub alarms_more : (airport a : AirportParts) (index : List StandSlots) (visits : List Visit) (day more : ℕ) (slot : Slot) (clashes kept old new : List Clash) → airport ≡ a → IsClear a index []
+    → IsIndexed a index visits → by_part (all_slots index) ≡ slots_of a visits → Contains (slots_of airport visits) slot → slot.actual ≡ true → more ≡ day_length
+    → clashes ≡ clashes_within airport slot (day_start day) more (by_part (all_slots index)) → kept ≡ filter is_in_order clashes → new ≡ old ++ kept → new ≡ old ++ alarms_with airport day (slots_of airport visits) slot
+alarms_more airport a index visits day more slot clashes kept old new same clear indexed ordered listed actual long are left then =
     let all : IsSound a (all_slots index) = subst (IsSound a) (others_none (all_slots index)) clear.sound in
     let sound_there : IsSound a (slots_of a visits) = λ p q m rule in_p in_q is. all p q m rule ((indexed.slots p).1 in_p) ((indexed.slots q).1 in_q) is in
     let sound : IsSound airport (slots_of airport visits) = subst (λ (b : AirportParts). IsSound b (slots_of b visits)) (sym same) sound_there in
     let slots : by_part (all_slots index) ≡ slots_of airport visits = ordered ∙ ap (λ (b : AirportParts). slots_of b visits) (sym same) in
     then ∙ ap (λ (ys : List Clash). old ++ ys)
-    (left ∙ (ap (filter is_in_order) (are ∙ (ap (λ (s : Slot). clashes_with airport s (by_part (all_slots index))) cut ∙ ap (clashes_with airport (of_day day slot)) slots))
+    (left ∙ (ap (filter is_in_order) (are ∙ (ap (λ (n : ℕ). clashes_within airport slot (day_start day) n (by_part (all_slots index))) long ∙ ap (clashes_within airport slot (day_start day) day_length) slots))
     ∙ alarms_of airport day (slots_of airport visits) slot sound listed actual))

@@ -4,7 +4,7 @@ use Rattle.std.specs.List.{flat_map}
 use Rattle.apron_base.specs.declared.slot.Slot.{Slot}
 use Rattle.apron_rules.specs.declared.parts.AirportParts.{AirportParts}
 use Rattle.apron_rules.specs.declared.rules.Clash.{Clash}
-use Rattle.clash_check.specs.Meetings.{is_smaller, meeting_from}
+use Rattle.clash_check.specs.Meetings.{clash_within, is_smaller}
 use Rattle.desk_words.specs.PartObjects.{rule_word}
 use Rattle.plan_lists.specs.Days.{day_length, day_start, minutes_of_day}
 use Rattle.wall_chart.specs.Cells.{is_held_at_some}
@@ -16,10 +16,9 @@ use Rattle.wall_chart.specs.Times.{time_text}
 abbrev pub are_actual : Slot → Slot → Bool
 are_actual slot other = slot.actual && other.actual && is_smaller slot.part other.part
 
--- the clash of two slots at the first of the day's minutes at which they clash
+-- the clash of two slots at the first of the day's minutes at which they clash, with the rule of that minute
 abbrev pub clash_on : AirportParts → ℕ → Slot → Slot → Option Clash
-clash_on airport day slot other =
-    option_map (λ at. record { minute = at.minute; a = slot.part; b = other.part; rule = at.rule }) (meeting_from airport slot other (day_start day) day_length)
+clash_on airport day slot other = clash_within airport slot (day_start day) day_length other
 
 -- the alarm of two actual parts, the first of which is the smaller: their clash on the day, if they clash on it
 abbrev pub alarm : AirportParts → ℕ → Slot → Slot → Option Clash
@@ -28,10 +27,6 @@ alarm airport day slot other = if are_actual slot other then clash_on airport da
 -- an actual part is held at some minute of the day
 abbrev pub is_actual_on : ℕ → Slot → Bool
 is_actual_on day slot = slot.actual && is_held_at_some (minutes_of_day day) slot
-
--- the slot, held for those of its minutes that are of the day
-abbrev pub of_day : ℕ → Slot → Slot
-of_day day slot = record slot { from = max slot.from (day_start day); end = min slot.end (day_start day + day_length) }
 
 -- the first part of the clash is the smaller one
 abbrev pub is_in_order : Clash → Bool

@@ -2,7 +2,7 @@
 ghost use Rattle.std.specs.Prelude.{◌≡◌, ◌≤◌, ◌++◌, true, Contains, IfOk, OnOk};
 ghost use Rattle.apron_rules.specs.declared.limits.TheConstants.{MAX_DAYS};
 ghost use Rattle.visit_book.specs.Slots.{slots_of};
-ghost use Rattle.wall_chart.specs.Alarms.{alarm_line, alarms, alarms_with, is_in_order, of_day};
+ghost use Rattle.wall_chart.specs.Alarms.{alarm_line, alarms, alarms_with, is_in_order};
 ghost use Rattle.wall_chart.specs.Chart.{alarm_lines};
 
 use crate::rows::{push_part, push_rule};
@@ -10,7 +10,7 @@ use crate::slots::actual_slots;
 use crate::times::{DAY_LENGTH, day_start, push_time};
 use apron_base::{Memory, Slot, Steps};
 use apron_rules::{Airport, Clash};
-use clash_check::clashes_of;
+use clash_check::clashes_within;
 use plan_core::Plan;
 use std::alloc::Global;
 use std::sync::ledger::Ledger;
@@ -92,8 +92,17 @@ fn push_alarms_with<L: Ledger>(
     ensures ok { OnOk result (found.new.items
         ≡ found.old.items ++ alarms_with airport.now day (slots_of airport.now plan.now.plan.visits) slot.now) }
 {
-    let own = of_day(day, slot);
-    let mut clashes = clashes_of(alloc, airport, plan.index(), &own, steps)?.into_vec();
+    let start = day_start(day);
+    let end = start + DAY_LENGTH;
+    let mut clashes = clashes_within(
+        alloc,
+        airport,
+        plan.index(),
+        slot,
+        start,
+        end,
+        steps,
+    )?.into_vec();
     clashes.retain(|clash| is_in_order(clash));
     found.extend_from_slice(&clashes)?;
     Ok(())
@@ -103,18 +112,4 @@ fn is_in_order(clash: &Clash) -> bool
     ensures is { result ≡ is_in_order clash.now }
 {
     clash.a < clash.b
-}
-
-// The slot for the minutes of the day alone.
-fn of_day(day: u32, slot: &Slot) -> Slot
-    requires first { 1 ≤ day }
-    requires last { day ≤ MAX_DAYS }
-    ensures is { result ≡ of_day day slot.now }
-{
-    let start = day_start(day);
-    Slot {
-        from: slot.from.max(start),
-        end: slot.end.min(start + DAY_LENGTH),
-        ..*slot
-    }
 }

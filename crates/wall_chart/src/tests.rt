@@ -35,6 +35,8 @@ fn kind(name: Name, span: u32) -> TypeRow {
         name,
         span,
         least: 40,
+        parked: span,
+        fold: 0,
     }
 }
 

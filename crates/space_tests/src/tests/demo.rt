@@ -59,6 +59,8 @@ fn kind(name: &[u8], span: u32) -> Option<TypeRow> {
         name: Name::new(name)?,
         span,
         least: LEAST,
+        parked: span,
+        fold: 0,
     })
 }
 

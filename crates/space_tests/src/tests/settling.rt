@@ -8,7 +8,7 @@ use super::draws::Draws;
 use apron_base::{
     Acted, Listed, Memory, Minute, Name, PartId, Slot, StandNo, SteadyKeeper, TypeNo, VisitNo,
 };
-use apron_rules::{Airport, Rule};
+use apron_rules::{Airport, Rule, Wing};
 use desk_words::asks::{Ask, Command, What};
 use history_core::Board;
 use mvt_grammar::{Clock, Flight, Mvt, is_readable, read_flight};
@@ -243,7 +243,14 @@ fn rule_between(airport: &Airport, slot: &Slot, other: &Slot) -> Option<Rule> {
     {
         return None;
     }
-    airport.breaks(slot.stand, slot.kind, other.stand, other.kind)
+    airport.breaks(
+        slot.stand,
+        slot.kind,
+        Wing::Full,
+        other.stand,
+        other.kind,
+        Wing::Full,
+    )
 }
 
 // The first minute that both slots hold.

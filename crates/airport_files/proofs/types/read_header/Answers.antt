@@ -9,16 +9,16 @@ returns-then-not-branch-clause-err c turns s left reading =
     let none = found-none (λ (b : Bor (List ℕ)). Some b.now) c.read_row.new.rdr _ _ found in
     inr (header-none turns s left none)
 
-pub returns-then-is_header-clause-ok : goal.returns-then-is_header-clause-ok
-returns-then-is_header-clause-ok c turns s left reading =
+pub returns-in-Some-clause-ok : goal.returns-in-Some-clause-ok
+returns-in-Some-clause-ok c turns s left reading =
     let found = rw c.if-not-branch.false at (c.in_ok-read_row.ensures.ok s left reading) in
     let (p, next, fields, after) = found-some (λ (b : Bor (List ℕ)). Some b.now) c.read_row.new.rdr _ _ found in
-    let good = rw fields at (sym c.is_header.ensures.is ∙ c.if-is_header.true) in
-    (p.1, p.2, after, header-good turns s left p next good)
+    let good = rw fields at (sym c.columns_of.ensures.is ∙ c.in-Some.is) in
+    (p.1, p.2, after, header-good turns s left p c.in-Some.columns next good)
 
-pub returns-else-is_header-clause-err : goal.returns-else-is_header-clause-err
-returns-else-is_header-clause-err c turns s left reading =
+pub returns-in-None-clause-err : goal.returns-in-None-clause-err
+returns-in-None-clause-err c turns s left reading =
     let found = rw c.if-not-branch.false at (c.in_ok-read_row.ensures.ok s left reading) in
     let (p, next, fields, after) = found-some (λ (b : Bor (List ℕ)). Some b.now) c.read_row.new.rdr _ _ found in
-    let bad = rw fields at (sym c.is_header.ensures.is ∙ c.if-is_header.false) in
+    let bad = rw fields at (sym c.columns_of.ensures.is ∙ c.in-None.is) in
     inr (header-bad turns s left p next bad)

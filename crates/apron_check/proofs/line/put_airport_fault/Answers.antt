@@ -15,5 +15,8 @@ returns-in-LimitPassed g c = record { puts = rw (c.in-LimitPassed.is, ← c.limi
 pub returns-in-BadSpan : goal.returns-in-BadSpan
 returns-in-BadSpan g c = record { puts = rw (c.in-BadSpan.is, ← c.bytes-in-BadSpan.ensures.value) c.put_both-in-BadSpan.ensures.puts }
 
+pub returns-in-BadFold : goal.returns-in-BadFold
+returns-in-BadFold g c = record { puts = rw (c.in-BadFold.is, ← c.bytes-in-BadFold.ensures.value) c.put_both-in-BadFold.ensures.puts }
+
 pub returns-in-Memory : goal.returns-in-Memory
 returns-in-Memory g c = record { puts = rw c.in-Memory.is c.put.ensures.puts }

@@ -1,9 +1,9 @@
-use Rattle.std.proofs.Common.{◌≡◌, ◌∙◌, ◌<◌, ◌+◌, ◌++◌, ◌∷◌, [], ℕ, List, Option, Some, None, take, take_all, length, slice_index_or, refl, sym, ap, append_assoc, append-nil}
+use Rattle.std.proofs.Common.{◌≡◌, ◌∙◌, ◌<◌, ◌+◌, ◌-◌, ◌++◌, ◌∷◌, [], ℕ, List, Option, Some, None, take, take_all, length, slice_index_or, refl, sym, ap, append_assoc, append-nil}
 use Rattle.std.specs.Prelude.{filter_map, option_to_list}
 use Rattle.std.proofs.lemmas.List.{take_more}
 use Rattle.std.proofs.lemmas.List.Elements.{filter_map-append}
 use Rattle.apron_base.specs.declared.slot.Slot.{Slot}
-use Rattle.clash_check.specs.Meetings.{clash_with, clashes_with}
+use Rattle.clash_check.specs.Meetings.{clash_within, clashes_within}
 use Rattle.clash_check.proofs.clashes.push_clashes.Goals as goal
 
 of_one : {X Y : Type 0} (h : X → Option Y) (x : X) (found : Option Y) → h x ≡ found → filter_map h (x ∷ []) ≡ option_to_list found
@@ -22,10 +22,10 @@ loop-other-init c = sym (append-nil c.args.clashes.now.items)
 
 pub loop-other-preserved : goal.loop-other-preserved
 loop-other-preserved c =
-    one_more (clash_with c.args.airport.now c.args.slot.now) c.args.clashes.now.items c.args.others.now c.loop-other.other-index _ c.loop-other.clashes.items c.push_some.new.clashes.items _ c.loop-other-test.true
-    c.loop-other.invariant c.clash_with.ensures.is c.in_ok-push_some.ensures.pushed
+    one_more (clash_within c.args.airport.now c.args.slot.now c.args.from (c.args.end - c.args.from)) c.args.clashes.now.items c.args.others.now c.loop-other.other-index _ c.loop-other.clashes.items c.push_some.new.clashes.items _ c.loop-other-test.true
+    c.loop-other.invariant c.clash_within.ensures.is c.in_ok-push_some.ensures.pushed
 
 pub returns : goal.returns
 returns c = record {
-  clashes = c.loop-other.invariant ∙ ap (λ (xs : List Slot). c.args.clashes.now.items ++ clashes_with c.args.airport.now c.args.slot.now xs) (take_all c.loop-other.other-index c.args.others.now c.loop-other-test.false);
+  clashes = c.loop-other.invariant ∙ ap (λ (xs : List Slot). c.args.clashes.now.items ++ clashes_within c.args.airport.now c.args.slot.now c.args.from (c.args.end - c.args.from) xs) (take_all c.loop-other.other-index c.args.others.now c.loop-other-test.false);
 }

@@ -39,5 +39,5 @@ returns-clause-first g c =
     let whole : take c.loop-place.place c.neighbours-neighbours.result.now ≡ neighbours_of airport slot.stand = take_all c.loop-place.place c.neighbours-neighbours.result.now c.loop-place-test.false ∙ listed in
     least_same _ _ c.loop-place.first
     (λ d. near_to_clash airport index without slot d (neighbours_inside airport index slot.stand (neighbours_of airport slot.stand) refl c.requires.clear.stands))
-    (λ d. clash_to_near airport index without slot d (λ some. c.loop-place.invariant.index (omega (arith, some, ap length listed, c.loop-place-test.false))))
+    (λ d. clash_to_near airport index without slot d c.neighbours-neighbours.ensures.airport.faultless (λ some. c.loop-place.invariant.index (omega (arith, some, ap length listed, c.loop-place-test.false))))
     (subst (λ (stands : List StandNo). IsFirstWith airport slot (flat_map (others_at index without) stands) c.loop-place.first) whole c.loop-place.invariant.first)
