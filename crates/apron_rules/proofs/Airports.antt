@@ -11,7 +11,7 @@ use Rattle.apron_rules.specs.declared.parts.AirportParts.{AirportParts}
 use Rattle.apron_rules.specs.declared.parts.Frontage.{Frontage}
 use Rattle.apron_rules.specs.declared.parts.StandRow.{StandRow}
 use Rattle.apron_rules.specs.declared.parts.TypeRow.{TypeRow}
-use Rattle.apron_rules.specs.declared.limits.TheConstants.{MAX_BUFFER, MAX_DAYS, MAX_LEAST, MAX_OBJECTS, MAX_STANDS, MAX_TOW, MAX_TYPES}
+use Rattle.apron_rules.specs.Limits.{most_buffer, most_days, most_least, most_objects, most_stands, most_tow, most_types}
 use Rattle.apron_rules.specs.declared.refusals.Limit.{Limit}
 use Rattle.apron_rules.specs.declared.refusals.Limit.TheVariants as limit
 use Rattle.apron_rules.specs.declared.refusals.AirportFault.TheVariants.{UnknownName, BadHalf, LimitPassed, BadSpan, BadFold}
@@ -41,13 +41,13 @@ each P p (x ∷ xs) f h = (f x (grind (arith, nat_tests)), each P p xs f (grind 
 
 -- no limit is passed
 pub record IsLimited (parts : AirportParts) : Type 0 where
-  pub days : is_within 1 MAX_DAYS parts.days ≡ true
-  pub tow : is_within 1 MAX_TOW parts.tow ≡ true
+  pub days : is_within 1 most_days parts.days ≡ true
+  pub tow : is_within 1 most_tow parts.tow ≡ true
   pub objects : list_all are_objects_kept parts.frontages ≡ true
-  pub stands : is_within 1 MAX_STANDS (length parts.stands) ≡ true
-  pub buffers : list_all (λ row. nat_le row.buffer MAX_BUFFER) parts.stands ≡ true
-  pub types : is_within 1 MAX_TYPES (length parts.types) ≡ true
-  pub least : list_all (λ row. is_within 1 MAX_LEAST row.least) parts.types ≡ true
+  pub stands : is_within 1 most_stands (length parts.stands) ≡ true
+  pub buffers : list_all (λ row. nat_le row.buffer most_buffer) parts.stands ≡ true
+  pub types : is_within 1 most_types (length parts.types) ≡ true
+  pub least : list_all (λ row. is_within 1 most_least row.least) parts.types ≡ true
 
 -- nothing is there
 abbrev AllNone : {A : Type 0} → List (Option A) → Type 0
@@ -103,13 +103,13 @@ airport_of parts station first none =
       station = station;
       first = first;
       faultless = none;
-      stands = within 1 MAX_STANDS _ l.stands;
-      types = within 1 MAX_TYPES _ l.types;
-      days = within 1 MAX_DAYS _ l.days;
-      tow = within 1 MAX_TOW _ l.tow;
-      least = All-from_recursion _ _ (each (λ (row : TypeRow). row.least ≤ MAX_LEAST) _ parts.types (λ row h. within 1 MAX_LEAST row.least h) l.least);
-      buffers = All-from_recursion _ _ (each (λ (row : StandRow). row.buffer ≤ MAX_BUFFER) _ parts.stands (λ row h. grind (arith, nat_tests)) l.buffers);
-      objects = All-from_recursion _ _ (each (λ (f : Frontage). length f.objects ≤ MAX_OBJECTS) _ parts.frontages (λ f h. grind (arith, nat_tests)) l.objects);
+      stands = within 1 most_stands _ l.stands;
+      types = within 1 most_types _ l.types;
+      days = within 1 most_days _ l.days;
+      tow = within 1 most_tow _ l.tow;
+      least = All-from_recursion _ _ (each (λ (row : TypeRow). row.least ≤ most_least) _ parts.types (λ row h. within 1 most_least row.least h) l.least);
+      buffers = All-from_recursion _ _ (each (λ (row : StandRow). row.buffer ≤ most_buffer) _ parts.stands (λ row h. grind (arith, nat_tests)) l.buffers);
+      objects = All-from_recursion _ _ (each (λ (f : Frontage). length f.objects ≤ most_objects) _ parts.frontages (λ f h. grind (arith, nat_tests)) l.objects);
     }
 
 -- none of the reasons behind a name that is there twice

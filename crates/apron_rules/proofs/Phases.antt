@@ -1,5 +1,5 @@
 -- The first minute at which two slots clash, whose wing tips are unfolded at the start and at the end.
-use Rattle.std.proofs.Common.{◌≡◌, ◌∙◌, ◌<◌, ◌≤◌, ◌+◌, ◌-◌, ◌==◌, ◌&&◌, ◌||◌, ◌⊎◌, inl, inr, min, max, ℕ, Bool, true, false, cond, refl, sym, ap, subst, arith, Option, None, Some, if◌then◌else◌}
+use Rattle.std.proofs.Common.{◌≡◌, ◌∙◌, ◌<◌, ◌≤◌, ◌+◌, ◌-◌, ◌==◌, ◌&&◌, ◌||◌, ◌⊎◌, inl, inr, max, ℕ, Bool, true, false, cond, refl, sym, ap, subst, arith, Option, None, Some, if◌then◌else◌}
 use Rattle.std.specs.Prelude.{nat_le, nat_lt, option_map}
 use Rattle.std.specs.Option.{option_or}
 use Rattle.std.proofs.lemmas.Bool.{cases_lt}
@@ -10,13 +10,12 @@ use Rattle.apron_rules.specs.declared.parts.AirportParts.{AirportParts}
 use Rattle.apron_rules.specs.declared.rules.Clash.{Clash}
 use Rattle.apron_rules.specs.declared.rules.Meeting.{Meeting}
 use Rattle.apron_rules.specs.declared.rules.Rule.{Rule}
-use Rattle.apron_rules.specs.declared.rules.Wing.{Wing}
 use Rattle.apron_rules.specs.declared.rules.Wing.TheVariants.{Full, Parked}
-use Rattle.apron_rules.specs.Clash.{IsAtMost, IsBefore, IsClashOf, IsFirstFrom, IsFirstWithin, IsLeast, IsNoLater, breaks_at, is_held, meeting_below, rule_at, wing_of}
+use Rattle.apron_rules.specs.Clash.{IsAtMost, IsBefore, IsClashOf, IsFirstWithin, IsLeast, IsNoLater, breaks_at, is_held, meeting_below, rule_at, wing_of}
 use Rattle.apron_rules.specs.Refusals.{fault_of}
 use Rattle.apron_rules.specs.Rules.{buffer_of, fold_of}
-use Rattle.apron_rules.specs.Turns.{AreTurns, unfolds}
-use Rattle.apron_rules.specs.declared.clash.Turns.{Turns}
+use Rattle.apron_rules.specs.Starts.{AreStarts, unfolds}
+use Rattle.apron_rules.specs.declared.clash.Starts.{Starts}
 use Rattle.apron_rules.proofs.Bordering.{AreAsFull, fuller_rule}
 
 as_full_by : (old new : Bool) → (old ≡ true → new ≡ true) → AreAsFull (if new then Full else Parked) (if old then Full else Parked)
@@ -71,34 +70,34 @@ clash_before airport none p q c m rule from_p from_q less turn turn_too h =
     (as_full airport p c m less turn) (as_full airport q c m less turn_too) met.breaks in
     (found.0, rule_when airport p q c found.0 met.apart (held_before p.from p.end c m from_p less met.held) (held_before q.from q.end c m from_q less met.held_too) found.1)
 
--- of the turns, the last before a clash
-record HasClashBefore (airport : AirportParts) (p q : Slot) (turns : Turns) (m : ℕ) : Type 0 where
+-- of the starts, the last before a clash
+record HasClashBefore (airport : AirportParts) (p q : Slot) (starts : Starts) (m : ℕ) : Type 0 where
   at : ℕ
-  tried : (at ≡ turns.start) ⊎ ((at ≡ turns.sooner) ⊎ (at ≡ turns.later))
+  tried : (at ≡ starts.shared) ⊎ ((at ≡ starts.unfolded) ⊎ (at ≡ starts.both_unfolded))
   no_later : at ≤ m
   rule : Rule
   clash : rule_at airport p q at ≡ Some rule
 
-tried_before : (airport : AirportParts) → fault_of airport ≡ None → (p q : Slot) (from : ℕ) (turns : Turns) (m : ℕ) (rule : Rule) → AreTurns airport p q from turns → turns.start ≤ m
-    → rule_at airport p q m ≡ Some rule → HasClashBefore airport p q turns m
-tried_before airport none p q from turns m rule are low h =
-    let from_p : p.from ≤ turns.start = omega (arith, are.start) in
-    let from_q : q.from ≤ turns.start = omega (arith, are.start) in
+tried_before : (airport : AirportParts) → fault_of airport ≡ None → (p q : Slot) (from : ℕ) (starts : Starts) (m : ℕ) (rule : Rule) → AreStarts airport p q from starts → starts.shared ≤ m
+    → rule_at airport p q m ≡ Some rule → HasClashBefore airport p q starts m
+tried_before airport none p q from starts m rule are low h =
+    let from_p : p.from ≤ starts.shared = omega (arith, are.shared) in
+    let from_q : q.from ≤ starts.shared = omega (arith, are.shared) in
     elim (cases_lt m (unfolds airport p)) [
       | inl folded ↦ elim (cases_lt m (unfolds airport q)) [
-        | inl folded_too ↦ (let found = clash_before airport none p q turns.start m rule from_p from_q low (inl folded) (inl folded_too) h in
-            record { at = turns.start; tried = inl refl; no_later = low; rule = found.0; clash = found.1 })
-        | inr over ↦ (let at : turns.sooner ≡ max turns.start (unfolds airport q) = omega (arith, are.sooner) in
-            let found = clash_before airport none p q turns.sooner m rule (omega arith) (omega arith) (omega arith) (inl folded) (inr (omega arith)) h in
-            record { at = turns.sooner; tried = inr (inl refl); no_later = omega arith; rule = found.0; clash = found.1 })
+        | inl folded_too ↦ (let found = clash_before airport none p q starts.shared m rule from_p from_q low (inl folded) (inl folded_too) h in
+            record { at = starts.shared; tried = inl refl; no_later = low; rule = found.0; clash = found.1 })
+        | inr over ↦ (let at : starts.unfolded ≡ max starts.shared (unfolds airport q) = omega (arith, are.unfolded) in
+            let found = clash_before airport none p q starts.unfolded m rule (omega arith) (omega arith) (omega arith) (inl folded) (inr (omega arith)) h in
+            record { at = starts.unfolded; tried = inr (inl refl); no_later = omega arith; rule = found.0; clash = found.1 })
       ]
       | inr over ↦ elim (cases_lt m (unfolds airport q)) [
-        | inl folded ↦ (let at : turns.sooner ≡ max turns.start (unfolds airport p) = omega (arith, are.sooner) in
-            let found = clash_before airport none p q turns.sooner m rule (omega arith) (omega arith) (omega arith) (inr (omega arith)) (inl folded) h in
-            record { at = turns.sooner; tried = inr (inl refl); no_later = omega arith; rule = found.0; clash = found.1 })
-        | inr over_too ↦ (let at = are.later in
-            let found = clash_before airport none p q turns.later m rule (omega arith) (omega arith) (omega arith) (inr (omega arith)) (inr (omega arith)) h in
-            record { at = turns.later; tried = inr (inr refl); no_later = omega arith; rule = found.0; clash = found.1 })
+        | inl folded ↦ (let at : starts.unfolded ≡ max starts.shared (unfolds airport p) = omega (arith, are.unfolded) in
+            let found = clash_before airport none p q starts.unfolded m rule (omega arith) (omega arith) (omega arith) (inr (omega arith)) (inl folded) h in
+            record { at = starts.unfolded; tried = inr (inl refl); no_later = omega arith; rule = found.0; clash = found.1 })
+        | inr over_too ↦ (let at = are.both_unfolded in
+            let found = clash_before airport none p q starts.both_unfolded m rule (omega arith) (omega arith) (omega arith) (inr (omega arith)) (inr (omega arith)) h in
+            record { at = starts.both_unfolded; tried = inr (inr refl); no_later = omega arith; rule = found.0; clash = found.1 })
       ]
     ]
 
@@ -155,66 +154,66 @@ no_later_by c d low a b =
 before_start : (airport : AirportParts) (p q : Slot) (from start m : ℕ) (rule : Rule) → start ≡ max from (max p.from q.from) → from ≤ m → m < start → rule_at airport p q m ≡ Some rule → ⊥
 before_start airport p q from start m rule is low below h = let met = meets airport p q m rule h in unheld p q from start m is low below met.held met.held_too
 
--- none before a minute up to which none of the turns clashes
-none_before : (airport : AirportParts) → fault_of airport ≡ None → (p q : Slot) (from : ℕ) (turns : Turns) (m : ℕ) → AreTurns airport p q from turns → from ≤ m
-    → ((k : ℕ) (rule : Rule) → (k ≡ turns.start) ⊎ ((k ≡ turns.sooner) ⊎ (k ≡ turns.later)) → k ≤ m → rule_at airport p q k ≡ Some rule → ⊥) → rule_at airport p q m ≡ None
-none_before airport none p q from turns m are low never =
-    none_by (rule_at airport p q m) (λ rule h. elim (cases_lt m turns.start) [
-      | inl below ↦ before_start airport p q from turns.start m rule are.start low below h
-      | inr over ↦ (let found = tried_before airport none p q from turns m rule are over h in never found.at found.rule found.tried found.no_later found.clash)
+-- none before a minute up to which none of the starts clashes
+none_before : (airport : AirportParts) → fault_of airport ≡ None → (p q : Slot) (from : ℕ) (starts : Starts) (m : ℕ) → AreStarts airport p q from starts → from ≤ m
+    → ((k : ℕ) (rule : Rule) → (k ≡ starts.shared) ⊎ ((k ≡ starts.unfolded) ⊎ (k ≡ starts.both_unfolded)) → k ≤ m → rule_at airport p q k ≡ Some rule → ⊥) → rule_at airport p q m ≡ None
+none_before airport none p q from starts m are low never =
+    none_by (rule_at airport p q m) (λ rule h. elim (cases_lt m starts.shared) [
+      | inl below ↦ before_start airport p q from starts.shared m rule are.shared low below h
+      | inr over ↦ (let found = tried_before airport none p q from starts m rule are over h in never found.at found.rule found.tried found.no_later found.clash)
     ])
 
--- the first meeting at one of the turns is the first of all
-pub first_tried : (airport : AirportParts) → fault_of airport ≡ None → (p q : Slot) (from end : ℕ) (turns : Turns) (one two three found : Option Meeting) → AreTurns airport p q from turns
-    → one ≡ meeting_below airport p q end turns.start → two ≡ meeting_below airport p q end turns.sooner → three ≡ meeting_below airport p q end turns.later → found ≡ option_or one (option_or two three)
+-- the first meeting at one of the starts is the first of all
+pub first_tried : (airport : AirportParts) → fault_of airport ≡ None → (p q : Slot) (from end : ℕ) (starts : Starts) (one two three found : Option Meeting) → AreStarts airport p q from starts
+    → one ≡ meeting_below airport p q end starts.shared → two ≡ meeting_below airport p q end starts.unfolded → three ≡ meeting_below airport p q end starts.both_unfolded → found ≡ option_or one (option_or two three)
     → IsFirstWithin airport p q from end found
-first_tried airport none p q from end turns (Some at) two three found are first second third is =
-    let there = is_there airport p q end turns.start at (sym first) in
-    let low : from ≤ turns.start = omega (arith, are.start) in
+first_tried airport none p q from end starts (Some at) two three found are first second third is =
+    let there = is_there airport p q end starts.shared at (sym first) in
+    let low : from ≤ starts.shared = omega (arith, are.shared) in
     subst (IsFirstWithin airport p q from end) (sym is) (
       record {
         from = omega (arith, there.minute, low);
         rule = there.rule;
-        before = λ k above below. none_by (rule_at airport p q k) (λ rule h. before_start airport p q from turns.start k rule are.start above (omega (arith, there.minute)) h);
+        before = λ k above below. none_by (rule_at airport p q k) (λ rule h. before_start airport p q from starts.shared k rule are.shared above (omega (arith, there.minute)) h);
       },
       omega (arith, there.minute, there.below),
     )
-first_tried airport none p q from end turns None (Some at) three found are first second third is =
-    let there = is_there airport p q end turns.sooner at (sym second) in
-    let low : turns.start ≤ turns.sooner = omega (arith, are.sooner) in
-    let order : turns.sooner ≤ turns.later = omega (arith, are.sooner, are.later) in
-    let high : turns.sooner < end = there.below in
+first_tried airport none p q from end starts None (Some at) three found are first second third is =
+    let there = is_there airport p q end starts.unfolded at (sym second) in
+    let low : starts.shared ≤ starts.unfolded = omega (arith, are.unfolded) in
+    let order : starts.unfolded ≤ starts.both_unfolded = omega (arith, are.unfolded, are.both_unfolded) in
+    let high : starts.unfolded < end = there.below in
     subst (IsFirstWithin airport p q from end) (sym is) (
       record {
-        from = omega (arith, there.minute, low, are.start);
+        from = omega (arith, there.minute, low, are.shared);
         rule = there.rule;
-        before = λ k above below. none_before airport none p q from turns k are above (λ c rule tried no_later h. elim tried [
-          | inl same ↦ not_there airport p q end turns.start c rule (sym first) (omega arith) same h
+        before = λ k above below. none_before airport none p q from starts k are above (λ c rule tried no_later h. elim tried [
+          | inl same ↦ not_there airport p q end starts.shared c rule (sym first) (omega arith) same h
           | inr more ↦ elim more [ inl same ↦ absurd (omega (arith, there.minute)) | inr same ↦ absurd (omega (arith, there.minute)) ]
         ]);
       },
       omega (arith, there.minute, there.below),
     )
-first_tried airport none p q from end turns None None (Some at) found are first second third is =
-    let there = is_there airport p q end turns.later at (sym third) in
-    let low : turns.start ≤ turns.sooner = omega (arith, are.sooner) in
-    let order : turns.sooner ≤ turns.later = omega (arith, are.sooner, are.later) in
-    let high : turns.later < end = there.below in
+first_tried airport none p q from end starts None None (Some at) found are first second third is =
+    let there = is_there airport p q end starts.both_unfolded at (sym third) in
+    let low : starts.shared ≤ starts.unfolded = omega (arith, are.unfolded) in
+    let order : starts.unfolded ≤ starts.both_unfolded = omega (arith, are.unfolded, are.both_unfolded) in
+    let high : starts.both_unfolded < end = there.below in
     subst (IsFirstWithin airport p q from end) (sym is) (
       record {
-        from = omega (arith, there.minute, low, order, are.start);
+        from = omega (arith, there.minute, low, order, are.shared);
         rule = there.rule;
-        before = λ k above below. none_before airport none p q from turns k are above (λ c rule tried no_later h. elim tried [
-          | inl same ↦ not_there airport p q end turns.start c rule (sym first) (omega arith) same h
-          | inr more ↦ elim more [ inl same ↦ not_there airport p q end turns.sooner c rule (sym second) (omega arith) same h | inr same ↦ absurd (omega (arith, there.minute)) ]
+        before = λ k above below. none_before airport none p q from starts k are above (λ c rule tried no_later h. elim tried [
+          | inl same ↦ not_there airport p q end starts.shared c rule (sym first) (omega arith) same h
+          | inr more ↦ elim more [ inl same ↦ not_there airport p q end starts.unfolded c rule (sym second) (omega arith) same h | inr same ↦ absurd (omega (arith, there.minute)) ]
         ]);
       },
       omega (arith, there.minute, there.below),
     )
-first_tried airport none p q from end turns None None None found are first second third is =
-    subst (IsFirstWithin airport p q from end) (sym is) (λ k above below. none_before airport none p q from turns k are above (λ c rule tried no_later h. elim tried [
-      | inl same ↦ not_there airport p q end turns.start c rule (sym first) (omega arith) same h
-      | inr more ↦ elim more [ inl same ↦ not_there airport p q end turns.sooner c rule (sym second) (omega arith) same h | inr same ↦ not_there airport p q end turns.later c rule (sym third) (omega arith) same h ]
+first_tried airport none p q from end starts None None None found are first second third is =
+    subst (IsFirstWithin airport p q from end) (sym is) (λ k above below. none_before airport none p q from starts k are above (λ c rule tried no_later h. elim tried [
+      | inl same ↦ not_there airport p q end starts.shared c rule (sym first) (omega arith) same h
+      | inr more ↦ elim more [ inl same ↦ not_there airport p q end starts.unfolded c rule (sym second) (omega arith) same h | inr same ↦ not_there airport p q end starts.both_unfolded c rule (sym third) (omega arith) same h ]
     ]))
 
 -- the least clash of two slots, the smaller of which comes first

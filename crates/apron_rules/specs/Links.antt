@@ -56,7 +56,9 @@ first_rule is_one is_split is_near is_paired =
 
 -- the restriction is of the stands at the two places in this order, and both spans are of its letters
 abbrev pub is_restricted_so_at : List (List ℕ) → PairRow → ℕ → ℕ → ℕ → ℕ → Bool
-is_restricted_so_at stands pair s k s2 l = is_place s (place_of pair.a stands) && is_place s2 (place_of pair.b stands) && has_letter pair.la k && has_letter pair.lb l
+is_restricted_so_at stands pair s k s2 l =
+    is_place s (place_of pair.a stands) && is_place s2 (place_of pair.b stands)
+    && has_letter pair.la k && has_letter pair.lb l
 
 -- the same in either order
 abbrev pub is_restricted_at : List (List ℕ) → ℕ → ℕ → ℕ → ℕ → PairRow → Bool
@@ -64,4 +66,5 @@ is_restricted_at stands s k s2 l pair = is_restricted_so_at stands pair s k s2 l
 
 -- each stand has the restrictions that name it
 abbrev pub ArePairs : List (List ℕ) → List PairRow → List (List StandPair) → Type 0
-ArePairs stands rows pairs = (s s2 k l : ℕ) → list_any (is_barred s2 k l) (pairs_at pairs s) ≡ list_any (is_restricted_at stands s k s2 l) rows
+ArePairs stands rows pairs = (s s2 k l : ℕ)
+    → list_any (is_barred s2 k l) (pairs_at pairs s) ≡ list_any (is_restricted_at stands s k s2 l) rows

@@ -10,7 +10,7 @@ use Rattle.apron_rules.specs.declared.parts.PairRow.{PairRow}
 use Rattle.apron_rules.specs.declared.parts.Frontage.{Frontage}
 use Rattle.apron_rules.specs.declared.parts.TypeRow.{TypeRow}
 use Rattle.apron_rules.specs.Names.{frontage_names, stand_names, type_names, is_known, is_named, first_repeated}
-use Rattle.apron_rules.specs.declared.limits.TheConstants.{MAX_BUFFER, MAX_DAYS, MAX_FOLD, MAX_FRONTAGES, MAX_HALVES, MAX_LEAST, MAX_OBJECTS, MAX_PAIRS, MAX_PLACE, MAX_STANDS, MAX_TAXI_IN, MAX_TOW, MAX_TYPES}
+use Rattle.apron_rules.specs.Limits.{greatest_place, most_buffer, most_days, most_fold, most_frontages, most_halves, most_least, most_objects, most_pairs, most_stands, most_taxi_in, most_tow, most_types}
 use Rattle.apron_rules.specs.declared.refusals.Limit.{Limit}
 use Rattle.apron_rules.specs.declared.refusals.Limit.TheVariants as limit
 use Rattle.apron_rules.specs.declared.refusals.AirportFault.{AirportFault}
@@ -53,7 +53,9 @@ halves_of name stands = count_by (λ row. is_named row.half_of name) stands
 -- the stand of this name is a half itself, is on another frontage, or has more than two halves
 abbrev pub is_bad_whole : List StandRow → StandRow → Option StandRow → Bool
 is_bad_whole stands half None = false
-is_bad_whole stands half (Some whole) = is_some whole.half_of || not (bytes_eq half.frontage whole.frontage) || nat_lt MAX_HALVES (halves_of whole.name stands)
+is_bad_whole stands half (Some whole) =
+    is_some whole.half_of || not (bytes_eq half.frontage whole.frontage)
+    || nat_lt most_halves (halves_of whole.name stands)
 
 -- the row of the stand of this name
 abbrev pub stand_named : List StandRow → List ℕ → Option StandRow
@@ -77,26 +79,27 @@ unless_kept which kept = if kept then None else Some which
 
 -- a place on a frontage, within its limit
 abbrev pub is_place_kept : ℕ → Bool
-is_place_kept place = nat_le place MAX_PLACE
+is_place_kept place = nat_le place greatest_place
 
 -- few objects, each at a place within its limit
 abbrev pub are_objects_kept : Frontage → Bool
-are_objects_kept frontage = nat_le (length frontage.objects) MAX_OBJECTS && list_all is_place_kept frontage.objects
+are_objects_kept frontage =
+    nat_le (length frontage.objects) most_objects && list_all is_place_kept frontage.objects
 
 -- the limits in their order, each unless it is kept
 abbrev pub passed_limits : AirportParts → List (Option Limit)
 passed_limits parts =
-    unless_kept limit.Days (is_within 1 MAX_DAYS parts.days)
-    ∷ unless_kept limit.TaxiIn (nat_le parts.taxi_in MAX_TAXI_IN)
-    ∷ unless_kept limit.Tow (is_within 1 MAX_TOW parts.tow)
-    ∷ unless_kept limit.Frontages (nat_le (length parts.frontages) MAX_FRONTAGES)
+    unless_kept limit.Days (is_within 1 most_days parts.days)
+    ∷ unless_kept limit.TaxiIn (nat_le parts.taxi_in most_taxi_in)
+    ∷ unless_kept limit.Tow (is_within 1 most_tow parts.tow)
+    ∷ unless_kept limit.Frontages (nat_le (length parts.frontages) most_frontages)
     ∷ unless_kept limit.Objects (list_all are_objects_kept parts.frontages)
-    ∷ unless_kept limit.Stands (is_within 1 MAX_STANDS (length parts.stands))
+    ∷ unless_kept limit.Stands (is_within 1 most_stands (length parts.stands))
     ∷ unless_kept limit.Centre (list_all (λ row. is_place_kept row.centre) parts.stands)
-    ∷ unless_kept limit.Buffer (list_all (λ row. nat_le row.buffer MAX_BUFFER) parts.stands)
-    ∷ unless_kept limit.Pairs (nat_le (length parts.pairs) MAX_PAIRS)
-    ∷ unless_kept limit.Types (is_within 1 MAX_TYPES (length parts.types))
-    ∷ unless_kept limit.Least (list_all (λ row. is_within 1 MAX_LEAST row.least) parts.types)
+    ∷ unless_kept limit.Buffer (list_all (λ row. nat_le row.buffer most_buffer) parts.stands)
+    ∷ unless_kept limit.Pairs (nat_le (length parts.pairs) most_pairs)
+    ∷ unless_kept limit.Types (is_within 1 most_types (length parts.types))
+    ∷ unless_kept limit.Least (list_all (λ row. is_within 1 most_least row.least) parts.types)
     ∷ []
 
 -- the first limit that is passed
@@ -107,22 +110,32 @@ limit_of parts = first_some (passed_limits parts)
 abbrev pub bad_span_of : AirportParts → Option (List ℕ)
 bad_span_of parts = option_map (λ row. row.name) (find (λ row. is_none (letter_for row.span)) parts.types)
 
--- a span of 1 to the wing span with folded wing tips, and few minutes
+-- the span with folded wing tips is 1 to the wing span, and the minutes to fold are within their limit
 abbrev pub is_fold_kept : TypeRow → Bool
-is_fold_kept row = is_within 1 row.span row.parked && nat_le row.fold MAX_FOLD
+is_fold_kept row = is_within 1 row.span row.parked && nat_le row.fold most_fold
 
--- the first type that folds its wing tips to another span, or takes too long
+-- the first type whose folded span or minutes to fold are not so
 abbrev pub bad_fold_of : AirportParts → Option (List ℕ)
 bad_fold_of parts = option_map (λ row. row.name) (find (λ row. not (is_fold_kept row)) parts.types)
 
 -- the first reason in this order
-abbrev pub first_reason : Option (List ℕ) → Option (List ℕ) → Option Limit → Option (List ℕ) → Option (List ℕ) → Option AirportFault
+abbrev pub first_reason : Option (List ℕ) → Option (List ℕ) → Option Limit → Option (List ℕ)
+    → Option (List ℕ) → Option AirportFault
 first_reason unknown half passed span fold =
-    first_some (option_map UnknownName unknown ∷ option_map BadHalf half ∷ option_map LimitPassed passed ∷ option_map BadSpan span ∷ option_map BadFold fold ∷ [])
+    first_some (
+    option_map UnknownName unknown
+    ∷ option_map BadHalf half
+    ∷ option_map LimitPassed passed
+    ∷ option_map BadSpan span
+    ∷ option_map BadFold fold
+    ∷ []
+    )
 
--- the refusals behind that of a name that is there twice
+-- the refusals that come after that of a name that is there twice
 unfoldable pub later_fault_of : AirportParts → Option AirportFault
-later_fault_of parts = first_reason (unknown_of parts) (bad_half_of parts) (limit_of parts) (bad_span_of parts) (bad_fold_of parts)
+later_fault_of parts =
+    first_reason (unknown_of parts) (bad_half_of parts) (limit_of parts)
+    (bad_span_of parts) (bad_fold_of parts)
 
 -- why the airport is refused, or none where it is an airport
 unfoldable pub fault_of : AirportParts → Option AirportFault

@@ -4,6 +4,7 @@ ghost use Rattle.std.specs.Option.{option_map};
 ghost use Rattle.std.specs.List.{list_all};
 ghost use Rattle.std.specs.Str.{bytes_eq};
 ghost use Rattle.apron_base.specs.Letter.{letter_for};
+ghost use Rattle.apron_rules.specs.Limits.{most_buffer, most_halves, most_least};
 ghost use Rattle.apron_rules.specs.Names.{frontage_names, stand_names, type_names, is_named};
 ghost use Rattle.apron_rules.specs.Refusals.{duplicate_of, unknown_of, unknown_of_stand, unknown_of_pair, first_found, are_objects_kept, is_bad_half, stand_named, first_some, is_place_kept, is_within, limit_of, unless_kept, is_fold_kept, later_fault_of};
 ghost use Rattle.apron_rules.specs.Tables.{Checks, AreHalves, half_count};
@@ -284,7 +285,8 @@ fn halves_of(halves: &BTreeMap<Name, u64>, name: &Name) -> u64
 }
 
 fn is_bad_whole(half: &StandRow, whole: &StandRow, halves: u64) -> bool
-    ensures is { result ≡ (is_some whole.now.half_of || not (bytes_eq half.now.frontage whole.now.frontage) || nat_lt MAX_HALVES halves) }
+    ensures is { result ≡ (is_some whole.now.half_of || not (bytes_eq half.now.frontage whole.now.frontage)
+        || nat_lt most_halves halves) }
 {
     whole.half_of.is_some() || !half.frontage.is_same(&whole.frontage) || halves > MAX_HALVES
 }
@@ -365,13 +367,13 @@ fn are_centres_kept(rows: &[StandRow]) -> bool
 }
 
 fn are_buffers_kept(rows: &[StandRow]) -> bool
-    ensures is { result ≡ list_all (λ row. nat_le row.buffer MAX_BUFFER) rows.now }
+    ensures is { result ≡ list_all (λ row. nat_le row.buffer most_buffer) rows.now }
 {
     rows.iter().all(|row| row.buffer <= MAX_BUFFER)
 }
 
 fn are_least_kept(rows: &[TypeRow]) -> bool
-    ensures is { result ≡ list_all (λ row. is_within 1 MAX_LEAST row.least) rows.now }
+    ensures is { result ≡ list_all (λ row. is_within 1 most_least row.least) rows.now }
 {
     rows.iter().all(|row| is_within(1, MAX_LEAST, row.least))
 }

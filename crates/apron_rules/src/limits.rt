@@ -1,4 +1,6 @@
 // The limits of an airport.
+ghost use Rattle.std.specs.Prelude.{◌≡◌};
+ghost use Rattle.apron_rules.specs.Limits.{greatest_place, most_buffer, most_days, most_fold, most_frontages, most_halves, most_least, most_objects, most_pairs, most_stands, most_taxi_in, most_tow, most_types};
 
 /// The most days of a plan; the least is 1.
 pub const MAX_DAYS: u32 = 14;
@@ -33,8 +35,25 @@ pub const MAX_PAIRS: usize = 1_000;
 /// The most types; the least is 1.
 pub const MAX_TYPES: usize = 400;
 
-/// The most minutes for which the wing tips of a type are unfolded at the start and at the end of a part.
+/// The most minutes for which wing tips are unfolded at the start and at the end of a part.
 pub const MAX_FOLD: u32 = 60;
 
 /// The most least minutes of a type; the least is 1.
 pub const MAX_LEAST: u32 = 600;
+
+/// Each limit of the code is the number that its definition has.
+pub fn limits_are_as_defined()
+    ensures days { MAX_DAYS ≡ most_days }
+    ensures taxi_in { MAX_TAXI_IN ≡ most_taxi_in }
+    ensures tow { MAX_TOW ≡ most_tow }
+    ensures frontages { MAX_FRONTAGES ≡ most_frontages }
+    ensures objects { MAX_OBJECTS ≡ most_objects }
+    ensures place { MAX_PLACE ≡ greatest_place }
+    ensures stands { MAX_STANDS ≡ most_stands }
+    ensures halves { MAX_HALVES ≡ most_halves }
+    ensures buffer { MAX_BUFFER ≡ most_buffer }
+    ensures pairs { MAX_PAIRS ≡ most_pairs }
+    ensures types { MAX_TYPES ≡ most_types }
+    ensures fold { MAX_FOLD ≡ most_fold }
+    ensures least { MAX_LEAST ≡ most_least }
+{}

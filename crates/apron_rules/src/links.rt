@@ -153,7 +153,8 @@ fn add(
     }
 }
 
-/// The first rule by which two stands exclude each other, with the types on them, whose wing tips are so.
+/// The first rule by which two stands exclude each other with these types on them, each with its wing tips as
+/// given.
 pub(crate) fn breaks_by_place(
     parts: &AirportParts,
     links: &[StandLinks],
@@ -180,7 +181,7 @@ pub(crate) fn breaks_by_place(
     first_rule(s, x, k, s2, y, l, pairs[s.0 as usize].as_slice())
 }
 
-// The span of a type in centimetres, with the wing tips so.
+// The span of a type in centimetres, with its wing tips unfolded or folded.
 fn span_of(wing: Wing, row: &TypeRow) -> u32
     ensures is { result ≡ span_of wing row.now }
 {
@@ -190,8 +191,8 @@ fn span_of(wing: Wing, row: &TypeRow) -> u32
     }
 }
 
-// The first rule by which two stands exclude each other with aircraft of the spans k and l on them, from the
-// links of both and the pair restrictions of the first.
+// The first rule by which two stands exclude each other with aircraft of the spans k and l on them: from the
+// links of both, and from the pair restrictions of the first.
 fn first_rule(
     s: StandNo,
     x: &StandLinks,

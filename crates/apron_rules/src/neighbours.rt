@@ -1,5 +1,5 @@
 // Which stands can exclude each other at all. All rules get stricter with the span, so only the widest type is
-// tried, with unfolded wing tips.
+// tried, and only with unfolded wing tips.
 ghost use Rattle.std.specs.Prelude.{◌≡◌, ◌<◌, ◌≤◌, ◌++◌, ◌∷◌, [], IfOk, IfErr, OnOk, Contains, IsSome, None, length, if◌then◌else◌};
 ghost use Rattle.apron_base.specs.declared.numbers.StandNo.{StandNo};
 ghost use Rattle.apron_base.specs.declared.numbers.TypeNo.{TypeNo};
@@ -8,10 +8,10 @@ ghost use Rattle.apron_rules.specs.declared.rules.Wing.{Wing};
 ghost use Rattle.apron_rules.specs.Refusals.{fault_of};
 ghost use Rattle.apron_rules.specs.Rules.{breaks_with_wings};
 ghost use Rattle.apron_rules.specs.Kept.{AreAllNeighbours, IsLinked};
+ghost use Rattle.apron_rules.specs.Limits.{most_types};
 ghost use Rattle.apron_rules.specs.Neighbours.{neighbours_of};
 ghost use Rattle.apron_rules.specs.Widest.{IsWidest};
 
-use crate::limits::MAX_TYPES;
 use crate::links::{StandLinks, StandPair, breaks_by_place};
 use crate::{AirportFault, AirportParts, TypeRow, Wing};
 use apron_base::{Listed, StandNo, TypeNo};
@@ -91,7 +91,7 @@ fn push_if(
 // The type of the greatest span, the first of them.
 fn widest_of(types: &[TypeRow]) -> TypeNo
     requires some { 0 < length types.now }
-    requires few { length types.now ≤ MAX_TYPES }
+    requires few { length types.now ≤ most_types }
     ensures widest { IsWidest types.now result }
 {
     let mut widest = 0;
@@ -106,8 +106,9 @@ fn widest_of(types: &[TypeRow]) -> TypeNo
 /// The neighbours of a stand of an airport are all the stands with which some types have a rule, whatever their
 /// wing tips, and no others.
 pub fn neighbours_are_all_that_break()
-    ensures all { (airport : AirportParts) (s : StandNo) (t : TypeNo) (w : Wing) (s2 : StandNo) (t2 : TypeNo) (w2 : Wing) → fault_of airport ≡ None
-        → IsSome (breaks_with_wings airport s t w s2 t2 w2) → Contains (neighbours_of airport s) s2 }
+    ensures all { (airport : AirportParts) (s : StandNo) (t : TypeNo) (w : Wing) (s2 : StandNo) (t2 : TypeNo) (w2 : Wing)
+        → fault_of airport ≡ None → IsSome (breaks_with_wings airport s t w s2 t2 w2)
+        → Contains (neighbours_of airport s) s2 }
     ensures no_others { (airport : AirportParts) (s s2 : StandNo) → Contains (neighbours_of airport s) s2
         → (t t2 : TypeNo) × IsSome (breaks_with_wings airport s t Wing.Full s2 t2 Wing.Full) }
 {}

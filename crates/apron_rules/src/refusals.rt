@@ -15,10 +15,10 @@ pub enum AirportFault {
     LimitPassed(Limit),
     /// The first type of whose span there is no code letter.
     BadSpan(Name),
-    /// The first type whose span with folded wing tips is 0 or greater than the wing span, or that takes more
-    /// than 60 minutes.
+    /// The first type whose span with folded wing tips is 0 or greater than its wing span, or whose wing tips are
+    /// unfolded for more than 60 minutes.
     BadFold(Name),
-    /// Memory is wanting.
+    /// Memory has run out.
     Memory,
 }
 
