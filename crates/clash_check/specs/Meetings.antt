@@ -9,30 +9,35 @@ use Rattle.apron_rules.specs.declared.rules.Clash.{Clash}
 use Rattle.apron_rules.specs.declared.rules.Meeting.{Meeting}
 use Rattle.apron_rules.specs.Clash.{rule_at}
 
--- the first of so many minutes from this one on at which the slots clash, with the rule
+-- the first of the next minutes, this many from this one on, at which the slots clash, with its rule
 unfoldable pub meeting_from : AirportParts → Slot → Slot → ℕ → ℕ → Option Meeting
 meeting_from airport slot other minute zero = None
 meeting_from airport slot other minute (suc more) =
-    option_or (option_map (λ rule. record { minute = minute; rule = rule }) (rule_at airport slot other minute)) (meeting_from airport slot other (minute + 1) more)
+    option_or (option_map (λ rule. record { minute = minute; rule = rule }) (rule_at airport slot other minute))
+    (meeting_from airport slot other (minute + 1) more)
 
--- the first minute at which the slots clash, with the rule: the minutes are tried up to the end of either
+-- the first minute at which the slots clash, with its rule: the minutes are tried up to the end of either
 unfoldable pub meeting : AirportParts → Slot → Slot → Option Meeting
 meeting airport slot other = meeting_from airport slot other 0 (min slot.end other.end)
 
--- the clash of a slot with another, at their first minute: the slot's own part is a
+-- the clash of two slots that meet so: the first one's part is a
+abbrev pub clash_at : Slot → Slot → Meeting → Clash
+clash_at slot other at = record { minute = at.minute; a = slot.part; b = other.part; rule = at.rule }
+
+-- the clash of a slot with another, at their first minute
 abbrev pub clash_with : AirportParts → Slot → Slot → Option Clash
-clash_with airport slot other = option_map (λ at. record { minute = at.minute; a = slot.part; b = other.part; rule = at.rule }) (meeting airport slot other)
+clash_with airport slot other = option_map (λ at. clash_at slot other at) (meeting airport slot other)
 
 -- the clash of a slot with each of these that it clashes with, actual or planned, in their order
 abbrev pub clashes_with : AirportParts → Slot → List Slot → List Clash
 clashes_with airport slot others = filter_map (clash_with airport slot) others
 
--- the clash of a slot with another, at the first of so many minutes from this one on
+-- the clash of a slot with another, at the first of the next minutes, this many from this one on
 abbrev pub clash_within : AirportParts → Slot → ℕ → ℕ → Slot → Option Clash
 clash_within airport slot minute more other =
-    option_map (λ at. record { minute = at.minute; a = slot.part; b = other.part; rule = at.rule }) (meeting_from airport slot other minute more)
+    option_map (λ at. clash_at slot other at) (meeting_from airport slot other minute more)
 
--- the clash of a slot with each of these with which it clashes at some of so many minutes from this one on
+-- the clash of a slot with each of these that it clashes with in these minutes, in their order
 abbrev pub clashes_within : AirportParts → Slot → ℕ → ℕ → List Slot → List Clash
 clashes_within airport slot minute more others = filter_map (clash_within airport slot minute more) others
 

@@ -8,13 +8,16 @@ use Rattle.stand_index.specs.Steps.{most_steps}
 
 -- the most steps of one look at each neighbour of the slot's stand
 abbrev pub steps_near : AirportParts → List StandSlots → Slot → ℕ
-steps_near airport index slot = sum_by (λ stand. most_steps (at_stand index stand) slot.from slot.end) (neighbours_of airport slot.stand)
+steps_near airport index slot =
+    sum_by (λ stand. most_steps (at_stand index stand) slot.from slot.end) (neighbours_of airport slot.stand)
 
--- the same for those of the slot's minutes that lie from the one to below the other
+-- the same for the slot's minutes from the one to below the other
 abbrev pub steps_within : AirportParts → List StandSlots → Slot → ℕ → ℕ → ℕ
-steps_within airport index slot from end = sum_by (λ stand. most_steps (at_stand index stand) (max from slot.from) (min end slot.end)) (neighbours_of airport slot.stand)
+steps_within airport index slot from end =
+    sum_by (λ stand. most_steps (at_stand index stand) (max from slot.from) (min end slot.end))
+    (neighbours_of airport slot.stand)
 
--- how many pairs there are among so many
+-- how many pairs there are among this many
 abbrev pub pairs_among : ℕ → ℕ
 pairs_among zero = 0
 pairs_among (suc before) = pairs_among before + before

@@ -13,8 +13,8 @@ use std::alloc::Global;
 use std::sync::ledger::Ledger;
 
 /// The slots of the index that clash with this one, actual ones with actual ones too: of each the first
-/// minute and the rule, in order of its part, which is `b`. No slot of the same visit is one of these. The
-/// only error is want of memory.
+/// minute and the rule of that minute, in order of its part, which is `b`. No slot of the same visit is one of
+/// these. The only error is want of memory.
 pub fn clashes_of<L: Ledger>(
     alloc: Global,
     airport: &Airport,
@@ -24,14 +24,15 @@ pub fn clashes_of<L: Ledger>(
 ) -> Result<Listed<Clash>, Memory>
     requires clear { IsClear airport.now index.now [] }
     requires slot { IsSlotOf airport.now slot.now }
-    ensures clashes { IfOk result (λ clashes. clashes ≡ clashes_with airport.now slot.now (by_part (all_slots index.now))) }
+    ensures clashes { IfOk result (λ clashes. clashes ≡
+        clashes_with airport.now slot.now (by_part (all_slots index.now))) }
     ensures steps { steps.new ≤ steps.old + steps_near airport.now index.now slot.now }
 {
     clashes_within(alloc, airport, index, slot, 0, slot.end, steps)
 }
 
-/// The same at the first of the minutes from the one to below the other. Slots that clash at none of them are
-/// none of these.
+/// The slots of the index that clash with this one at a minute from `from` to below `end`: of each the first of
+/// these minutes and the rule of that minute, in order of its part, which is `b`. The only error is want of memory.
 pub fn clashes_within<L: Ledger>(
     alloc: Global,
     airport: &Airport,
@@ -43,7 +44,8 @@ pub fn clashes_within<L: Ledger>(
 ) -> Result<Listed<Clash>, Memory>
     requires clear { IsClear airport.now index.now [] }
     requires slot { IsSlotOf airport.now slot.now }
-    ensures clashes { IfOk result (λ clashes. clashes ≡ clashes_within airport.now slot.now from (end - from) (by_part (all_slots index.now))) }
+    ensures clashes { IfOk result (λ clashes. clashes ≡
+        clashes_within airport.now slot.now from (end - from) (by_part (all_slots index.now))) }
     ensures steps { steps.new ≤ steps.old + steps_within airport.now index.now slot.now from end }
 {
     let mut clashes = clashes_near(alloc, airport, index, slot, from, end, steps)?;
@@ -63,7 +65,8 @@ fn clashes_near<L: Ledger>(
 ) -> Result<Vec<Clash>, Memory>
     requires clear { IsClear airport.now index.now [] }
     requires slot { IsSlotOf airport.now slot.now }
-    ensures clashes { IfOk result (λ clashes. clashes.items ≡ clashes_within airport.now slot.now from (end - from) (all_slots index.now)) }
+    ensures clashes { IfOk result (λ clashes. clashes.items ≡
+        clashes_within airport.now slot.now from (end - from) (all_slots index.now)) }
     ensures steps { steps.new ≤ steps.old + steps_within airport.now index.now slot.now from end }
 {
     let neighbours = airport.neighbours(slot.stand);
@@ -77,7 +80,7 @@ fn clashes_near<L: Ledger>(
     Ok(clashes)
 }
 
-// Puts the clashes of a slot with some others last, at the first of the minutes.
+// Puts the clashes of a slot with some others at these minutes last.
 fn push_clashes(
     airport: &Airport,
     clashes: &mut Vec<Clash>,
@@ -88,7 +91,8 @@ fn push_clashes(
 ) -> Result<(), Memory>
     requires slot { IsSlotOf airport.now slot.now }
     requires others { All (IsSlotOf airport.now) others.now }
-    ensures clashes { OnOk result (clashes.new.items ≡ clashes.old.items ++ clashes_within airport.now slot.now from (end - from) others.now) }
+    ensures clashes { OnOk result (clashes.new.items ≡
+        clashes.old.items ++ clashes_within airport.now slot.now from (end - from) others.now) }
 {
     for other in others {
         push_some(clashes, clash_within(airport, slot, other, from, end))?;
@@ -106,8 +110,7 @@ fn push_some(clashes: &mut Vec<Clash>, clash: Option<Clash>) -> Result<(), Memor
     Ok(())
 }
 
-// The clash of a slot with another at the first of the minutes from the one to below the other, if they clash at
-// any of them.
+// The clash of a slot with another at the first minute of these at which they clash, if there is one.
 fn clash_within(
     airport: &Airport,
     slot: &Slot,
