@@ -32,7 +32,7 @@ pub fn empty_parts(alloc: Global) -> AirportParts
     }
 }
 
-/// The airport of these parts. At `Err` they make none, or memory is wanting.
+/// The airport of these parts. At `Err` they make none, or memory has run out.
 pub fn airport_of(alloc: Global, parts: AirportParts) -> Result<Airport, Fail>
     requires station { IsTrue (is_station parts.station) }
     requires first { IsFirstDay parts.first }
@@ -83,11 +83,5 @@ pub fn stand_on_n(name: Name, centre: u32) -> StandRow {
 
 /// A type with the span of an A320, whose aircraft stay for 40 minutes at least.
 pub fn type_of_40(name: Name) -> TypeRow {
-    TypeRow {
-        name,
-        span: 3_580,
-        least: 40,
-        parked: 3_580,
-        fold: 0,
-    }
+    TypeRow::without_folding(name, 3_580, 40)
 }
