@@ -18,3 +18,4 @@ pub mod Bumps
 pub mod Lost
 pub mod Made
 pub mod Untouched
+pub mod Records

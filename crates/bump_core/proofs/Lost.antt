@@ -65,7 +65,7 @@ given_first h y x xs (Some w) is rest in' = elim in' [
 ]
 
 -- what comes out is given by an item
-given_by : {X Y : Type 0} (h : X → Option Y) (y : Y) (xs : List X) → Among y (filter_map h xs) → (x : X) × Among x xs × (h x ≡ Some y)
+pub given_by : {X Y : Type 0} (h : X → Option Y) (y : Y) (xs : List X) → Among y (filter_map h xs) → (x : X) × Among x xs × (h x ≡ Some y)
 given_by h y [] in' = absurd in'
 given_by h y (x ∷ xs) in' = given_first h y x xs (h x) refl (given_by h y xs) in'
 

@@ -5,3 +5,4 @@ pub mod Near
 pub mod Lists
 pub mod Settled
 pub mod Kept
+pub mod Records

@@ -1,17 +1,22 @@
 // Laws of settling.
-ghost use Rattle.std.specs.Prelude.{◌≡◌, ◌≤◌, ◌<◌, ◌+◌, ◌↔◌, ℕ, true, false, All, Contains, IfSome, List, Option, length, map};
+ghost use Rattle.std.specs.Prelude.{◌≡◌, ◌≤◌, ◌<◌, ◌+◌, ◌↔◌, ℕ, true, false, All, Contains, IfSome, List, Option, Some, length, map};
 ghost use Rattle.apron_rules.specs.declared.parts.AirportParts.{AirportParts};
 ghost use Rattle.apron_rules.specs.Clash.{IsSound};
+ghost use Rattle.apron_base.specs.declared.numbers.StandNo.{StandNo};
+ghost use Rattle.visit_book.specs.declared.visits.Bump.{Bump};
+ghost use Rattle.visit_book.specs.declared.visits.Part.{Part};
+ghost use Rattle.visit_book.specs.declared.visits.Place.TheVariants.{Planned, Unplaced};
 ghost use Rattle.visit_book.specs.declared.visits.Visit.{Visit};
 ghost use Rattle.visit_book.specs.Numbers.{IsNumbered, with_visit};
-ghost use Rattle.visit_book.specs.Slots.{slots_of};
+ghost use Rattle.visit_book.specs.Slots.{slot_on, slots_of};
 ghost use Rattle.visit_book.specs.WellFormed.{IsWellFormed};
 ghost use Rattle.plan_core.specs.PlanState.{IsPlan, PlanState, version_limit};
 ghost use Rattle.bump_core.specs.declared.ranks.Ranked.{Ranked};
 ghost use Rattle.bump_core.specs.Kept.{StaysBut};
 ghost use Rattle.bump_core.specs.Near.{meets, others, settled_near};
-ghost use Rattle.bump_core.specs.Ranks.{Stay, all_parts_on, blocks, is_better, kept_of, parts_on};
-ghost use Rattle.bump_core.specs.Settle.{settle, settled_visit};
+ghost use Rattle.bump_core.specs.Ranks.{Stay, all_parts_on, blocks, is_better, kept_of, parts_on, ranked};
+ghost use Rattle.bump_core.specs.Records.{IsRecordOf};
+ghost use Rattle.bump_core.specs.Settle.{settle, settled_place, settled_visit};
 ghost use Rattle.bump_core.specs.Settled.{IsChanged, with_changed, with_settled};
 
 /// There is just one way for parts to stay: each stays, unless a better one that stays clashes with it.
@@ -68,4 +73,14 @@ pub fn changed_visit_decides()
     ensures better { (airport : AirportParts) (visit : Visit) (own part other : Ranked) → Contains (parts_on airport visit) own → Contains (parts_on airport visit) other
         → (part.slot.part.visit.0 ≡ visit.number.0 → ⊥) → other.slot.actual ≡ false → is_better part other ≡ true → blocks airport own part ≡ true
         → own.slot.actual ≡ true }
+{}
+
+/// The record of a part that loses its stand names a part that keeps its own, the first minute at which the two
+/// clash and the rule of that minute. No better part that keeps its stand clashes with the one that lost it: actual
+/// parts are better than planned ones, and else the rank decides.
+pub fn record_names_the_best_blocker()
+    ensures names { (airport : AirportParts) (entry : ℕ) (visits : List Visit) (visit : Visit) (number : ℕ) (part : Part) (stand : StandNo) (bump : Bump)
+        → settled_place airport entry (kept_of airport (all_parts_on airport visits)) visit number part (Planned stand)
+        ≡ Unplaced (Some bump)
+        → IsRecordOf airport (all_parts_on airport (settle airport entry visits)) (ranked visit (slot_on airport visit number part stand)) bump }
 {}
