@@ -40,12 +40,12 @@ pub enum Movement {
     Departure(Key),
 }
 
-/// The visit as the message changes it, or None where it changes nothing. Visits stand in order of number. A message of
-/// the airport's own station tells of the arrival, else of the departure, else of the expected departure; one of another
-/// station of the expected arrival, where that is at the airport. It is of the first live visit that comes, or leaves, by
-/// its flight on the latest day with its day of the month. Nothing changes without such a visit, at a time outside the
-/// plan, where a visit that lands or comes on block is on block, and where it would go before it came. It takes no
-/// memory.
+/// The visit as the message changes it, or None where it changes nothing. A message of the airport's own station tells of
+/// the arrival, else of the departure, else of the expected departure; one of another station of the expected arrival,
+/// where that is at the airport. It is of a live visit that comes, or leaves, by its flight on the latest day with its
+/// day of the month: of several the first in the list, whatever their numbers are. Nothing changes without such a visit,
+/// at a time outside the plan, where a visit that lands or comes on block is on block, and where it would go before it
+/// came. It takes no memory.
 pub fn effect_of(airport: &Airport, visits: &[Visit], message: &Mvt) -> Option<Visit>
     requires each { All (IsWellFormed airport.now) visits.now }
     requires readable { IsReadable message.now }
