@@ -15,14 +15,14 @@ use turn_board::{Seat, TurnBoard};
 /// The port of a desk that has a seat of its own at a board. An ask waits for its turn.
 ///
 /// Contracts see the board and the seat.
-pub struct Served<'s, 'a, R: Wait, K: Keeper> {
+pub struct Served<'s, 'a, R, K: Keeper> {
     rt: &'s R,
     board: &'s TurnBoard<Board<'a, K>>,
     airport: &'a Airport,
     seat: Seat<Board<'a, K>>,
 }
 
-impl<'s, 'a, R: Wait, K: Keeper> Model for Served<'s, 'a, R, K> {
+impl<'s, 'a, R, K: Keeper> Model for Served<'s, 'a, R, K> {
     ghost use Rattle.std.specs.Prelude.{◌≡◌};
     ghost use Rattle.turn_board.specs.Board.{Sits};
     ghost use Rattle.desk_turns.specs.Seats.{ServedState};
@@ -34,7 +34,7 @@ impl<'s, 'a, R: Wait, K: Keeper> Model for Served<'s, 'a, R, K> {
     ghost invariant = { λ s. Sits s.board.now s.seat × (s.airport.now ≡ s.board.now.start.fixed) };
 }
 
-impl<'s, 'a, R: Wait, K: Keeper> Served<'s, 'a, R, K> {
+impl<'s, 'a, R, K: Keeper> Served<'s, 'a, R, K> {
     /// The port of a seat of this board, whose airport this is.
     pub fn new(
         rt: &'s R,
