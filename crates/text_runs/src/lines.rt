@@ -23,7 +23,7 @@ impl Session {
     }
 
     /// A line `> METHOD TARGET BODY` is a request, with the fields of the lines `+ FIELD` before it in its head, and a line
-    /// `< CODE FIELD BODY` is a reply. At `Err` memory is wanting, or a request or a reply is none.
+    /// `< CODE FIELD BODY` is a reply; others are empty. At `Err` memory is wanting, or a line is none of these.
     pub fn of(alloc: Global, lines: &str) -> Result<Session, Fail> {
         let mut session = Session::new(alloc);
         let mut fields = String::new(alloc);
@@ -43,6 +43,8 @@ impl Session {
             fields.clear();
         } else if let Some(words) = line.strip_prefix("< ") {
             self.tell(alloc, words)?;
+        } else if !line.is_empty() {
+            return Err(Fail::new("a line is a field, a request or a reply"));
         }
         Ok(())
     }
