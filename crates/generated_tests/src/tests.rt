@@ -12,6 +12,7 @@ fn days_end_with_these_numbers(rt: HostRuntime) {
         (50, [50, 50, 0, 6, 0, 112]),
         (90, [90, 90, 0, 37, 0, 202]),
         (150, [150, 145, 5, 139, 0, 332]),
+        (200, [200, 191, 9, 223, 1, 442]),
     ];
     for (visits, [added, placed, unplaced, refused, bumped, version]) in days {
         let want = Summary {
