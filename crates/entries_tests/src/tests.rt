@@ -1,10 +1,13 @@
 // Entries, read and written again, and the first fault of what is none.
-use apron_base::Name;
+use apron_base::{Name, StandNo, TypeNo, VisitNo};
 use apron_rules::Airport;
+use desk_words::asks::Command;
 use entry_bytes::{EntryFault, decode_entry, encode_entry};
+use mvt_grammar::{Clock, Flight, Mvt};
 use small_airports::{on_one_frontage, stand_on_n, type_of_40};
 use std::alloc::Global;
 use std::test::Fail;
+use visit_book::{Edit, Event, Key, NewVisit};
 
 // Six stands, seven types, and three days.
 fn airport(alloc: Global) -> Result<Airport, Fail> {
@@ -79,6 +82,130 @@ fn entries_are_read_and_written_again(rt: HostRuntime) -> Result<(), Fail> {
     for bytes in [ADDED, PUT, KEYED, EDITED, MESSAGE, CAME, WENT, CANCELLED] {
         assert!(rt; is_same(rt.alloc(), &airport, bytes), "of {bytes:?}");
     }
+    Ok(())
+}
+
+// The command that is read of these bytes, which have this call number.
+fn command_of(alloc: Global, bytes: &[u8], call: u64) -> Result<Command, Fail> {
+    let airport = airport(alloc)?;
+    match decode_entry(alloc, &airport, bytes) {
+        Ok(entry) if entry.call == call => Ok(entry.command),
+        _ => Err(Fail::new("an entry of this call number")),
+    }
+}
+
+fn lufthansa(number: u16, suffix: Option<u8>) -> Flight {
+    Flight {
+        airline: Name::literal(b"LH"),
+        number,
+        suffix,
+    }
+}
+
+#[test]
+fn a_visit_is_read_with_all_that_it_was_added_with(rt: HostRuntime) -> Result<(), Fail> {
+    let Command::AddVisit(new) = command_of(rt.alloc(), KEYED, 3)? else {
+        return Err(Fail::new("a visit"));
+    };
+    let wanted = NewVisit {
+        name: Name::literal(b"V2"),
+        kind: TypeNo(3),
+        class: 5,
+        on: 700,
+        off: 760,
+        arr: Some(Key {
+            flight: lufthansa(123, None),
+            day: 1,
+        }),
+        dep: Some(Key {
+            flight: lufthansa(124, Some(b'A')),
+            day: 2,
+        }),
+    };
+    assert!(rt; new == wanted);
+    Ok(())
+}
+
+#[test]
+fn a_commit_is_read_with_its_edits(rt: HostRuntime) -> Result<(), Fail> {
+    let read = command_of(rt.alloc(), EDITED, 0x3FFF_FFFF_FFFF_FFFF)?;
+    let Command::Commit {
+        desk,
+        draft,
+        base,
+        edits,
+    } = read
+    else {
+        return Err(Fail::new("a commit"));
+    };
+    let wanted = [
+        Edit::Put {
+            visit: VisitNo(1),
+            part: 2,
+            stand: StandNo(5),
+        },
+        Edit::Lift {
+            visit: VisitNo(258),
+            part: 1,
+        },
+        Edit::Cut {
+            visit: VisitNo(1),
+            part: 1,
+            at: 630,
+        },
+        Edit::Join {
+            visit: VisitNo(1),
+            part: 1,
+        },
+    ];
+    assert!(rt; desk == Name::literal(b"D"));
+    assert_eq!(rt; (draft, base), (2, 9));
+    assert!(rt; edits.as_slice() == wanted.as_slice());
+    Ok(())
+}
+
+#[test]
+fn a_message_is_read_with_its_estimate(rt: HostRuntime) -> Result<(), Fail> {
+    let Command::Message { message } = command_of(rt.alloc(), MESSAGE, 4)? else {
+        return Err(Fail::new("a message"));
+    };
+    let at_0620 = Clock {
+        day: None,
+        minute: 380,
+    };
+    let wanted = Mvt {
+        flight: lufthansa(123, None),
+        day: 27,
+        registration: Name::literal(b"DABCD"),
+        station: Name::literal(b"MUC"),
+        ad: None,
+        aa: None,
+        ea: Some((at_0620, Name::literal(b"APR"))),
+        ed: None,
+    };
+    assert!(rt; message == wanted);
+    Ok(())
+}
+
+#[test]
+fn reports_and_cancels_are_read_with_their_visits(rt: HostRuntime) -> Result<(), Fail> {
+    let on = Event::On {
+        part: 1,
+        stand: StandNo(5),
+        minute: 610,
+    };
+    let off = Event::Off { minute: 660 };
+    for (bytes, call, wanted) in [(CAME, 5, on), (WENT, 6, off)] {
+        let Command::Report { visit, event } = command_of(rt.alloc(), bytes, call)? else {
+            return Err(Fail::new("a report"));
+        };
+        assert_eq!(rt; visit, VisitNo(2));
+        assert_eq!(rt; event, wanted);
+    }
+    let Command::Cancel { visit } = command_of(rt.alloc(), CANCELLED, 7)? else {
+        return Err(Fail::new("a cancel"));
+    };
+    assert_eq!(rt; visit, VisitNo(258));
     Ok(())
 }
 

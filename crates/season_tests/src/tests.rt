@@ -2,13 +2,14 @@
 ghost use Rattle.std.specs.Prelude.{◌≡◌, All, IfOk};
 ghost use Rattle.visit_book.specs.NewVisits.{IsNewVisitOf, new_of};
 
-use apron_base::{Listed, Name, VisitNo};
+use apron_base::{Listed, Name, TypeNo, VisitNo};
 use apron_rules::{Airport, TypeRow};
+use mvt_grammar::Flight;
 use season_files::{SeasonFault, read_season, write_season};
 use small_airports::{on_one_frontage, stand_on_n, type_of_40};
 use std::alloc::{AllocError, Global};
 use std::test::Fail;
-use visit_book::{End, NewVisit, Visit, added_visit};
+use visit_book::{End, Key, NewVisit, Visit, added_visit};
 
 const HEADER: &str = "name,type,class,on,off,arr,arrday,dep,depday\n";
 
@@ -152,6 +153,44 @@ fn two_visits_are_written_as_they_were_read(rt: HostRuntime) -> Result<(), Fail>
         let is = is_rewritten(rt.alloc(), text, cancelled, want)?;
         assert!(rt; is, "{what}");
     }
+    Ok(())
+}
+
+// A flight of LH, which leaves its origin on the first day.
+fn of_first_day(number: u16) -> Key {
+    let flight = Flight {
+        airline: Name::literal(b"LH"),
+        number,
+        suffix: None,
+    };
+    Key { flight, day: 1 }
+}
+
+#[test]
+fn two_visits_are_read_with_all_that_they_are_added_with(rt: HostRuntime) -> Result<(), Fail> {
+    let airport = airport(rt.alloc())?;
+    let Ok(found) = season(rt.alloc(), &airport, TWO.as_bytes()) else {
+        return Err(Fail::new("a season"));
+    };
+    let first = NewVisit {
+        name: Name::literal(b"V1"),
+        kind: TypeNo(0),
+        class: 3,
+        on: 600,
+        off: 660,
+        arr: Some(of_first_day(123)),
+        dep: Some(of_first_day(124)),
+    };
+    let second = NewVisit {
+        name: Name::literal(b"V2"),
+        kind: TypeNo(1),
+        class: 5,
+        on: 700,
+        off: 760,
+        arr: None,
+        dep: None,
+    };
+    assert!(rt; found.as_slice() == [first, second].as_slice());
     Ok(())
 }
 
