@@ -11,6 +11,8 @@ use std::test::Fail;
 
 mod dates;
 mod folding;
+mod phases;
+mod stays;
 
 const NARROW: u16 = 0;
 
@@ -59,20 +61,8 @@ fn airport(alloc: Global) -> Result<Airport, Fail> {
         b: Name::literal(b"Q"),
         lb: Letter::C,
     };
-    let narrow = TypeRow {
-        name: Name::literal(b"A320"),
-        span: 3_580,
-        least: 40,
-        parked: 3_580,
-        fold: 0,
-    };
-    let wide = TypeRow {
-        name: Name::literal(b"B77W"),
-        span: 6_480,
-        least: 40,
-        parked: 6_480,
-        fold: 0,
-    };
+    let narrow = TypeRow::without_folding(Name::literal(b"A320"), 3_580, 40);
+    let wide = TypeRow::without_folding(Name::literal(b"B77W"), 6_480, 40);
     airport_of(
         alloc,
         AirportParts {

@@ -1,16 +1,16 @@
-// Aircraft that fold their wing tips clash while these are unfolded only, each row by minute and rule.
-ghost use Rattle.std.specs.Prelude.{◌≡◌, true};
-ghost use Rattle.apron_rules.specs.Clash.{IsSlotOf};
+// Types that fold their wing tips: when they clash, what they fit, and which of them an airport takes.
+ghost use Rattle.std.specs.Prelude.{IfOk, IsTrue};
+ghost use Rattle.apron_dates.specs.Dates.{IsFirstDay};
+ghost use Rattle.apron_rules.specs.Names.{is_station};
 
-use apron_base::{Letter, Listed, Name, PartId, Slot, StandNo, TypeNo, VisitNo};
+use super::stays::{Row, folding_type, stand, wrong_row};
+use apron_base::{Letter, Listed, Name, StandNo, TypeNo};
 use apron_rules::{
-    Airport, AirportParts, Frontage, PairRow, Rule, StandRow, TypeRow, clash_between,
+    Airport, AirportFault, AirportParts, Frontage, PairRow, Rule, TypeRow, UnfitBy, Wing,
 };
-use small_airports::{airport_of, empty_parts};
+use small_airports::{airport_of, empty_parts, stand_on_n};
 use std::alloc::Global;
 use std::test::Fail;
-
-const BUFFER: u32 = 10;
 
 const A320: u16 = 0;
 
@@ -22,20 +22,9 @@ const S3: u16 = 1;
 
 const S5: u16 = 2;
 
-const B14: u16 = 3;
+const S14: u16 = 3;
 
-const B15: u16 = 4;
-
-fn stand(name: Name, frontage: Name, centre: u32, letter: Letter) -> StandRow {
-    StandRow {
-        name,
-        frontage,
-        centre,
-        letter,
-        buffer: BUFFER,
-        half_of: None,
-    }
-}
+const S15: u16 = 4;
 
 fn frontage(alloc: Global, name: Name) -> Frontage {
     Frontage {
@@ -62,20 +51,8 @@ fn airport(alloc: Global) -> Result<Airport, Fail> {
         lb: Letter::C,
     };
     let types = [
-        TypeRow {
-            name: Name::literal(b"A320"),
-            span: 3_580,
-            least: 40,
-            parked: 3_580,
-            fold: 0,
-        },
-        TypeRow {
-            name: Name::literal(b"FW72"),
-            span: 7_180,
-            least: 60,
-            parked: 6_480,
-            fold: 5,
-        },
+        TypeRow::without_folding(Name::literal(b"A320"), 3_580, 40),
+        folding_type(Name::literal(b"FW72"), 7_180, 6_480, 5),
     ];
     airport_of(
         alloc,
@@ -89,42 +66,30 @@ fn airport(alloc: Global) -> Result<Airport, Fail> {
     )
 }
 
-// A part of a visit on a stand: the stand, the type, and its minutes.
-type Stay = (u16, u16, u32, u32);
-
-fn slot(visit: u32, stay: Stay) -> Slot {
-    let (stand, kind, from, to) = stay;
-    Slot {
-        part: PartId {
-            visit: VisitNo(visit),
-            part: 1,
-        },
-        kind: TypeNo(kind),
-        stand: StandNo(stand),
-        from,
-        end: to.saturating_add(BUFFER),
-        actual: false,
-    }
-}
-
-const ROWS: [(&str, Stay, Stay, Option<(u32, Rule)>); 8] = [
+const CLASHES: [Row; 7] = [
     (
         "folded, letter E",
-        (B14, FW72, 600, 700),
-        (B15, A320, 610, 680),
+        (S14, FW72, 600, 700),
+        (S15, A320, 610, 680),
         None,
     ),
     (
         "unfolds in the buffer minutes of the other",
-        (B14, FW72, 600, 700),
-        (B15, A320, 610, 690),
+        (S14, FW72, 600, 700),
+        (S15, A320, 610, 690),
         Some((695, Rule::Pair)),
     ),
     (
         "not folded yet",
-        (B14, FW72, 600, 700),
-        (B15, A320, 604, 680),
+        (S14, FW72, 600, 700),
+        (S15, A320, 604, 680),
         Some((604, Rule::Pair)),
+    ),
+    (
+        "folded from this minute on",
+        (S14, FW72, 600, 700),
+        (S15, A320, 605, 680),
+        None,
     ),
     (
         "too near also when folded",
@@ -144,45 +109,111 @@ const ROWS: [(&str, Stay, Stay, Option<(u32, Rule)>); 8] = [
         (S5, A320, 620, 690),
         Some((695, Rule::Clearance)),
     ),
-    (
-        "the smaller visit comes later",
-        (S5, A320, 620, 690),
-        (S3, FW72, 600, 700),
-        Some((695, Rule::Clearance)),
-    ),
-    (
-        "a part too short to fold",
-        (S3, FW72, 600, 610),
-        (S5, A320, 607, 690),
-        Some((607, Rule::Clearance)),
-    ),
 ];
-
-// Whether a slot has a stand and a type of the airport.
-fn is_slot_of(airport: &Airport, slot: &Slot) -> bool
-    ensures yes { result ≡ true → IsSlotOf airport.now slot.now }
-{
-    (slot.stand.0 as usize) < airport.parts().stands.len()
-        && (slot.kind.0 as usize) < airport.parts().types.len()
-}
-
-fn clash_so(airport: &Airport, one: Stay, other: Stay, want: Option<(u32, Rule)>) -> bool {
-    let p = slot(1, one);
-    let q = slot(2, other);
-    if !is_slot_of(airport, &p) || !is_slot_of(airport, &q) {
-        return false;
-    }
-    match clash_between(airport, &p, &q) {
-        Some(clash) => want == Some((clash.minute, clash.rule)),
-        None => want.is_none(),
-    }
-}
 
 #[test]
 fn wing_tips_exclude_while_they_are_unfolded(rt: HostRuntime) -> Result<(), Fail> {
     let airport = airport(rt.alloc())?;
-    for (row, one, other, want) in ROWS {
-        if !clash_so(&airport, one, other, want) {
+    match wrong_row(&airport, &CLASHES) {
+        Some(row) => Err(Fail::new(row)),
+        None => Ok(()),
+    }
+}
+
+// How the wing tips of FW72 are on a stand from 600 to 700.
+fn wing_at(airport: &Airport, minute: u32) -> Option<Wing> {
+    if FW72 as usize >= airport.parts().types.len() {
+        return None;
+    }
+    Some(airport.wing_at(TypeNo(FW72), 600, 700, minute))
+}
+
+const WINGS: [(&str, u32, Wing); 6] = [
+    ("on block", 600, Wing::Full),
+    ("4 minutes later", 604, Wing::Full),
+    ("5 minutes later", 605, Wing::Parked),
+    ("6 minutes before off block", 694, Wing::Parked),
+    ("5 minutes before off block", 695, Wing::Full),
+    ("in the buffer", 709, Wing::Full),
+];
+
+#[test]
+fn wing_tips_are_folded_between_their_minutes(rt: HostRuntime) -> Result<(), Fail> {
+    let airport = airport(rt.alloc())?;
+    for (row, minute, want) in WINGS {
+        if wing_at(&airport, minute) != Some(want) {
+            return Err(Fail::new(row));
+        }
+    }
+    Ok(())
+}
+
+// Whether FW72 fits a stand.
+fn fits(airport: &Airport, stand: u16) -> Option<Result<(), UnfitBy>> {
+    let parts = airport.parts();
+    if stand as usize >= parts.stands.len() || FW72 as usize >= parts.types.len() {
+        return None;
+    }
+    Some(airport.fits(StandNo(stand), TypeNo(FW72)))
+}
+
+#[test]
+fn a_stand_takes_a_type_by_its_span_unfolded(rt: HostRuntime) -> Result<(), Fail> {
+    let airport = airport(rt.alloc())?;
+    assert!(rt; fits(&airport, S14) == Some(Ok(())));
+    assert!(rt; fits(&airport, S15) == Some(Err(UnfitBy::Letter)));
+    Ok(())
+}
+
+// The fault of the type FW72, in a word.
+fn word_of(fault: &AirportFault) -> &'static str {
+    let folding = Name::literal(b"FW72");
+    match fault {
+        AirportFault::BadSpan(name) if name.is_same(&folding) => "span",
+        AirportFault::BadFold(name) if name.is_same(&folding) => "fold",
+        _ => "other",
+    }
+}
+
+fn parts_with(alloc: Global, kind: TypeRow) -> Result<AirportParts, Fail>
+    ensures station { IfOk result (λ parts. IsTrue (is_station parts.station)) }
+    ensures first { IfOk result (λ parts. IsFirstDay parts.first) }
+{
+    let narrow = TypeRow::without_folding(Name::literal(b"A320"), 3_580, 40);
+    let n = frontage(alloc, Name::literal(b"N"));
+    let stand = stand_on_n(Name::literal(b"N1"), 4_000);
+    Ok(AirportParts {
+        frontages: Listed::from_vec(Vec::from_array(alloc, [n])?),
+        stands: Listed::from_vec(Vec::from_array(alloc, [stand])?),
+        types: Listed::from_vec(Vec::from_array(alloc, [narrow, kind])?),
+        ..empty_parts(alloc)
+    })
+}
+
+// What an airport with an A320 and this type is refused for.
+fn refused_for(alloc: Global, kind: TypeRow) -> Result<&'static str, Fail> {
+    let parts = parts_with(alloc, kind)?;
+    match Airport::new(alloc, parts) {
+        Ok(_airport) => Ok("none"),
+        Err(fault) => Ok(word_of(&fault)),
+    }
+}
+
+const REFUSALS: [(&str, u32, u32, u32, &str); 7] = [
+    ("as wide as unfolded, 60 minutes", 7_180, 7_180, 60, "none"),
+    ("1 cm when folded", 7_180, 1, 0, "none"),
+    ("0 cm when folded", 7_180, 0, 0, "fold"),
+    ("wider than unfolded", 7_180, 7_181, 5, "fold"),
+    ("61 minutes", 7_180, 6_480, 61, "fold"),
+    ("no letter comes first", 8_000, 8_001, 61, "span"),
+    ("the greatest span", 7_999, 7_999, 0, "none"),
+];
+
+#[test]
+fn wing_tips_fold_to_less_within_an_hour(rt: HostRuntime) -> Result<(), Fail> {
+    for (row, span, parked, fold, want) in REFUSALS {
+        let kind = folding_type(Name::literal(b"FW72"), span, parked, fold);
+        if refused_for(rt.alloc(), kind)? != want {
             return Err(Fail::new(row));
         }
     }
