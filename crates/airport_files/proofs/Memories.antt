@@ -26,7 +26,7 @@ use Rattle.airport_files.specs.Forms.{number_of, station_of, date_of, name_of, l
 use Rattle.airport_files.specs.Words.{head_word, frontage_word, stand_word, pair_word}
 use Rattle.airport_files.specs.Rows.{head_number, head_in, head_value, numbers_from, numbers_value, numbers_at, frontage_in, frontage_value, stand_in, stand_value, pair_in, pair_value}
 use Rattle.airport_files.specs.Layout.{rows_from, are_tables, rows_value, layout_of}
-use Rattle.airport_files.specs.Table.{in_form as row_in_form, rows_behind, rows_from as records_from, table_of, table_in}
+use Rattle.airport_files.specs.Table.{in_form as row_in_form, rows_after, rows_from as records_from, table_of, table_in}
 use Rattle.airport_files.specs.declared.type_rows.Columns.{Columns}
 use Rattle.airport_files.specs.TypeRows.{columns_of, row_of}
 use Rattle.airport_files.specs.Meaning.{named_layout, layout_of_table, layout_in, types_of_table, types_in, parts_of, made_of, unless_refused, meaning}
@@ -163,14 +163,14 @@ unfolding records_from
 listed_rows columns k [] = λ p. cc
 listed_rows columns k (fields ∷ rest) = never _ _ _ (listed_row k (row_of columns fields)) (λ row. never _ _ _ (listed_rows columns (k + 1) rest) (λ more. listed_ok _))
 
-listed_behind : (columns : Option Columns) (records : List (List (List ℕ))) → IsListed (rows_behind columns records)
-listed_behind None records = λ p. cc
-listed_behind (Some columns) records = listed_rows columns 2 records
+listed_after : (columns : Option Columns) (records : List (List (List ℕ))) → IsListed (rows_after columns records)
+listed_after None records = λ p. cc
+listed_after (Some columns) records = listed_rows columns 2 records
 
 listed_table : (records : List (List (List ℕ))) → IsListed (table_of records)
 unfolding table_of
 listed_table [] = λ p. cc
-listed_table (header ∷ records) = listed_behind (columns_of header) records
+listed_table (header ∷ records) = listed_after (columns_of header) records
 
 said_table : (read : Result (List TypeRow) TableFault) → IsListed read → IsSaid (types_of_table read)
 said_table (Ok types) h = (λ p. cc, λ p. cc)

@@ -7,7 +7,6 @@ use Rattle.apron_base.specs.declared.letter.Letter.TheVariants.{A, B, C, D, E, F
 use Rattle.apron_dates.specs.Dates.{read_date}
 use Rattle.apron_dates.specs.declared.day.Date.{Date}
 use Rattle.apron_rules.specs.Names.{is_station}
-use Rattle.airport_files.specs.declared.forms.TheConstants.{MAX_NAME}
 use Rattle.airport_files.specs.declared.keys.Key.{Key}
 use Rattle.airport_files.specs.declared.keys.WalkFault.{WalkFault}
 use Rattle.airport_files.specs.declared.keys.WalkFault.TheVariants.{Missing, Wrong}
@@ -24,17 +23,21 @@ is_decimal b = nat_le 48 b && nat_le b 57
 abbrev pub is_short_byte : ℕ → Bool
 is_short_byte b = is_capital b || is_decimal b
 
--- so many capitals or digits
+-- at least `least` and at most `most` capitals or digits
 abbrev pub is_short_name : ℕ → ℕ → List ℕ → Bool
 is_short_name least most text = nat_le least (length text) && nat_le (length text) most && list_all is_short_byte text
 
--- the text, where it passes the test
+-- the text, if it passes the test
 abbrev pub text_if : (List ℕ → Bool) → List ℕ → Option (List ℕ)
 text_if test text = if test text then Some text else None
 
--- a name of 1 to 6 capitals or digits
+-- the most bytes of the name of a frontage or a stand
+abbrev pub longest_name : ℕ
+longest_name = 6
+
+-- a name of at least one capital or digit and at most as many as the longest has
 abbrev pub name_of : Data → Option (List ℕ)
-name_of d = option_and_then (text_if (is_short_name 1 MAX_NAME)) (as_str d)
+name_of d = option_and_then (text_if (is_short_name 1 longest_name)) (as_str d)
 
 -- three capitals
 abbrev pub station_of : Data → Option (List ℕ)

@@ -10,12 +10,12 @@ use Rattle.airport_files.specs.declared.types.TableFault.TheVariants.{BadRow}
 use Rattle.airport_files.specs.declared.type_rows.Columns.{Columns}
 use Rattle.airport_files.specs.TypeRows.{columns_of, row_of}
 
--- record k in its form
+-- the type of record k, or a fault there
 abbrev pub in_form : ℕ → Option TypeRow → Result TypeRow TableFault
 in_form k None = Err (BadRow k)
 in_form k (Some row) = Ok row
 
--- the records from the k-th on
+-- the types of these records, of which the first is record k, or the first bad record
 unfoldable pub rows_from : Columns → ℕ → List (List (List ℕ)) → Result (List TypeRow) TableFault
 rows_from columns k [] = Ok []
 rows_from columns k (fields ∷ rest) = do
@@ -23,21 +23,22 @@ rows_from columns k (fields ∷ rest) = do
   more ← rows_from columns (k + 1) rest
   Ok (row ∷ more)
 
--- the records behind a header with these columns
-abbrev pub rows_behind : Option Columns → List (List (List ℕ)) → Result (List TypeRow) TableFault
-rows_behind None rows = Err (BadRow 1)
-rows_behind (Some columns) rows = rows_from columns 2 rows
+-- the types of the records after a header with these columns
+abbrev pub rows_after : Option Columns → List (List (List ℕ)) → Result (List TypeRow) TableFault
+rows_after None rows = Err (BadRow 1)
+rows_after (Some columns) rows = rows_from columns 2 rows
 
--- the records behind the header
+-- the types of the records after the header
 unfoldable pub table_of : List (List (List ℕ)) → Result (List TypeRow) TableFault
 table_of [] = Err (BadRow 1)
-table_of (header ∷ rows) = rows_behind (columns_of header) rows
+table_of (header ∷ rows) = rows_after (columns_of header) rows
 
--- the rest of the walk, from a state and the bytes that are left: at most so many records
+-- the types of at most `turns` further records, read from this state and the bytes that are left
 abbrev pub rows_left : Columns → ℕ → ℕ → State → List ℕ → Result (List TypeRow) TableFault
-rows_left columns k turns s left = rows_from columns k (records_from default_config turns s left)
+rows_left columns k turns s left =
+    rows_from columns k (records_from default_config turns s left)
 
--- the whole of it
+-- the table of at most `turns` records, the header included
 abbrev pub table_from : ℕ → State → List ℕ → Result (List TypeRow) TableFault
 table_from turns s left = table_of (records_from default_config turns s left)
 

@@ -5,13 +5,11 @@ use Rattle.apron_base.specs.Digits.{number_of}
 use Rattle.apron_base.specs.OptionChain.{◌>>=◌}
 use Rattle.csv.specs.Records.{field_at}
 use Rattle.apron_rules.specs.declared.parts.TypeRow.{TypeRow}
-use Rattle.airport_files.specs.declared.forms.TheConstants.{MAX_TYPE_NAME, MIN_TYPE_NAME}
-use Rattle.airport_files.specs.declared.numbers.TheConstants.{MAX_NUMBER_DIGITS}
 use Rattle.airport_files.specs.declared.type_rows.Columns.{Columns}
 use Rattle.airport_files.specs.declared.type_rows.Columns.TheVariants.{Folding, Plain}
 use Rattle.airport_files.specs.Forms.{is_short_name, text_if}
 
--- the field is there and is this word
+-- there is a field, and it is this word
 abbrev pub field_is : List ℕ → Option (List ℕ) → Bool
 field_is word None = false
 field_is word (Some field) = bytes_eq field word
@@ -22,22 +20,40 @@ is_field fields i word = field_is word (field_at fields i)
 
 -- the first three fields name the columns that each file has
 abbrev pub has_plain_columns : List (List ℕ) → Bool
-has_plain_columns fields = is_field fields 0 (codes "type") && is_field fields 1 (codes "span") && is_field fields 2 (codes "least")
+has_plain_columns fields =
+    is_field fields 0 (codes "type") && is_field fields 1 (codes "span") && is_field fields 2 (codes "least")
 
--- the columns that the first record names
+-- the two fields after them name the columns of a file whose types may fold their wing tips
+abbrev pub has_folding_columns : List (List ℕ) → Bool
+has_folding_columns fields = is_field fields 3 (codes "parked") && is_field fields 4 (codes "fold")
+
+-- the columns that a header names: the first three, or all five
 abbrev pub columns_of : List (List ℕ) → Option Columns
 columns_of fields =
     if not (has_plain_columns fields) then None
     else (if length fields == 3 then Some Plain
-    else (if (length fields == 5) && is_field fields 3 (codes "parked") && is_field fields 4 (codes "fold") then Some Folding else None))
+    else (if (length fields == 5) && has_folding_columns fields then Some Folding else None))
 
--- a name of 2 to 4 capitals or digits
+-- the fewest bytes of the name of a type
+abbrev pub shortest_type_name : ℕ
+shortest_type_name = 2
+
+-- the most bytes of the name of a type
+abbrev pub longest_type_name : ℕ
+longest_type_name = 4
+
+-- the most digits of a number of a type file
+abbrev pub most_digits : ℕ
+most_digits = 9
+
+-- the name of a type, of capitals and digits, in the field of this place
 abbrev pub name_in : List (List ℕ) → ℕ → Option (List ℕ)
-name_in fields i = field_at fields i >>= text_if (is_short_name MIN_TYPE_NAME MAX_TYPE_NAME)
+name_in fields i =
+    field_at fields i >>= text_if (is_short_name shortest_type_name longest_type_name)
 
--- a number of 1 to 9 digits
+-- the number whose digits are the field of this place
 abbrev pub number_in : List (List ℕ) → ℕ → Option ℕ
-number_in fields i = field_at fields i >>= (λ text. number_of text MAX_NUMBER_DIGITS)
+number_in fields i = field_at fields i >>= (λ text. number_of text most_digits)
 
 -- the type of the first three fields, whose wing tips don't fold
 abbrev pub plain_row : List (List ℕ) → Option TypeRow

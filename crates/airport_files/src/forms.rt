@@ -15,7 +15,7 @@ use toml::{Table, Value};
 /// The most bytes of the name of a frontage or a stand.
 pub(crate) const MAX_NAME: usize = 6;
 
-/// The least bytes of the name of a type.
+/// The fewest bytes of the name of a type.
 pub(crate) const MIN_TYPE_NAME: usize = 2;
 
 /// The most bytes of the name of a type.
@@ -145,7 +145,7 @@ fn name(value: &Value) -> Option<Name>
     }
 }
 
-/// The name of a text of so many capitals or digits.
+/// The name of a text of at least `least` and at most `most` capitals or digits.
 pub(crate) fn short_name(text: &[u8], least: usize, most: usize) -> Option<Name>
     requires least { 1 ≤ least }
     requires most { most ≤ 12 }

@@ -1,7 +1,7 @@
 // The form of a record of a type file.
 ghost use Rattle.std.specs.Prelude.{◌≡◌};
 ghost use Rattle.csv.specs.Records.{fields_of};
-ghost use Rattle.airport_files.specs.TypeRows.{columns_of, folding_row, has_plain_columns, is_field, name_in, number_in, plain_row, row_of};
+ghost use Rattle.airport_files.specs.TypeRows.{columns_of, folding_row, has_folding_columns, has_plain_columns, is_field, name_in, number_in, plain_row, row_of};
 
 use crate::forms::{MAX_TYPE_NAME, MIN_TYPE_NAME, short_name};
 use crate::numbers::number;
@@ -26,7 +26,7 @@ pub(crate) fn columns_of(row: &ByteRecord) -> Option<Columns>
         None
     } else if row.len() == 3 {
         Some(Columns::Plain)
-    } else if row.len() == 5 && is_field(row, 3, b"parked") && is_field(row, 4, b"fold") {
+    } else if row.len() == 5 && has_folding_columns(row) {
         Some(Columns::Folding)
     } else {
         None
@@ -39,6 +39,12 @@ fn has_plain_columns(row: &ByteRecord) -> bool
     is_field(row, 0, b"type") && is_field(row, 1, b"span") && is_field(row, 2, b"least")
 }
 
+fn has_folding_columns(row: &ByteRecord) -> bool
+    ensures is { result ≡ has_folding_columns (fields_of row.now) }
+{
+    is_field(row, 3, b"parked") && is_field(row, 4, b"fold")
+}
+
 fn is_field(row: &ByteRecord, i: usize, word: &[u8]) -> bool
     ensures is { result ≡ is_field (fields_of row.now) i word.now }
 {
@@ -48,19 +54,14 @@ fn is_field(row: &ByteRecord, i: usize, word: &[u8]) -> bool
     }
 }
 
-/// The type of a record, where the record has the form of these columns.
+/// The type of a record, if the record has the form of these columns.
 pub(crate) fn row_of(columns: Columns, row: &ByteRecord) -> Option<TypeRow>
     ensures value { result ≡ row_of columns (fields_of row.now) }
 {
     match columns {
-        Columns::Plain => { if row.len() == 3 { plain_row(row) } else { None } }
-        Columns::Folding => {
-            if row.len() == 5 {
-                folding_row(row)
-            } else {
-                None
-            }
-        }
+        Columns::Plain if row.len() == 3 => plain_row(row),
+        Columns::Folding if row.len() == 5 => folding_row(row),
+        _ => None,
     }
 }
 

@@ -11,7 +11,7 @@ use csv::{ByteRecord, Reader};
 use csv_records::{read_row, start};
 use std::alloc::Global;
 
-/// The first bad record, counted from 1, or want of memory.
+/// Why no types are read: the first bad record, counted from 1, or memory has run out.
 #[derive(Clone, Copy, PartialEq, Eq, Debug)]
 pub(crate) enum TableFault {
     BadRow(u32),
@@ -29,11 +29,14 @@ impl From<Memory> for TableFault {
     }
 }
 
-// Reads the first record, which is the header, and tells its columns.
+// Reads the first record, the header, and returns its columns.
 fn read_header(rdr: &mut Reader<&[u8]>, row: &mut ByteRecord) -> Result<Columns, TableFault>
-    ensures ok { IfOk result (λ columns. (turns : ℕ) (s : State) (left : List ℕ) → IsReading (λ b. Some b.now) rdr.old s left
-        → (t : State) × (rest : List ℕ) × IsReading (λ b. Some b.now) rdr.new t rest × (table_from (turns + 1) s left ≡ rows_left columns 2 turns t rest)) }
-    ensures err { IfErr result (λ e. (turns : ℕ) (s : State) (left : List ℕ) → IsReading (λ b. Some b.now) rdr.old s left
+    ensures ok { IfOk result (λ columns. (turns : ℕ) (s : State) (left : List ℕ)
+        → IsReading (λ b. Some b.now) rdr.old s left
+        → (t : State) × (rest : List ℕ) × IsReading (λ b. Some b.now) rdr.new t rest
+        × (table_from (turns + 1) s left ≡ rows_left columns 2 turns t rest)) }
+    ensures err { IfErr result (λ e. (turns : ℕ) (s : State) (left : List ℕ)
+        → IsReading (λ b. Some b.now) rdr.old s left
         → (e ≡ TableFault.Memory) ⊎ (table_from (turns + 1) s left ≡ Err e)) }
 {
     if !read_row(rdr, row)? {
@@ -45,7 +48,7 @@ fn read_header(rdr: &mut Reader<&[u8]>, row: &mut ByteRecord) -> Result<Columns,
     }
 }
 
-// Reads the records after the header, as many as `turns`.
+// Reads the records after the header, at most `turns` of them.
 fn read_rows(
     alloc: Global,
     rdr: &mut Reader<&[u8]>,
