@@ -60,15 +60,16 @@ class Desk:
             ("read", {"visit": self.draw.randint(1, self.visits + 2)})])
 
     def visit(self, name):
-        type, _, least = self.draw.choice(self.airport.types)
-        on = self.draw.randint(0, self.airport.minutes - least)
-        off = min(self.airport.minutes, on + least + self.draw.randint(0, 90))
-        return {"name": name, "type": type, "class": self.draw.randint(0, 9), "on": on, "off": off, "arr": None, "dep": None}
+        type = self.draw.choice(self.airport.types)
+        on = self.draw.randint(0, self.airport.minutes - type.least)
+        off = min(self.airport.minutes, on + type.least + self.draw.randint(0, 90))
+        return {"name": name, "type": type.name, "class": self.draw.randint(0, 9), "on": on, "off": off, "arr": None, "dep": None}
 
     def shared_visit(self, number):
-        type, _, least = self.airport.types[number % len(self.airport.types)]
+        type = self.airport.types[number % len(self.airport.types)]
         of_class = number % 9 + (self.draw.random() < 0.2)
-        return {"name": f"SHARED-{number}", "type": type, "class": of_class, "on": 60 * number, "off": 60 * number + least, "arr": None, "dep": None}
+        on, off = 60 * number, 60 * number + type.least
+        return {"name": f"SHARED-{number}", "type": type.name, "class": of_class, "on": on, "off": off, "arr": None, "dep": None}
 
     def draft(self):
         drawn = self.draw.random()

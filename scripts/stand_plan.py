@@ -5,6 +5,7 @@ import csv
 import json
 import struct
 import tomllib
+from typing import NamedTuple
 
 DAY = 1440
 MOST = 2 ** 32 - 1
@@ -17,6 +18,30 @@ def compact(value):
     return json.dumps(value, sort_keys=True, separators=(",", ":")).encode()
 
 
+class Type(NamedTuple):
+    """A type of aircraft: lengths in centimetres, times in minutes."""
+    name: str
+    span: int
+    least: int
+    parked: int
+    fold: int
+
+    @staticmethod
+    def of(record):
+        """The type of a record of three fields, or of five."""
+        name, span, least, *folding = record
+        parked, fold = folding or (span, 0)
+        return Type(name, int(span), int(least), int(parked), int(fold))
+
+    def span_at(self, begin, to, minute):
+        """The wing span at this minute of a part from begin to to, and of its buffer: full near both ends, and parked between."""
+        return self.span if minute < begin + self.fold or minute + self.fold >= to else self.parked
+
+    def changes(self, begin, to):
+        """The minutes of such a part at which the wing span may change."""
+        return {begin + self.fold, to - self.fold}
+
+
 class Airport:
     """The airport of two files."""
 
@@ -24,38 +49,38 @@ class Airport:
         with open(airport, "rb") as file:
             described = tomllib.load(file)
         with open(types, newline="") as file:
-            self.types = [(name, int(span), int(least)) for name, span, least in list(csv.reader(file))[1:]]
+            self.types = [Type.of(record) for record in list(csv.reader(file))[1:]]
         self.days, self.tow = described["airport"]["days"], described["airport"]["tow"]
         self.minutes = self.days * DAY
         self.objects = {it["name"]: it["objects"] for it in described["frontage"]}
         self.stands, self.pairs = described["stand"], described.get("pair", [])
         self.stand_of = {it["name"]: place for place, it in enumerate(self.stands)}
-        self.type_of = {name: place for place, (name, _, _) in enumerate(self.types)}
+        self.type_of = {type.name: place for place, type in enumerate(self.types)}
         self.rules = {}
-        count = range(len(self.types))
+        spans = {type.span for type in self.types}
         self.near = [
-            [other for other in range(len(self.stands)) if any(self.breaks(stand, a, other, b) for a in count for b in count)]
+            [other for other in range(len(self.stands)) if any(self.breaks(stand, a, other, b) for a in spans for b in spans)]
             for stand in range(len(self.stands))]
 
-    def letter(self, type):
-        """The code letter of a type and its clearance."""
-        return next((letter, clearance) for below, letter, clearance in LETTERS if self.types[type][1] < below)
+    def letter(self, span):
+        """The code letter of a wing span and its clearance."""
+        return next((letter, clearance) for below, letter, clearance in LETTERS if span < below)
 
-    def breaks(self, stand, type, other, other_type):
-        """The first rule by which two stands exclude each other with aircraft of these types on them, or None."""
-        key = stand, type, other, other_type
+    def breaks(self, stand, span, other, other_span):
+        """The first rule by which two stands exclude each other with aircraft of these wing spans on them, or None."""
+        key = stand, span, other, other_span
         if key not in self.rules:
             self.rules[key] = self.first_rule(*key)
         return self.rules[key]
 
-    def first_rule(self, stand, type, other, other_type):
+    def first_rule(self, stand, span, other, other_span):
         one, two = self.stands[stand], self.stands[other]
         if stand == other:
             return "same"
         if one.get("half_of") == two["name"] or two.get("half_of") == one["name"]:
             return "split"
-        (letter, clearance), (other_letter, other_clearance) = self.letter(type), self.letter(other_type)
-        wide = self.types[type][1] + self.types[other_type][1] + 2 * max(clearance, other_clearance)
+        (letter, clearance), (other_letter, other_clearance) = self.letter(span), self.letter(other_span)
+        wide = span + other_span + 2 * max(clearance, other_clearance)
         if one["frontage"] == two["frontage"] and 2 * abs(one["centre"] - two["centre"]) < wide:
             return "clearance"
         on = {one["name"]: letter, two["name"]: other_letter}
@@ -65,7 +90,8 @@ class Airport:
 
     def unfit(self, stand, type):
         """Why the type does not fit the stand, or None."""
-        it, span, (letter, clearance) = self.stands[stand], self.types[type][1], self.letter(type)
+        it, span = self.stands[stand], self.types[type].span
+        letter, clearance = self.letter(span)
         if letter > it["letter"]:
             return "letter"
         for number, place in enumerate(self.objects[it["frontage"]], 1):
@@ -184,7 +210,7 @@ class Plan:
         parts, k = list(changed.get(said["visit"], it.parts)), said["part"] - 1
         if not 0 <= k < len(parts):
             return self.refused(422, "part")
-        (begin, end, stand), least = parts[k], self.airport.types[it.type][2]
+        (begin, end, stand), least = parts[k], self.airport.types[it.type].least
         if kind == "put":
             stand = self.airport.stand_of[said["stand"]]
             by = self.airport.unfit(stand, it.type)
@@ -206,10 +232,23 @@ class Plan:
         return None
 
     def slots(self, parts):
-        """The slots of the parts that are on a stand: the stand, from, end and part."""
+        """The slots of the parts that are on a stand: the stand, from, end with the buffer, and part."""
         return [
             (stand, begin, end + self.airport.stands[stand]["buffer"], part)
             for part, (begin, end, stand) in enumerate(parts, 1) if stand is not None]
+
+    def meeting(self, slot, other):
+        """The first minute at which two slots of types clash, and the rule of that minute, or None."""
+        (type, stand, begin, end), (other_type, other_stand, other_begin, other_end) = slot, other
+        first, type, other_type = max(begin, other_begin), self.airport.types[type], self.airport.types[other_type]
+        to, other_to = end - self.airport.stands[stand]["buffer"], other_end - self.airport.stands[other_stand]["buffer"]
+        for minute in sorted({first} | type.changes(begin, to) | other_type.changes(other_begin, other_to)):
+            if first <= minute < min(end, other_end):
+                span, other_span = type.span_at(begin, to, minute), other_type.span_at(other_begin, other_to, minute)
+                rule = self.airport.breaks(stand, span, other_stand, other_span)
+                if rule is not None:
+                    return minute, rule
+        return None
 
     def first_clash(self, changed):
         """The first clash with these parts, of a plan that has none without them."""
@@ -218,13 +257,12 @@ class Plan:
             type = self.visits[visit - 1].type
             for stand, begin, end, part in self.slots(parts):
                 for other_visit, other, other_begin, other_end, other_part in self.others(stand, changed, visit):
-                    minute = max(begin, other_begin)
-                    if minute < min(end, other_end):
-                        rule = self.airport.breaks(stand, type, other, self.visits[other_visit - 1].type)
-                        if rule is not None:
-                            a, b = sorted([(visit, part), (other_visit, other_part)])
-                            if first is None or (minute, a, b) < first[:3]:
-                                first = minute, a, b, rule
+                    met = self.meeting((type, stand, begin, end), (self.visits[other_visit - 1].type, other, other_begin, other_end))
+                    if met is not None:
+                        minute, rule = met
+                        a, b = sorted([(visit, part), (other_visit, other_part)])
+                        if first is None or (minute, a, b) < first[:3]:
+                            first = minute, a, b, rule
         return first
 
     def others(self, stand, changed, visit):
@@ -336,7 +374,7 @@ def entry_of(airport, text, length):
         name, type, of_class = text.name(), text.number("H"), text.number("B")
         on, off, arr, dep = text.number("I"), text.number("I"), text.number("B"), text.number("B")
         assert (arr, dep) == (0, 0), "an entry has a flight"
-        said = {"name": name, "type": airport.types[type][0], "class": of_class, "on": on, "off": off, "arr": None, "dep": None}
+        said = {"name": name, "type": airport.types[type].name, "class": of_class, "on": on, "off": off, "arr": None, "dep": None}
         entry = "add", said, 0
     elif kind == 2:
         desk, draft, base, count = text.name(), text.number("I"), text.number("I"), text.number("B")
