@@ -16,7 +16,7 @@ use Rattle.apron_rules.proofs.Bordering.{filter_passed}
 use Rattle.stand_index.specs.Slots.{StandSlots}
 use Rattle.clash_check.specs.Clear.{IsClear}
 use Rattle.clash_check.specs.Indexed.{all_slots}
-use Rattle.clash_check.specs.Meetings.{by_part, clash_within, clashes_within, is_smaller, meeting_from}
+use Rattle.clash_check.specs.Meetings.{by_part, clash_at, clash_within, clashes_within, is_smaller, meeting_from}
 use Rattle.clash_check.proofs.Among.{others_none}
 use Rattle.clash_check.proofs.Meetings.{never_from, not_held}
 use Rattle.visit_book.specs.declared.visits.Visit.{Visit}
@@ -36,9 +36,6 @@ and_no true b (inr e) = e
 no_and : (a b : Bool) → (a && b) ≡ false → (a ≡ false) ⊎ (b ≡ false)
 no_and false b e = inl refl
 no_and true b e = inr e
-
-abbrev of_parts : Slot → Slot → Meeting → Clash
-of_parts p q at = record { minute = at.minute; a = p.part; b = q.part; rule = at.rule }
 
 abbrev kept : {Y : Type 0} → (Y → Bool) → Option Y → Option Y
 kept p None = None
@@ -69,10 +66,10 @@ planned_none airport slots p q k sound in_p in_q planned (Some rule) e =
     let no : (p.actual && q.actual) ≡ false = and_no p.actual q.actual (inr planned) in
     absurd (cc)
 
-kept_by : (order : Bool) (p q : Slot) (found : Option Meeting) → is_smaller p.part q.part ≡ order → kept is_in_order (option_map (of_parts p q) found) ≡ cond order (option_map (of_parts p q) found) None
+kept_by : (order : Bool) (p q : Slot) (found : Option Meeting) → is_smaller p.part q.part ≡ order → kept is_in_order (option_map (clash_at p q) found) ≡ cond order (option_map (clash_at p q) found) None
 kept_by true p q None e = refl
 kept_by false p q None e = refl
-kept_by order p q (Some at) e = ap (λ (b : Bool). cond b (Some (of_parts p q at)) None) e
+kept_by order p q (Some at) e = ap (λ (b : Bool). cond b (Some (clash_at p q at)) None) e
 
 alarm_by : (first second order : Bool) (found : Option Clash) → first ≡ true → (second ≡ false → found ≡ None) → cond order found None ≡ cond (first && second && order) found None
 alarm_by true true order found e none = refl
@@ -87,7 +84,7 @@ alarm_of airport day slots p q sound in_p actual in_q =
     let start = day_start day in
     let met = meeting_from airport p q start day_length in
     let none : q.actual ≡ false → clash_on airport day p q ≡ None =
-    λ planned. ap (option_map (of_parts p q)) (never_from airport p q start day_length (λ k low high. planned_none airport slots p q k sound in_p in_q planned (rule_at airport p q k) refl)) in
+    λ planned. ap (option_map (clash_at p q)) (never_from airport p q start day_length (λ k low high. planned_none airport slots p q k sound in_p in_q planned (rule_at airport p q k) refl)) in
     kept_by (is_smaller p.part q.part) p q met refl ∙ alarm_by p.actual q.actual (is_smaller p.part q.part) (clash_on airport day p q) actual none
 
 -- the clashes of an actual slot on the day with those of greater parts are its alarms
@@ -112,7 +109,7 @@ no_alarm airport day p q off =
     let start = day_start day in
     no_alarm_by p.actual q.actual (is_smaller p.part q.part) (clash_on airport day p q) (elim (no_and p.actual (is_held_at_some (minutes_of_day day) p) off) [
       | inl planned ↦ inl planned
-      | inr away ↦ inr (ap (option_map (of_parts p q)) (never_from airport p q start day_length (λ k low high. not_held airport p q k
+      | inr away ↦ inr (ap (option_map (clash_at p q)) (never_from airport p q start day_length (λ k low high. not_held airport p q k
           (and_no (is_held p k) (is_held q k) (inl (off_day p.from p.end start day_length k (sym (span_of_day p.from p.end day) ∙ away) low high))))))
     ])
 

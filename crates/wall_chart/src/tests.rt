@@ -30,16 +30,6 @@ fn stand(name: Name, centre: u32) -> StandRow {
     }
 }
 
-fn kind(name: Name, span: u32) -> TypeRow {
-    TypeRow {
-        name,
-        span,
-        least: 40,
-        parked: span,
-        fold: 0,
-    }
-}
-
 // Three stands. Two A320 have room on the first two, and not on the last two, which are a centimetre nearer.
 fn airport(alloc: Global) -> Result<Airport, Fail>
     ensures stands { IfOk result (λ airport. length airport.stands ≡ STANDS) }
@@ -52,8 +42,8 @@ fn airport(alloc: Global) -> Result<Airport, Fail>
         stand(Name::literal(b"N3"), 12_059),
     ];
     let types = [
-        kind(Name::literal(b"A320"), 3_580),
-        kind(Name::literal(b"B77W"), 6_480),
+        TypeRow::without_folding(Name::literal(b"A320"), 3_580, 40),
+        TypeRow::without_folding(Name::literal(b"B77W"), 6_480, 40),
     ];
     let frontage = Frontage {
         name: Name::literal(b"N"),
