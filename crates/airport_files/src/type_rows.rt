@@ -71,13 +71,7 @@ fn plain_row(row: &ByteRecord) -> Option<TypeRow>
     let name = name_in(row, 0)?;
     let span = number_in(row, 1)?;
     let least = number_in(row, 2)?;
-    Some(TypeRow {
-        name,
-        span,
-        least,
-        parked: span,
-        fold: 0,
-    })
+    Some(TypeRow::without_folding(name, span, least))
 }
 
 fn folding_row(row: &ByteRecord) -> Option<TypeRow>
