@@ -7,6 +7,8 @@ use std::test::Fail;
 
 const OK: &str = "ok: 13 stands, 7 types, 3 days\n";
 
+const ONE_TYPE: &str = "ok: 13 stands, 1 types, 3 days\n";
+
 // What stands in place of the first such text.
 type Edit = (&'static str, &'static str);
 
@@ -167,6 +169,96 @@ const IN_THE_AIRPORT: [(Edit, &'static str); 18] = [
     ),
 ];
 
+// What is changed in the airport file, up to a limit of the airport or of a name and no further, and the line.
+const AT_A_LIMIT: [(Edit, &'static str); 7] = [
+    (
+        ("days = 3", "days = 14"),
+        "ok: 13 stands, 7 types, 14 days\n",
+    ),
+    (("taxi_in = 5", "taxi_in = 60"), OK),
+    (("tow = 20", "tow = 240"), OK),
+    (("27500", "1000000"), OK),
+    (("8030", "1000000"), OK),
+    (("\"F\", buffer = 10", "\"F\", buffer = 240"), OK),
+    (("name = \"S4\"", "name = \"S4ABCD\""), OK),
+];
+
+// The same of the type file.
+const TYPES_AT_A_LIMIT: [(Edit, &'static str); 4] = [
+    (("1767,20", "1767,600"), OK),
+    (("A388,7975", "A388,7999"), OK),
+    (("B190,1767", "B1,1767"), OK),
+    ((",3600", ",000003600"), OK),
+];
+
+const PLAIN: &str = "type,span,least\n";
+
+const FOLDING: &str = "type,span,least,parked,fold\n";
+
+// The header of a type file, its records, and the line.
+const FOLDING_TYPES: [(&'static str, &'static str, &'static str); 24] = [
+    (PLAIN, "FW72,7180,60\n", ONE_TYPE),
+    (FOLDING, "FW72,7180,60,6480,5\n", ONE_TYPE),
+    (PLAIN, "FW72,7180,60,6480,5\n", "type file: record 2\n"),
+    (FOLDING, "FW72,7180,60\n", "type file: record 2\n"),
+    (FOLDING, "FW72,7180,60,6480\n", "type file: record 2\n"),
+    (FOLDING, "FW72,7180,60,6480,5,5\n", "type file: record 2\n"),
+    (FOLDING, "FW72,7180,60,6480,\n", "type file: record 2\n"),
+    (FOLDING, "FW72,7180,60,-1,5\n", "type file: record 2\n"),
+    (
+        "type,span,least,parked\n",
+        "FW72,7180,60,6480\n",
+        "type file: record 1\n",
+    ),
+    (
+        "type,span,least,parked,fold,\n",
+        "FW72,7180,60,6480,5,\n",
+        "type file: record 1\n",
+    ),
+    (
+        "type,span,least,fold,parked\n",
+        "FW72,7180,60,5,6480\n",
+        "type file: record 1\n",
+    ),
+    (
+        "type,span,least,parked,folds\n",
+        "FW72,7180,60,6480,5\n",
+        "type file: record 1\n",
+    ),
+    (FOLDING, "FW72,7180,60,0,5\n", "airport: fold FW72\n"),
+    (FOLDING, "FW72,7180,60,1,5\n", ONE_TYPE),
+    (FOLDING, "FW72,7180,60,7180,5\n", ONE_TYPE),
+    (FOLDING, "FW72,7180,60,7181,5\n", "airport: fold FW72\n"),
+    (FOLDING, "FW72,7180,60,6480,60\n", ONE_TYPE),
+    (FOLDING, "FW72,7180,60,6480,61\n", "airport: fold FW72\n"),
+    (FOLDING, "FW72,07180,060,000006480,000000005\n", ONE_TYPE),
+    (
+        FOLDING,
+        "FW72,7180,60,0000006480,5\n",
+        "type file: record 2\n",
+    ),
+    (
+        FOLDING,
+        "A320,3580,40,3580,0\nFW72,7180,60,7181,5\nB77W,6480,60,0,5\n",
+        "airport: fold FW72\n",
+    ),
+    (
+        FOLDING,
+        "A320,3580,40,3581,0\nFW72,8000,60,6480,5\n",
+        "airport: span FW72\n",
+    ),
+    (
+        FOLDING,
+        "A320,3580,40,3581,0\nFW72,7180,601,6480,5\n",
+        "airport: limit least\n",
+    ),
+    (
+        FOLDING,
+        "A320,3580,40,3581,0\nFW72,7180,60,6480\n",
+        "type file: record 3\n",
+    ),
+];
+
 // What is changed in the airport file first and then, what is changed in the type file, and the line.
 const TWO_FAULTS: [(Edit, Edit, Edit, &'static str); 10] = [
     (
@@ -237,14 +329,22 @@ const STAND: &str = "{ name = \"#\", frontage = \"N\", centre = 0, letter = \"A\
 
 const PAIR: &str = "{ a = \"14\", la = \"A\", b = \"15\", lb = \"A\", note = # },\n";
 
-// Behind which mark of the airport file an entry is put in, how often, and the line.
-const COPIES: [(&'static str, &'static str, u16, &'static str); 6] = [
+const OBJECT: &str = "#, ";
+
+const HALF: &str =
+    "{ name = \"#\", frontage = \"R\", centre = 0, letter = \"A\", buffer = 0, half_of = \"12\" },\n";
+
+// After which mark of the airport file copies of an entry are put in, how many, and the line.
+const COPIES: [(&'static str, &'static str, u16, &'static str); 9] = [
     ("frontage = [", FRONTAGE, 46, OK),
     ("frontage = [", FRONTAGE, 47, "airport: limit frontages\n"),
     ("stand = [", STAND, 387, "ok: 400 stands, 7 types, 3 days\n"),
     ("stand = [", STAND, 388, "airport: limit stands\n"),
     ("pair = [", PAIR, 999, OK),
     ("pair = [", PAIR, 1000, "airport: limit pairs\n"),
+    ("objects = [", OBJECT, 49, OK),
+    ("objects = [", OBJECT, 50, "airport: limit objects\n"),
+    ("stand = [", HALF, 1, "airport: half 1000\n"),
 ];
 
 // A type file, how many reads and how many writes succeed, the line, and whether it is told whole.
@@ -371,6 +471,44 @@ fn refusals_of_the_airport_are_named(rt: HostRuntime) -> Result<(), Fail> {
     for (edit, line) in IN_THE_AIRPORT {
         let is = is_told_of(rt.alloc(), edit, SAME, SAME, line)?;
         assert!(rt; is, "{edit:?}: {line}");
+    }
+    Ok(())
+}
+
+#[test]
+fn an_airport_may_be_at_each_limit(rt: HostRuntime) -> Result<(), Fail> {
+    for (edit, line) in AT_A_LIMIT {
+        let is = is_told_of(rt.alloc(), edit, SAME, SAME, line)?;
+        assert!(rt; is, "{edit:?}: {line}");
+    }
+    Ok(())
+}
+
+#[test]
+fn a_type_may_be_at_each_limit(rt: HostRuntime) -> Result<(), Fail> {
+    for (edit, line) in TYPES_AT_A_LIMIT {
+        let is = is_told_of(rt.alloc(), SAME, SAME, edit, line)?;
+        assert!(rt; is, "{edit:?}: {line}");
+    }
+    Ok(())
+}
+
+// Whether a type file of this header and these records is told so.
+fn is_type_file_told(
+    alloc: Global,
+    header: &str,
+    records: &str,
+    line: &str,
+) -> Result<bool, Memory> {
+    let types = format!(in alloc; "{}{}", header, records)?;
+    is_told(alloc, AIRPORT, types.as_str(), line)
+}
+
+#[test]
+fn a_type_file_has_three_columns_or_five(rt: HostRuntime) -> Result<(), Fail> {
+    for (header, records, line) in FOLDING_TYPES {
+        let is = is_type_file_told(rt.alloc(), header, records, line)?;
+        assert!(rt; is, "{header}{records}{line}");
     }
     Ok(())
 }

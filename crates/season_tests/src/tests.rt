@@ -21,13 +21,7 @@ const MOST: usize = 1_000_000;
 
 // One stand, N1, and two types, of 40 and of 25 minutes at least.
 fn airport(alloc: Global) -> Result<Airport, Fail> {
-    let turboprop = TypeRow {
-        name: Name::literal(b"AT76"),
-        span: 2_705,
-        least: 25,
-        parked: 2_705,
-        fold: 0,
-    };
+    let turboprop = TypeRow::without_folding(Name::literal(b"AT76"), 2_705, 25);
     on_one_frontage(
         alloc,
         Vec::from_array(alloc, [stand_on_n(Name::literal(b"N1"), 4_000)])?,

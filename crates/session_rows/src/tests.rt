@@ -1,5 +1,6 @@
 // Sessions at the airport of the examples. The expected texts are written by hand from the format of requests and replies.
 mod commits;
+mod folding;
 mod limits;
 mod lists;
 mod messages;

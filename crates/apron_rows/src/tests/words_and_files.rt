@@ -102,9 +102,13 @@ fn words_that_print(rt: HostRuntime) -> Result<(), Fail> {
     Ok(())
 }
 
+// A type whose folded span is greater than its wing span.
+const WIDER_FOLDED: &str = "type,span,least,parked,fold\nFW72,7180,60,7181,5\n";
+
 // The two files, the failing calls of the shelf, the line and the status, of each word that begins with two files.
-const FAULTY: [(&str, &str, &[u64], &[u8], u8); 6] = [
+const FAULTY: [(&str, &str, &[u64], &[u8], u8); 7] = [
     (UNKNOWN_FRONTAGE, TYPES, &[], b"airport: unknown S\n", 3),
+    (AIRPORT, WIDER_FOLDED, &[], b"airport: fold FW72\n", 3),
     (TYPES, AIRPORT, &[], b"airport file: not toml\n", 3),
     (AIRPORT, AIRPORT, &[], b"type file: record 1\n", 3),
     (UNKNOWN_FRONTAGE, "", &[], b"type file: record 1\n", 3),
