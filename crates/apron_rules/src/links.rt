@@ -28,9 +28,9 @@ pub(crate) struct StandLinks {
 pub(crate) struct StandPair {
     /// The place of the other stand.
     pub(crate) other: usize,
-    /// The least letter of a type on this stand.
+    /// The least letter of a span on this stand.
     pub(crate) own: Letter,
-    /// The least letter of a type on the other stand.
+    /// The least letter of a span on the other stand.
     pub(crate) least: Letter,
 }
 
