@@ -1,4 +1,4 @@
-// The search for clashes among neighbours, beside the plain one over all pairs.
+// The search for clashes among neighbours, beside the plain one over all minutes and pairs.
 ghost use Rattle.std.specs.Prelude.{◌≡◌, ◌<◌, ◌++◌, ◌∷◌, ◌⊎◌, [], All, AllPairs, IfOk, length};
 ghost use Rattle.apron_rules.specs.Clash.{IsSlotOf, IsSound};
 ghost use Rattle.clash_check.specs.Clear.{IsClear};
@@ -6,9 +6,10 @@ ghost use Rattle.stand_index.specs.Slots.{HasMinutes, IsEarlier};
 
 use super::demo::{STANDS, TYPES, demo};
 use super::draws::Draws;
-use apron_base::{Listed, Memory, PartId, Slot, StandNo, Steps, TypeNo, VisitNo};
-use apron_rules::{Airport, Clash, clash_between, first_clash_of, sooner};
-use clash_check::{clashes_of, first_clash};
+use super::plain;
+use apron_base::{Listed, Memory, Minute, PartId, Slot, StandNo, Steps, TypeNo, VisitNo};
+use apron_rules::{Airport, Clash, first_clash_of};
+use clash_check::{clashes_of, clashes_within, first_clash};
 use stand_index::StandIndex;
 use std::alloc::Global;
 use std::marker::Brand;
@@ -117,14 +118,24 @@ fn index_of(alloc: Global, airport: &Airport, slots: &[Slot]) -> Result<StandInd
     Ok(index)
 }
 
-// The first clash of changed slots, and all clashes of the first of these.
-fn clashes<L: Ledger>(
+// What is found of changed slots.
+#[derive(Drop)]
+struct Found {
+    // The first clash of all of them.
+    first: Option<Clash>,
+    // All clashes of the first of them, and those at some minutes.
+    all: Listed<Clash>,
+    within: Listed<Clash>,
+}
+
+fn found_among<L: Ledger>(
     alloc: Global,
     airport: &Airport,
     index: &StandIndex,
     changed: &[Slot],
+    minutes: (Minute, Minute),
     blank: Blank,
-) -> Result<(Option<Clash>, Listed<Clash>), Memory>
+) -> Result<Found, Memory>
     requires clear { IsClear airport.now index.now [] }
     requires changed { All (IsSlotOf airport.now) changed.now }
     requires some { 0 < length changed.now }
@@ -135,35 +146,9 @@ fn clashes<L: Ledger>(
     let mut steps = Steps::<L>::new(blank);
     let first = first_clash(alloc, airport, index, changed, &mut steps)?;
     let all = clashes_of(alloc, airport, index, &changed[0], &mut steps)?;
-    Ok((first, all))
-}
-
-// All clashes of a slot with others, by the plain search over each pair. One of two is taken as planned.
-fn plain_clashes(
-    alloc: Global,
-    airport: &Airport,
-    slot: &Slot,
-    others: &[Slot],
-) -> Result<Vec<Clash>, Memory>
-    requires slot { IsSlotOf airport.now slot.now }
-    requires others { All (IsSlotOf airport.now) others.now }
-{
-    let mut clashes = Vec::new(alloc);
-    for other in others {
-        let planned = Slot {
-            actual: false,
-            ..*other
-        };
-        let found = sooner(
-            clash_between(airport, slot, &planned),
-            clash_between(airport, &planned, slot),
-        );
-        if let Some(Clash { minute, rule, .. }) = found {
-            let (a, b) = (slot.part, other.part);
-            clashes.push(Clash { minute, a, b, rule })?;
-        }
-    }
-    Ok(clashes)
+    let (from, end) = minutes;
+    let within = clashes_within(alloc, airport, index, &changed[0], from, end, &mut steps)?;
+    Ok(Found { first, all, within })
 }
 
 // Whether the searches agree on the plan of this seed.
@@ -174,18 +159,26 @@ fn agree(alloc: Global, airport: &Airport, seed: u32) -> Result<bool, Memory>
     let mut draws = Draws::of(seed);
     let mut slots = sound_slots(alloc, airport, &mut draws)?;
     let changed = changed_slots(alloc, airport, &mut draws)?;
+    let from = draws.below(140) as u32;
+    let minutes = (from, from + draws.below(60) as u32);
     let index = index_of(alloc, airport, &slots)?;
-    let (first, all) = clashes::<Brand>(alloc, airport, &index, &changed, Blank::new(1))?;
-    let plain = plain_clashes(alloc, airport, &changed[0], &slots)?;
+    let found = found_among::<Brand>(alloc, airport, &index, &changed, minutes, Blank::new(1))?;
+    let all = plain::clashes(alloc, airport, &changed[0], &slots, (0, u32::MAX))?;
+    let within = plain::clashes(alloc, airport, &changed[0], &slots, minutes)?;
     slots.extend_from_slice(&changed)?;
-    let same_first = first == first_clash_of(airport, &slots);
-    Ok(same_first && all.as_slice() == plain.as_slice())
+    Ok(
+        found.first == plain::first_clash(airport, &slots)
+            && found.all.as_slice() == all.as_slice()
+            && found.within.as_slice() == within.as_slice(),
+    )
 }
 
 #[test]
-fn the_search_among_neighbours_shows_what_all_pairs_show(rt: HostRuntime) -> Result<(), Fail> {
+fn the_search_among_neighbours_shows_what_all_minutes_and_pairs_show(
+    rt: HostRuntime,
+) -> Result<(), Fail> {
     let airport = demo(rt.alloc())?;
-    for seed in 0..10_000 {
+    for seed in 0..2_000 {
         let same = agree(rt.alloc(), &airport, seed)?;
         assert!(rt; same, "in the plan of seed {seed}");
     }

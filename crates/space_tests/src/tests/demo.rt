@@ -1,4 +1,5 @@
-// The demo airport: thirteen stands on four frontages, two of them halves of a third, and seven types.
+// The demo airport: thirteen stands on four frontages, two of them halves of a third, and ten types, three of which fold
+// their wing tips.
 ghost use Rattle.std.specs.Prelude.{◌≡◌, IfOk, length};
 
 use apron_base::{Letter, Listed, Name};
@@ -9,7 +10,7 @@ use std::test::Fail;
 
 pub(super) const STANDS: u16 = 13;
 
-pub(super) const TYPES: u16 = 7;
+pub(super) const TYPES: u16 = 10;
 
 /// The buffer of each stand.
 pub(super) const BUFFER: u32 = 10;
@@ -55,16 +56,18 @@ fn stands() -> Option<[StandRow; 13]> {
 }
 
 fn kind(name: &[u8], span: u32) -> Option<TypeRow> {
+    Some(TypeRow::without_folding(Name::new(name)?, span, LEAST))
+}
+
+fn folding(name: &[u8], span: u32, parked: u32, fold: u32) -> Option<TypeRow> {
     Some(TypeRow {
-        name: Name::new(name)?,
-        span,
-        least: LEAST,
-        parked: span,
-        fold: 0,
+        parked,
+        fold,
+        ..kind(name, span)?
     })
 }
 
-fn types() -> Option<[TypeRow; 7]> {
+fn types() -> Option<[TypeRow; 10]> {
     Some([
         kind(b"A320", 3_580)?,
         kind(b"B738", 3_579)?,
@@ -73,6 +76,9 @@ fn types() -> Option<[TypeRow; 7]> {
         kind(b"B190", 1_767)?,
         kind(b"A388", 7_975)?,
         kind(b"X360", 3_600)?,
+        folding(b"FW72", 7_180, 6_480, 5)?,
+        folding(b"FW36", 3_600, 2_900, 15)?,
+        folding(b"FZ48", 4_800, 3_500, 0)?,
     ])
 }
 

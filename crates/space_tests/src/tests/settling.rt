@@ -3,15 +3,17 @@ ghost use Rattle.std.specs.Prelude.{◌≡◌, ◌<◌, IfOk, IfSome, length};
 ghost use Rattle.history_core.specs.History.{IsAskOf};
 ghost use Rattle.visit_book.specs.NewVisits.{HasFlight};
 
+use super::boards::{changing, digit, flight_of, is_answered};
 use super::demo::{BUFFER, LEAST, STANDS, TYPES, demo};
 use super::draws::Draws;
+use super::plain::{first_meeting, is_slot_of};
 use apron_base::{
-    Acted, Listed, Memory, Minute, Name, PartId, Slot, StandNo, SteadyKeeper, TypeNo, VisitNo,
+    Listed, Memory, Minute, Name, PartId, Slot, StandNo, SteadyKeeper, TypeNo, VisitNo,
 };
-use apron_rules::{Airport, Rule, Wing};
-use desk_words::asks::{Ask, Command, What};
+use apron_rules::{Airport, Rule};
+use desk_words::asks::{Ask, Command};
 use history_core::Board;
-use mvt_grammar::{Clock, Flight, Mvt, is_readable, read_flight};
+use mvt_grammar::{Clock, Mvt, is_readable, read_flight};
 use std::alloc::Global;
 use std::test::Fail;
 use visit_book::{
@@ -19,29 +21,6 @@ use visit_book::{
 };
 
 const VISITS: u32 = 5;
-
-// The last call of a board.
-const LAST_CALL: u64 = 1_000_000;
-
-fn changing(command: Command) -> Ask
-    ensures is { result ≡ record { seen = 0; what = What.Change command } }
-{
-    Ask {
-        seen: 0,
-        what: What::Change(command),
-    }
-}
-
-// The digit that the name and the flight of a visit end with.
-fn digit(visit: u32) -> u8
-    ensures digit { result < 58 }
-{
-    b'0' + (visit % 10) as u8
-}
-
-fn flight_of(visit: u32) -> Option<Flight> {
-    read_flight(&[b'L', b'H', digit(visit)])
-}
 
 // A visit of some type and class in the first hours, which may be long enough to be cut.
 fn addition(airport: &Airport, draws: &mut Draws, visit: u32) -> Option<Ask>
@@ -231,45 +210,15 @@ fn by_rank(alloc: Global, visits: &[Visit]) -> Result<Vec<Held>, Memory> {
     Ok(held)
 }
 
-// By which rule two slots exclude each other, if their visits differ.
-fn rule_between(airport: &Airport, slot: &Slot, other: &Slot) -> Option<Rule> {
-    let stands = airport.parts().stands.len();
-    let types = airport.parts().types.len();
-    if slot.part.visit == other.part.visit
-        || slot.stand.0 as usize >= stands
-        || other.stand.0 as usize >= stands
-        || slot.kind.0 as usize >= types
-        || other.kind.0 as usize >= types
-    {
+fn blocked_by(airport: &Airport, slot: &Slot, other: &Slot) -> Option<Blocked> {
+    if !is_slot_of(airport, slot) || !is_slot_of(airport, other) {
         return None;
     }
-    airport.breaks(
-        slot.stand,
-        slot.kind,
-        Wing::Full,
-        other.stand,
-        other.kind,
-        Wing::Full,
-    )
-}
-
-// The first minute that both slots hold.
-fn first_shared(slot: &Slot, other: &Slot) -> Option<Minute> {
-    for minute in slot.from..slot.end {
-        if other.from <= minute && minute < other.end {
-            return Some(minute);
-        }
-    }
-    None
-}
-
-fn blocked_by(airport: &Airport, slot: &Slot, other: &Slot) -> Option<Blocked> {
-    let rule = rule_between(airport, slot, other)?;
-    let minute = first_shared(slot, other)?;
+    let at = first_meeting(airport, slot, other, (0, slot.end))?;
     Some(Blocked {
         by: other.part,
-        minute,
-        rule,
+        minute: at.minute,
+        rule: at.rule,
     })
 }
 
@@ -367,15 +316,6 @@ fn with_happened(
         visits.push(visit)?;
     }
     Ok(visits)
-}
-
-// Whether the board answers.
-fn is_answered(alloc: Global, board: &mut Board<SteadyKeeper>, ask: &Ask) -> bool
-    requires valid { IsAskOf board.old.airport ask.now }
-    ensures airport { board.new.airport ≡ board.old.airport }
-{
-    let call = board.next_call();
-    call < LAST_CALL && matches!(board.ask(alloc, call, ask), Acted::Reply(_))
 }
 
 // Whether what is asked, which is of the visit of this number, leaves the board's plan settled as by rank.
@@ -493,7 +433,7 @@ fn holds(alloc: Global, airport: &Airport, seed: u32) -> Result<bool, Memory>
 #[test]
 fn what_happens_leaves_the_plan_settled_by_rank(rt: HostRuntime) -> Result<(), Fail> {
     let airport = demo(rt.alloc())?;
-    for seed in 0..5_000 {
+    for seed in 0..1_000 {
         let holds = holds(rt.alloc(), &airport, seed)?;
         assert!(rt; holds, "in the plan of seed {seed}");
     }
