@@ -2,25 +2,46 @@
 ghost use Rattle.std.specs.Prelude.{◌≡◌, is_err};
 ghost use Rattle.apron_base.specs.Counts.{Counts};
 
+use crate::causes::LastCause;
 use apron_base::Failed;
 use journal_disk::Disk;
-use std::fs::{File, OpenOptions};
+use std::fs::{File, OpenOptions, TryLockError};
 use std::io;
+use std::io::ErrorKind;
 use std::marker::Model;
 use std::os::unix::fs::FileExt;
 use std::path::Path;
 use std::rt::Files;
 
-/// A disk over a file. Where the file couldn't be opened, each call fails. A call that the system
-/// interrupted is tried again, and is no fault. Contracts see how many calls have failed.
+/// What is said where the file's lock is not had.
+const TAKEN: &str = "another process has this journal; chart and export can be given a copy";
+
+/// A disk over a file, of which it holds the system's lock until it is dropped. Where the file couldn't
+/// be opened, or another process has its lock, each call fails. A call that the system interrupted is
+/// tried again, and is no fault. It says on standard error why a call failed: each cause once until a
+/// call of that kind succeeds. Contracts see how many calls have failed.
 #[derive(Drop)]
-pub struct FileDisk {
-    // none where it couldn't be opened
-    file: Option<File>,
+pub struct FileDisk<'a, R> {
+    rt: &'a R,
+    path: &'a str,
+    // why not, where it couldn't be opened
+    file: io::Result<File>,
+    access: Access,
+    lengths: LastCause,
+    reads: LastCause,
+    writes: LastCause,
+    syncs: LastCause,
     faults: u64,
 }
 
-impl Model for FileDisk {
+// What a file was opened for.
+#[derive(Clone, Copy, PartialEq, Eq)]
+enum Access {
+    Reads,
+    ReadsAndWrites,
+}
+
+impl<'a, R> Model for FileDisk<'a, R> {
     ghost use Rattle.std.specs.Prelude.{ℕ};
 
     ghost Value = { ℕ };
@@ -28,42 +49,65 @@ impl Model for FileDisk {
     ghost view = { λ d. d.faults };
 }
 
-impl FileDisk {
-    /// The file at this path, of which no call has failed yet.
-    pub fn open<R: Files<File = File>>(rt: &R, path: &str) -> FileDisk
+impl<'a, R: Files<File = File> + Eprint> FileDisk<'a, R> {
+    /// The file at this path, of which no call has failed yet, with the lock that no other process
+    /// holds beside it.
+    pub fn open(rt: &'a R, path: &'a str) -> Self
         ensures none { result ≡ 0 }
     {
-        FileDisk {
-            file: OpenOptions::new()
-                .read(true)
-                .write(true)
-                .open(rt, path)
-                .ok(),
-            faults: 0,
-        }
+        let file = open_to_write(rt, path, false);
+        FileDisk::over(rt, path, file, Access::ReadsAndWrites)
     }
 
     /// The same, and where there is no file it is made. The file and its folder are synced, so that
     /// a crash leaves a file at this path.
-    pub fn make<R: Files<File = File>>(rt: &R, path: &str) -> FileDisk
+    pub fn make(rt: &'a R, path: &'a str) -> Self
         ensures none { result ≡ 0 }
     {
+        let file = make_file(rt, path);
+        FileDisk::over(rt, path, file, Access::ReadsAndWrites)
+    }
+
+    /// The file at this path, of which no call has failed yet, to be read alone, with the lock that
+    /// other readers may hold beside it. Each write fails.
+    pub fn open_to_read(rt: &'a R, path: &'a str) -> Self
+        ensures none { result ≡ 0 }
+    {
+        let file = open_to_read(rt, path);
+        FileDisk::over(rt, path, file, Access::Reads)
+    }
+
+    // A later call on a file that is not there fails from the same cause, which is said here.
+    fn over(rt: &'a R, path: &'a str, file: io::Result<File>, access: Access) -> Self
+        ensures none { result ≡ 0 }
+    {
+        let mut opening = LastCause::NONE;
+        opening.hear(rt, path, &file);
         FileDisk {
-            file: make_file(rt, path).ok(),
+            rt,
+            path,
+            file,
+            access,
+            lengths: opening,
+            reads: opening,
+            writes: opening,
+            syncs: opening,
             faults: 0,
         }
     }
+}
 
+impl<'a, R: Eprint> FileDisk<'a, R> {
     fn opened(&self) -> io::Result<&File> {
         match &self.file {
-            Some(file) => Ok(file),
-            None => Err(io::Error::from(io::ErrorKind::NotFound)),
+            Ok(file) => Ok(file),
+            Err(cause) => Err(*cause),
         }
     }
 
     fn length_now(&self) -> io::Result<u32> {
         let length = self.opened()?.metadata()?.len();
-        u32::try_from(length).map_err(|_| io::Error::from(io::ErrorKind::FileTooLarge))
+        u32::try_from(length).map_err(|_| io::Error::from(ErrorKind::FileTooLarge))
     }
 
     fn read_now(&self, at: u32, into: &mut [u8]) -> io::Result<()> {
@@ -74,8 +118,12 @@ impl FileDisk {
         self.opened()?.write_all_at(piece, u64::from(at))
     }
 
+    // Where nothing can be written there is nothing to sync, and such file systems may know no syncs.
     fn sync_now(&self) -> io::Result<()> {
-        self.opened()?.sync_data()
+        match self.opened()?.sync_data() {
+            Err(cause) if self.access == Access::Reads && has_no_syncs(&cause) => Ok(()),
+            synced => synced,
+        }
     }
 
     // Counts an error.
@@ -92,13 +140,41 @@ impl FileDisk {
     }
 }
 
-// Makes the file where there is none, and syncs it and its folder.
-fn make_file<R: Files<File = File>>(rt: &R, path: &str) -> io::Result<File> {
+fn has_no_syncs(cause: &io::Error) -> bool {
+    cause.kind() == ErrorKind::ReadOnlyFilesystem || cause.kind() == ErrorKind::InvalidInput
+}
+
+// The file, with the lock that no other process holds beside it.
+fn open_to_write<R: Files<File = File>>(rt: &R, path: &str, makes: bool) -> io::Result<File> {
     let file = OpenOptions::new()
         .read(true)
         .write(true)
-        .create(true)
+        .create(makes)
         .open(rt, path)?;
+    match file.try_lock() {
+        Ok(()) => Ok(file),
+        Err(TryLockError::WouldBlock) => Err(taken()),
+        Err(TryLockError::Error(cause)) => Err(cause),
+    }
+}
+
+// The file, with the lock that other readers may hold beside it.
+fn open_to_read<R: Files<File = File>>(rt: &R, path: &str) -> io::Result<File> {
+    let file = File::open(rt, path)?;
+    match file.try_lock_shared() {
+        Err(TryLockError::WouldBlock) => Err(taken()),
+        // Where the file system knows no locks no writer has one either.
+        Ok(()) | Err(TryLockError::Error(_)) => Ok(file),
+    }
+}
+
+fn taken() -> io::Error {
+    io::Error::new(ErrorKind::WouldBlock, TAKEN)
+}
+
+// Makes the file where there is none, and syncs it and its folder.
+fn make_file<R: Files<File = File>>(rt: &R, path: &str) -> io::Result<File> {
+    let file = open_to_write(rt, path, true)?;
     file.sync_all()?;
     File::open(rt, folder_of(path))?.sync_all()?;
     Ok(file)
@@ -111,7 +187,7 @@ fn folder_of(path: &str) -> &str {
     }
 }
 
-impl Disk for FileDisk {
+impl<'a, R: Eprint> Disk for FileDisk<'a, R> {
     ghost use Rattle.journal_disk.specs.Disk.{untold_disk};
 
     ghost state = { untold_disk };
@@ -120,22 +196,26 @@ impl Disk for FileDisk {
 
     fn length(&mut self) -> Result<u32, Failed> {
         let answer = self.length_now();
+        self.lengths.hear(self.rt, self.path, &answer);
         self.counted(answer)
     }
 
     fn read(&mut self, at: u32, into: &mut [u8]) -> Result<(), Failed> {
         let answer = self.read_now(at, into);
+        self.reads.hear(self.rt, self.path, &answer);
         self.counted(answer)
     }
 
     fn write_at(&mut self, at: u32, piece: &[u8]) -> Result<(), Failed> {
         let answer = self.write_now(at, piece);
+        self.writes.hear(self.rt, self.path, &answer);
         self.counted(answer)
     }
 
     /// Syncs the bytes and the length.
     fn sync(&mut self) -> Result<(), Failed> {
         let answer = self.sync_now();
+        self.syncs.hear(self.rt, self.path, &answer);
         self.counted(answer)
     }
 }

@@ -1,6 +1,7 @@
 // The files of the system as a shelf.
 ghost use Rattle.std.specs.Prelude.{◌≡◌, ◌+◌, IfOk, IfSome, None, take};
 
+use crate::causes::tell;
 use apron_base::{Shelf, ShelfFault};
 use std::alloc::Global;
 use std::io::Read;
@@ -8,8 +9,8 @@ use std::marker::Model;
 use std::rt::Files;
 use std::{fs, io};
 
-/// The files of the system by their paths as they are written. It tells nothing of what is in them, and
-/// counts each error. Contracts see its two counts.
+/// The files of the system by their paths as they are written. It tells nothing of what is in them,
+/// counts each error, and says its cause on standard error. Contracts see its two counts.
 #[derive(Drop)]
 pub struct FileShelf<'a, R> {
     rt: &'a R,
@@ -38,7 +39,7 @@ impl<'a, R: Files> FileShelf<'a, R> {
     }
 }
 
-impl<'a, R: Files> Shelf for FileShelf<'a, R> {
+impl<'a, R: Files + Eprint> Shelf for FileShelf<'a, R> {
     ghost state = { λ s. record { file = λ _. None; faults = s.faults; read = s.read } };
 
     fn read_file(&mut self, alloc: Global, name: &str, limit: u32) -> Result<Vec<u8>, ShelfFault> {
@@ -52,7 +53,8 @@ impl<'a, R: Files> Shelf for FileShelf<'a, R> {
                 }
             }
             Err(e) if e.kind() == io::ErrorKind::OutOfMemory => Err(ShelfFault::Memory),
-            Err(_) => {
+            Err(cause) => {
+                tell(self.rt, name, &cause);
                 self.faults = self.faults.saturating_add(1);
                 Err(ShelfFault::Failed)
             }

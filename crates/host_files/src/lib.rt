@@ -1,9 +1,13 @@
-//! The files of the system: whole files as a shelf, and a file as a journal's disk. It knows nothing of what is in them, and
-//! tells nothing of it.
+//! The files and standard streams of the system: whole files as a shelf, a file as a journal's disk, and streams. It says on
+//! standard error why a call failed. It knows nothing of what is in a file, and tells nothing of it.
 #![tactic(auto)]
 
+mod causes;
 mod file_disk;
 mod file_shelf;
+mod told_stream;
 
+pub use causes::tell;
 pub use file_disk::FileDisk;
 pub use file_shelf::FileShelf;
+pub use told_stream::ToldStream;

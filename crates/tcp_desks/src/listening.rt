@@ -18,6 +18,8 @@ const MOST_RETRIES: u32 = 1_000;
 pub struct TcpDesks {
     // none where it listens nowhere
     listener: Option<TcpListener>,
+    // why it can't accept, where it listens
+    cause: Option<io::Error>,
     accepted: u64,
     ended: u64,
     faults: u64,
@@ -43,14 +45,14 @@ impl TcpDesks {
     ) -> io::Result<TcpDesks>
         ensures unused { IfOk result (λ desks. desks ≡ unused) }
     {
-        Ok(TcpDesks::over(Some(TcpListener::bind(net, address)?)))
+        Ok(TcpDesks::over(Some(TcpListener::bind(net, address)?), None))
     }
 
     /// Listens nowhere: each accept fails.
     pub fn nowhere() -> TcpDesks
         ensures unused { result ≡ unused }
     {
-        TcpDesks::over(None)
+        TcpDesks::over(None, None)
     }
 
     /// The address that it listens at, with the port that the system chose where none was asked for.
@@ -64,16 +66,39 @@ impl TcpDesks {
         ensures unused { result ≡ unused }
     {
         match &self.listener {
-            Some(listener) => TcpDesks::over(listener.try_clone().ok()),
-            None => TcpDesks::over(None),
+            Some(listener) => match listener.try_clone() {
+                Ok(listener) => TcpDesks::over(Some(listener), None),
+                Err(cause) => TcpDesks::over(None, Some(cause)),
+            },
+            None => TcpDesks::over(None, None),
         }
     }
 
-    fn over(listener: Option<TcpListener>) -> TcpDesks
+    /// Why the last accept that failed did, or why the system gave no listener to accept at; none where
+    /// no accept has failed, and where it listens nowhere.
+    pub fn cause(&self) -> Option<io::Error> {
+        self.cause
+    }
+
+    // Both ends of the next connection. Where there is none it keeps the cause.
+    fn next_ends(&mut self) -> Option<(Reading<TcpStream>, Writing<TcpStream>)>
+        ensures counts { self.new ≡ self.old }
+    {
+        match ends_at(self.listener.as_ref()?) {
+            Ok(ends) => Some(ends),
+            Err(cause) => {
+                self.cause = Some(cause);
+                None
+            }
+        }
+    }
+
+    fn over(listener: Option<TcpListener>, cause: Option<io::Error>) -> TcpDesks
         ensures unused { result ≡ unused }
     {
         TcpDesks {
             listener,
+            cause,
             accepted: 0,
             ended: 0,
             faults: 0,
@@ -91,8 +116,8 @@ impl Listener for TcpDesks {
     ghost state = { listener_state };
 
     fn accept<R: Wait>(&mut self, _rt: &R) -> Result<(Self::In, Self::Out), Failed> {
-        match next_ends(&self.listener) {
-            Ok(ends) if self.accepted < u64::MAX => {
+        match self.next_ends() {
+            Some(ends) if self.accepted < u64::MAX => {
                 self.accepted += 1;
                 Ok(ends)
             }
@@ -110,12 +135,7 @@ impl Listener for TcpDesks {
 }
 
 // Both ends of the next connection.
-fn next_ends(
-    listener: &Option<TcpListener>,
-) -> io::Result<(Reading<TcpStream>, Writing<TcpStream>)> {
-    let Some(listener) = listener else {
-        return Err(io::Error::from(ErrorKind::NotConnected));
-    };
+fn ends_at(listener: &TcpListener) -> io::Result<(Reading<TcpStream>, Writing<TcpStream>)> {
     let stream = next_stream(listener)?;
     // A reply that waits for the next one is late, and no fault.
     let _sent_at_once = stream.set_nodelay(true);
