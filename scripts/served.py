@@ -18,6 +18,7 @@ MOST_CONNECTIONS = 1_000_000
 # How many seconds a peer waits for a reply, and a server for its port.
 PATIENCE = 30
 LISTENS = "0A"
+LISTENING = re.compile(rb"^apron: listening at .*\n", re.MULTILINE)
 LAST = object()
 HEAD = re.compile(
     rb"HTTP/1\.1 (\d{3}) [A-Za-z ]+\r\nContent-Type: (application/json|text/plain)\r\nContent-Length: (\d+)\r\n"
@@ -97,14 +98,14 @@ class Server:
         return [self.program, "serve", *self.files, str(self.connections), f"{self.host}:{self.port}", str(self.workers), self.journal]
 
     def start(self, most_blocks=None):
-        """Starts it, and waits until it listens. Files that it writes may have so many blocks of 512 bytes, as on a disk that is full then."""
+        """Starts it, and waits until it says that it listens. Files that it writes may have so many blocks of 512 bytes, as on a disk that is full then."""
         shell = [] if most_blocks is None else ["/bin/sh", "-c", f'trap "" XFSZ && ulimit -S -f {most_blocks} && exec "$@"', "serve"]
         with open(os.path.join(self.room, "output"), "wb") as output, open(os.path.join(self.room, "errors"), "wb") as errors:
             self.process = subprocess.Popen(shell + self.words(), stdin=subprocess.DEVNULL, stdout=output, stderr=errors)
         until = time.monotonic() + PATIENCE
-        while not listens_at(self.port):
+        while not LISTENING.search(self.said()[1]):
             assert self.process.poll() is None, f"the server ended with {self.process.returncode} before it listened"
-            assert time.monotonic() < until, "the server does not listen"
+            assert time.monotonic() < until, "the server does not say that it listens"
             time.sleep(0.002)
 
     def make_room(self):
