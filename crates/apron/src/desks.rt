@@ -1,11 +1,12 @@
 // The words `serve A T N ADDRESS WORKERS JOURNAL`: many desks at once over TCP.
 ghost use Rattle.std.specs.Prelude.{◌≡◌, IfOk, length};
-ghost use Rattle.apron.specs.Desks.{workers_named};
+ghost use Rattle.apron.specs.Desks.{connections_named, named_up_to, workers_named};
 
+use crate::told_desks::ToldDesks;
 use apron_base::{MAX_DIGITS, Memory, Sink, Word, number_of};
 use apron_run::{Status, is_plain_number};
-use apron_serve::{MAX_LISTENERS, serve};
-use host_files::{FileDisk, FileShelf};
+use apron_serve::{MAX_CONNECTIONS, MAX_LISTENERS, serve};
+use host_files::{FileDisk, FileShelf, tell};
 use std::alloc::Global;
 use std::fs::File;
 use std::net::{Net, TcpListener, TcpStream};
@@ -14,16 +15,20 @@ use std::sync::Wait;
 use std::thread::Threads;
 use tcp_desks::TcpDesks;
 
-/// The first word is `serve`, and six words are behind it.
+/// The first word is `serve`, and six words come after it, of which two are numbers in their ranges.
 pub(crate) fn are_asked(words: &[Word]) -> bool {
     match words {
-        [word, _, _, _, _, _, _] => word.text() == "serve",
+        [word, _, _, connections, _, workers, _] => {
+            word.text() == "serve"
+                && connections_of(connections.text()) > 0
+                && workers_of(workers.text()) > 0
+        }
         _ => false,
     }
 }
 
 /// Serves the desks that come to the address, with so many workers, on the journal of this path. A line that tells a fault goes
-/// to the sink.
+/// to the sink. Standard error says where it listens, and how it ended.
 pub(crate) fn serve_words<
     R: Wait
         + Threads
@@ -38,11 +43,16 @@ pub(crate) fn serve_words<
         return Status::Usage.code();
     };
     let alloc: Global = rt.alloc();
-    let Ok(desks) = desks_at(rt, alloc, address.text(), workers_of(workers.text())) else {
+    let disk = FileDisk::open(rt, path.text());
+    let place = Place {
+        address: address.text(),
+        workers: workers_of(workers.text()),
+        journal: path.text(),
+    };
+    let Ok(desks) = desks_at(rt, alloc, place) else {
         return Status::Memory.code();
     };
     let mut desks = desks;
-    let disk = FileDisk::open(rt, path.text());
     let mut shelf = FileShelf::new(rt);
     let (status, _disk) = serve(
         rt,
@@ -53,50 +63,111 @@ pub(crate) fn serve_words<
         sink,
         disk,
     );
+    let why = why_ended(status);
+    // Where standard error fails too, the status is all that tells it.
+    let _ = eprintln!(rt; "apron: ended with status {status}: {why}");
     status
+}
+
+// Why desks are served no more.
+fn why_ended(status: u8) -> &'static str {
+    match status {
+        0 => "each worker has had its connections",
+        2 => "the words ask for nothing that there is",
+        3 => "the airport file or the type file has a fault",
+        4 => "the airport file or the type file could not be read",
+        7 => "the journal could not be opened or read",
+        8 => "the journal is none of this airport, or is damaged",
+        11 => "there are no connections for a worker",
+        _ => "there is not enough memory",
+    }
+}
+
+/// How many connections the word names, 1 to 1,000,000; or none.
+pub(crate) fn connections_of(text: &str) -> u64
+    ensures named { result ≡ connections_named text.now }
+{
+    number_up_to(text, u64::from(MAX_CONNECTIONS))
 }
 
 // How many workers the word names, 1 to 16; or none.
 fn workers_of(text: &str) -> u64
     ensures named { result ≡ workers_named text.now }
 {
+    number_up_to(text, MAX_LISTENERS as u64)
+}
+
+// The number that the word is, where it is no greater than this; or none.
+fn number_up_to(text: &str, most: u64) -> u64
+    ensures named { result ≡ named_up_to most text.now }
+{
     let text = text.as_bytes();
     match number_of(text, MAX_DIGITS) {
-        Some(workers) if is_plain_number(text) && workers <= MAX_LISTENERS as u64 => workers,
+        Some(number) if is_plain_number(text) && number <= most => number,
         _ => 0,
     }
 }
 
-// So many listeners at the address. Why it can't be bound is told on standard error, and each accept fails then.
-fn desks_at<R: Eprint + Net<Listener = TcpListener, Stream = TcpStream>>(
-    rt: &R,
-    alloc: Global,
-    address: &str,
+// Where desks are served, by how many workers, on the journal of which path.
+#[derive(Clone, Copy)]
+struct Place<'a> {
+    address: &'a str,
     workers: u64,
-) -> Result<Vec<TcpDesks>, Memory>
-    ensures as_many { IfOk result (λ desks. length desks.items ≡ workers) }
+    journal: &'a str,
+}
+
+// So many listeners at the address. Why it can't be bound is told on standard error, and each accept fails then.
+fn desks_at<'a, R: Eprint + Net<Listener = TcpListener, Stream = TcpStream>>(
+    rt: &'a R,
+    alloc: Global,
+    place: Place<'a>,
+) -> Result<Vec<ToldDesks<'a, R>>, Memory>
+    ensures as_many { IfOk result (λ desks. length desks.items ≡ place.workers) }
 {
-    if workers == 0 {
-        return Ok(Vec::new(alloc));
-    }
-    let first = match TcpDesks::bind(rt, address) {
-        Ok(first) => first,
-        Err(why) => {
-            // Where standard error fails too, the line `listener fault` is all that tells it.
-            let _ = eprintln!(rt; "apron: {address}: {why}");
+    let first = match TcpDesks::bind(rt, place.address) {
+        Ok(first) => {
+            tell_listening(rt, place, &first);
+            first
+        }
+        Err(cause) => {
+            tell(rt, place.address, &cause);
             TcpDesks::nowhere()
         }
     };
-    all_beside(alloc, &first, workers)
+    all_beside(rt, alloc, place, &first)
 }
 
-// So many more that accept at the same address.
-fn all_beside(alloc: Global, first: &TcpDesks, workers: u64) -> Result<Vec<TcpDesks>, Memory>
-    ensures as_many { IfOk result (λ desks. length desks.items ≡ workers) }
+// Says where it listens, with the port that the system chose where none was asked for.
+fn tell_listening<R: Eprint>(rt: &R, place: Place<'_>, desks: &TcpDesks) {
+    let Place {
+        address,
+        workers,
+        journal,
+    } = place;
+    // Where standard error fails too, desks are served all the same.
+    let _ = match desks.address() {
+        Some(bound) => {
+            eprintln!(rt; "apron: listening at {bound}, workers: {workers}, journal: {journal}")
+        }
+        None => {
+            eprintln!(rt; "apron: listening at {address}, workers: {workers}, journal: {journal}")
+        }
+    };
+}
+
+// So many more that accept at the same address, of which the first says that the journal is open.
+fn all_beside<'a, R: Eprint>(
+    rt: &'a R,
+    alloc: Global,
+    place: Place<'a>,
+    first: &TcpDesks,
+) -> Result<Vec<ToldDesks<'a, R>>, Memory>
+    ensures as_many { IfOk result (λ desks. length desks.items ≡ place.workers) }
 {
     let mut desks = Vec::new(alloc);
-    for _made in 0..workers {
-        desks.push(first.beside())?;
+    for made in 0..place.workers {
+        let journal = if made == 0 { Some(place.journal) } else { None };
+        desks.push(ToldDesks::new(rt, place.address, journal, first.beside()))?;
     }
     Ok(desks)
 }

@@ -3,20 +3,32 @@
 #![tactic(auto)]
 
 mod desks;
+mod told_desks;
+mod unclear;
 
 use apron_base::{Memory, Reading, Word, Writing};
 use apron_run::{Status, run};
-use host_files::{FileDisk, FileShelf};
+use host_files::{FileDisk, FileShelf, ToldStream, tell};
 use journal_disk::{Disk, MemoryDisk, Room};
 use std::alloc::Global;
+use std::fs::File;
 use std::process::ExitCode;
-use std::rt::Env;
+use std::rt::{Env, Files};
 use std::{env, io};
 
 fn main(rt: HostRuntime) -> ExitCode {
+    // Kept to the end, so that no file or connection gets the number of a standard stream that was closed.
+    let _kept = match null_devices(&rt) {
+        Ok(files) => files,
+        Err(cause) => {
+            tell(&rt, NULL_DEVICE, &cause);
+            return ExitCode::from(Status::WriteFault.code());
+        }
+    };
     let status = match words(&rt) {
         Ok(words) if desks::are_asked(words.as_slice()) => {
-            desks::serve_words(&rt, words.as_slice(), &mut Writing::new(rt.stdout()))
+            let output = ToldStream::new(&rt, OUTPUT, rt.stdout());
+            desks::serve_words(&rt, words.as_slice(), &mut Writing::new(output))
         }
         Ok(words) => run_words(&rt, words.as_slice()),
         Err(Memory) => Status::Memory.code(),
@@ -24,14 +36,40 @@ fn main(rt: HostRuntime) -> ExitCode {
     ExitCode::from(status)
 }
 
-// Behind the words that have a journal its path comes last. Other words have an empty disk in memory.
+const NULL_DEVICE: &str = "/dev/null";
+
+const INPUT: &str = "standard input";
+
+const OUTPUT: &str = "standard output";
+
+// The null device three times, to be read alone: as often as there are standard streams.
+fn null_devices<R: Files<File = File>>(rt: &R) -> io::Result<(File, File, File)> {
+    let first = File::open(rt, NULL_DEVICE)?;
+    let second = File::open(rt, NULL_DEVICE)?;
+    let third = File::open(rt, NULL_DEVICE)?;
+    Ok((first, second, third))
+}
+
+// Does what the words ask for. Where they ask for nothing, standard error says what was not understood.
 fn run_words(rt: &HostRuntime, words: &[Word]) -> u8 {
+    let status = run_with_journal(rt, words);
+    if status == Status::Usage.code() {
+        unclear::tell_unclear(rt, words);
+    }
+    status
+}
+
+// After the words that have a journal its path comes last. Other words have an empty disk in memory.
+fn run_with_journal(rt: &HostRuntime, words: &[Word]) -> u8 {
     match words.split_last() {
         Some((path, asked)) if asks_for(asked, "init") => {
             run_on(rt, asked, FileDisk::make(rt, path.text()))
         }
-        Some((path, asked)) if works_on_files(asked) || works_on_more(asked) => {
+        Some((path, asked)) if asks_for(asked, "desk") || asks_for_more(asked, "import") => {
             run_on(rt, asked, FileDisk::open(rt, path.text()))
+        }
+        Some((path, asked)) if asks_for(asked, "export") || asks_for_more(asked, "chart") => {
+            run_on(rt, asked, FileDisk::open_to_read(rt, path.text()))
         }
         Some((_, asked)) if takes_journal(words) => run_on_nothing(rt, asked),
         _ => run_on_nothing(rt, words),
@@ -46,15 +84,10 @@ fn asks_for(words: &[Word], text: &str) -> bool {
     }
 }
 
-// The words are one that works on a journal, and the names of two files.
-fn works_on_files(words: &[Word]) -> bool {
-    asks_for(words, "desk") || asks_for(words, "export")
-}
-
-// The words are one that works on a journal, the names of two files, and a day or the name of a season file.
-fn works_on_more(words: &[Word]) -> bool {
+// The words are this one, the names of two files, and a day or the name of a season file.
+fn asks_for_more(words: &[Word], text: &str) -> bool {
     match words {
-        [word, _, _, _] => word.text() == "chart" || word.text() == "import",
+        [word, _, _, _] => word.text() == text,
         _ => false,
     }
 }
@@ -87,8 +120,8 @@ fn run_on_nothing(rt: &HostRuntime, words: &[Word]) -> u8 {
 fn run_on<D: Disk + Drop>(rt: &HostRuntime, words: &[Word], disk: D) -> u8 {
     let mut disk = disk;
     let mut shelf = FileShelf::new(rt);
-    let mut source = Reading::new(rt.stdin());
-    let mut sink = Writing::new(rt.stdout());
+    let mut source = Reading::new(ToldStream::new(rt, INPUT, rt.stdin()));
+    let mut sink = Writing::new(ToldStream::new(rt, OUTPUT, rt.stdout()));
     run(
         rt.alloc(),
         words,
