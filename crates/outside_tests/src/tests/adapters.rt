@@ -2,6 +2,7 @@
 ghost use Rattle.std.specs.Prelude.{◌≤◌, IfOk};
 
 use apron_base::{Failed, Reading, Sink, Source, Writing};
+use host_files::ToldStream;
 use std::io;
 use std::io::{ErrorKind, Read, Write};
 
@@ -62,13 +63,26 @@ const NEW: Breaking = Breaking {
 // What reads of up to four bytes give, one after the other.
 const READS: [Result<usize, Failed>; 5] = [Ok(2), Err(Failed), Ok(2), Ok(1), Ok(0)];
 
+// Whether a source gives these.
+fn gives<S: Source>(source: &mut S, reads: &[Result<usize, Failed>]) -> bool {
+    let mut into = [0; 4];
+    for want in reads {
+        if source.read(&mut into) != *want {
+            return false;
+        }
+    }
+    true
+}
+
 #[test]
 fn a_read_that_is_interrupted_is_made_again(rt: HostRuntime) {
-    let mut source = Reading::new(NEW);
-    let mut into = [0; 4];
-    for want in READS {
-        assert_eq!(rt; source.read(&mut into), want);
-    }
+    assert!(rt; gives(&mut Reading::new(NEW), &READS));
+}
+
+#[test]
+fn a_stream_whose_faults_are_said_reads_the_same(rt: HostRuntime) {
+    let stream = ToldStream::new(&rt, "a reader", NEW);
+    assert!(rt; gives(&mut Reading::new(stream), &READS));
 }
 
 // Pieces, one after the other, and whether each is put.
@@ -80,10 +94,23 @@ const PUTS: [(&str, bool); 5] = [
     ("fg", false),
 ];
 
+// Whether a sink takes these.
+fn takes<S: Sink>(sink: &mut S, puts: &[(&str, bool)]) -> bool {
+    for (piece, is_put) in puts {
+        if sink.put(piece.as_bytes()).is_ok() != *is_put {
+            return false;
+        }
+    }
+    true
+}
+
 #[test]
 fn a_piece_that_is_not_taken_or_not_flushed_fails(rt: HostRuntime) {
-    let mut sink = Writing::new(NEW);
-    for (piece, is_put) in PUTS {
-        assert!(rt; sink.put(piece.as_bytes()).is_ok() == is_put, "at {piece}");
-    }
+    assert!(rt; takes(&mut Writing::new(NEW), &PUTS));
+}
+
+#[test]
+fn a_stream_whose_faults_are_said_writes_the_same(rt: HostRuntime) {
+    let stream = ToldStream::new(&rt, "a writer", NEW);
+    assert!(rt; takes(&mut Writing::new(stream), &PUTS));
 }

@@ -119,7 +119,7 @@ fn a_new_journal_is_a_header_and_a_closed_gate(rt: HostRuntime) -> Result<(), Fa
 const PATH: &str = "entries.journal";
 
 // Makes a journal in a file, and puts two entries in it.
-fn make_file<R: Files<File = File>>(rt: &R, alloc: Global) -> Result<(), JournalFault> {
+fn make_file<R: Files<File = File> + Eprint>(rt: &R, alloc: Global) -> Result<(), JournalFault> {
     let mut disk = FileDisk::make(rt, PATH);
     init(&mut disk, &DIGESTS)?;
     let (mut counted, _) = Counted::open(alloc, disk)?;
@@ -139,7 +139,10 @@ fn are_two(entries: &[Listed<u8>]) -> bool {
 }
 
 // Whether the journal in the file has the two entries, and how long the file is.
-fn read_file<R: Files<File = File>>(rt: &R, alloc: Global) -> Result<(bool, u32), JournalFault> {
+fn read_file<R: Files<File = File> + Eprint>(
+    rt: &R,
+    alloc: Global,
+) -> Result<(bool, u32), JournalFault> {
     let (counted, entries) = Counted::open(alloc, FileDisk::open(rt, PATH))?;
     let length = counted.journal.into_disk().length()?;
     Ok((are_two(&entries), length))
@@ -151,6 +154,39 @@ fn entries_in_a_file_are_found_again(rt: HostRuntime) -> Result<(), Fail> {
     make_file(&rt, rt.alloc())?;
     assert!(rt; read_file(&rt, rt.alloc()) == Ok((true, 132)));
     fs::remove_file(&rt, PATH)?;
+    Ok(())
+}
+
+const SHARED: &str = "shared.journal";
+
+// Whether the file at the path can be had by a reader, and whether by a writer.
+fn can_be_had<R: Files<File = File> + Eprint>(rt: &R) -> (bool, bool) {
+    let is_read = FileDisk::open_to_read(rt, SHARED).length().is_ok();
+    let is_written = FileDisk::open(rt, SHARED).length().is_ok();
+    let is_made = FileDisk::make(rt, SHARED).length().is_ok();
+    (is_read, is_written && is_made)
+}
+
+#[test]
+fn a_file_has_one_writer_or_readers(rt: HostRuntime) -> Result<(), Fail> {
+    let writer = FileDisk::make(&rt, SHARED);
+    assert!(rt; can_be_had(&rt) == (false, false));
+    drop(writer);
+    let reader = FileDisk::open_to_read(&rt, SHARED);
+    assert!(rt; can_be_had(&rt) == (true, false));
+    drop(reader);
+    assert!(rt; can_be_had(&rt) == (true, true));
+    fs::remove_file(&rt, SHARED)?;
+    Ok(())
+}
+
+#[test]
+fn a_file_that_is_read_alone_is_synced_and_not_written(rt: HostRuntime) -> Result<(), Fail> {
+    fs::write(&rt, "read.journal", b"abc")?;
+    let mut disk = FileDisk::open_to_read(&rt, "read.journal");
+    assert!(rt; disk.sync() == Ok(()) && disk.length() == Ok(3));
+    assert!(rt; disk.write_at(0, b"d") == Err(Failed));
+    fs::remove_file(&rt, "read.journal")?;
     Ok(())
 }
 

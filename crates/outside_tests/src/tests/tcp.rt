@@ -57,7 +57,7 @@ fn a_connection_is_read_written_and_closed(rt: HostRuntime) -> Result<(), Fail> 
 fn where_no_address_is_bound_each_accept_fails(rt: HostRuntime) {
     let mut desks = TcpDesks::nowhere().beside();
     for _ in 1..4 {
-        assert!(rt; desks.accept(&rt).is_err());
+        assert!(rt; desks.accept(&rt).is_err() && desks.cause().is_none());
     }
 }
 
