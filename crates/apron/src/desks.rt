@@ -122,7 +122,7 @@ fn desks_at<'a, R: Eprint + Net<Listener = TcpListener, Stream = TcpStream>>(
     alloc: Global,
     place: Place<'a>,
 ) -> Result<Vec<ToldDesks<'a, R>>, Memory>
-    ensures as_many { IfOk result (λ desks. length desks.items ≡ place.workers) }
+    ensures as_many { IfOk result (λ desks. length desks.items ≡ place.entry.workers) }
 {
     let first = match TcpDesks::bind(rt, place.address) {
         Ok(first) => {
@@ -162,7 +162,7 @@ fn all_beside<'a, R: Eprint>(
     place: Place<'a>,
     first: &TcpDesks,
 ) -> Result<Vec<ToldDesks<'a, R>>, Memory>
-    ensures as_many { IfOk result (λ desks. length desks.items ≡ place.workers) }
+    ensures as_many { IfOk result (λ desks. length desks.items ≡ place.entry.workers) }
 {
     let mut desks = Vec::new(alloc);
     for made in 0..place.workers {

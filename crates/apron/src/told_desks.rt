@@ -1,4 +1,6 @@
 // Desks that come over TCP, and what is said of them on standard error.
+ghost use Rattle.std.specs.Prelude.{◌≡◌};
+
 use apron_base::{Failed, Listener, Outcome, Reading, Writing};
 use host_files::tell;
 use std::marker::Model;

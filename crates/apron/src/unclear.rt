@@ -1,6 +1,4 @@
 // What was not understood of words that ask for nothing, as standard error says it.
-ghost use Rattle.std.specs.Prelude.{◌≡◌};
-
 use crate::desks::connections_of;
 use apron_base::Word;
 use std::fmt;
