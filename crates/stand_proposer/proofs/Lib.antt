@@ -1,0 +1,5 @@
+pub mod OneMore
+pub mod Puts
+pub mod Waiting
+pub mod Made
+pub mod Decided

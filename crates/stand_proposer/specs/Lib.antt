@@ -1,0 +1,4 @@
+pub mod Proposals
+pub mod Clauses
+pub mod Trials
+pub mod SoFar

@@ -1,0 +1,148 @@
+// Which stand takes a part first, and why the others don't.
+ghost use Rattle.std.specs.Prelude.{◌≡◌, ◌<◌, ◌++◌, ◌∷◌, [], All, IfOk, Some, length};
+ghost use Rattle.apron_rules.specs.Clash.{IsFirstClash, IsSlotOf, IsSound};
+ghost use Rattle.clash_check.specs.Clear.{IsClear};
+ghost use Rattle.clash_check.specs.FirstWith.{IsFirstWith};
+ghost use Rattle.clash_check.specs.Indexed.{all_slots};
+ghost use Rattle.visit_book.specs.PartFields.{part_at};
+ghost use Rattle.visit_book.specs.WellFormed.{IsWellFormed};
+ghost use Rattle.stand_proposer.specs.Trials.{IsTrial, IsTriedOn, slot_at};
+
+use crate::Why;
+use apron_base::{Listed, Memory, Slot, StandNo, Steps};
+use apron_rules::{Airport, Clash, clash_between, sooner};
+use clash_check::first_clash;
+use desk_words::replies::PartRow;
+use stand_index::StandIndex;
+use std::alloc::Global;
+use std::sync::ledger::Ledger;
+use visit_book::{Part, Place, Visit, slot_of};
+
+/// What came of trying the stands for a part.
+#[derive(Drop)]
+pub(crate) enum Tried {
+    /// The slot of the part on the first stand that takes it.
+    Fits(Slot),
+    /// No stand takes it. For each stand why.
+    Refused(Listed<Why>),
+}
+
+/// Tries the stands in order of number for a part of the visit that stands nowhere, beside the slots of the index and
+/// some more.
+pub(crate) fn first_stand<L: Ledger>(
+    alloc: Global,
+    airport: &Airport,
+    index: &StandIndex,
+    more: &[Slot],
+    visit: &Visit,
+    row: &PartRow,
+    steps: &mut Steps<L>,
+) -> Result<Tried, Memory>
+    requires clear { IsClear airport.now index.now [] }
+    requires more { All (IsSlotOf airport.now) more.now }
+    requires sound { IsSound airport.now (all_slots index.now ++ more.now) }
+    requires visit { IsWellFormed airport.now visit.now }
+    requires part { part_at visit.now.parts row.now.id.part ≡ Some row.now.part }
+    ensures tried { IfOk result
+        (IsTriedOn airport.now (all_slots index.now ++ more.now) visit.now row.now) }
+{
+    let mut whys = Listed::new(alloc);
+    for number in 0..airport.parts().stands.len() {
+        let slot = slot_at(airport, visit, row, StandNo(number as u16));
+        match why_not(alloc, airport, index, more, &slot, steps)? {
+            Some(why) => whys.push(why)?,
+            None => return Ok(Tried::Fits(slot)),
+        }
+    }
+    Ok(Tried::Refused(whys))
+}
+
+// The slot of the part if it is put on the stand.
+fn slot_at(airport: &Airport, visit: &Visit, row: &PartRow, stand: StandNo) -> Slot
+    requires visit { IsWellFormed airport.now visit.now }
+    requires part { part_at visit.now.parts row.now.id.part ≡ Some row.now.part }
+    requires stand { stand.0 < length airport.now.stands }
+    ensures is { result ≡ slot_at airport.now visit.now row.now stand }
+    ensures slot { IsSlotOf airport.now result }
+{
+    let part = Part {
+        place: Place::Planned(stand),
+        ..row.part
+    };
+    slot_of(airport, visit, row.id.part, &part).unwrap()
+}
+
+// Why the slot can't be added, if it can't: whether the type fits is asked first, without a look at other slots.
+fn why_not<L: Ledger>(
+    alloc: Global,
+    airport: &Airport,
+    index: &StandIndex,
+    more: &[Slot],
+    slot: &Slot,
+    steps: &mut Steps<L>,
+) -> Result<Option<Why>, Memory>
+    requires clear { IsClear airport.now index.now [] }
+    requires more { All (IsSlotOf airport.now) more.now }
+    requires sound { IsSound airport.now (all_slots index.now ++ more.now) }
+    requires slot { IsSlotOf airport.now slot.now }
+    ensures trial { IfOk result (IsTrial airport.now (all_slots index.now ++ more.now) slot.now) }
+{
+    if let Err(by) = airport.fits(slot.stand, slot.kind) {
+        return Ok(Some(Why::Unfit(by)));
+    }
+    match first_clash_with(alloc, airport, index, more, slot, steps)? {
+        Some(clash) => Ok(Some(Why::Clash(clash))),
+        None => Ok(None),
+    }
+}
+
+// The first clash with the slot added to those of the index and some more.
+fn first_clash_with<L: Ledger>(
+    alloc: Global,
+    airport: &Airport,
+    index: &StandIndex,
+    more: &[Slot],
+    slot: &Slot,
+    steps: &mut Steps<L>,
+) -> Result<Option<Clash>, Memory>
+    requires clear { IsClear airport.now index.now [] }
+    requires more { All (IsSlotOf airport.now) more.now }
+    requires sound { IsSound airport.now (all_slots index.now ++ more.now) }
+    requires slot { IsSlotOf airport.now slot.now }
+    ensures first { IfOk result
+        (IsFirstClash airport.now ((all_slots index.now ++ more.now) ++ slot.now ∷ [])) }
+{
+    let near = first_clash(alloc, airport, index, &[*slot], steps)?;
+    Ok(sooner(near, first_among(airport, more, slot, steps)))
+}
+
+// The first clash of the slot with some others. A step is counted for each.
+fn first_among<L: Ledger>(
+    airport: &Airport,
+    others: &[Slot],
+    slot: &Slot,
+    steps: &mut Steps<L>,
+) -> Option<Clash>
+    requires others { All (IsSlotOf airport.now) others.now }
+    requires slot { IsSlotOf airport.now slot.now }
+    ensures first { IsFirstWith airport.now slot.now others.now result }
+{
+    let mut first = None;
+    for other in others {
+        steps.tick();
+        first = sooner(first, clash_of_both(airport, slot, other));
+    }
+    first
+}
+
+// The first clash of two slots, whichever part is the smaller.
+fn clash_of_both(airport: &Airport, slot: &Slot, other: &Slot) -> Option<Clash>
+    requires slot { IsSlotOf airport.now slot.now }
+    requires other { IsSlotOf airport.now other.now }
+    ensures first { IsFirstWith airport.now slot.now (other.now ∷ []) result }
+{
+    sooner(
+        clash_between(airport, slot, other),
+        clash_between(airport, other, slot),
+    )
+}
