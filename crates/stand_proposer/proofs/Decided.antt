@@ -1,17 +1,15 @@
 -- Parts decided one after the other.
-use Rattle.std.proofs.Common.{◌≡◌, ◌∙◌, ◌<◌, ◌≤◌, ◌+◌, ◌⊎◌, inl, inr, ℕ, List, [], ◌∷◌, ◌++◌, refl, sym, ap, subst, arith, length, get_or, map, take, append_assoc, Option, None, Some, Result, Ok, Err}
-use Rattle.std.specs.Prelude.{All, Contains, OnOk, slice_get}
+use Rattle.std.proofs.Common.{◌≡◌, ◌∙◌, ◌<◌, ◌≤◌, ◌+◌, ◌⊎◌, inl, inr, ℕ, List, [], ◌∷◌, ◌++◌, refl, sym, ap, subst, arith, length, get_or, map, take, append_assoc, Some, Result, Ok, Err}
+use Rattle.std.specs.Prelude.{All, Contains, OnOk}
 use Rattle.std.proofs.lemmas.List.{take_more}
 use Rattle.std.proofs.lemmas.List.Elements.{All-nil, All-push, All-weaker, Contains-append_left, Contains-push_cases}
 use Rattle.apron_base.specs.declared.numbers.PartId.{PartId}
 use Rattle.apron_base.specs.declared.numbers.StandNo.{StandNo}
 use Rattle.apron_base.specs.declared.slot.Slot.{Slot}
-use Rattle.apron_rules.specs.declared.rules.Clash.{Clash}
 use Rattle.visit_book.specs.declared.edits.Edit.{Edit}
 use Rattle.visit_book.specs.declared.visits.Visit.{Visit}
 use Rattle.visit_book.specs.Edits.{most_edits}
 use Rattle.visit_book.specs.Slots.{slots_of}
-use Rattle.plan_core.specs.Edits.{after_all_edits}
 use Rattle.plan_core.specs.PlanState.{PlanState}
 use Rattle.plan_core.proofs.Results.{ok_is}
 use Rattle.bump_core.proofs.Blockers.{map_append}

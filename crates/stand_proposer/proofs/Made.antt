@@ -1,6 +1,6 @@
 -- Edits that put parts on stands, with one more.
-use Rattle.std.proofs.Common.{◌≡◌, ◌∙◌, ◌<◌, ◌≤◌, ◌+◌, ◌⊎◌, inl, inr, ℕ, true, List, [], ◌∷◌, ◌++◌, refl, sym, ap, subst, arith, length, length-append, append_assoc, append-nil, Option, None, Some, Result, Ok, Err}
-use Rattle.std.specs.Prelude.{All, Contains, ◌↔◌}
+use Rattle.std.proofs.Common.{◌≡◌, ◌∙◌, ◌<◌, ◌+◌, inl, inr, ℕ, List, [], ◌∷◌, ◌++◌, refl, sym, ap, subst, arith, length, length-append, append_assoc, append-nil, Option, None, Some, Result, Ok, Err}
+use Rattle.std.specs.Prelude.{Contains, ◌↔◌}
 use Rattle.std.proofs.lemmas.List.Elements.{All-nil, All-push, Contains-append_cases, Contains-append_left, Contains-append_right, Contains-push, Contains-push_cases}
 use Rattle.apron_base.specs.declared.numbers.PartId.{PartId}
 use Rattle.apron_base.specs.declared.numbers.StandNo.{StandNo}
@@ -22,20 +22,18 @@ use Rattle.visit_book.specs.declared.visits.Part.{Part}
 use Rattle.visit_book.specs.declared.visits.Place.TheVariants.{Planned}
 use Rattle.visit_book.specs.declared.visits.Visit.{Visit}
 use Rattle.visit_book.specs.Edits.{IsEditOf, most_edits}
-use Rattle.visit_book.specs.Numbers.{visit_at, with_visit}
+use Rattle.visit_book.specs.Numbers.{with_visit}
 use Rattle.visit_book.specs.PartFields.{part_at}
 use Rattle.visit_book.specs.Slots.{slot_on, slots_of}
 use Rattle.plan_core.specs.Edits.{after_all_edits, placed}
 use Rattle.plan_core.specs.Indexed.{IsIndexed}
 use Rattle.plan_core.specs.PlanState.{IsPlan, PlanState}
-use Rattle.plan_core.specs.Rebase.{Rebases}
 use Rattle.plan_core.proofs.IndexedVisits.{first_same, sound_within}
-use Rattle.plan_core.proofs.Results.{ok_is}
 use Rattle.desk_words.specs.declared.replies.PartRow.{PartRow}
 use Rattle.stand_proposer.specs.declared.proposals.Why.{Why}
 use Rattle.stand_proposer.specs.declared.proposals.Why.TheVariants as why
 use Rattle.stand_proposer.specs.Clauses.{ClashesWith}
-use Rattle.stand_proposer.specs.Proposals.{AreWhys, IsFirstFit, IsWhy, draft_with, put}
+use Rattle.stand_proposer.specs.Proposals.{AreWhys, IsFirstFit, IsWhy, put}
 use Rattle.stand_proposer.specs.SoFar.{IsMade, IsUnasked, Waits, WaitsInPlan, slots_so_far}
 use Rattle.stand_proposer.specs.Trials.{AreTrials, IsFirstTaker, IsTrial, slot_at}
 use Rattle.stand_proposer.proofs.Puts.{edits_push, put_fits, put_slots, put_unfit, still_waits, visit_after, waits_number}

@@ -1,9 +1,9 @@
 -- What one more edit makes that puts a waiting part on a stand.
-use Rattle.std.proofs.Common.{◌≡◌, ◌≢◌, ◌<◌, ◌≤◌, ◌+◌, ◌-◌, ◌==◌, ◌∙◌, ◌⊎◌, inl, inr, ℕ, zero, suc, Bool, true, false, cond, not, List, [], ◌∷◌, ◌++◌, refl, sym, ap, subst, arith, length, append_assoc, nat_lt, Option, None, Some, Result, Ok, Err, ok_or, option_map, option_to_list, if◌then◌else◌}
+use Rattle.std.proofs.Common.{◌≡◌, ◌≤◌, ◌+◌, ◌-◌, ◌==◌, ◌∙◌, ◌⊎◌, inl, inr, ℕ, zero, suc, Bool, true, false, cond, List, [], ◌∷◌, ◌++◌, refl, sym, ap, subst, arith, length, append_assoc, nat_lt, Option, None, Some, Result, Ok, Err, ok_or, option_map, option_to_list}
 use Rattle.std.specs.Prelude.{Contains, ◌↔◌, slice_get, slice_set}
 use Rattle.std.proofs.lemmas.Bool.Decides.{nat_tests}
 use Rattle.std.proofs.lemmas.List.Elements.{Contains-append_cases, Contains-append_left, Contains-append_right, Contains-push, Contains-push_cases}
-use Rattle.apron_base.specs.ResultChain.{◌>>=◌, refuse_if}
+use Rattle.apron_base.specs.ResultChain.{◌>>=◌}
 use Rattle.apron_base.specs.declared.numbers.PartId.{PartId}
 use Rattle.apron_base.specs.declared.numbers.StandNo.{StandNo}
 use Rattle.apron_base.specs.declared.numbers.TypeNo.{TypeNo}
@@ -20,12 +20,11 @@ use Rattle.visit_book.specs.declared.visits.Part.{Part}
 use Rattle.visit_book.specs.declared.visits.Place.{Place}
 use Rattle.visit_book.specs.declared.visits.Place.TheVariants.{Actual, Planned, Unplaced}
 use Rattle.visit_book.specs.declared.visits.Visit.{Visit}
-use Rattle.visit_book.specs.Ends.{is_live}
 use Rattle.visit_book.specs.Numbers.{has_number, visit_at, with_visit}
 use Rattle.visit_book.specs.PartFields.{part_at}
 use Rattle.visit_book.specs.Places.{is_actual, stand_of}
 use Rattle.visit_book.specs.Slots.{slot_of, slot_on, slots_from, slots_of, slots_of_visit}
-use Rattle.plan_core.specs.Edits.{after_edit, after_edits, edit_part, edit_visit, placed, refuse_unfit, with_part}
+use Rattle.plan_core.specs.Edits.{after_edit, after_edits, edit_visit, placed, refuse_unfit, with_part}
 use Rattle.plan_core.specs.PlanState.{PlanState}
 use Rattle.plan_core.proofs.ByNumber.{found_number, number_is}
 use Rattle.plan_core.proofs.Results.{ok_is, then_ok}

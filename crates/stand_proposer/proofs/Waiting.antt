@@ -1,6 +1,6 @@
 -- The parts that wait, by rank: each waits in the plan, and no two are one part.
-use Rattle.std.proofs.Common.{◌≡◌, ◌∙◌, ◌<◌, ◌≤◌, ◌+◌, ◌-◌, ◌==◌, ℕ, zero, suc, Bool, true, false, cond, List, [], ◌∷◌, ◌++◌, refl, sym, ap, subst, arith, length, length-append, append_assoc, get_or, map, Option, None, Some}
-use Rattle.std.specs.Prelude.{All, filter, is_none, slice_get, if◌then◌else◌}
+use Rattle.std.proofs.Common.{◌≡◌, ◌∙◌, ◌<◌, ◌≤◌, ◌+◌, ◌-◌, ℕ, zero, suc, Bool, true, false, cond, List, [], ◌∷◌, ◌++◌, refl, sym, ap, subst, arith, length, length-append, append_assoc, get_or, map, Option, None, Some}
+use Rattle.std.specs.Prelude.{All, filter, is_none, slice_get}
 use Rattle.std.specs.List.{AllByRecursion, flat_map}
 use Rattle.std.proofs.lemmas.Bool.Decides.{nat_tests}
 use Rattle.std.proofs.lemmas.List.Elements.{All-from_recursion}
@@ -20,7 +20,7 @@ use Rattle.desk_words.specs.declared.replies.PartRow.{PartRow}
 use Rattle.plan_lists.specs.declared.waiting.Waiting.{Waiting}
 use Rattle.plan_lists.specs.Rows.{rows_from}
 use Rattle.plan_lists.specs.Unplaced.{by_rank, is_unplaced, ranks_before, unplaced, waiting_of, with_rank}
-use Rattle.stand_proposer.specs.SoFar.{Waits, WaitsInPlan}
+use Rattle.stand_proposer.specs.SoFar.{WaitsInPlan}
 use Rattle.stand_proposer.proofs.Puts.{place_part}
 
 -- no two of the items are of one part

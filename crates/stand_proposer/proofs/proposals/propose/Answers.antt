@@ -1,4 +1,4 @@
-use Rattle.std.proofs.Common.{◌≡◌, ◌∙◌, arith}
+use Rattle.std.proofs.Common.{◌∙◌, arith}
 use Rattle.stand_proposer.specs.SoFar.{slots_so_far}
 use Rattle.stand_proposer.proofs.Decided.{clashes_hold, decided_asks, decided_base, nothing_asked, nothing_is, nothing_left, rows_decided}
 use Rattle.stand_proposer.proofs.Made.{nothing_made}

@@ -1,4 +1,4 @@
-use Rattle.std.proofs.Common.{◌≡◌, ◌+◌, ◌++◌, ◌∷◌, [], Some, subst, sym}
+use Rattle.std.proofs.Common.{◌+◌, ◌++◌, Some, subst, sym}
 use Rattle.apron_base.specs.declared.numbers.StandNo.{StandNo}
 use Rattle.apron_base.specs.declared.slot.Slot.{Slot}
 use Rattle.clash_check.specs.Indexed.{all_slots}
