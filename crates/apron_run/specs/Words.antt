@@ -5,7 +5,7 @@ use Rattle.std.specs.List.{list_all}
 use Rattle.std.specs.Str.{bytes_eq}
 use Rattle.apron_base.specs.Digits.{number_of}
 use Rattle.apron_base.specs.declared.digits.TheConstants.{MAX_DIGITS}
-use Rattle.generated_day.specs.declared.making_visits.TheConstants.{MAX_MADE}
+use Rattle.generated_day.specs.Days.{most_made}
 use Rattle.apron_run.specs.Statuses.{code_of}
 use Rattle.apron_run.specs.declared.status.Status.TheVariants.{Usage, FileFault, ShelfFault, DiskFault, JournalFault, Memory}
 
@@ -56,7 +56,7 @@ asked_of_more word airport types more = if bytes_eq word (codes "import") then i
 -- what the word `make` asks for with this number: a generated day of 1 to 5,000 visits
 abbrev pub made_of : Option ℕ → Asked
 made_of None = faulty
-made_of (Some visits) = if nat_le 1 visits && nat_le visits MAX_MADE then make visits else faulty
+made_of (Some visits) = if nat_le 1 visits && nat_le visits most_made then make visits else faulty
 
 -- what a word asks for that has digits behind it
 abbrev pub asked_with_number : List ℕ → List ℕ → Asked

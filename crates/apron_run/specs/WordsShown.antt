@@ -1,6 +1,6 @@
 -- What contracts see of what the words ask for.
 use Rattle.std.specs.Prelude.{◌≤◌}
-use Rattle.generated_day.specs.declared.making_visits.TheConstants.{MAX_MADE}
+use Rattle.generated_day.specs.Days.{most_made}
 use Rattle.apron_run.specs.declared.words.Asked.{Asked as Read}
 use Rattle.apron_run.specs.declared.words.Asked.TheVariants as read
 use Rattle.apron_run.specs.Words.{Asked, desk, init, check, chart, import, export, make, help, version, faulty}
@@ -20,5 +20,5 @@ shown read.Faulty = faulty
 
 -- a number of visits that a generated day can have
 abbrev pub IsFitting : Read → Type 0
-IsFitting (read.Make visits) = (1 ≤ visits) × (visits ≤ MAX_MADE)
+IsFitting (read.Make visits) = (1 ≤ visits) × (visits ≤ most_made)
 IsFitting asked = Unit {0}

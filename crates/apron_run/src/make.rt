@@ -1,5 +1,6 @@
 // The word `make`.
 ghost use Rattle.std.specs.Prelude.{◌≤◌, IfOk};
+ghost use Rattle.generated_day.specs.Days.{most_made};
 ghost use Rattle.apron_run.specs.Make.{IsDayLine, TellsDay};
 
 use crate::Status;
@@ -7,13 +8,13 @@ use crate::check::tell_fault;
 use crate::print::print;
 use apron_base::{Listed, Memory, Sink};
 use apron_check::FilesFault;
-use generated_day::{MAX_MADE, make_day, summary_line};
+use generated_day::{make_day, summary_line};
 use std::alloc::Global;
 
-/// Prints the summary of a generated day of so many visits, 1 to 5,000.
+/// Prints the summary of a generated day of this many visits, 1 to 5,000.
 pub(crate) fn make<W: Sink>(alloc: Global, visits: u32, sink: &mut W) -> Status
     requires some { 1 ≤ visits }
-    requires few { visits ≤ MAX_MADE }
+    requires few { visits ≤ most_made }
     ensures tells { TellsDay visits (W.state sink.old) (W.state sink.new) result }
 {
     match day_line(alloc, visits) {
@@ -22,10 +23,10 @@ pub(crate) fn make<W: Sink>(alloc: Global, visits: u32, sink: &mut W) -> Status
     }
 }
 
-// The line of the day of so many visits.
+// The line of the day of this many visits.
 fn day_line(alloc: Global, visits: u32) -> Result<Listed<u8>, Memory>
     requires some { 1 ≤ visits }
-    requires few { visits ≤ MAX_MADE }
+    requires few { visits ≤ most_made }
     ensures line { IfOk result (IsDayLine visits) }
 {
     let summary = make_day(alloc, visits)?;

@@ -17,7 +17,7 @@ day_stand number = record { name = 71 ∷ two_text number; frontage = codes "G";
 abbrev pub day_stands : List StandRow
 day_stands = map day_stand (range_with_len 1 STANDS)
 
--- a type of this name, wing span and least minutes
+-- a type of this name, wing span and least minutes, whose wing tips do not fold
 abbrev pub day_type : List ℕ → ℕ → ℕ → TypeRow
 day_type name span least = record { name = name; span = span; least = least; parked = span; fold = 0 }
 

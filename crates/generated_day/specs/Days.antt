@@ -127,6 +127,10 @@ summary_of day = let plan = plan_of day in record {
   version = plan.version;
 }
 
--- the summary of a generated day of so many visits
+-- the most visits of a generated day
+abbrev pub most_made : ℕ
+most_made = 5000
+
+-- the summary of a generated day of this many visits
 abbrev pub MakesDay : ℕ → Summary → Type 0
 MakesDay visits summary = (day : Day) × IsDayOf visits day × (summary ≡ summary_of day)

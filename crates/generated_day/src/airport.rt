@@ -1,6 +1,6 @@
 // The airport of a generated day.
 ghost use Rattle.std.specs.Prelude.{◌≡◌, ◌≤◌, IfOk};
-ghost use Rattle.generated_day.specs.DayAirport.{day_airport, day_frontage, day_stand, day_stands, day_type, day_types};
+ghost use Rattle.generated_day.specs.DayAirport.{day_airport, day_frontage, day_stand, day_stands, day_types};
 
 use apron_base::{Letter, Listed, Memory, Name};
 use apron_rules::{Airport, AirportFault, AirportParts, Date, Frontage, StandRow, TypeRow};
@@ -88,25 +88,13 @@ fn day_types(alloc: Global) -> Result<Listed<TypeRow>, Memory>
     ensures are { IfOk result (λ types. types ≡ day_types) }
 {
     let types = [
-        day_type(Name::literal(b"A320"), 3_580, 40),
-        day_type(Name::literal(b"B738"), 3_579, 40),
-        day_type(Name::literal(b"B77W"), 6_480, 60),
-        day_type(Name::literal(b"AT76"), 2_705, 25),
-        day_type(Name::literal(b"B190"), 1_767, 20),
-        day_type(Name::literal(b"A388"), 7_975, 90),
-        day_type(Name::literal(b"X360"), 3_600, 40),
+        TypeRow::without_folding(Name::literal(b"A320"), 3_580, 40),
+        TypeRow::without_folding(Name::literal(b"B738"), 3_579, 40),
+        TypeRow::without_folding(Name::literal(b"B77W"), 6_480, 60),
+        TypeRow::without_folding(Name::literal(b"AT76"), 2_705, 25),
+        TypeRow::without_folding(Name::literal(b"B190"), 1_767, 20),
+        TypeRow::without_folding(Name::literal(b"A388"), 7_975, 90),
+        TypeRow::without_folding(Name::literal(b"X360"), 3_600, 40),
     ];
     Ok(Listed::from_vec(Vec::from_array(alloc, types)?))
-}
-
-fn day_type(name: Name, span: u32, least: u32) -> TypeRow
-    ensures is { result ≡ day_type name span least }
-{
-    TypeRow {
-        name,
-        span,
-        least,
-        parked: span,
-        fold: 0,
-    }
 }

@@ -5,10 +5,10 @@ ghost use Rattle.visit_book.specs.NewVisits.{IsNewVisitOf};
 ghost use Rattle.desk_words.specs.Commands.{IsCommandOf};
 ghost use Rattle.generated_day.specs.Asked.{day_flight, drawn_visit, estimate, put_first};
 ghost use Rattle.generated_day.specs.DayAirport.{day_airport};
+ghost use Rattle.generated_day.specs.Days.{most_made};
 
 use crate::airport::STANDS;
 use crate::draws::{drawn, next_seed};
-use crate::making_visits::MAX_MADE;
 use apron_base::{Listed, Memory, Name, StandNo, TypeNo, VisitNo};
 use desk_words::asks::Command;
 use mvt_grammar::{Clock, Flight, Mvt};
@@ -16,7 +16,7 @@ use std::alloc::Global;
 use visit_book::{Edit, Key, NewVisit};
 
 fn day_flight(number: u32) -> Flight
-    requires few { number ≤ MAX_MADE }
+    requires few { number ≤ most_made }
     ensures is { result ≡ day_flight number }
     ensures form { IsFlight result }
 {
@@ -41,7 +41,7 @@ fn day_name(alloc: Global, number: u32) -> Result<Name, Memory>
 /// The visit of this number, by the four draws behind this number of the generator.
 #[tactic(auto, unfolding(crate::specs::Asked::drawn_visit))]
 pub(crate) fn drawn_visit(alloc: Global, number: u32, seed: u32) -> Result<NewVisit, Memory>
-    requires few { number ≤ MAX_MADE }
+    requires few { number ≤ most_made }
     ensures is { IfOk result (λ new. new ≡ drawn_visit number seed) }
     ensures new { IfOk result (IsNewVisitOf day_airport) }
 {
@@ -93,7 +93,7 @@ pub(crate) fn put_first(
 /// A message that the visit of this number is estimated so many minutes after this one.
 #[tactic(auto, unfolding(crate::specs::Asked::estimate))]
 pub(crate) fn estimate(number: u32, on: u32, delay: u32) -> Mvt
-    requires few { number ≤ MAX_MADE }
+    requires few { number ≤ most_made }
     ensures is { result ≡ estimate number on delay }
     ensures readable { IsReadable result }
 {

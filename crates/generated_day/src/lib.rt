@@ -6,10 +6,12 @@ mod airport;
 mod asks;
 mod counts;
 mod draws;
+mod laws;
 mod making;
 mod making_steps;
 mod making_visits;
 mod summary;
 
+pub use laws::limit_of_visits_is_as_defined;
 pub use making_visits::{MAX_MADE, make_day};
 pub use summary::{Summary, summary_line};

@@ -4,7 +4,7 @@ ghost use Rattle.desk_words.specs.Commands.{IsCommandOf};
 ghost use Rattle.desk_words.specs.declared.replies.Reply.{Reply};
 ghost use Rattle.generated_day.specs.Asked.{scheduled_on};
 ghost use Rattle.generated_day.specs.DayAirport.{day_airport};
-ghost use Rattle.generated_day.specs.Days.{IsAdded, IsAsked, IsDelayed, IsPut, first_day, is_accepted, plan_of};
+ghost use Rattle.generated_day.specs.Days.{IsAdded, IsAsked, IsDelayed, IsPut, first_day, is_accepted, most_made, plan_of};
 ghost use Rattle.generated_day.specs.Makings.{day_of};
 
 use crate::airport::STANDS;
@@ -12,7 +12,6 @@ use crate::asks::{drawn_visit, estimate, put_first};
 use crate::counts::more;
 use crate::draws::{drawn, next_seed};
 use crate::making::Making;
-use crate::making_visits::MAX_MADE;
 use apron_base::{Acted, CALL_END, Memory, SteadyKeeper, VisitNo};
 use apron_rules::Airport;
 use bump_core::bumped_by;
@@ -62,7 +61,7 @@ impl<'a> Making<'a> {
 
     /// Draws the visit of this number and asks to add it.
     pub(crate) fn add(&mut self, alloc: Global, number: u32) -> Result<(), Memory>
-        requires few { number ≤ MAX_MADE }
+        requires few { number ≤ most_made }
         ensures added { OnOk result (IsAdded number (day_of self.old) (day_of self.new)) }
     {
         let new = drawn_visit(alloc, number, self.seed)?;
@@ -87,7 +86,7 @@ impl<'a> Making<'a> {
 
     /// Draws a delay, and sends the message that the visit of this number is later by it and 20 minutes.
     pub(crate) fn delay(&mut self, alloc: Global, number: u32) -> Result<(), Memory>
-        requires few { number ≤ MAX_MADE }
+        requires few { number ≤ most_made }
         ensures delayed { OnOk result (IsDelayed number (day_of self.old) (day_of self.new)) }
     {
         let seed = next_seed(self.seed);

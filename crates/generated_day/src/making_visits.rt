@@ -1,6 +1,6 @@
-// The day of so many visits, and its summary.
+// The day of a number of visits, and its summary.
 ghost use Rattle.std.specs.Prelude.{◌≡◌, ◌≤◌, ◌<◌, ◌%◌, ◌+◌, IfOk, OnOk, count_by};
-ghost use Rattle.generated_day.specs.Days.{IsMade, IsPlaced, MakesDay, is_placed, is_unplaced, parts_of, summary_of};
+ghost use Rattle.generated_day.specs.Days.{IsMade, IsPlaced, MakesDay, is_placed, is_unplaced, most_made, parts_of, summary_of};
 ghost use Rattle.generated_day.specs.DayAirport.{day_airport};
 ghost use Rattle.generated_day.specs.Makings.{day_of};
 
@@ -19,10 +19,10 @@ pub const MAX_MADE: u32 = 5_000;
 // How many stands are tried for a visit.
 const TRIES: u32 = 8;
 
-/// The summary of a generated day of so many visits, 1 to 5,000. At `Err` memory is wanting.
+/// The summary of a generated day of this many visits, 1 to 5,000. At `Err` memory has run out.
 pub fn make_day(alloc: Global, visits: u32) -> Result<Summary, Memory>
     requires some { 1 ≤ visits }
-    requires few { visits ≤ MAX_MADE }
+    requires few { visits ≤ most_made }
     ensures made { IfOk result (MakesDay visits) }
 {
     let airport = day_airport(alloc)?;
@@ -35,7 +35,7 @@ pub fn make_day(alloc: Global, visits: u32) -> Result<Summary, Memory>
 
 // Makes what is made with the visit of this number.
 fn make(alloc: Global, making: &mut Making, number: u32) -> Result<(), Memory>
-    requires few { number ≤ MAX_MADE }
+    requires few { number ≤ most_made }
     ensures made { OnOk result (IsMade number (day_of making.old) (day_of making.new)) }
 {
     making.add(alloc, number)?;
