@@ -45,7 +45,7 @@ record AfterOne (before : PortState) (asked : Result Ask Early) (sent : Sent) (m
 module _ (airport : AirportParts) where
   -- an ask takes the next number
   number_one : (before mid : PortState) (ask : Ask) (answer : Given) → AloneAsks airport before ask answer mid → next_of mid ≡ next_of before + 1
-  number_one before mid ask answer (turn, here, next, risk) =
+  number_one before mid ask answer (turn, here, next, risk, counts) =
       let first : mid.first ≡ before.first = turn.first in
       let more : length mid.calls ≡ length before.calls + 1 = ap length turn.calls ∙ length-append before.calls _ in
       omega arith
@@ -53,11 +53,11 @@ module _ (airport : AirportParts) where
   -- what an ask leaves at risk
   risk_one : (before mid : PortState) (ask : Ask) (answer : Given) → AloneAsks airport before ask answer mid
       → Stands before mid (IsToldOf before (Ok ask) (given answer) mid)
-  risk_one before mid ask answer (turn, here, next, inl none) = inl none
-  risk_one before mid ask answer (turn, here, next, inr (inl same)) = inr (inl same)
-  risk_one before mid ask (replied reply) (turn, here, next, inr (inr (failed, new))) = absurd cc
-  risk_one before mid ask no_memory (turn, here, next, inr (inr (failed, new))) = absurd cc
-  risk_one before mid ask keeper_fault (turn, here, next, inr (inr (failed, (entry, is, (call, what))))) = inr (inr (
+  risk_one before mid ask answer (turn, here, next, inl none, counts) = inl none
+  risk_one before mid ask answer (turn, here, next, inr (inl same), counts) = inr (inl same)
+  risk_one before mid ask (replied reply) (turn, here, next, inr (inr (failed, new)), counts) = absurd cc
+  risk_one before mid ask no_memory (turn, here, next, inr (inr (failed, new)), counts) = absurd cc
+  risk_one before mid ask keeper_fault (turn, here, next, inr (inr (failed, (entry, is, (call, what)))), counts) = inr (inr (
     entry,
     is,
     record {

@@ -65,7 +65,7 @@ module _ (airport : AirportParts) where
   sent_leaves before after (Err reply) (at_once sent) (is, same) = leaves_none before after same
   sent_leaves before after (Err reply) (given answer) h = absurd h
   sent_leaves before after (Ok ask) (at_once sent) h = absurd h
-  sent_leaves before after (Ok ask) (given answer) (turn, here, next, risk) = record {
+  sent_leaves before after (Ok ask) (given answer) (turn, here, next, risk, counts) = record {
     first = turn.first;
     begins = subst (λ history. GoesOnFrom history after.seen) here
         (gives_more (replay airport turn.history) turn.history turn.call (sought (replay airport turn.history) ask) answer after.seen turn.gives);

@@ -21,7 +21,7 @@ use Rattle.apron_run.specs.Chart.{ChartsDay, ChartsFiles, ChartsFound, MeetsChar
 use Rattle.apron_run.specs.Check.{ChecksFiles, TellsFault, TellsFound}
 use Rattle.apron_run.specs.Complete.{Admits, AdmitsEach, HasFiles, HasJournal, HasSeason, IsEmpty}
 use Rattle.apron_run.specs.Export.{ExportsFiles, ExportsFound, MeetsExport}
-use Rattle.apron_run.specs.Import.{Around, AsksFound, FindsSeason, HasCause as HasSeasonCause, ImportsFiles, ImportsFound, ImportsSeason, IsTooLong, MeetsImport, Stores, Tells, TellsMet, around, begun}
+use Rattle.apron_run.specs.Import.{Around, AsksFound, FindsSeason, HasCause as HasSeasonCause, ImportsFiles, ImportsFound, ImportsSeason, IsTooLong, MeetsImport, Stores, Tells, TellsMet, around, begun, most_season}
 use Rattle.apron_run.specs.Imported.{TellsImported, imported_line, status_of_imported}
 use Rattle.apron_run.specs.Init.{InitsFound, InitsJournal, Makes, TellsMade}
 use Rattle.apron_run.specs.Journal.{NotOpened}
@@ -31,7 +31,6 @@ use Rattle.apron_run.specs.Unusable.{TellsUnusable, status_of_unusable, unusable
 use Rattle.apron_run.specs.World.{DiskSeen, Outs, World, outs_of}
 use Rattle.apron_run.specs.declared.imported.Imported.{Imported}
 use Rattle.apron_run.specs.declared.imported.Imported.TheVariants as how
-use Rattle.apron_run.specs.declared.season.TheConstants.{MAX_SEASON}
 use Rattle.apron_run.specs.declared.status.Status.{Status}
 use Rattle.apron_run.specs.declared.status.Status.TheVariants.{Done, Memory, WriteFault}
 use Rattle.apron_run.specs.declared.unusable.Unusable.{Unusable}
@@ -104,7 +103,7 @@ module _ (digests : List ℕ) (before after : Outs) (empty : IsEmpty before.disk
     (disk : ¬ (Rose before.disk.faults after.disk.faults)) (status : Status) where
   made_well : (refused : Option JournalFault) → Makes digests before.disk after.disk refused → TellsMade refused before.sink after.sink status → Well status
   made_well None makes tells = printed_well before.sink after.sink sink made_text status tells
-  made_well (Some journal.DiskFault) makes tells = absurd (disk makes.1)
+  made_well (Some journal.DiskFault) makes tells = absurd (disk makes.counts.1)
   made_well (Some journal.NotEmpty) makes tells =
       let (bytes, none, some) = both_told before.disk.contents (λ bytes. length bytes ≡ 0) (λ bytes. length bytes ≢ 0) empty.told empty.bytes makes.bytes in
       absurd (some none)
@@ -219,8 +218,8 @@ module _ (airport : AirportParts) (season : List ℕ) (before after : ShelfState
   not_too_long (Some kept) given short long =
       let is : short.bytes ≡ kept = short.told in
       let same : length short.bytes ≡ length kept = ap length is in
-      let few : length short.bytes ≤ MAX_SEASON = short.short in
-      let many : MAX_SEASON < length kept = long in
+      let few : length short.bytes ≤ most_season = short.short in
+      let many : most_season < length kept = long in
       absurd (omega arith)
 
   season_found : (found : Result (List NewVisit) Imported) → FindsSeason airport season before after found → (found ≡ Ok visits) ⊎ (found ≡ Err how.Memory)

@@ -2,7 +2,7 @@
 use Rattle.std.proofs.Common.{◌≡◌, ◌≢◌, ℕ, List, length, refl, ap, subst, false, Option, None, Some}
 use Rattle.std.specs.Prelude.{IfSome}
 use Rattle.apron_base.specs.Counts.{Counts}
-use Rattle.journal_disk.specs.Disk.{Between, DiskState, IsSafe, TellsAlike, Told}
+use Rattle.journal_disk.specs.Disk.{Between, DiskState, IsSafe, Stays, TellsAlike, Told}
 use Rattle.journal_disk.specs.Faults.{InitFails}
 use Rattle.journal_disk.specs.Header.{empty_journal}
 use Rattle.journal_disk.specs.declared.fault.JournalFault.{JournalFault}
@@ -38,11 +38,16 @@ is_made digests before after empty safe alike reads counts = record {
 }
 
 -- why none was made
-pub is_refused : (digests : List ℕ) (before after : DiskState) (fault : JournalFault) → InitFails before after fault → Makes digests (seen_of before) (seen_of after) (Some fault)
-is_refused digests before after journal.DiskFault fails = fails
-is_refused digests before after journal.NotEmpty (told, stays, counts) =
+pub is_refused : (digests : List ℕ) (before after : DiskState) (fault : JournalFault) → InitFails before after fault
+    → Told before (λ bytes. length bytes ≢ 0 → Stays before after) → Makes digests (seen_of before) (seen_of after) (Some fault)
+is_refused digests before after journal.DiskFault fails spares = record {
+  spares = if_told before.contents (λ bytes. length bytes ≢ 0 → after.contents ≡ before.contents)
+      (λ bytes is some. let stays : Stays before after = spares bytes is some in stays.contents);
+  counts = fails;
+}
+is_refused digests before after journal.NotEmpty (told, stays, counts) spares =
     record { bytes = if_told before.contents (λ bytes. length bytes ≢ 0) told; reads = stays.contents; counts = counts }
-is_refused digests before after journal.NotAJournal fails = absurd fails
-is_refused digests before after (journal.OtherAirport kept given) fails = absurd fails
-is_refused digests before after (journal.BadRecord number) fails = absurd fails
-is_refused digests before after journal.Memory fails = absurd fails
+is_refused digests before after journal.NotAJournal fails spares = absurd fails
+is_refused digests before after (journal.OtherAirport kept given) fails spares = absurd fails
+is_refused digests before after (journal.BadRecord number) fails spares = absurd fails
+is_refused digests before after journal.Memory fails spares = absurd fails

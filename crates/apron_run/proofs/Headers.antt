@@ -36,7 +36,7 @@ stands_of digests extent bytes image AtRisk are (front, inl opens) = opens_of (d
 stands_of digests extent bytes image AtRisk are (front, inr (entry, at, opens)) = opens_of (digests_in bytes) image _ opens ∙ are
 
 -- a disk that tells what it reads as has told it before
-told_before : (before now : Option (List ℕ)) (bytes : List ℕ) → Between (λ _ _. Unit {0}) before now → now ≡ Some bytes → (old : List ℕ) × (before ≡ Some old)
+pub told_before : (before now : Option (List ℕ)) (bytes : List ℕ) → Between (λ _ _. Unit {0}) before now → now ≡ Some bytes → (old : List ℕ) × (before ≡ Some old)
 told_before (Some old) now bytes alike is = (old, refl)
 told_before None None bytes alike is = absurd cc
 told_before None (Some now) bytes alike is = absurd alike

@@ -26,7 +26,7 @@ use Rattle.apron_check.specs.declared.faults.FilesFault.TheVariants as files
 use Rattle.apron_run.specs.Check.{TellsFault}
 use Rattle.apron_run.specs.Journal.{KeepsHistory}
 use Rattle.apron_run.specs.Desk.{FindsNoJournal, MeetsDesk, RunsDesk, RunsFound, ServesDesk, TellsMet, TellsOutcome, begun}
-use Rattle.apron_run.specs.Headline.{AllSound, Carried, HasItsEntry, Headline, IsOfItsEntry, TellsEarly, TellsFoundHeadline, TellsHeadline, TellsOf, TellsUnopened, is_given}
+use Rattle.apron_run.specs.Headline.{AllSound, Carried, CountsUnkept, HasItsEntry, Headline, IsOfItsEntry, TellsEarly, TellsFoundHeadline, TellsHeadline, TellsOf, TellsUnopened, is_given, tells_unkept}
 use Rattle.apron_run.specs.Statuses.{code_of, status_of_outcome}
 use Rattle.apron_run.specs.Unusable.{TellsUnusable, unusable_line}
 use Rattle.apron_run.specs.Words.{Asked, desk as desk_asked}
@@ -36,6 +36,7 @@ use Rattle.apron_run.specs.declared.status.Status.{Status}
 use Rattle.apron_run.proofs.AtRisk.{unkept_at_risk}
 use Rattle.apron_run.proofs.Calls.{Leaves, run_leaves}
 use Rattle.apron_run.proofs.Endings.{HasLeft, IsTail, Meets, has_left, session_meets}
+use Rattle.apron_run.proofs.Unkept.{run_counts}
 
 -- what is told behind a session that wanted memory is a front of the line, and nothing is behind others
 record Told (outcome : Outcome) (before after : SinkState) (status : Status) : Type 0 where
@@ -116,6 +117,8 @@ module _ (files : AirportFiles) where
         drafts = all_have_entries files.airport new.seen legal;
         visits = all_of_their_entries files.airport new.seen legal;
         faults = alike.faults ∙ counted;
+        unkept = subst (λ (n : ℕ). CountsUnkept (count_by tells_unkept exchange.sents) before.faults n) (alike.faults ∙ counted)
+            (run_counts files.airport (begun opened before.faults) new exchange.requests exchange.sents met.runs);
         keeps = subst (λ (history : List Entry). KeepsHistory files history new.at_risk after) (sym alike.seen)
             (subst (λ (risk : Option Entry). KeepsHistory files port.seen risk after) (sym alike.at_risk) kept);
         at_risk = unkept_at_risk files.airport opened before.faults exchange new met.runs;

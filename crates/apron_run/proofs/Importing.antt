@@ -182,7 +182,7 @@ met_as files season before after (Err why) status meets tells =
     }
 
 -- an import into a board that was opened
-pub season_imported : {K : Type 0} (tells : K → KeeperState) (files : AirportFiles) (season : List ℕ) (before after : Stores) (board left : BoardHeld K) (imported : Imported)
+abbrev pub season_imported : {K : Type 0} (tells : K → KeeperState) (files : AirportFiles) (season : List ℕ) (before after : Stores) (board left : BoardHeld K) (imported : Imported)
     → IsOpened tells files before.disk board
     → ((found : Result (List NewVisit) Imported) × FindsSeason board.airport season before.shelf after.shelf found
     × AsksFound board.airport found (reached tells board) (reached tells left) imported)

@@ -1,6 +1,7 @@
 pub mod Calls
 pub mod Disks
 pub mod Headers
+pub mod Fronts
 pub mod Asking
 pub mod Endings
 pub mod Serving
@@ -16,3 +17,5 @@ pub mod Sessions
 pub mod Complete
 pub mod Plain
 pub mod Causing
+pub mod Crashing
+pub mod Unkept

@@ -78,7 +78,7 @@ check_as airport types before after status source disk (found, finds, tells) =
 -- a journal that was made, or refused
 refused_disk : (digests : List ℕ) (before after : DiskSeen) (fault : JournalFault) → Makes digests before after (Some fault)
     → Counts (is_disk_fault (status_of_unusable (Journal fault))) before.faults after.faults
-refused_disk digests before after journal.DiskFault makes = makes
+refused_disk digests before after journal.DiskFault makes = makes.counts
 refused_disk digests before after journal.NotEmpty makes = makes.counts
 refused_disk digests before after journal.NotAJournal makes = absurd makes
 refused_disk digests before after (journal.OtherAirport kept given) makes = absurd makes

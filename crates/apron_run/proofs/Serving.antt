@@ -10,7 +10,7 @@ use Rattle.apron_rules.specs.declared.parts.AirportParts.{AirportParts}
 use Rattle.desk_words.specs.declared.asks.Entry.{Entry}
 use Rattle.entry_bytes.specs.Entries.{decoded, entry_text}
 use Rattle.history_core.specs.AtRisk.{entry_at_risk as entry_behind}
-use Rattle.history_core.specs.Board.{BoardHeld, IsKept, IsNextText, entry_texts}
+use Rattle.history_core.specs.Board.{BoardHeld, IsKept, IsNextText, Spells, entry_texts}
 use Rattle.apron_base.specs.Histories.{Rises}
 use Rattle.history_core.specs.History.{IsLegal, call_limit, call_of}
 use Rattle.history_core.specs.Opening.{next_after, next_from}
@@ -26,6 +26,7 @@ use Rattle.desk_http.specs.Routes.{routed}
 use Rattle.desk_http.specs.Session.{EndsAfter, Last, Moment, Progress, SessionOf, nothing, refusal, reply}
 use Rattle.history_core.specs.declared.opening.OpenFault.TheVariants as entries
 use Rattle.desk_http.proofs.OneDesk.{length-numbers_from}
+use Rattle.history_core.proofs.Keepers.{spells_with}
 use Rattle.journal_disk.specs.Disk.{DiskState, Told}
 use Rattle.journal_disk.specs.Extent.{Extent, IsCrashSafe, StandsFor, entries_within, entry_at_risk, keeper_of}
 use Rattle.journal_disk.specs.Faults.{OpenFails}
@@ -63,14 +64,20 @@ module _ (files : AirportFiles) (history : List Entry) (extent : Extent) (disk :
   keeps_untold : disk.contents ≡ None → KeepsHistory files history behind (seen_of disk)
   keeps_untold untold =
       let holds : Holds files (seen_of disk) history =
-      record { legal = legal; entries = subst (λ (c : Option (List ℕ)). IfSome c (λ bytes. opening_of files.digests bytes ≡ Ok (entry_texts history))) (sym untold) tt } in
+      record {
+        legal = legal;
+        entries = subst (λ (c : Option (List ℕ)). IfSome c (λ bytes. opening_of files.digests bytes ≡ Ok (entry_texts history))) (sym untold) tt;
+        spells = kept.spells;
+      } in
       record { holds = inl holds; exact = λ none. holds }
 
   module _ (bytes : List ℕ) (is : disk.contents ≡ Some bytes) (of : IsOf files.digests bytes) where
     -- the disk holds a history whose entries its bytes have
-    holds_just : (others : List Entry) → IsLegal files.airport others → opening_of (digests_in bytes) bytes ≡ Ok (entry_texts others) → Holds files (seen_of disk) others
-    holds_just others legal opening = record {
+    holds_just : (others : List Entry) → IsLegal files.airport others → Spells files.airport (entry_texts others) others
+        → opening_of (digests_in bytes) bytes ≡ Ok (entry_texts others) → Holds files (seen_of disk) others
+    holds_just others legal spells opening = record {
       legal = legal;
+      spells = spells;
       entries = subst (λ (c : Option (List ℕ)). IfSome c (λ bytes. opening_of files.digests bytes ≡ Ok (entry_texts others))) (sym is)
           (subst (λ (digests : List ℕ). opening_of digests bytes ≡ Ok (entry_texts others)) of opening);
     }
@@ -82,7 +89,7 @@ module _ (files : AirportFiles) (history : List Entry) (extent : Extent) (disk :
     -- a disk whose bytes stand for the journal keeps its history
     keeps_told : StandsFor extent bytes (λ entry. entry_at_risk extent disk.contents ≡ Some entry) bytes → KeepsHistory files history behind (seen_of disk)
     keeps_told (front, inl opening) =
-        let holds : Holds files (seen_of disk) history = holds_just history legal (opening ∙ ap Ok are) in
+        let holds : Holds files (seen_of disk) history = holds_just history legal kept.spells (opening ∙ ap Ok are) in
         record { holds = inl holds; exact = λ none. holds }
     keeps_told (front, inr (risk, at, opening)) =
         let next : IsNextText files.airport history risk = known (entry_at_risk extent disk.contents) (IsNextText files.airport history) risk kept.at_risk at in
@@ -91,8 +98,10 @@ module _ (files : AirportFiles) (history : List Entry) (extent : Extent) (disk :
         let texts : with_last risk (entries_within extent bytes) ≡ entry_texts (with_last entry history) =
         ap (λ text. with_last text (entries_within extent bytes)) next.is ∙ (ap (with_last (entry_text entry)) are ∙ texts_with history entry) in
         let seen : behind ≡ Some entry = ap (option_and_then (λ text. result_ok (decoded files.airport text))) at ∙ ap result_ok read in
+        let spells : Spells files.airport (entry_texts (with_last entry history)) (with_last entry history) =
+        spells_with files.airport history entry kept.spells (subst (λ (text : List ℕ). decoded files.airport text ≡ Ok entry) next.is read) in
         record {
-          holds = inr (entry, seen, holds_just (with_last entry history) next.legal (opening ∙ ap Ok texts));
+          holds = inr (entry, seen, holds_just (with_last entry history) next.legal spells (opening ∙ ap Ok texts));
           exact = λ none. let both : None ≡ Some risk = sym (kept.safe none) ∙ at in absurd cc;
         }
 
@@ -102,7 +111,7 @@ module _ (files : AirportFiles) (history : List Entry) (extent : Extent) (disk :
       (λ bytes is. keeps_told bytes is (known disk.contents (IsOf files.digests) bytes of is) (safe bytes is bytes (reads bytes is)))
 
 -- a desk alone that has just begun, over a board that was opened
-alone_begun : {K : Type 0} (tells : K → KeeperState) (alone : AloneHeld K) (opened : List Entry) (faults : ℕ) → alone.board.history ≡ opened
+pub alone_begun : {K : Type 0} (tells : K → KeeperState) (alone : AloneHeld K) (opened : List Entry) (faults : ℕ) → alone.board.history ≡ opened
     → alone.board.next ≡ next_after opened → alone.first ≡ next_after opened → (tells alone.board.keeper).at_risk ≡ None
     → (tells alone.board.keeper).faults ≡ faults → alone_port tells alone ≡ begun opened faults
 alone_begun tells alone opened faults history next first safe count =
@@ -110,7 +119,7 @@ alone_begun tells alone opened faults history next first safe count =
     rw (history, next, first, safe, count, none) refl
 
 -- the numbers of a desk alone whose next one is the last that there may be are used up
-alone_spent : {K : Type 0} (tells : K → KeeperState) (alone : AloneHeld K) → alone.first ≤ call_limit → (alone_port tells alone).spent ≡ true
+pub alone_spent : {K : Type 0} (tells : K → KeeperState) (alone : AloneHeld K) → alone.first ≤ call_limit → (alone_port tells alone).spent ≡ true
     → alone.first + length (alone_port tells alone).calls ≡ call_limit
 alone_spent tells alone below spent =
     let next : alone.board.next ≡ call_limit = eqb-true alone.board.next call_limit spent in
@@ -127,12 +136,12 @@ seen_fails digests before after (journal.BadRecord number) (counts, told) = (cou
 seen_fails digests before after journal.Memory (counts, told) = (counts, if_told before.contents _ told)
 
 -- the number of the call after a legal history is at most the last
-next_below : (low high : ℕ) (history : List Entry) → Rises call_of low high history → next_from low history ≤ high
+pub next_below : (low high : ℕ) (history : List Entry) → Rises call_of low high history → next_from low history ≤ high
 next_below low high [] rises = rises
 next_below low high (entry ∷ entries) (least, rest) = next_below (call_of entry + 1) high entries rest
 
 -- a port after some calls: its first number is as it was, and its count has not fallen
-record GoesOn (before after : PortState) : Type 0 where
+pub record GoesOn (before after : PortState) : Type 0 where
   pub first : after.first ≡ before.first
   pub faults : before.faults ≤ after.faults
 
@@ -172,7 +181,7 @@ module _ (airport : AirportParts) where
   ends_on other done last served after ends = absurd ends.0
 
   -- a whole session
-  session_on : (before after : Moment) (outcome : Outcome) → SessionOf AloneAsks airport before after outcome → GoesOn before.port after.port
+  pub session_on : (before after : Moment) (outcome : Outcome) → SessionOf AloneAsks airport before after outcome → GoesOn before.port after.port
   session_on before after outcome session =
       let done = session.done in
       let leaves = run_leaves airport before.port session.served done.requests done.sents session.runs in
@@ -191,7 +200,7 @@ serves_count files before after outcome serves =
     omega arith
 
 -- a session of a desk alone over a board that was opened, with the disk that was closed behind it
-pub desk_serves : {K : Type 0} (tells : K → KeeperState) (files : AirportFiles) (before after : Ends) (board : BoardHeld K) (start done : AloneHeld K) (outcome : Outcome)
+abbrev pub desk_serves : {K : Type 0} (tells : K → KeeperState) (files : AirportFiles) (before after : Ends) (board : BoardHeld K) (start done : AloneHeld K) (outcome : Outcome)
     → IsOpened tells files before.disk board → start.board ≡ board → start.first ≡ board.next
     → SessionOf AloneAsks start.board.airport (moment before (alone_port tells start)) (moment after (alone_port tells done)) outcome
     → done.board.airport ≡ start.board.airport → after.disk.faults ≡ (tells done.board.keeper).faults

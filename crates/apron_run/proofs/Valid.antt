@@ -10,9 +10,9 @@ use Rattle.airport_files.specs.declared.read.FileFault.{FileFault}
 use Rattle.desk_words.specs.declared.asks.Entry.{Entry}
 use Rattle.entry_bytes.specs.declared.faults.EntryFault.{EntryFault}
 use Rattle.entry_bytes.specs.Entries.{decoded}
-use Rattle.history_core.specs.Board.{entry_texts}
+use Rattle.history_core.specs.Board.{Spells, entry_texts}
 use Rattle.history_core.specs.History.{IsLegal}
-use Rattle.history_core.specs.Opening.{IsNotNext, Spells, StopsAt}
+use Rattle.history_core.specs.Opening.{IsNotNext, StopsAt}
 use Rattle.history_core.specs.declared.opening.OpenFault.{OpenFault}
 use Rattle.history_core.specs.declared.opening.OpenFault.TheVariants as entries
 use Rattle.history_core.proofs.Legal.{front_legal}

@@ -1,6 +1,7 @@
 -- The headline: what the output of a desk's session, and what it leaves on the disk, are to its input and what it found there.
 use Rattle.std.specs.Prelude.{◌≡◌, ◌⊎◌, ◌<◌, ◌≤◌, ◌↔◌, ◌+◌, ℕ, Bool, true, false, All, List, [], ◌∷◌, ◌++◌, length, take, count_by, Some, IfSome, Result, Ok, Err}
 use Rattle.std.specs.Io.KnownBytes.{Appends}
+use Rattle.apron_base.specs.Counts.{RoseBy}
 use Rattle.http_framing.specs.declared.bodies.Refusal.{Refusal}
 use Rattle.http_framing.specs.Requests.{Request, HasRequest, IsMalformed, IsPartial}
 use Rattle.http_framing.specs.Streams.{ended, cut, closed, malformed, IsOpen, Requests, Splits}
@@ -17,7 +18,7 @@ use Rattle.history_core.specs.Laws.{HasAdded, HasCommit, HasVisit}
 use Rattle.history_core.specs.Opening.{next_after}
 use Rattle.desk_http.specs.Answers.{Answers, Sent, TakesMemory, at_once, given, sends, sent_text}
 use Rattle.desk_http.specs.Alone.{AloneAsks, numbers_from}
-use Rattle.desk_http.specs.Ports.{PortState}
+use Rattle.desk_http.specs.Ports.{PortState, is_unkept}
 use Rattle.desk_http.specs.Routes.{routed}
 use Rattle.desk_http.specs.Runs.{Runs}
 use Rattle.desk_http.specs.Session.{most_requests, refusal_text, texts_of}
@@ -81,6 +82,17 @@ GoesOnFrom opened history = (added : List Entry) × (history ≡ opened ++ added
 abbrev pub is_given : Sent → Bool
 is_given (at_once reply) = false
 is_given (given answer) = true
+
+-- whether a reply is 503: the entry could not be kept
+abbrev pub tells_unkept : Sent → Bool
+tells_unkept (at_once reply) = false
+tells_unkept (given answer) = is_unkept answer
+
+-- a count of faults over some replies, so many of which are 503: it stands still where none is, and else it rises by at least as many, or stands at its
+-- last value
+pub record CountsUnkept (unkept before after : ℕ) : Type 0 where
+  pub none : unkept ≡ 0 → after ≡ before
+  pub some : RoseBy unkept before after
 
 -- one place of an exchange: what was sent there for a request, and the requests and what was sent before it
 pub record IsPlace (exchange : Exchange) (front : List Request) (told : List Sent) (request : Request) (sent : Sent) : Type 0 where
@@ -177,7 +189,7 @@ module _ (files : AirportFiles) where
   -- a report change the one visit that they are of, and then settle the plan: planned parts that can't stay lose their stands, and the reply names them.
   -- A cancelled visit stands nowhere. A question is told what the plan then is. In the place of each of these replies there may be the one that memory is
   -- wanting, and in the place of the reply to a command that the plan accepts the one that its entry could not be kept, where the disk's count of faults
-  -- rose at it; and then nothing has changed. After each entry the plan is sound. At the end the disk is a journal of the same two files with the history, or,
+  -- rose at it; and then nothing has changed. The count stands still where no reply is that one. After each entry the plan is sound. At the end the disk is a journal of the same two files with the history, or,
   -- where it has failed, with this and perhaps one entry more, with which it is still legal: that of a request which was told that its entry could not be
   -- kept, and after which none was added.
   pub record Headline (opened : List Entry) (before after : DiskSeen) (carried : Carried) (code : ℕ) : Type 0 where
@@ -197,6 +209,7 @@ module _ (files : AirportFiles) where
     pub drafts : (desk : List ℕ) (number version : ℕ) → HasItsEntry files.airport new.seen desk number version
     pub visits : (version : ℕ) (added : NewVisit) → IsOfItsEntry files.airport new.seen version added
     pub faults : new.faults ≡ after.faults
+    pub unkept : CountsUnkept (count_by tells_unkept exchange.sents) before.faults after.faults
     pub keeps : KeepsHistory files new.seen new.at_risk after
     pub at_risk : IfSome new.at_risk (IsUnkept files.airport (next_after opened) exchange new.seen)
 

@@ -9,6 +9,7 @@ use Rattle.season_files.specs.Seasons.{season_in}
 use Rattle.desk_words.specs.declared.asks.Entry.{Entry}
 use Rattle.history_core.specs.History.{IsLegal}
 use Rattle.history_core.specs.Opening.{next_after}
+use Rattle.journal_disk.specs.Disk.{DiskState}
 use Rattle.apron_check.specs.Files.{Finds}
 use Rattle.apron_check.specs.declared.files.AirportFiles.{AirportFiles}
 use Rattle.apron_check.specs.declared.faults.FilesFault.{FilesFault}
@@ -17,12 +18,15 @@ use Rattle.apron_run.specs.Check.{TellsFault}
 use Rattle.apron_run.specs.Imported.{TellsImported}
 use Rattle.apron_run.specs.Journal.{KeepsHistory, NotOpened, OpensTo}
 use Rattle.apron_run.specs.Unusable.{TellsUnusable}
-use Rattle.apron_run.specs.World.{DiskSeen, World}
+use Rattle.apron_run.specs.World.{DiskSeen, World, seen_of}
 use Rattle.apron_run.specs.declared.imported.Imported.{Imported}
 use Rattle.apron_run.specs.declared.imported.Imported.TheVariants.{ShelfFault, TooLong, Refused, Memory}
-use Rattle.apron_run.specs.declared.season.TheConstants.{MAX_SEASON}
 use Rattle.apron_run.specs.declared.status.Status.{Status}
 use Rattle.apron_run.specs.declared.unusable.Unusable.{Unusable}
+
+-- how many bytes a season file has at most: 16 MiB
+abbrev pub most_season : ℕ
+most_season = 16777216
 
 -- the shelf of files and the disk
 pub record Stores : Type 0 where
@@ -34,6 +38,14 @@ pub record Around : Type 0 where
   pub stores : Stores
   pub sink : SinkState
 
+-- the two in these states
+abbrev pub stores_at : ShelfState → DiskState → Stores
+stores_at shelf disk = record { shelf = shelf; disk = seen_of disk }
+
+-- these and the sink
+abbrev pub around_at : ShelfState → DiskState → SinkState → Around
+around_at shelf disk sink = record { stores = stores_at shelf disk; sink = sink }
+
 -- those of the outside, with the shelf at this moment
 abbrev pub around : ShelfState → World → Around
 around shelf world = record { stores = record { shelf = shelf; disk = world.disk }; sink = world.sink }
@@ -42,12 +54,12 @@ around shelf world = record { stores = record { shelf = shelf; disk = world.disk
 pub record Tells (airport : AirportParts) (file : Option (List ℕ)) (season : Result (List NewVisit) ℕ) : Type 0 where
   pub bytes : List ℕ
   pub told : IfSome file (λ kept. bytes ≡ kept)
-  pub short : length bytes ≤ MAX_SEASON
+  pub short : length bytes ≤ most_season
   pub season_is : season_in airport bytes ≡ season
 
 -- the file has more than the most bytes; where the shelf doesn't tell it, more were read
 abbrev pub IsTooLong : Option (List ℕ) → ShelfState → ShelfState → Type 0
-IsTooLong file before after = MatchOption file (RoseBy (MAX_SEASON + 1) before.read after.read) (λ kept. MAX_SEASON < length kept)
+IsTooLong file before after = MatchOption file (RoseBy (most_season + 1) before.read after.read) (λ kept. most_season < length kept)
 
 -- what is found in the season file of a name: its visits; or why none are asked, where want of memory needs no cause, and that of a failing shelf is its
 -- count

@@ -28,10 +28,15 @@ pub record HadBytes (before after : DiskSeen) : Type 0 where
   pub reads : after.contents ≡ before.contents
   pub counts : Counts false before.faults after.faults
 
+-- the disk failed; where it had bytes it has them still
+pub record FailedUnmade (before after : DiskSeen) : Type 0 where
+  pub spares : IfSome before.contents (λ bytes. length bytes ≢ 0 → after.contents ≡ before.contents)
+  pub counts : Counts true before.faults after.faults
+
 -- a journal was made of the files of these digests, or refused: since the disk failed, or since it wasn't empty
 abbrev pub Makes : List ℕ → DiskSeen → DiskSeen → Option JournalFault → Type 0
 Makes digests before after None = IsMade digests before after
-Makes digests before after (Some journal.DiskFault) = Counts true before.faults after.faults
+Makes digests before after (Some journal.DiskFault) = FailedUnmade before after
 Makes digests before after (Some journal.NotEmpty) = HadBytes before after
 Makes digests before after (Some fault) = ⊥
 

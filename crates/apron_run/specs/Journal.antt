@@ -3,9 +3,9 @@ use Rattle.std.specs.Prelude.{◌≡◌, ◌⊎◌, ℕ, List, true, false, Opti
 use Rattle.apron_base.specs.Counts.{Counts}
 use Rattle.apron_base.specs.Keeper.{KeeperState, with_last}
 use Rattle.desk_words.specs.declared.asks.Entry.{Entry}
-use Rattle.history_core.specs.Board.{BoardHeld, entry_texts}
+use Rattle.history_core.specs.Board.{BoardHeld, Spells, entry_texts}
 use Rattle.history_core.specs.History.{IsLegal}
-use Rattle.history_core.specs.Opening.{CannotOpen, Spells, next_after}
+use Rattle.history_core.specs.Opening.{CannotOpen, next_after}
 use Rattle.journal_disk.specs.Disk.{DiskState}
 use Rattle.journal_disk.specs.Extent.{JournalHeld, keeper_of}
 use Rattle.journal_disk.specs.Faults.{TextFails}
@@ -61,10 +61,11 @@ abbrev pub IsOf : List ℕ → List ℕ → Type 0
 IsOf digests bytes = digests_in bytes ≡ digests
 
 -- the disk, where it tells what it reads as, is the journal of these files, with both their digests in its header, and its entries are just those of this
--- legal history
+-- legal history, which is what they are read as
 pub record Holds (files : AirportFiles) (disk : DiskSeen) (history : List Entry) : Type 0 where
   pub legal : IsLegal files.airport history
   pub entries : IfSome disk.contents (λ bytes. opening_of files.digests bytes ≡ Ok (entry_texts history))
+  pub spells : Spells files.airport (entry_texts history) history
 
 -- the disk holds this history, or this and the entry at risk behind it; and as long as no call of it has failed, just the history
 pub record KeepsHistory (files : AirportFiles) (history : List Entry) (at_risk : Option Entry) (disk : DiskSeen) : Type 0 where

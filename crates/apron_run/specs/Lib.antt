@@ -7,6 +7,7 @@ pub mod Unusable
 pub mod Check
 pub mod Init
 pub mod Journal
+pub mod Survival
 pub mod Desk
 pub mod Chart
 pub mod Asking
@@ -19,3 +20,4 @@ pub mod Headline
 pub mod Run
 pub mod Complete
 pub mod Causes
+pub mod Crash

@@ -26,6 +26,14 @@ pub record Ends : Type 0 where
   pub sink : SinkState
   pub disk : DiskSeen
 
+-- the outside where the disk is in this state
+abbrev pub world_at : ShelfState → SourceState → SinkState → DiskState → World
+world_at shelf source sink disk = record { shelf = shelf; source = source; sink = sink; disk = seen_of disk }
+
+-- the same without the shelf
+abbrev pub ends_at : SourceState → SinkState → DiskState → Ends
+ends_at source sink disk = record { source = source; sink = sink; disk = seen_of disk }
+
 -- those of the outside
 abbrev pub ends_of : World → Ends
 ends_of world = record { source = world.source; sink = world.sink; disk = world.disk }
@@ -34,6 +42,10 @@ ends_of world = record { source = world.source; sink = world.sink; disk = world.
 pub record Outs : Type 0 where
   pub sink : SinkState
   pub disk : DiskSeen
+
+-- the sink and the disk in this state
+abbrev pub outs_at : SinkState → DiskState → Outs
+outs_at sink disk = record { sink = sink; disk = seen_of disk }
 
 -- those of the outside
 abbrev pub outs_of : World → Outs

@@ -3,6 +3,7 @@ ghost use Rattle.std.specs.Prelude.{◌≡◌, false, not, IfSome, ◌≤◌, Re
 ghost use Rattle.apron_check.specs.Files.{Finds};
 ghost use Rattle.apron_check.specs.declared.faults.FilesFault.{FilesFault};
 ghost use Rattle.apron_check.specs.declared.files.AirportFiles.{AirportFiles};
+ghost use Rattle.journal_disk.specs.Disk.{Stays};
 ghost use Rattle.apron_run.specs.Chart.{ChartsDay, ChartsFound, ChartsJournal, MeetsChart, day_named, if_day};
 ghost use Rattle.apron_run.specs.Run.{KeptUnless};
 ghost use Rattle.apron_run.specs.Statuses.{code_of};
@@ -25,7 +26,7 @@ use std::marker::{Brand, PhantomData};
 use wall_chart::chart as draw_chart;
 
 /// Prints the wall chart of the day that the digits name, of the plan in the journal of the two files of these names on the
-/// disk; or prints why there is none. The disk reads as before.
+/// disk; or prints why there is none. Nothing is written on the disk.
 pub(crate) fn chart<F: Shelf, W: Sink, D: Disk>(
     alloc: Global,
     airport: &str,
@@ -38,6 +39,7 @@ pub(crate) fn chart<F: Shelf, W: Sink, D: Disk>(
     ensures charts { (found : Result AirportFiles FilesFault) × Finds (F.state shelf.old) (F.state shelf.new) airport.now types.now found
         × ChartsFound found day.now (record { sink = W.state sink.old; disk = seen_of (D.state disk.old) })
         (record { sink = W.state sink.new; disk = seen_of (D.state disk.new) }) result }
+    ensures crash { Stays (D.state disk.old) (D.state disk.new) }
     ensures kept { KeptUnless (not (ends_before_chart (code_of result))) disk.old disk.new }
 {
     match airport_of(alloc, airport, types, shelf) {
@@ -56,6 +58,7 @@ fn chart_of_day<W: Sink, D: Disk>(
 ) -> Status
     ensures charts { ChartsDay files.now (day_named files.now.airport day.now) (record { sink = W.state sink.old; disk = seen_of (D.state disk.old) })
         (record { sink = W.state sink.new; disk = seen_of (D.state disk.new) }) result }
+    ensures crash { Stays (D.state disk.old) (D.state disk.new) }
     ensures kept { KeptUnless (not (ends_before_chart (code_of result))) disk.old disk.new }
 {
     match day_named(&files.airport, day.as_bytes()) {
@@ -97,6 +100,7 @@ fn chart_on_journal<W: Sink, D: Disk>(
     requires last { day ≤ files.now.airport.days }
     ensures charts { ChartsJournal files.now day (record { sink = W.state sink.old; disk = seen_of (D.state disk.old) })
         (record { sink = W.state sink.new; disk = seen_of (D.state disk.new) }) result }
+    ensures crash { Stays (D.state disk.old) (D.state disk.new) }
     ensures comes { ends_before_chart (code_of result) ≡ false }
 {
     let (met, _disk) = draw_on::<Brand, D>(alloc, files, day, disk);
@@ -116,10 +120,12 @@ fn draw_on<'d, N: Named + OfFiles, D: Disk>(
 ) -> (Result<Result<Listed<u8>, Memory>, Unusable>, &'d mut D)
     requires named { disk.ghost_name ≡ N.name }
     requires digests { files.now.digests ≡ N.digests }
+    requires begun { Stays N.begun (D.state disk.old) }
     requires first { 1 ≤ day }
     requires last { day ≤ files.now.airport.days }
     ensures same { result.1.ghost_name ≡ disk.entry.ghost_name }
     ensures meets { MeetsChart files.now day (seen_of (D.state disk.old)) (seen_of (D.state result.1.now)) result.0 }
+    ensures crash { Stays (D.state disk.old) (D.state result.1.now) }
 {
     let same: SameDisk<'d, N, D> = SameDisk {
         disk,
@@ -138,9 +144,11 @@ fn draw<N: OfFiles, D: Disk>(
     disk: D,
 ) -> (Result<Result<Listed<u8>, Memory>, Unusable>, D)
     requires digests { files.now.digests ≡ N.digests }
+    requires begun { Stays N.begun (D.state disk) }
     requires first { 1 ≤ day }
     requires last { day ≤ files.now.airport.days }
     ensures meets { MeetsChart files.now day (seen_of (D.state disk)) (seen_of (D.state result.1)) result.0 }
+    ensures crash { Stays (D.state disk) (D.state result.1) }
 {
     let board = match open_board::<N, D>(alloc, files, disk) {
         Ok(board) => board,

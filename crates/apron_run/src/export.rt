@@ -3,6 +3,7 @@ ghost use Rattle.std.specs.Prelude.{◌≡◌, false, not, Result};
 ghost use Rattle.apron_check.specs.Files.{Finds};
 ghost use Rattle.apron_check.specs.declared.faults.FilesFault.{FilesFault};
 ghost use Rattle.apron_check.specs.declared.files.AirportFiles.{AirportFiles};
+ghost use Rattle.journal_disk.specs.Disk.{Stays};
 ghost use Rattle.apron_run.specs.Export.{ExportsFound, ExportsJournal, MeetsExport};
 ghost use Rattle.apron_run.specs.Run.{KeptUnless};
 ghost use Rattle.apron_run.specs.Statuses.{code_of};
@@ -24,7 +25,7 @@ use std::alloc::Global;
 use std::marker::{Brand, PhantomData};
 
 /// Prints the season file of the plan in the journal of the two files of these names on the disk; or prints why there is none.
-/// The disk reads as before.
+/// Nothing is written on the disk.
 pub(crate) fn export<F: Shelf, W: Sink, D: Disk>(
     alloc: Global,
     airport: &str,
@@ -36,6 +37,7 @@ pub(crate) fn export<F: Shelf, W: Sink, D: Disk>(
     ensures exports { (found : Result AirportFiles FilesFault) × Finds (F.state shelf.old) (F.state shelf.new) airport.now types.now found
         × ExportsFound found (record { sink = W.state sink.old; disk = seen_of (D.state disk.old) })
         (record { sink = W.state sink.new; disk = seen_of (D.state disk.new) }) result }
+    ensures crash { Stays (D.state disk.old) (D.state disk.new) }
     ensures kept { KeptUnless (not (ends_at_files (code_of result))) disk.old disk.new }
 {
     match airport_of(alloc, airport, types, shelf) {
@@ -53,6 +55,7 @@ fn export_season<W: Sink, D: Disk>(
 ) -> Status
     ensures exports { ExportsJournal files.now (record { sink = W.state sink.old; disk = seen_of (D.state disk.old) })
         (record { sink = W.state sink.new; disk = seen_of (D.state disk.new) }) result }
+    ensures crash { Stays (D.state disk.old) (D.state disk.new) }
     ensures comes { ends_at_files (code_of result) ≡ false }
 {
     let (met, _disk) = write_on::<Brand, D>(alloc, files, disk);
@@ -71,8 +74,10 @@ fn write_on<'d, N: Named + OfFiles, D: Disk>(
 ) -> (Result<Result<Listed<u8>, Memory>, Unusable>, &'d mut D)
     requires named { disk.ghost_name ≡ N.name }
     requires digests { files.now.digests ≡ N.digests }
+    requires begun { Stays N.begun (D.state disk.old) }
     ensures same { result.1.ghost_name ≡ disk.entry.ghost_name }
     ensures meets { MeetsExport files.now (seen_of (D.state disk.old)) (seen_of (D.state result.1.now)) result.0 }
+    ensures crash { Stays (D.state disk.old) (D.state result.1.now) }
 {
     let same: SameDisk<'d, N, D> = SameDisk {
         disk,
@@ -90,7 +95,9 @@ fn write<N: OfFiles, D: Disk>(
     disk: D,
 ) -> (Result<Result<Listed<u8>, Memory>, Unusable>, D)
     requires digests { files.now.digests ≡ N.digests }
+    requires begun { Stays N.begun (D.state disk) }
     ensures meets { MeetsExport files.now (seen_of (D.state disk)) (seen_of (D.state result.1)) result.0 }
+    ensures crash { Stays (D.state disk) (D.state result.1) }
 {
     let board = match open_board::<N, D>(alloc, files, disk) {
         Ok(board) => board,

@@ -1,28 +1,36 @@
 // The journal of two files.
 //
-// A board knows its keeper by what every keeper tells, and that is no header. So the digests of the files stand in the type:
-// whatever a board does with such a journal, it stays the journal of these files.
+// A board knows its keeper by what every keeper tells, and that is neither a header nor what a crash leaves. So the digests of
+// the files and the disk as it was are in the type: whatever a board does with such a journal, it stays the journal of these
+// files, and a crash leaves a front of its entries.
 ghost use Rattle.std.specs.Prelude.{◌≡◌, ℕ, List, [], IfSome};
-ghost use Rattle.journal_disk.specs.Extent.{IsCrashSafe};
+ghost use Rattle.journal_disk.specs.Disk.{DiskState, untold_disk};
+ghost use Rattle.journal_disk.specs.Extent.{IsCrashSafe, entries_within};
 ghost use Rattle.apron_run.specs.Journal.{IsOf};
+ghost use Rattle.apron_run.specs.Survival.{LeavesFronts};
 
 use apron_base::{Failed, Keeper, Memory};
 use journal_disk::{Disk, Journal};
 use std::alloc::Global;
 use std::marker::{Brand, Model, PhantomData};
 
-/// The two files that a journal is of.
+/// The two files that a journal is of, and the disk on which it was opened.
 pub trait OfFiles {
     /// The digest of the airport file, and then that of the type file, 32 bytes each.
     ghost digests: { List ℕ };
+
+    /// The disk as it was when the call began that opened the journal.
+    ghost begun: { DiskState };
 }
 
 impl OfFiles for Brand {
     ghost digests = { [] };
+
+    ghost begun = { untold_disk 0 };
 }
 
-/// A journal whose disk, where it tells what it reads as, has the digests of these files in its header. Contracts see the
-/// journal.
+/// A journal whose disk, where it tells what it reads as, has the digests of these files in its header, and of which a crash at
+/// any moment leaves a front of the entries, or this and one more. Contracts see the journal.
 #[derive(Drop)]
 pub struct FilesJournal<N: OfFiles, D: Disk> {
     journal: Journal<D>,
@@ -31,20 +39,23 @@ pub struct FilesJournal<N: OfFiles, D: Disk> {
 
 impl<N: OfFiles, D: Disk> Model for FilesJournal<N, D> {
     ghost use Rattle.std.specs.Prelude.{IfSome};
-    ghost use Rattle.journal_disk.specs.Extent.{JournalHeld};
+    ghost use Rattle.journal_disk.specs.Extent.{JournalHeld, entries_within};
     ghost use Rattle.apron_run.specs.Journal.{IsOf};
+    ghost use Rattle.apron_run.specs.Survival.{LeavesFronts};
 
     ghost Value = { JournalHeld D };
 
     ghost view = { λ f. f.journal };
 
-    ghost invariant = { λ f. IfSome (D.state f.journal.disk).contents (IsOf N.digests) };
+    ghost invariant = { λ f. IfSome (D.state f.journal.disk).contents (IsOf N.digests)
+        × LeavesFronts N.digests (entries_within f.journal.extent) N.begun (D.state f.journal.disk) };
 }
 
 impl<N: OfFiles, D: Disk> FilesJournal<N, D> {
     /// The journal of these files, as it was opened.
     pub(crate) fn new(journal: Journal<D>) -> FilesJournal<N, D>
         requires digests { IfSome (D.state journal.disk).contents (IsOf N.digests) }
+        requires fronts { LeavesFronts N.digests (entries_within journal.extent) N.begun (D.state journal.disk) }
         ensures journal { result ≡ journal }
     {
         FilesJournal {
@@ -58,6 +69,7 @@ impl<N: OfFiles, D: Disk> FilesJournal<N, D> {
         ensures disk { result ≡ self.disk }
         ensures entries { IsCrashSafe self.extent (D.state result) }
         ensures digests { IfSome (D.state result).contents (IsOf N.digests) }
+        ensures fronts { LeavesFronts N.digests (entries_within self.extent) N.begun (D.state result) }
     {
         self.journal.into_disk()
     }

@@ -2,7 +2,9 @@
 ghost use Rattle.std.specs.Prelude.{◌≡◌, IfErr, IfOk};
 ghost use Rattle.history_core.specs.History.{IsLegal};
 ghost use Rattle.history_core.specs.AtRisk.{entry_at_risk};
+ghost use Rattle.journal_disk.specs.Disk.{Stays};
 ghost use Rattle.apron_run.specs.Journal.{IsOpened, KeepsHistory, NotOpened, journal_tells};
+ghost use Rattle.apron_run.specs.Survival.{Survives};
 ghost use Rattle.apron_run.specs.World.{seen_of};
 
 use crate::files_journal::{FilesJournal, OfFiles};
@@ -13,17 +15,19 @@ use journal_disk::{Disk, Journal};
 use std::alloc::Global;
 
 /// Opens the journal of these files on the disk, and the board of its entries. At `Err` it is told why there is none to work on,
-/// and the disk is handed back, which reads as before.
+/// and the disk is handed back, on which nothing was written.
 pub fn open_board<'f, N: OfFiles, D: Disk>(
     alloc: Global,
     files: &'f AirportFiles,
     disk: D,
 ) -> Result<Board<'f, FilesJournal<N, D>>, (Unusable, D)>
     requires digests { files.now.digests ≡ N.digests }
+    requires begun { Stays N.begun (D.state disk) }
     ensures opened { IfOk result (IsOpened (journal_tells D.state) files.entry.now (seen_of (D.state disk))) }
-    ensures stays { IfOk result (λ board. (D.state board.keeper.disk).contents ≡ (D.state disk).contents) }
+    ensures stays { IfOk result (λ board. Stays (D.state disk) (D.state board.keeper.disk)) }
     ensures refused { IfErr result (λ refusal.
         NotOpened files.entry.now (seen_of (D.state disk)) (seen_of (D.state refusal.1)) refusal.0) }
+    ensures unwritten { IfErr result (λ refusal. Stays (D.state disk) (D.state refusal.1)) }
 {
     let (journal, entries) = match Journal::open(alloc, disk, &files.digests) {
         Ok(opened) => opened,
@@ -37,10 +41,13 @@ pub fn open_board<'f, N: OfFiles, D: Disk>(
 }
 
 /// Gives back the disk of a board that is not needed any more. It keeps the board's history, or this and the entry at risk
-/// behind it, as the journal of these files.
+/// behind it, as the journal of these files; and so does what a crash leaves.
 pub fn close_board<N: OfFiles, D: Disk>(board: Board<'_, FilesJournal<N, D>>) -> D
     ensures keeps { KeepsHistory (record { airport = board.entry.airport; digests = N.digests }) board.entry.history
         (entry_at_risk board.entry.airport (journal_tells D.state board.entry.keeper)) (seen_of (D.state result)) }
+    ensures survives { Survives N.digests board.entry.history
+        (entry_at_risk board.entry.airport (journal_tells D.state board.entry.keeper))
+        (record { before = N.begun; after = D.state result }) }
     ensures disk { result ≡ board.entry.keeper.disk }
     ensures legal { IsLegal board.entry.airport board.entry.history }
 {

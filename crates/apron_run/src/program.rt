@@ -2,11 +2,12 @@
 ghost use Rattle.std.specs.Prelude.{◌≡◌, ℕ, List, true};
 ghost use Rattle.apron_run.specs.Causes.{FaultsHaveCause};
 ghost use Rattle.apron_run.specs.Complete.{IsComplete};
+ghost use Rattle.apron_run.specs.Crash.{CrashesAs};
 ghost use Rattle.apron_run.specs.Headline.{TellsHeadline};
 ghost use Rattle.apron_run.specs.Run.{KeptUnless, RunsAs};
 ghost use Rattle.apron_run.specs.Statuses.{code_of};
 ghost use Rattle.apron_run.specs.Words.{asked_by, desk as desk_word, faulty, may_be_usage, uses_disk, uses_shelf, uses_source};
-ghost use Rattle.apron_run.specs.World.{World, seen_of};
+ghost use Rattle.apron_run.specs.World.{World, seen_of, world_at};
 
 use crate::Status;
 use crate::chart::chart;
@@ -72,6 +73,9 @@ pub fn run<F: Shelf, S: Source, W: Sink, D: Disk>(
     ensures faults { let before : World = record { shelf = F.state shelf.old; source = S.state source.old; sink = W.state sink.old; disk = seen_of (D.state disk.old) } in
         let after : World = record { shelf = F.state shelf.new; source = S.state source.new; sink = W.state sink.new; disk = seen_of (D.state disk.new) } in
         FaultsHaveCause (asked_by words.now) before after result }
+    ensures crash { CrashesAs (record { before = D.state disk.old; after = D.state disk.new }) (asked_by words.now)
+        (world_at (F.state shelf.old) (S.state source.old) (W.state sink.old) (D.state disk.old))
+        (world_at (F.state shelf.new) (S.state source.new) (W.state sink.new) (D.state disk.new)) result }
     ensures usage { asked_by words.now ≡ faulty → result ≡ code_of Status.Usage }
     ensures usage_alone { result ≡ code_of Status.Usage → may_be_usage (asked_by words.now) ≡ true }
     ensures shelf_kept { KeptUnless (uses_shelf (asked_by words.now)) shelf.old shelf.new }

@@ -52,13 +52,19 @@ risks before after call what given (inl none) = inl none
 risks before after call what given (inr (inl (same, entries))) = inr (inl same)
 risks before after call what given (inr (inr unkept)) = inr (inr unkept)
 
+-- a board's count of faults over an act is what its desk is told of it
+counts_given : (given : Given) (before after : ℕ) → Counts (is_unkept given) before after → CountsGiven given before after
+counts_given (replied reply) before after same = omega (arith, same)
+counts_given no_memory before after same = omega (arith, same)
+counts_given keeper_fault before after counts = counts
+
 -- an ask of a desk alone gets its turn
 turn : {K : Type 0} (tells : K → KeeperState) (before after : BoardHeld K) (first : ℕ) (ask : Ask) (given : Given)
     → IsAlone before first → IsLegal before.airport after.history → before.next < call_limit → Gives before.airport before.history before.next ask given after.history
-    → after.next ≡ before.next + 1 → CountsGiven given (tells before.keeper).faults (tells after.keeper).faults
+    → after.next ≡ before.next + 1 → Counts (is_unkept given) (tells before.keeper).faults (tells after.keeper).faults
     → LeavesAtRisk (standing (machine_state tells before)) before.next ask.what (is_unkept given) (standing (machine_state tells after))
     → AloneAsks before.airport (alone_port tells (record { board = before; first = first })) ask given (alone_port tells (record { board = after; first = first }))
-turn tells before after first ask given h still last gives next cause risk = (
+turn tells before after first ask given h still last gives next counts risk = (
   record {
     history = before.history;
     call = before.next;
@@ -74,12 +80,13 @@ turn tells before after first ask given h still last gives next cause risk = (
     calls = ap (λ n. numbers_from first (n - first)) next ∙ calls_push first before.next h.begun;
     spent = grind (arith, nat_tests);
     stays = λ spent. let all : after.next ≡ call_limit = eqb-true after.next (call_limit) spent in omega arith;
-    faults = cause;
+    faults = counts_given given (tells before.keeper).faults (tells after.keeper).faults counts;
     at_risk = risks (standing (machine_state tells before)) (standing (machine_state tells after)) before.next ask.what given risk;
   },
   refl,
   let begun = h.begun in let size : length (numbers_from first (before.next - first)) ≡ before.next - first = length-numbers_from first (before.next - first) in omega arith,
   risk,
+  counts,
 )
 
 -- what a desk alone shows of an ask
@@ -89,12 +96,12 @@ pub alone_shows : {K : Type 0} (tells : K → KeeperState) (before after : Board
     → LeavesAtRisk (standing (machine_state tells before)) before.next ask.what (is_fault acted) (standing (machine_state tells after))
     → ShowsAsk AloneAsks before.airport (alone_port tells (record { board = before; first = first })) ask acted (alone_port tells (record { board = after; first = first }))
 alone_shows tells before after first ask (Replied bytes) h still last (replied reply, shows, gives) next counts risk =
-    (replied reply, shows, turn tells before after first ask (replied reply) h still last gives next (omega (arith, counts)) risk)
+    (replied reply, shows, turn tells before after first ask (replied reply) h still last gives next counts risk)
 alone_shows tells before after first ask (Replied bytes) h still last (no_memory, shows, gives) next counts risk = absurd (cc)
 alone_shows tells before after first ask (Replied bytes) h still last (keeper_fault, shows, gives) next counts risk = absurd (cc)
 alone_shows tells before after first ask NoMemory h still last (replied reply, shows, gives) next counts risk = absurd (cc)
 alone_shows tells before after first ask NoMemory h still last (no_memory, shows, gives) next counts risk =
-    (no_memory, shows, turn tells before after first ask no_memory h still last gives next (omega (arith, counts)) risk)
+    (no_memory, shows, turn tells before after first ask no_memory h still last gives next counts risk)
 alone_shows tells before after first ask NoMemory h still last (keeper_fault, shows, gives) next counts risk = absurd (cc)
 alone_shows tells before after first ask Fault h still last (replied reply, shows, gives) next counts risk = absurd (cc)
 alone_shows tells before after first ask Fault h still last (no_memory, shows, gives) next counts risk = absurd (cc)

@@ -3,6 +3,7 @@ use Rattle.std.specs.Prelude.{◌≡◌, ◌==◌, ◌+◌, ◌-◌, ◌≤◌, 
 use Rattle.apron_rules.specs.declared.parts.AirportParts.{AirportParts}
 use Rattle.desk_words.specs.declared.asks.Ask.{Ask}
 use Rattle.desk_words.specs.declared.asks.Entry.{Entry}
+use Rattle.apron_base.specs.Counts.{Counts}
 use Rattle.apron_base.specs.Histories.{Rises}
 use Rattle.apron_base.specs.Keeper.{KeeperState}
 use Rattle.apron_base.specs.Machine.{Standing}
@@ -45,8 +46,10 @@ abbrev pub standing_of : PortState → Standing Entry
 standing_of port = record { entries = port.seen; at_risk = port.at_risk }
 
 -- an ask of a desk alone gets its turn at the history that it has seen, and with the next number; an entry comes to be at risk only where it is the one
--- that was asked for and could not be kept, and is at risk no more once another is added
+-- that was asked for and could not be kept, and is at risk no more once another is added; the count of faults rises, or stands at its last value, where
+-- the entry could not be kept, and else it stands still
 abbrev pub AloneAsks : AirportParts → PortState → Ask → Given → PortState → Type 0
 AloneAsks airport before ask given after =
     (turn : Turn airport before ask given after) × (turn.history ≡ before.seen) × (turn.call ≡ before.first + length before.calls)
     × LeavesAtRisk (standing_of before) turn.call ask.what (is_unkept given) (standing_of after)
+    × Counts (is_unkept given) before.faults after.faults

@@ -59,10 +59,11 @@ pub record IsNext {K : Type 0} (board : BoardHeld K) (entry : Entry) : Type 0 wh
 
 -- a board after one more entry, by this call, which its keeper has got
 pub board_pushed : {K : Type 0} (plan new : PlanState) (first before after : KeeperState) (board : BoardHeld K) (keeper : K) (history : List Entry) (entry : Entry)
-    → IsBoard plan first board → IsNext board entry → before ≡ record first { room = before.room } → AddsEntry before after (entry_text entry)
+    → IsBoard plan first board → IsNext board entry → decoded board.airport (entry_text entry) ≡ Ok entry → before ≡ record first { room = before.room }
+    → AddsEntry before after (entry_text entry)
     → history ≡ board.history ++ entry ∷ [] → new ≡ after_command (replay board.airport board.history) entry.command
     → IsBoard new after (record { keeper = keeper; airport = board.airport; history = history; next = entry.call + 1 })
-board_pushed plan new first before after board keeper history entry h next ready adds history_is is =
+board_pushed plan new first before after board keeper history entry h next read ready adds history_is is =
     let last : entry.call < call_limit = next.last in
     subst (λ (es : List Entry). IsBoard new after (record { keeper = keeper; airport = board.airport; history = es; next = entry.call + 1 })) (sym history_is)
     (record {
@@ -70,7 +71,7 @@ board_pushed plan new first before after board keeper history entry h next ready
       plan_is = is ∙ sym (after-push (empty_plan board.airport) board.history entry);
       numbers = rises_push call_of 1 board.next (entry.call + 1) board.history entry h.numbers next.up (omega arith);
       calls = omega arith;
-      kept = kept_added board.airport board.history before after entry (kept_ready board.airport board.history first before h.kept ready) adds;
+      kept = kept_added board.airport board.history before after entry (kept_ready board.airport board.history first before h.kept ready) read adds;
     })
 
 -- a board after an ask whose append failed

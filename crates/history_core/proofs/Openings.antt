@@ -13,27 +13,15 @@ use Rattle.entry_bytes.specs.declared.faults.EntryFault.TheVariants as unread
 use Rattle.history_core.specs.declared.opening.OpenFault.{OpenFault}
 use Rattle.history_core.specs.declared.opening.OpenFault.TheVariants.{BadEntry, WrongEntry, Memory}
 use Rattle.entry_bytes.specs.Entries.{decoded, entry_text}
-use Rattle.history_core.specs.Board.{BoardHeld, IsBoard, entry_texts}
+use Rattle.history_core.specs.Board.{BoardHeld, IsBoard, Spells, entry_texts}
 use Rattle.history_core.specs.History.{AreTakenFrom, IsLegal, after_entries, call_limit, call_of, replay}
-use Rattle.history_core.specs.Opening.{CannotOpen, IsNotNext, IsPast, IsReadOn, Spells, next_from, not_read}
+use Rattle.history_core.specs.Opening.{CannotOpen, IsNotNext, IsPast, IsReadOn, next_from, not_read}
 use Rattle.history_core.specs.Steps.{Steps, accepted, after_command}
 use Rattle.history_core.specs.Taking.{IsAnswered}
 use Rattle.history_core.proofs.Boards.{legal_pushed, plan_numbered, plan_version}
-use Rattle.history_core.proofs.Keepers.{kept_opened, texts_push}
+use Rattle.history_core.proofs.Keepers.{kept_opened, spells_push, texts_push}
 use Rattle.history_core.proofs.Replay.{after-push}
 use Rattle.history_core.proofs.Takings.{one_step}
-
--- what was read
-abbrev read_as : {A E : Type 0} → A → Result A E
-read_as value = Ok value
-
--- bytes that spell one more entry
-pub spells_push : (airport : AirportParts) (front : List (List ℕ)) (before : List Entry) (bytes : List ℕ) (entry : Entry) → Spells airport front before
-    → decoded airport bytes ≡ Ok entry → Spells airport (front ++ bytes ∷ []) (with_last entry before)
-spells_push airport front before bytes entry spells is =
-    map-append (decoded airport) front (bytes ∷ [])
-    ∙ (ap (λ (rs : List (Result Entry EntryFault)). rs ++ decoded airport bytes ∷ []) spells
-    ∙ (ap (λ (r : Result Entry EntryFault). map Ok before ++ r ∷ []) is ∙ sym (map-append (read_as {E = EntryFault}) before (entry ∷ []))))
 
 -- the number after one more entry
 next_push : (low : ℕ) (history : List Entry) (entry : Entry) → next_from low (history ++ entry ∷ []) ≡ entry.call + 1
@@ -144,8 +132,8 @@ parted_at entries place bytes within is =
 -- a board over a keeper that was just opened
 pub board_opened : {K : Type 0} (plan : PlanState) (keeper : KeeperState) (board : BoardHeld K) (texts : List (List ℕ))
     → IsPast board.airport plan board.history board.next → IfSome keeper.entries (λ es. es ≡ texts) → keeper.number ≡ length texts → keeper.at_risk ≡ None
-    → texts ≡ entry_texts board.history → IsBoard plan keeper board
-board_opened plan keeper board texts past entries number none is =
+    → texts ≡ entry_texts board.history → Spells board.airport texts board.history → IsBoard plan keeper board
+board_opened plan keeper board texts past entries number none is spells =
     let legal : IsLegal board.airport board.history = past.legal in
     let numbers = next_rises 1 call_limit board.history legal.numbers in
     let within = next_within 1 call_limit board.history legal.numbers in
@@ -154,5 +142,5 @@ board_opened plan keeper board texts past entries number none is =
       plan_is = past.plan_is;
       numbers = subst (λ (n : ℕ). Rises call_of 1 n board.history) (sym past.next_is) numbers;
       calls = subst (λ (n : ℕ). n ≤ call_limit) (sym past.next_is) within;
-      kept = kept_opened board.airport texts board.history keeper entries number none is (ap length is ∙ length-map board.history entry_text);
+      kept = kept_opened board.airport texts board.history keeper entries number none is (ap length is ∙ length-map board.history entry_text) spells;
     }

@@ -21,6 +21,10 @@ pub record BoardHeld (K : Type 0) : Type 0 where
 abbrev pub entry_texts : List Entry → List (List ℕ)
 entry_texts history = map entry_text history
 
+-- these bytes are read as this history, entry for entry
+abbrev pub Spells : AirportParts → List (List ℕ) → List Entry → Type 0
+Spells airport entries history = map (decoded airport) entries ≡ map Ok history
+
 -- the bytes of an entry with which the history is still legal, and which is read back from them
 pub record IsNextText (airport : AirportParts) (history : List Entry) (bytes : List ℕ) : Type 0 where
   pub entry : Entry
@@ -28,10 +32,11 @@ pub record IsNextText (airport : AirportParts) (history : List Entry) (bytes : L
   pub read : decoded airport bytes ≡ Ok entry
   pub legal : IsLegal airport (with_last entry history)
 
--- a keeper of the history: its entries, where it tells them, are the bytes of the history's, and it counts as many; an entry at risk can stand next, and
--- there is none as long as no call has failed
+-- a keeper of the history: its entries, where it tells them, are the bytes of the history's, which are read as it, and it counts as many; an entry at risk
+-- can stand next, and there is none as long as no call has failed
 pub record IsKept (airport : AirportParts) (history : List Entry) (keeper : KeeperState) : Type 0 where
   pub entries : IfSome keeper.entries (λ entries. entries ≡ entry_texts history)
+  pub spells : Spells airport (entry_texts history) history
   pub number : keeper.number ≡ length history
   pub at_risk : IfSome keeper.at_risk (IsNextText airport history)
   pub safe : keeper.faults ≡ 0 → keeper.at_risk ≡ None

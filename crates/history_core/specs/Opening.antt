@@ -9,12 +9,8 @@ use Rattle.entry_bytes.specs.declared.faults.EntryFault.TheVariants as unread
 use Rattle.entry_bytes.specs.Entries.{decoded, entry_text}
 use Rattle.history_core.specs.declared.opening.OpenFault.{OpenFault}
 use Rattle.history_core.specs.declared.opening.OpenFault.TheVariants.{BadEntry, WrongEntry, Memory}
-use Rattle.history_core.specs.Board.{BoardHeld, entry_texts}
+use Rattle.history_core.specs.Board.{BoardHeld, Spells, entry_texts}
 use Rattle.history_core.specs.History.{IsLegal, replay}
-
--- these bytes are read as this history, entry for entry
-abbrev pub Spells : AirportParts → List (List ℕ) → List Entry → Type 0
-Spells airport entries history = map (decoded airport) entries ≡ map Ok history
 
 -- the least number of a call after these entries, where it was this one before them: one above the last one's
 abbrev pub next_from : ℕ → List Entry → ℕ

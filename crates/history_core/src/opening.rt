@@ -1,7 +1,7 @@
 // Reads kept entries as a history, and makes its plan.
 ghost use Rattle.std.specs.Prelude.{◌≡◌, IfErr, IfOk, OnOk};
-ghost use Rattle.history_core.specs.Board.{entry_texts};
-ghost use Rattle.history_core.specs.Opening.{CannotOpen, IsNotNext, IsPast, IsReadOn, Spells, not_read};
+ghost use Rattle.history_core.specs.Board.{Spells, entry_texts};
+ghost use Rattle.history_core.specs.Opening.{CannotOpen, IsNotNext, IsPast, IsReadOn, not_read};
 
 use crate::room::make_room;
 use crate::taking::{Taken, take};

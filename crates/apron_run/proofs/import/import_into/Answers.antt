@@ -1,8 +1,10 @@
-use Rattle.std.proofs.Common.{ℕ, List, sym, ap, subst}
+use Rattle.std.proofs.Common.{ℕ, List, refl, sym, ap, subst}
 use Rattle.history_core.specs.AtRisk.{entry_at_risk}
 use Rattle.apron_run.specs.Import.{ImportsSeason, Stores}
 use Rattle.apron_run.specs.Journal.{KeepsHistory, journal_tells}
+use Rattle.apron_run.specs.Survival.{DiskStates, Survives}
 use Rattle.apron_run.specs.World.{seen_of}
+use Rattle.apron_run.proofs.Fronts.{stays_both}
 use Rattle.apron_run.proofs.Importing.{season_imported}
 use Rattle.apron_run.proofs.import.import_into.Goals as goal
 
@@ -10,12 +12,23 @@ pub returns : goal.returns
 returns g c =
     let before : Stores = record { shelf = g.F.Shelf.state c.args.shelf.now; disk = seen_of (g.D.Disk.state c.args.disk) } in
     let after : Stores = record { shelf = g.F.Shelf.state c.add_season-imported.new.shelf; disk = seen_of (g.D.Disk.state c.close_board.result) } in
+    let disk : DiskStates = record { before = g.N.OfFiles.begun; after = g.D.Disk.state c.close_board.result } in
     let left = c.add_season-imported.new.board in
-    record {
-      meets = subst (λ (season : List ℕ). ImportsSeason c.args.files.now season before after c.add_season-imported.result) c.text.ensures.text
-          (season_imported (journal_tells g.D.Disk.state) c.args.files.now c.text.result.now before after c.in-Ok.board c.add_season-imported.new.board
-          c.add_season-imported.result c.in-Ok.ensures.opened c.add_season-imported.ensures.adds c.add_season-imported.ensures.airport c.close_board.ensures.legal
-          (sym (ap (λ d. (g.D.Disk.state d).faults) c.close_board.ensures.disk))
-          (subst (λ (digests : List ℕ). KeepsHistory (record { airport = left.airport; digests = digests }) left.history
-          (entry_at_risk left.airport (journal_tells g.D.Disk.state left.keeper)) after.disk) (sym c.requires.digests) c.close_board.ensures.keeps));
-    }
+    let imports : ImportsSeason c.args.files.now c.text.result.now before after c.add_season-imported.result =
+    season_imported (journal_tells g.D.Disk.state) c.args.files.now c.text.result.now before after c.in-Ok.board left
+    c.add_season-imported.result c.in-Ok.ensures.opened c.add_season-imported.ensures.adds c.add_season-imported.ensures.airport c.close_board.ensures.legal
+    (sym (ap (λ d. (g.D.Disk.state d).faults) c.close_board.ensures.disk))
+    (subst (λ (digests : List ℕ). KeepsHistory (record { airport = left.airport; digests = digests }) left.history
+    (entry_at_risk left.airport (journal_tells g.D.Disk.state left.keeper)) after.disk) (sym c.requires.digests) c.close_board.ensures.keeps) in
+    let survives : Survives c.args.files.now.digests imports.left.history imports.left.at_risk disk =
+    subst (λ (digests : List ℕ). Survives digests left.history (entry_at_risk left.airport (journal_tells g.D.Disk.state left.keeper)) disk)
+    (sym c.requires.digests) c.close_board.ensures.survives in
+    let both = subst (λ (season : List ℕ). (meets : ImportsSeason c.args.files.now season before after c.add_season-imported.result)
+    × Survives c.args.files.now.digests meets.left.history meets.left.at_risk disk) c.text.ensures.text (imports, survives) in
+    record { meets = both.0; crash = both }
+
+pub returns-in-Err-clause-crash : goal.returns-in-Err-clause-crash
+returns-in-Err-clause-crash g c = (
+  record { shelf = refl; disk = c.in-Err.ensures.refused },
+  stays_both g.N.OfFiles.begun (g.D.Disk.state c.args.disk) (g.D.Disk.state c.in-Err.disk) c.requires.begun c.in-Err.ensures.unwritten,
+)

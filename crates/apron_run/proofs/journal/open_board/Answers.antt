@@ -1,3 +1,4 @@
+use Rattle.apron_run.proofs.Fronts.{fronts_opened}
 use Rattle.apron_run.proofs.Headers.{opened_of}
 use Rattle.apron_run.proofs.Serving.{seen_fails}
 use Rattle.apron_run.proofs.journal.open_board.Goals as goal
@@ -13,4 +14,7 @@ new-journal-requires g c = record {
   digests = let stays = c.in-Ok.ensures.stays in
       opened_of g.N.OfFiles.digests c.args.files.now.digests (g.D.Disk.state c.args.disk) (g.D.Disk.state c.in-Ok.opened.0.disk) c.in-Ok.opened.1.items c.requires.digests
       c.in-Ok.ensures.opened stays.contents;
+  fronts = fronts_opened g.N.OfFiles.digests c.args.files.now.digests g.N.OfFiles.begun (g.D.Disk.state c.args.disk) (g.D.Disk.state c.in-Ok.opened.0.disk)
+      c.in-Ok.opened.0.extent c.in-Ok.opened.1.items c.requires.digests c.requires.begun c.in-Ok.ensures.opened c.in-Ok.ensures.stays c.in-Ok.ensures.durable
+      c.in-Ok.ensures.keeper;
 }

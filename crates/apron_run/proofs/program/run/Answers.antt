@@ -1,14 +1,18 @@
-use Rattle.std.proofs.Common.{◌≡◌, ℕ, refl, sym, subst}
+use Rattle.std.proofs.Common.{◌≡◌, ℕ, ap, refl, sym, subst}
+use Rattle.apron_run.specs.Crash.{CrashesAs}
 use Rattle.apron_run.specs.Statuses.{code_of}
 use Rattle.apron_run.specs.Run.{RunsAs}
 use Rattle.apron_run.specs.Words.{Asked, asked_by, chart as chart_asked, check as check_asked, desk as desk_asked, export as export_asked, faulty as faulty_asked, help as help_asked, import as import_asked, init as init_asked, make as make_asked, version as version_asked}
+use Rattle.apron_run.specs.Survival.{DiskStates}
 use Rattle.apron_run.specs.World.{World, seen_of}
 use Rattle.apron_run.specs.Headline.{TellsHeadline}
 use Rattle.apron_run.proofs.Causing.{faults_have_cause}
 use Rattle.apron_run.proofs.Charting.{chart_as}
 use Rattle.apron_run.proofs.Complete.{run_complete}
 use Rattle.apron_run.proofs.Counting.{desk_as}
+use Rattle.apron_run.proofs.Crashing.{may_write, unwritten}
 use Rattle.apron_run.proofs.Exporting.{export_as}
+use Rattle.apron_run.proofs.Fronts.{stays_same}
 use Rattle.apron_run.proofs.Headlines.{asked_headline, run_headline}
 use Rattle.apron_run.proofs.Importing.{import_as}
 use Rattle.apron_run.proofs.Plain.{check_as, help_as, init_as, make_as, usage_as, version_as}
@@ -184,3 +188,103 @@ returns-in-Faulty-clause-complete g c = run_complete _ _ _ _ (returns-in-Faulty-
 
 pub returns-in-Faulty-clause-faults : goal.returns-in-Faulty-clause-faults
 returns-in-Faulty-clause-faults g c = faults_have_cause _ _ _ _ (returns-in-Faulty-clause-runs g c)
+
+pub returns-in-Desk-clause-crash : goal.returns-in-Desk-clause-crash
+returns-in-Desk-clause-crash g c =
+    let before : World = record { shelf = g.F.Shelf.state c.args.shelf.now; source = g.S.Source.state c.args.source.now; sink = g.W.Sink.state c.args.sink.now; disk = seen_of (g.D.Disk.state c.args.disk.now) } in
+    let after : World = record { shelf = g.F.Shelf.state c.desk.new.shelf; source = g.S.Source.state c.desk.new.source; sink = g.W.Sink.state c.desk.new.sink; disk = seen_of (g.D.Disk.state c.desk.new.disk) } in
+    let asked : desk_asked c.text.result.now c.text-in-Desk.result.now ≡ asked_by c.args.words.now = rw (c.text.ensures.text, c.text-in-Desk.ensures.text) c.in-Desk.ensures.asked in
+    let disk : DiskStates = record { before = g.D.Disk.state c.args.disk.now; after = g.D.Disk.state c.desk.new.disk } in
+    subst (λ (code : ℕ). CrashesAs disk (asked_by c.args.words.now) before after code) (sym c.code.ensures.value)
+    (subst (λ (a : Asked). CrashesAs disk a before after (code_of c.desk.result)) asked
+    (record { status = c.desk.result; code_is = refl; does = c.desk.ensures.crash.0; leaves = c.desk.ensures.crash.1 }))
+
+pub returns-in-Init-clause-crash : goal.returns-in-Init-clause-crash
+returns-in-Init-clause-crash g c =
+    let before : World = record { shelf = g.F.Shelf.state c.args.shelf.now; source = g.S.Source.state c.args.source.now; sink = g.W.Sink.state c.args.sink.now; disk = seen_of (g.D.Disk.state c.args.disk.now) } in
+    let after : World = record { shelf = g.F.Shelf.state c.init.new.shelf; source = g.S.Source.state c.args.source.now; sink = g.W.Sink.state c.init.new.sink; disk = seen_of (g.D.Disk.state c.init.new.disk) } in
+    let airport = c.text-in-Init.result.now in
+    let types = c.text-in-Init-2.result.now in
+    let asked : init_asked airport types ≡ asked_by c.args.words.now = rw (c.text-in-Init.ensures.text, c.text-in-Init-2.ensures.text) c.in-Init.ensures.asked in
+    let disk : DiskStates = record { before = g.D.Disk.state c.args.disk.now; after = g.D.Disk.state c.init.new.disk } in
+    let (found, finds, inits) = c.init.ensures.crash in
+    subst (λ (code : ℕ). CrashesAs disk (asked_by c.args.words.now) before after code) (sym c.code-in-Init.ensures.value)
+    (subst (λ (a : Asked). CrashesAs disk a before after (code_of c.init.result)) asked
+    (record { status = c.init.result; code_is = refl; does = record { found = found; finds = finds; inits = inits.0 }; leaves = inits.1 }))
+
+pub returns-in-Check-clause-crash : goal.returns-in-Check-clause-crash
+returns-in-Check-clause-crash g c =
+    let before : World = record { shelf = g.F.Shelf.state c.args.shelf.now; source = g.S.Source.state c.args.source.now; sink = g.W.Sink.state c.args.sink.now; disk = seen_of (g.D.Disk.state c.args.disk.now) } in
+    let after : World = record { shelf = g.F.Shelf.state c.check.new.shelf; source = g.S.Source.state c.args.source.now; sink = g.W.Sink.state c.check.new.sink; disk = seen_of (g.D.Disk.state c.args.disk.now) } in
+    let airport = c.text-in-Check.result.now in
+    let types = c.text-in-Check-2.result.now in
+    let asked : check_asked airport types ≡ asked_by c.args.words.now = rw (c.text-in-Check.ensures.text, c.text-in-Check-2.ensures.text) c.in-Check.ensures.asked in
+    let disk : DiskStates = record { before = g.D.Disk.state c.args.disk.now; after = g.D.Disk.state c.args.disk.now } in
+    unwritten disk (asked_by c.args.words.now) before after c.code-in-Check.result (ap may_write (sym asked)) (returns-in-Check-clause-runs g c) (stays_same (g.D.Disk.state c.args.disk.now))
+
+pub returns-in-Chart-clause-crash : goal.returns-in-Chart-clause-crash
+returns-in-Chart-clause-crash g c =
+    let before : World = record { shelf = g.F.Shelf.state c.args.shelf.now; source = g.S.Source.state c.args.source.now; sink = g.W.Sink.state c.args.sink.now; disk = seen_of (g.D.Disk.state c.args.disk.now) } in
+    let after : World = record { shelf = g.F.Shelf.state c.chart.new.shelf; source = g.S.Source.state c.args.source.now; sink = g.W.Sink.state c.chart.new.sink; disk = seen_of (g.D.Disk.state c.chart.new.disk) } in
+    let airport = c.text-in-Chart.result.now in
+    let types = c.text-in-Chart-2.result.now in
+    let day = c.text-in-Chart-3.result.now in
+    let asked : chart_asked airport types day ≡ asked_by c.args.words.now = rw (c.text-in-Chart.ensures.text, c.text-in-Chart-2.ensures.text, c.text-in-Chart-3.ensures.text) c.in-Chart.ensures.asked in
+    let disk : DiskStates = record { before = g.D.Disk.state c.args.disk.now; after = g.D.Disk.state c.chart.new.disk } in
+    unwritten disk (asked_by c.args.words.now) before after c.code-in-Chart.result (ap may_write (sym asked)) (returns-in-Chart-clause-runs g c) c.chart.ensures.crash
+
+pub returns-in-Import-clause-crash : goal.returns-in-Import-clause-crash
+returns-in-Import-clause-crash g c =
+    let before : World = record { shelf = g.F.Shelf.state c.args.shelf.now; source = g.S.Source.state c.args.source.now; sink = g.W.Sink.state c.args.sink.now; disk = seen_of (g.D.Disk.state c.args.disk.now) } in
+    let after : World = record { shelf = g.F.Shelf.state c.import.new.shelf; source = g.S.Source.state c.args.source.now; sink = g.W.Sink.state c.import.new.sink; disk = seen_of (g.D.Disk.state c.import.new.disk) } in
+    let airport = c.text-in-Import.result.now in
+    let types = c.text-in-Import-2.result.now in
+    let season = c.in-Import.season.now in
+    let asked : import_asked airport types season ≡ asked_by c.args.words.now = rw (c.text-in-Import.ensures.text, c.text-in-Import-2.ensures.text) c.in-Import.ensures.asked in
+    let disk : DiskStates = record { before = g.D.Disk.state c.args.disk.now; after = g.D.Disk.state c.import.new.disk } in
+    let (found, mid, finds, imports) = c.import.ensures.crash in
+    subst (λ (code : ℕ). CrashesAs disk (asked_by c.args.words.now) before after code) (sym c.code-in-Import.ensures.value)
+    (subst (λ (a : Asked). CrashesAs disk a before after (code_of c.import.result)) asked
+    (record { status = c.import.result; code_is = refl; does = record { found = found; shelf = mid; finds = finds; imports = imports.0 }; leaves = imports.1 }))
+
+pub returns-in-Export-clause-crash : goal.returns-in-Export-clause-crash
+returns-in-Export-clause-crash g c =
+    let before : World = record { shelf = g.F.Shelf.state c.args.shelf.now; source = g.S.Source.state c.args.source.now; sink = g.W.Sink.state c.args.sink.now; disk = seen_of (g.D.Disk.state c.args.disk.now) } in
+    let after : World = record { shelf = g.F.Shelf.state c.export.new.shelf; source = g.S.Source.state c.args.source.now; sink = g.W.Sink.state c.export.new.sink; disk = seen_of (g.D.Disk.state c.export.new.disk) } in
+    let airport = c.text-in-Export.result.now in
+    let types = c.text-in-Export-2.result.now in
+    let asked : export_asked airport types ≡ asked_by c.args.words.now = rw (c.text-in-Export.ensures.text, c.text-in-Export-2.ensures.text) c.in-Export.ensures.asked in
+    let disk : DiskStates = record { before = g.D.Disk.state c.args.disk.now; after = g.D.Disk.state c.export.new.disk } in
+    unwritten disk (asked_by c.args.words.now) before after c.code-in-Export.result (ap may_write (sym asked)) (returns-in-Export-clause-runs g c) c.export.ensures.crash
+
+pub returns-in-Make-clause-crash : goal.returns-in-Make-clause-crash
+returns-in-Make-clause-crash g c =
+    let before : World = record { shelf = g.F.Shelf.state c.args.shelf.now; source = g.S.Source.state c.args.source.now; sink = g.W.Sink.state c.args.sink.now; disk = seen_of (g.D.Disk.state c.args.disk.now) } in
+    let after : World = record { shelf = g.F.Shelf.state c.args.shelf.now; source = g.S.Source.state c.args.source.now; sink = g.W.Sink.state c.make.new.sink; disk = seen_of (g.D.Disk.state c.args.disk.now) } in
+    let asked : make_asked c.in-Make.visits ≡ asked_by c.args.words.now = c.in-Make.ensures.asked in
+    let disk : DiskStates = record { before = g.D.Disk.state c.args.disk.now; after = g.D.Disk.state c.args.disk.now } in
+    unwritten disk (asked_by c.args.words.now) before after c.code-in-Make.result (ap may_write (sym asked)) (returns-in-Make-clause-runs g c) (stays_same (g.D.Disk.state c.args.disk.now))
+
+pub returns-in-Help-clause-crash : goal.returns-in-Help-clause-crash
+returns-in-Help-clause-crash g c =
+    let before : World = record { shelf = g.F.Shelf.state c.args.shelf.now; source = g.S.Source.state c.args.source.now; sink = g.W.Sink.state c.args.sink.now; disk = seen_of (g.D.Disk.state c.args.disk.now) } in
+    let after : World = record { shelf = g.F.Shelf.state c.args.shelf.now; source = g.S.Source.state c.args.source.now; sink = g.W.Sink.state c.print_help.new.sink; disk = seen_of (g.D.Disk.state c.args.disk.now) } in
+    let asked : help_asked ≡ asked_by c.args.words.now = c.in-Help.ensures.asked in
+    let disk : DiskStates = record { before = g.D.Disk.state c.args.disk.now; after = g.D.Disk.state c.args.disk.now } in
+    unwritten disk (asked_by c.args.words.now) before after c.code-in-Help.result (ap may_write (sym asked)) (returns-in-Help-clause-runs g c) (stays_same (g.D.Disk.state c.args.disk.now))
+
+pub returns-in-Version-clause-crash : goal.returns-in-Version-clause-crash
+returns-in-Version-clause-crash g c =
+    let before : World = record { shelf = g.F.Shelf.state c.args.shelf.now; source = g.S.Source.state c.args.source.now; sink = g.W.Sink.state c.args.sink.now; disk = seen_of (g.D.Disk.state c.args.disk.now) } in
+    let after : World = record { shelf = g.F.Shelf.state c.args.shelf.now; source = g.S.Source.state c.args.source.now; sink = g.W.Sink.state c.print_version.new.sink; disk = seen_of (g.D.Disk.state c.args.disk.now) } in
+    let asked : version_asked ≡ asked_by c.args.words.now = c.in-Version.ensures.asked in
+    let disk : DiskStates = record { before = g.D.Disk.state c.args.disk.now; after = g.D.Disk.state c.args.disk.now } in
+    unwritten disk (asked_by c.args.words.now) before after c.code-in-Version.result (ap may_write (sym asked)) (returns-in-Version-clause-runs g c) (stays_same (g.D.Disk.state c.args.disk.now))
+
+pub returns-in-Faulty-clause-crash : goal.returns-in-Faulty-clause-crash
+returns-in-Faulty-clause-crash g c =
+    let before : World = record { shelf = g.F.Shelf.state c.args.shelf.now; source = g.S.Source.state c.args.source.now; sink = g.W.Sink.state c.args.sink.now; disk = seen_of (g.D.Disk.state c.args.disk.now) } in
+    let after : World = record { shelf = g.F.Shelf.state c.args.shelf.now; source = g.S.Source.state c.args.source.now; sink = g.W.Sink.state c.print_usage.new.sink; disk = seen_of (g.D.Disk.state c.args.disk.now) } in
+    let asked : faulty_asked ≡ asked_by c.args.words.now = c.in-Faulty.ensures.asked in
+    let disk : DiskStates = record { before = g.D.Disk.state c.args.disk.now; after = g.D.Disk.state c.args.disk.now } in
+    unwritten disk (asked_by c.args.words.now) before after c.code-in-Faulty.result (ap may_write (sym asked)) (returns-in-Faulty-clause-runs g c) (stays_same (g.D.Disk.state c.args.disk.now))

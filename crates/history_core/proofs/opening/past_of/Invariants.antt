@@ -1,6 +1,6 @@
 use Rattle.std.proofs.Common.{◌≡◌, take}
-use Rattle.history_core.specs.Board.{entry_texts}
-use Rattle.history_core.specs.Opening.{IsPast, Spells}
+use Rattle.history_core.specs.Board.{Spells, entry_texts}
+use Rattle.history_core.specs.Opening.{IsPast}
 use Rattle.history_core.proofs.opening.past_of.Given as goal
 
 abbrev pub invariant-loop-bytes : goal.invariant-loop-bytes

@@ -40,6 +40,8 @@ invariant_of-self-2 g c =
     let next = subst (λ (b : BoardHeld g.row.K.Denot). IsNext b entry) (sym c.self.view_is) asked in
     let text : c.as_slice.result.now ≡ entry_text entry =
     c.as_slice.ensures.items ∙ (c.in_ok-text.ensures.text ∙ ap (λ (command : Command). entry_text (record { call = c.args.call; command = command })) c.in_ok-copy.ensures.same) in
+    let read : decoded inside.airport.now (entry_text entry) ≡ Ok entry =
+    read_as inside.airport.now c.args.call c.args.command.now _ _ c.in_ok-copy.ensures.same c.in_ok-text.ensures.text c.in_ok-text.ensures.read_back next.valid in
     let makes = subst (λ (b : BoardHeld g.row.K.Denot). installed (replay b.airport b.history) c.args.change ≡ after_command (replay b.airport b.history) c.args.command.now)
     (sym c.self.view_is) c.requires.change.makes in
     let made : c.install.new.self.plan ≡ after_command (replay inside.airport.now inside.history.items) c.args.command.now =
@@ -47,7 +49,7 @@ invariant_of-self-2 g c =
     let items : c.push_reserved.new.self.items ≡ inside.history.items ++ entry ∷ [] =
     c.push_reserved.ensures.items ∙ rw (c.make_room.ensures.entries, c.in_ok-copy.ensures.same) refl in
     board_pushed inside.plan.plan c.install.new.self.plan (tells inside.keeper) (tells c.ready.new.self) (tells c.append.new.self) board c.append.new.self
-    c.push_reserved.new.self.items entry c.self.invariant next c.ready.ensures.kept
+    c.push_reserved.new.self.items entry c.self.invariant next read c.ready.ensures.kept
     (subst (AddsEntry (tells c.ready.new.self) (tells c.append.new.self)) text c.in_ok-append.ensures.ok) items made
 
 pub returns-clause-gives : goal.returns-clause-gives

@@ -1,0 +1,90 @@
+-- What a crash may leave of the disk in a run and after it, by what the run does: a clause of its
+-- own beside what is seen of a disk without a crash.
+use Rattle.std.specs.Prelude.{◌≡◌, ◌≢◌, ℕ, List, length, Option, None, Some, Result, Ok, Err}
+use Rattle.apron_base.specs.declared.outside.Outcome.{Outcome}
+use Rattle.journal_disk.specs.Disk.{DiskState, IsSafe, Stays, Told}
+use Rattle.journal_disk.specs.Header.{empty_journal}
+use Rattle.journal_disk.specs.declared.fault.JournalFault.{JournalFault}
+use Rattle.apron_check.specs.declared.files.AirportFiles.{AirportFiles}
+use Rattle.apron_check.specs.declared.faults.FilesFault.{FilesFault}
+use Rattle.apron_run.specs.Desk.{MeetsDesk, RunsFound}
+use Rattle.apron_run.specs.Import.{Around, ImportsFound, MeetsImport, Stores, around}
+use Rattle.apron_run.specs.Init.{InitsFound}
+use Rattle.apron_run.specs.Run.{Does}
+use Rattle.apron_run.specs.Statuses.{code_of}
+use Rattle.apron_run.specs.Survival.{DiskStates, Survives}
+use Rattle.apron_run.specs.Words.{Asked, desk, init, check, chart, import, export, make, help, version, faulty}
+use Rattle.apron_run.specs.World.{Ends, Outs, World, ends_of, outs_of}
+use Rattle.apron_run.specs.declared.imported.Imported.{Imported}
+use Rattle.apron_run.specs.declared.status.Status.{Status}
+use Rattle.apron_run.specs.declared.unusable.Unusable.{Unusable}
+
+-- nothing is written: a crash leaves what it could leave before
+abbrev pub LeavesAll : DiskStates → Type 0
+LeavesAll disk = Stays disk.before disk.after
+
+-- where a journal of the files of these digests was to be made: the empty journal, if it was made;
+-- and what it could leave before, if it was refused and the disk had bytes
+abbrev pub LeavesMade : List ℕ → Option JournalFault → DiskStates → Type 0
+LeavesMade digests None disk =
+    Told disk.before (λ bytes. IsSafe (empty_journal digests) disk.after)
+LeavesMade digests (Some fault) disk =
+    Told disk.before (λ bytes. length bytes ≢ 0 → LeavesAll disk)
+
+module _ (disk : DiskStates) where
+  -- a session: its history survives; and where there was no journal to work on, nothing is written
+  abbrev pub LeavesMet : (files : AirportFiles) (before after : Ends) (met : Result Outcome Unusable)
+      → MeetsDesk files before after met → Type 0
+  LeavesMet files before after (Ok outcome) serves =
+      Survives files.digests serves.port.seen serves.port.at_risk disk
+  LeavesMet files before after (Err why) finds = LeavesAll disk
+
+  -- the same of what was found in the two files, whose fault writes nothing
+  abbrev pub LeavesServed : (found : Result AirportFiles FilesFault) (before after : Ends)
+      (status : Status) → RunsFound found before after status → Type 0
+  LeavesServed (Ok files) before after status runs =
+      LeavesMet files before (record { source = after.source; sink = runs.sink; disk = after.disk })
+      runs.met runs.meets
+  LeavesServed (Err fault) before after status runs = LeavesAll disk
+
+  -- an import: the history to which it came survives; and where there was no journal to work on,
+  -- nothing is written
+  abbrev pub LeavesImported : (files : AirportFiles) (season : List ℕ) (before after : Stores)
+      (met : Result Imported Unusable) → MeetsImport files season before after met → Type 0
+  LeavesImported files season before after (Ok imported) imports =
+      Survives files.digests imports.left.history imports.left.at_risk disk
+  LeavesImported files season before after (Err why) finds = LeavesAll disk
+
+  -- the same of what was found in the two files
+  abbrev pub LeavesAdded : (found : Result AirportFiles FilesFault) (season : List ℕ)
+      (before after : Around) (status : Status)
+      → ImportsFound found season before after status → Type 0
+  LeavesAdded (Ok files) season before after status imports =
+      LeavesImported files season before.stores after.stores imports.met imports.meets
+  LeavesAdded (Err fault) season before after status imports = LeavesAll disk
+
+  -- a journal that is made of what was found in the two files
+  abbrev pub LeavesNew : (found : Result AirportFiles FilesFault) (before after : Outs)
+      (status : Status) → InitsFound found before after status → Type 0
+  LeavesNew (Ok files) before after status makes = LeavesMade files.digests makes.refused disk
+  LeavesNew (Err fault) before after status inits = LeavesAll disk
+
+  -- what is done, by what is asked: no other word writes
+  abbrev pub Leaves : (asked : Asked) (before after : World) (status : Status)
+      → Does asked before after status → Type 0
+  Leaves (desk airport types) before after status runs =
+      LeavesServed runs.found (ends_of before) (ends_of after) status runs.runs
+  Leaves (init airport types) before after status inits =
+      LeavesNew inits.found (outs_of before) (outs_of after) status inits.inits
+  Leaves (import airport types season) before after status imports =
+      LeavesAdded imports.found season (around imports.shelf before) (around after.shelf after) status
+      imports.imports
+  Leaves asked before after status does = LeavesAll disk
+
+  -- what the program does for what is asked of it, the status that its number stands for, and what
+  -- a crash may leave of what it does
+  pub record CrashesAs (asked : Asked) (before after : World) (code : ℕ) : Type 0 where
+    pub status : Status
+    pub code_is : code ≡ code_of status
+    pub does : Does asked before after status
+    pub leaves : Leaves asked before after status does
