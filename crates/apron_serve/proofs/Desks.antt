@@ -24,7 +24,7 @@ use Rattle.apron_serve.specs.Board.{FindsNoJournal, ServesDesks, begun}
 use Rattle.apron_serve.specs.World.{Ends}
 
 -- the plan is sound after each entry of a legal history
-all_sound : (airport : AirportParts) (history : List Entry) → IsLegal airport history → AllSound airport history
+pub all_sound : (airport : AirportParts) (history : List Entry) → IsLegal airport history → AllSound airport history
 all_sound airport history legal = λ front back is. legal_sound airport front (front_legal airport front back (subst (IsLegal airport) is legal))
 
 -- behind a board that was opened no entry is at risk
@@ -33,7 +33,7 @@ pub opened_safe : {K : Type 0} (tells : K → KeeperState) (files : AirportFiles
 opened_safe tells files disk board opened = rw opened.at_risk refl
 
 -- a board that was opened, as a machine
-opened_begun : {K : Type 0} (tells : K → KeeperState) (airport : AirportParts) (faults next : ℕ) (board : BoardHeld K) → board.airport ≡ airport → board.next ≡ next
+pub opened_begun : {K : Type 0} (tells : K → KeeperState) (airport : AirportParts) (faults next : ℕ) (board : BoardHeld K) → board.airport ≡ airport → board.next ≡ next
     → (tells board.keeper).faults ≡ faults → (tells board.keeper).at_risk ≡ None
     → machine_state tells board ≡ record { fixed = airport; history = board.history; at_risk = None; next = next; faults = faults }
 opened_begun tells airport faults next board airport_is next_is count safe = rw (safe, airport_is, next_is, count) refl
@@ -43,7 +43,7 @@ pub of_err : {A E P : Type 0} (met : Result A E) (why : E) → met ≡ Err why �
 of_err {A} {E} {P} met why is holds = subst (λ (r : Result A E). IfErr r (λ _. P)) is holds
 
 -- desks that were served at a board that was opened, with the disk that was closed behind them
-pub desks_serve : {In Out K R : Type 0} (states : EndStates In Out) (tells : K → KeeperState) (files : AirportFiles) (connections : ℕ) (before after : Ends In Out) (board left : BoardHeld K) (met : Result WorkEnd R) (end : WorkEnd)
+abbrev pub desks_serve : {In Out K R : Type 0} (states : EndStates In Out) (tells : K → KeeperState) (files : AirportFiles) (connections : ℕ) (before after : Ends In Out) (board left : BoardHeld K) (met : Result WorkEnd R) (end : WorkEnd)
     → IsOpened tells files before.disk board
     → met ≡ Ok end
     → IfOk met (ServesBoard states connections (record { listeners = before.listeners; board = machine_state tells board }) (record { listeners = after.listeners; board = machine_state tells left }))

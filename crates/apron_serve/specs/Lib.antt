@@ -5,3 +5,4 @@ pub mod Board
 pub mod Files
 pub mod Serve
 pub mod Complete
+pub mod Crash

@@ -3,7 +3,8 @@ use Rattle.std.specs.Prelude.{List}
 use Rattle.apron_base.specs.Ends.{SinkState}
 use Rattle.apron_base.specs.Listener.{ListenerState}
 use Rattle.apron_base.specs.Shelf.{ShelfState}
-use Rattle.apron_run.specs.World.{DiskSeen}
+use Rattle.journal_disk.specs.Disk.{DiskState}
+use Rattle.apron_run.specs.World.{DiskSeen, seen_of}
 
 -- the shelf of files, the listeners in order, the sink of the line that tells a fault, and the disk
 pub record World (In Out : Type 0) : Type 0 where
@@ -24,6 +25,18 @@ pub record Ends (In Out : Type 0) : Type 0 where
   pub disk : DiskSeen
 
 module _ {In Out : Type 0} where
+  -- the outside where the disk is in this state
+  abbrev pub world_at : ShelfState → List (ListenerState In Out) → SinkState → DiskState → World In Out
+  world_at shelf listeners sink disk = record { shelf = shelf; listeners = listeners; sink = sink; disk = seen_of disk }
+
+  -- the same without the shelf
+  abbrev pub outs_at : List (ListenerState In Out) → SinkState → DiskState → Outs In Out
+  outs_at listeners sink disk = record { listeners = listeners; sink = sink; disk = seen_of disk }
+
+  -- the listeners and the disk alone
+  abbrev pub ends_at : List (ListenerState In Out) → DiskState → Ends In Out
+  ends_at listeners disk = record { listeners = listeners; disk = seen_of disk }
+
   -- those of the outside
   abbrev pub outs_of : World In Out → Outs In Out
   outs_of world = record { listeners = world.listeners; sink = world.sink; disk = world.disk }

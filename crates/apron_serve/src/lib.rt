@@ -7,4 +7,4 @@ mod program;
 mod words;
 
 pub use program::serve;
-pub use words::{MAX_CONNECTIONS, MAX_LISTENERS};
+pub use words::{MAX_CONNECTIONS, MAX_LISTENERS, limits_are_as_defined};

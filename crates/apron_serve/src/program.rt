@@ -4,13 +4,15 @@ ghost use Rattle.apron_run.specs.Run.{KeptUnless};
 ghost use Rattle.apron_run.specs.Statuses.{code_of};
 ghost use Rattle.apron_run.specs.World.{seen_of};
 ghost use Rattle.apron_serve.specs.Complete.{IsComplete};
+ghost use Rattle.apron_serve.specs.Crash.{CrashesAs, LeavesFound, LeavesMet};
 ghost use Rattle.apron_serve.specs.Files.{ServesFiles, ServesJournal, TellsMet, listener_line};
-ghost use Rattle.apron_serve.specs.Orders.{Order as Ordered, order_of};
+ghost use Rattle.apron_serve.specs.Orders.{Order as Ordered, most_listeners, order_of};
 ghost use Rattle.apron_serve.specs.OrdersShown.{shown};
 ghost use Rattle.apron_serve.specs.Serve.{HaveFinished, ServesAs, SomeFailed, ends_before_journal, has_served, is_order};
+ghost use Rattle.apron_serve.specs.World.{ends_of, outs_at, outs_of, world_at};
 
 use crate::board::serve_desks;
-use crate::words::{MAX_LISTENERS, Order, order_of};
+use crate::words::{Order, order_of};
 use apron_base::{Shelf, Sink, Word};
 use apron_check::{AirportFiles, airport_of};
 use apron_run::{Status, Unusable, print_usage, tell_fault, tell_unusable};
@@ -59,6 +61,9 @@ pub fn serve<F: Shelf, L: Workplace + Send, W: Sink, D: Disk + Send, R: Wait + T
     ensures complete { IsComplete (order_of words.now (length listeners.old))
         (record { shelf = F.state shelf.old; listeners = map L.state listeners.old; sink = W.state sink.old; disk = seen_of (D.state disk) })
         (record { shelf = F.state shelf.new; listeners = map L.state listeners.new; sink = W.state sink.new; disk = seen_of (D.state result.1) }) result.0 }
+    ensures crash { CrashesAs L.states (record { before = D.state disk; after = D.state result.1 }) (order_of words.now (length listeners.old))
+        (world_at (F.state shelf.old) (map L.state listeners.old) (W.state sink.old) (D.state disk))
+        (world_at (F.state shelf.new) (map L.state listeners.new) (W.state sink.new) (D.state result.1)) result.0 }
     ensures shelf_kept { KeptUnless (is_order (order_of words.now (length listeners.old))) shelf.old shelf.new }
     ensures listeners_kept { KeptUnless (has_served result.0) listeners.old listeners.new }
     ensures disk_kept { KeptUnless (not (ends_before_journal result.0)) disk result.1 }
@@ -82,10 +87,15 @@ fn serve_files<F: Shelf, L: Workplace + Send, W: Sink, D: Disk + Send, R: Wait +
     sink: &mut W,
     disk: D,
 ) -> (Status, D)
-    requires few { length listeners.old ≤ MAX_LISTENERS }
+    requires few { length listeners.old ≤ most_listeners }
     ensures serves { ServesFiles L.states (shown order.now)
         (record { shelf = F.state shelf.old; listeners = map L.state listeners.old; sink = W.state sink.old; disk = seen_of (D.state disk) })
         (record { shelf = F.state shelf.new; listeners = map L.state listeners.new; sink = W.state sink.new; disk = seen_of (D.state result.1) }) result.0 }
+    ensures crash { let before = world_at (F.state shelf.old) (map L.state listeners.old) (W.state sink.old) (D.state disk) in
+        let after = world_at (F.state shelf.new) (map L.state listeners.new) (W.state sink.new) (D.state result.1) in
+        (serves : ServesFiles L.states (shown order.now) before after result.0)
+        × LeavesFound L.states (record { before = D.state disk; after = D.state result.1 }) order.now.connections
+        serves.found (outs_of before) (outs_of after) result.0 serves.serves }
     ensures listeners_kept { KeptUnless (has_served (code_of result.0)) listeners.old listeners.new }
     ensures disk_kept { KeptUnless (not (ends_before_journal (code_of result.0))) disk result.1 }
 {
@@ -105,10 +115,15 @@ fn serve_journal<L: Workplace + Send, W: Sink, D: Disk + Send, R: Wait + Threads
     sink: &mut W,
     disk: D,
 ) -> (Status, D)
-    requires few { length listeners.old ≤ MAX_LISTENERS }
+    requires few { length listeners.old ≤ most_listeners }
     ensures serves { ServesJournal L.states files.now connections
         (record { listeners = map L.state listeners.old; sink = W.state sink.old; disk = seen_of (D.state disk) })
         (record { listeners = map L.state listeners.new; sink = W.state sink.new; disk = seen_of (D.state result.1) }) result.0 }
+    ensures crash { let before = outs_at (map L.state listeners.old) (W.state sink.old) (D.state disk) in
+        let after = outs_at (map L.state listeners.new) (W.state sink.new) (D.state result.1) in
+        (serves : ServesJournal L.states files.now connections before after result.0)
+        × LeavesMet L.states (record { before = D.state disk; after = D.state result.1 }) files.now connections
+        (ends_of before) (ends_of after) serves.met serves.meets }
     ensures listeners_kept { KeptUnless (has_served (code_of result.0)) listeners.old listeners.new }
     ensures comes { ends_before_journal (code_of result.0) ≡ false }
 {

@@ -1,7 +1,7 @@
 // What the words order.
 ghost use Rattle.std.specs.Prelude.{◌≡◌, ◌≤◌, IfSome, map};
 ghost use Rattle.std.specs.Option.{option_map};
-ghost use Rattle.apron_serve.specs.Orders.{order_of, order_of_words, ordered, ordered_by};
+ghost use Rattle.apron_serve.specs.Orders.{most_connections, most_listeners, order_of, order_of_words, ordered, ordered_by};
 ghost use Rattle.apron_serve.specs.OrdersShown.{shown};
 
 use apron_base::{MAX_DIGITS, Word, number_of};
@@ -12,6 +12,12 @@ pub const MAX_CONNECTIONS: u32 = 1_000_000;
 
 /// The most listeners.
 pub const MAX_LISTENERS: usize = 16;
+
+/// Each limit of the code is the number that its definition has.
+pub fn limits_are_as_defined()
+    ensures connections { MAX_CONNECTIONS ≡ most_connections }
+    ensures listeners { MAX_LISTENERS ≡ most_listeners }
+{}
 
 /// Desks at the airport of the airport file and the type file of these names, on its journal: so many connections of each
 /// listener.
@@ -25,7 +31,7 @@ pub(crate) struct Order<'w> {
 /// What the words order of so many listeners.
 pub(crate) fn order_of(words: &[Word], listeners: usize) -> Option<Order<'_>>
     ensures order { option_map shown result ≡ order_of words.now listeners }
-    ensures few { IfSome result (λ order. (1 ≤ listeners) × (listeners ≤ MAX_LISTENERS)) }
+    ensures few { IfSome result (λ order. (1 ≤ listeners) × (listeners ≤ most_listeners)) }
     ensures some { IfSome result (λ order. 1 ≤ order.connections) }
 {
     if 1 <= listeners && listeners <= MAX_LISTENERS {

@@ -13,9 +13,10 @@ returns-in-Ok-Memory-clause-crash g c =
     let before = ends_at (g.S.Source.state c.args.source.now) (g.W.Sink.state c.args.sink.now) (state c.args.disk.now) in
     let told : (runs : RunsOnJournal c.args.files.now before (ends_at source sink (state c.serve_on-met.result.1.now)) c.tell_fault.result)
     × LeavesMet (record { before = state c.args.disk.now; after = state c.serve_on-met.result.1.now }) c.args.files.now before
-    (record { source = source; sink = runs.sink; disk = seen_of (state c.serve_on-met.result.1.now) }) runs.met runs.meets =
-    (record { met = c.serve_on-met.result.0; sink = g.W.Sink.state c.serve_on-met.new.sink; meets = c.serve_on-met.ensures.crash.0; tells = search rules },
-    c.serve_on-met.ensures.crash.1) in
+    (record { source = source; sink = runs.sink; disk = seen_of (state c.serve_on-met.result.1.now) }) runs.met runs.meets = (
+      record { met = c.serve_on-met.result.0; sink = g.W.Sink.state c.serve_on-met.new.sink; meets = c.serve_on-met.ensures.crash.0; tells = search rules },
+      c.serve_on-met.ensures.crash.1,
+    ) in
     subst (λ d. (runs : RunsOnJournal c.args.files.now before (ends_at source sink (state d)) c.tell_fault.result)
     × LeavesMet (record { before = state c.args.disk.now; after = state d }) c.args.files.now before
     (record { source = source; sink = runs.sink; disk = seen_of (state d) }) runs.met runs.meets) (search rules) told
@@ -28,9 +29,10 @@ returns-in-Ok-clause-crash g c =
     let before = ends_at (g.S.Source.state c.args.source.now) (g.W.Sink.state c.args.sink.now) (state c.args.disk.now) in
     let told : (runs : RunsOnJournal c.args.files.now before (ends_at source sink (state c.serve_on-met.result.1.now)) c.status_of_outcome.result)
     × LeavesMet (record { before = state c.args.disk.now; after = state c.serve_on-met.result.1.now }) c.args.files.now before
-    (record { source = source; sink = runs.sink; disk = seen_of (state c.serve_on-met.result.1.now) }) runs.met runs.meets =
-    (record { met = c.serve_on-met.result.0; sink = g.W.Sink.state c.serve_on-met.new.sink; meets = c.serve_on-met.ensures.crash.0; tells = search rules },
-    c.serve_on-met.ensures.crash.1) in
+    (record { source = source; sink = runs.sink; disk = seen_of (state c.serve_on-met.result.1.now) }) runs.met runs.meets = (
+      record { met = c.serve_on-met.result.0; sink = g.W.Sink.state c.serve_on-met.new.sink; meets = c.serve_on-met.ensures.crash.0; tells = search rules },
+      c.serve_on-met.ensures.crash.1,
+    ) in
     subst (λ d. (runs : RunsOnJournal c.args.files.now before (ends_at source sink (state d)) c.status_of_outcome.result)
     × LeavesMet (record { before = state c.args.disk.now; after = state d }) c.args.files.now before
     (record { source = source; sink = runs.sink; disk = seen_of (state d) }) runs.met runs.meets) (search rules) told
@@ -43,9 +45,10 @@ returns-in-Err-clause-crash g c =
     let before = ends_at (g.S.Source.state c.args.source.now) (g.W.Sink.state c.args.sink.now) (state c.args.disk.now) in
     let told : (runs : RunsOnJournal c.args.files.now before (ends_at source sink (state c.serve_on-met.result.1.now)) c.tell_unusable.result)
     × LeavesMet (record { before = state c.args.disk.now; after = state c.serve_on-met.result.1.now }) c.args.files.now before
-    (record { source = source; sink = runs.sink; disk = seen_of (state c.serve_on-met.result.1.now) }) runs.met runs.meets =
-    (record { met = c.serve_on-met.result.0; sink = g.W.Sink.state c.serve_on-met.new.sink; meets = c.serve_on-met.ensures.crash.0; tells = search rules },
-    c.serve_on-met.ensures.crash.1) in
+    (record { source = source; sink = runs.sink; disk = seen_of (state c.serve_on-met.result.1.now) }) runs.met runs.meets = (
+      record { met = c.serve_on-met.result.0; sink = g.W.Sink.state c.serve_on-met.new.sink; meets = c.serve_on-met.ensures.crash.0; tells = search rules },
+      c.serve_on-met.ensures.crash.1,
+    ) in
     subst (λ d. (runs : RunsOnJournal c.args.files.now before (ends_at source sink (state d)) c.tell_unusable.result)
     × LeavesMet (record { before = state c.args.disk.now; after = state d }) c.args.files.now before
     (record { source = source; sink = runs.sink; disk = seen_of (state d) }) runs.met runs.meets) (search rules) told

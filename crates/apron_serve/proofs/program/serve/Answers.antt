@@ -3,16 +3,24 @@ use Rattle.std.specs.Prelude.{not}
 use Rattle.std.proofs.lemmas.List.{length-map}
 use Rattle.apron_run.specs.Run.{KeptUnless}
 use Rattle.apron_run.specs.Statuses.{code_of}
+use Rattle.apron_run.specs.Survival.{DiskStates}
 use Rattle.apron_run.specs.World.{seen_of}
+use Rattle.apron_run.proofs.Fronts.{stays_same}
+use Rattle.apron_serve.specs.Crash.{CrashesAs}
 use Rattle.apron_serve.specs.Orders.{Order, order_of}
 use Rattle.apron_serve.specs.OrdersShown.{shown}
 use Rattle.apron_serve.specs.Serve.{ends_before_journal, has_served, is_order}
+use Rattle.apron_serve.specs.World.{world_at}
 use Rattle.apron_serve.proofs.Completing.{complete}
 use Rattle.apron_serve.proofs.Endings.{carried, refused}
 use Rattle.apron_serve.proofs.program.serve.Goals as goal
 
 pub returns-in-Some : goal.returns-in-Some
 returns-in-Some g c =
+    let before = world_at (g.F.Shelf.state c.args.shelf.now) (map g.L.Workplace.state c.args.listeners.now) (g.W.Sink.state c.args.sink.now) (g.D.Disk.state c.args.disk) in
+    let after = world_at (g.F.Shelf.state c.serve_files-status.new.shelf) (map g.L.Workplace.state c.serve_files-status.new.listeners)
+    (g.W.Sink.state c.serve_files-status.new.sink) (g.D.Disk.state c.serve_files-status.result.1) in
+    let disk : DiskStates = record { before = g.D.Disk.state c.args.disk; after = g.D.Disk.state c.serve_files-status.result.1 } in
     let all = carried g.L.Workplace.states (shown c.in-Some.order) (order_of c.args.words.now (length c.args.listeners.now))
     (record { shelf = g.F.Shelf.state c.args.shelf.now; listeners = map g.L.Workplace.state c.args.listeners.now; sink = g.W.Sink.state c.args.sink.now; disk = seen_of (g.D.Disk.state c.args.disk) })
     (record {
@@ -28,6 +36,14 @@ returns-in-Some g c =
       failed = all.failed;
       usage = all.usage;
       complete = complete g.L.Workplace.states _ _ _ _ all.serves all.failed;
+      crash = subst (λ (code : ℕ). CrashesAs g.L.Workplace.states disk (order_of c.args.words.now (length c.args.listeners.now)) before after code) (sym c.code.ensures.value)
+          (subst (λ (order : Option Order). CrashesAs g.L.Workplace.states disk order before after (code_of c.serve_files-status.result.0)) c.in-Some.ensures.order
+          (record {
+            status = c.serve_files-status.result.0;
+            code_is = refl;
+            does = c.serve_files-status.ensures.crash.0;
+            leaves = c.serve_files-status.ensures.crash.1;
+          }));
       shelf_kept = subst (λ (asked : Option Order). KeptUnless (is_order asked) c.args.shelf.now c.serve_files-status.new.shelf) c.in-Some.ensures.order tt;
       listeners_kept = subst (λ (code : ℕ). KeptUnless (has_served code) c.args.listeners.now c.serve_files-status.new.listeners) (sym c.code.ensures.value) c.serve_files-status.ensures.listeners_kept;
       disk_kept = subst (λ (code : ℕ). KeptUnless (not (ends_before_journal code)) c.args.disk c.serve_files-status.result.1) (sym c.code.ensures.value) c.serve_files-status.ensures.disk_kept;
@@ -35,6 +51,9 @@ returns-in-Some g c =
 
 pub returns-in-None : goal.returns-in-None
 returns-in-None g c =
+    let before = world_at (g.F.Shelf.state c.args.shelf.now) (map g.L.Workplace.state c.args.listeners.now) (g.W.Sink.state c.args.sink.now) (g.D.Disk.state c.args.disk) in
+    let after = world_at (g.F.Shelf.state c.args.shelf.now) (map g.L.Workplace.state c.args.listeners.now) (g.W.Sink.state c.print_usage.new.sink) (g.D.Disk.state c.args.disk) in
+    let disk : DiskStates = record { before = g.D.Disk.state c.args.disk; after = g.D.Disk.state c.args.disk } in
     let is_usage : c.code-in-None.result ≡ 2 = c.code-in-None.ensures.value ∙ ap code_of c.print_usage.ensures.usage in
     let all = refused g.L.Workplace.states (order_of c.args.words.now (length c.args.listeners.now))
     (record { shelf = g.F.Shelf.state c.args.shelf.now; listeners = map g.L.Workplace.state c.args.listeners.now; sink = g.W.Sink.state c.args.sink.now; disk = seen_of (g.D.Disk.state c.args.disk) })
@@ -46,6 +65,14 @@ returns-in-None g c =
       failed = all.failed;
       usage = all.usage;
       complete = complete g.L.Workplace.states _ _ _ _ all.serves all.failed;
+      crash = subst (λ (code : ℕ). CrashesAs g.L.Workplace.states disk (order_of c.args.words.now (length c.args.listeners.now)) before after code) (sym c.code-in-None.ensures.value)
+          (subst (λ (order : Option Order). CrashesAs g.L.Workplace.states disk order before after (code_of c.print_usage.result)) c.in-None.ensures.order
+          (record {
+            status = c.print_usage.result;
+            code_is = refl;
+            does = (refl, c.print_usage.ensures.writes);
+            leaves = stays_same (g.D.Disk.state c.args.disk);
+          }));
       shelf_kept = subst (λ (asked : Option Order). KeptUnless (is_order asked) c.args.shelf.now c.args.shelf.now) c.in-None.ensures.order refl;
       listeners_kept = subst (λ (code : ℕ). KeptUnless (has_served code) c.args.listeners.now c.args.listeners.now) (sym is_usage) refl;
       disk_kept = subst (λ (code : ℕ). KeptUnless (not (ends_before_journal code)) c.args.disk c.args.disk) (sym is_usage) refl;

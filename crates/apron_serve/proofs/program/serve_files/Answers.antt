@@ -1,0 +1,15 @@
+use Rattle.std.proofs.Common.{List, ℕ, Ok, subst}
+use Rattle.apron_check.specs.Files.{Finds}
+use Rattle.apron_serve.proofs.program.serve_files.Goals as goal
+
+pub returns-in-Ok-clause-crash : goal.returns-in-Ok-clause-crash
+returns-in-Ok-clause-crash g c =
+    let before = g.F.Shelf.state c.args.shelf.now in
+    let after = g.F.Shelf.state c.airport_of.new.shelf in
+    let found = subst (λ (airport : List ℕ). Finds before after airport c.text-2.result.now (Ok c.in-Ok.files))
+    c.text.ensures.text c.in-Ok.ensures.finds in
+    let finds = subst (λ (types : List ℕ). Finds before after c.args.order.now.airport.now types (Ok c.in-Ok.files))
+    c.text-2.ensures.text found in (
+      record { found = Ok c.in-Ok.files; finds = finds; serves = c.serve_journal.ensures.crash.0 },
+      c.serve_journal.ensures.crash.1,
+    )
