@@ -22,7 +22,9 @@ pub(super) type Added = (u16, u8, Minute, Minute);
 pub(super) type Put = (u32, u16);
 
 /// The edit that puts the first part of the visit on the stand.
-pub(super) fn edit(put: &Put) -> Edit {
+pub(super) fn edit(put: &Put) -> Edit
+    ensures is { result ≡ Edit.Put (record { 0 = put.now.0 }) 1 (record { 0 = put.now.1 }) }
+{
     Edit::Put {
         visit: VisitNo(put.0),
         part: 1,

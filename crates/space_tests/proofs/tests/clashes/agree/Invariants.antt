@@ -1,4 +1,4 @@
 use Rattle.space_tests.proofs.tests.clashes.agree.Given as goal
 
-abbrev pub ghosts-clashes : goal.ghosts-clashes
-ghosts-clashes a = record { name = a.blank.name; parts = a.blank.parts }
+abbrev pub ghosts-found_among : goal.ghosts-found_among
+ghosts-found_among a = record { name = a.blank.name; parts = a.blank.parts }
