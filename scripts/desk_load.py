@@ -57,7 +57,8 @@ class Desk:
             return "cancel", {"visit": self.draw.randint(1, self.visits + 1)}
         return self.draw.choice([
             ("version_of", {}), ("unplaced", {}), ("day", {"day": self.draw.randint(1, self.airport.days)}),
-            ("read", {"visit": self.draw.randint(1, self.visits + 2)})])
+            ("read", {"visit": self.draw.randint(1, self.visits + 2)}), ("entry", {"entry": self.draw.randint(1, self.seen + 2)}),
+            ("airport_of", {}), ("visits_of_day", {"day": self.draw.randint(1, self.airport.days)})])
 
     def visit(self, name):
         type = self.draw.choice(self.airport.types)
@@ -102,8 +103,9 @@ class Desk:
 
 
 def bytes_of(ask):
+    """The request of an ask. It has a field that is for messages and reports alone, and that is passed over here, whatever it says."""
     method, target, body = request_of(ask)
-    return served.request(method, target, body, ask[2] or None)
+    return served.request(method, target, body, ask[2] or None, lines=["X-Desk: no name"])
 
 
 def run_desk(desk, address, commits, first=None):
@@ -191,7 +193,7 @@ def judge(airport, entries, told, unanswered=()):
             answer = plan.answer(entry)
             if not isinstance(answer, Accepted):
                 return faults + [f"entry {version} is refused at the plan of those before it: {entry[:2]}, {answer.body}"], plan
-            plan.take(entry)
+            plan.take(calls[version - 1], entry)
         for it in at[version]:
             is_maker = entry is not None and it.ask[:2] == entry[:2] and it.ask[2] < version
             if is_maker and it.reply[:2] == (200, compact(answer.body)):
@@ -225,7 +227,8 @@ def late(told):
 def reads_of(plan):
     """Asks that read all of a plan."""
     asks = [("version_of", {}, 0), ("unplaced", {}, 0)]
-    asks += [("day", {"day": day}, 0) for day in range(1, plan.airport.days + 1)]
+    asks += [(kind, {"day": day}, 0) for kind in ("day", "visits_of_day") for day in range(1, plan.airport.days + 1)]
+    asks += [("airport_of", {}, 0)] + [("entry", {"entry": entry}, 0) for entry in range(1, plan.version + 2)]
     return asks + [("read", {"visit": visit}, 0) for visit in range(1, len(plan.visits) + 1)]
 
 

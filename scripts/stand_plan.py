@@ -1,5 +1,6 @@
 """The answers of a plan, worked out anew and apart from the program: visits, commits, cancels and reads of an airport, as docs/HTTP.md
-tells them, and the history in a journal's bytes. There are no messages and reports here, so that no part is ever on block or bumped."""
+tells them, and the history in a journal's bytes of format 2, as docs/JOURNAL.md tells them. There are no messages and reports here, so that
+no part is ever on block or bumped."""
 
 import csv
 import json
@@ -50,6 +51,7 @@ class Airport:
             described = tomllib.load(file)
         with open(types, newline="") as file:
             self.types = [Type.of(record) for record in list(csv.reader(file))[1:]]
+        self.described = described
         self.days, self.tow = described["airport"]["days"], described["airport"]["tow"]
         self.minutes = self.days * DAY
         self.objects = {it["name"]: it["objects"] for it in described["frontage"]}
@@ -57,14 +59,25 @@ class Airport:
         self.stand_of = {it["name"]: place for place, it in enumerate(self.stands)}
         self.type_of = {type.name: place for place, type in enumerate(self.types)}
         self.rules = {}
-        spans = {type.span for type in self.types}
+        # Every rule grows stricter with the spans, so that stands that exclude each other do so for the widest type.
+        widest = max(type.span for type in self.types)
         self.near = [
-            [other for other in range(len(self.stands)) if any(self.breaks(stand, a, other, b) for a in spans for b in spans)]
-            for stand in range(len(self.stands))]
+            [other for other in range(len(self.stands)) if self.breaks(stand, widest, other, widest)] for stand in range(len(self.stands))]
 
     def letter(self, span):
         """The code letter of a wing span and its clearance."""
         return next((letter, clearance) for below, letter, clearance in LETTERS if span < below)
+
+    def told(self):
+        """The airport as a desk reads it."""
+        stands = [{key: it.get(key) for key in ("buffer", "centre", "frontage", "half_of", "letter", "name")} for it in self.stands]
+        types = [
+            {"fold": it.fold, "least": it.least, "letter": self.letter(it.span)[0], "name": it.name, "parked": it.parked, "span": it.span}
+            for it in self.types]
+        frontages = [{key: it[key] for key in ("name", "objects")} for it in self.described["frontage"]]
+        pairs = [{key: it[key] for key in ("a", "b", "la", "lb")} for it in self.pairs]
+        keys = {key: self.described["airport"][key] for key in ("days", "first_day", "station", "taxi_in", "tow")}
+        return {**keys, "frontages": frontages, "pairs": pairs, "stands": stands, "types": types}
 
     def breaks(self, stand, span, other, other_span):
         """The first rule by which two stands exclude each other with aircraft of these wing spans on them, or None."""
@@ -128,6 +141,8 @@ class Plan:
     def __init__(self, airport):
         self.airport = airport
         self.version, self.visits, self.names, self.drafts = 0, [], {}, {}
+        # the call number and the command of each entry
+        self.history = []
         # the slots on each stand by visit: from, end and part
         self.held = [{} for _ in airport.stands]
 
@@ -289,14 +304,27 @@ class Plan:
         return self.told()
 
     def read(self, said):
-        number = said["visit"]
-        it = self.visit_of(number)
-        if it is None:
+        if self.visit_of(said["visit"]) is None:
             return self.refused(404, "visit")
+        return self.told(**self.visit(said["visit"]))
+
+    def visit(self, number):
+        """A visit as replies tell it, without the version."""
+        it = self.visit_of(number)
         parts = [
             {"actual": False, "bump": None, "from": begin, "stand": self.stand_name(stand), "to": end} for begin, end, stand in it.parts]
         state = "cancelled" if it.cancelled else "expected"
-        return self.told(**it.asked, edited=it.edited, parts=parts, state=state, visit=number)
+        return {**it.asked, "edited": it.edited, "parts": parts, "state": state, "visit": number}
+
+    def entry(self, said):
+        number = said["entry"]
+        if number > len(self.history):
+            return self.refused(404, "entry")
+        call, (kind, command, _) = self.history[number - 1]
+        return self.told(call=call, desk=command.get("desk"), entry=number, kind=KINDS[kind])
+
+    def airport_of(self, _):
+        return self.told(**self.airport.told())
 
     def stand_name(self, stand):
         return None if stand is None else self.airport.stands[stand]["name"]
@@ -311,6 +339,14 @@ class Plan:
                     parts.append({"actual": False, "from": begin, "part": part, "stand": self.stand_name(stand), "to": to, "visit": visit})
         return self.told(parts=parts)
 
+    def visits_of_day(self, said):
+        begins, ends = (said["day"] - 1) * DAY, said["day"] * DAY
+        seen = {part["visit"] for part in self.day(said).body["parts"]}
+        for visit, it in enumerate(self.visits, 1):
+            if not it.cancelled and any(stand is None and begin < ends and end > begins for begin, end, stand in it.parts):
+                seen.add(visit)
+        return self.told(visits=[self.visit(visit) for visit in sorted(seen)])
+
     def unplaced(self, _):
         parts = []
         for visit, it in enumerate(self.visits, 1):
@@ -320,18 +356,21 @@ class Plan:
                     parts.append((rank, {"bump": None, "from": begin, "part": part, "to": end, "visit": visit}))
         return self.told(parts=[part for _, part in sorted(parts, key=lambda it: it[0])])
 
-    def take(self, ask):
-        """Takes an accepted command in."""
+    def take(self, call, ask):
+        """Takes an accepted command in, with its call number."""
         answer = self.answer(ask)
         assert isinstance(answer, Accepted), f"version {self.version + 1} is of a command that the plan refuses: {ask[:2]}"
         self.version += 1
+        self.history.append((call, ask))
         answer.install()
 
 
 TARGETS = {
     "add": ("POST", "/visits"), "commit": ("POST", "/commits"), "cancel": ("POST", "/cancels"), "version_of": ("GET", "/version"),
-    "read": ("GET", "/visits/{visit}"), "day": ("GET", "/plan/{day}"), "unplaced": ("GET", "/unplaced")}
-COMMANDS = {"add", "commit", "cancel"}
+    "read": ("GET", "/visits/{visit}"), "day": ("GET", "/plan/{day}"), "unplaced": ("GET", "/unplaced"),
+    "entry": ("GET", "/entries/{entry}"), "airport_of": ("GET", "/airport"), "visits_of_day": ("GET", "/day/{day}")}
+KINDS = {"add": "visit", "commit": "commit", "cancel": "cancel"}
+COMMANDS = set(KINDS)
 
 
 def request_of(ask):
@@ -359,13 +398,21 @@ class Reader:
 
 
 def entries_of(airport, journal):
-    """The entries of a journal: the call number, and the command as an ask that has seen nothing."""
-    entries, at = [], 72
+    """The entries of a journal of format 2: the call number, and the command as an ask that has seen nothing."""
+    assert (journal[:5], journal[5:8]) == (b"APRNJ", b"2\r\n"), f"a journal begins with {journal[:8]}"
+    _, behind = records_of(journal, 72)
+    records, _ = records_of(journal, behind)
+    return [entry_of(airport, Reader(it), len(it)) for it in records]
+
+
+def records_of(journal, at):
+    """The records of the part whose first gate stands here, and the place after the gate that ends it."""
+    records = []
     while journal[at] == 1:
         length, = struct.unpack_from("<H", journal, at + 1)
-        entries.append(entry_of(airport, Reader(journal[at + 3:at + 3 + length]), length))
+        records.append(journal[at + 3:at + 3 + length])
         at += 3 + length
-    return entries
+    return records, at + 1
 
 
 def entry_of(airport, text, length):

@@ -1,5 +1,5 @@
-// The files of an airport at every limit: 50 frontages with 50 objects each, 400 stands, 1,000 restrictions
-// of pairs, 14 days and 400 types.
+// The files of an airport at every limit: 50 frontages with 50 objects each, 400 stands, 1,000
+// restrictions of pairs, 14 days and 400 types.
 use std::alloc::{AllocError, Global};
 
 const FRONTAGES: u32 = 50;

@@ -7,7 +7,7 @@ use stand_index::StandIndex;
 use std::alloc::Global;
 use std::sync::ledger::{Blank, Ledger};
 
-/// How many planned slots the stand has that is looked at: seven a day for 14 days.
+/// How many planned slots the stand has: seven a day for 14 days.
 pub(crate) const SLOTS: u32 = 98;
 
 // A slot begins each 200 minutes, and holds the stand for 70.
@@ -36,7 +36,7 @@ impl Looks {
     }
 }
 
-/// Looks up the neighbours of each stand but itself, so many times over.
+/// Looks up the neighbours of each stand except itself, this many times.
 pub(crate) fn looks_at_neighbours(airport: &Airport, times: u64) -> Looks {
     let mut looks = Looks::none();
     for _ in 0..times {
@@ -71,7 +71,8 @@ pub(crate) fn full_stand(alloc: Global) -> Result<StandIndex, Memory>
     Ok(index)
 }
 
-/// Looks for the slots that have one of 100 minutes, once for each minute that some slot has, so many times over.
+/// Looks for the slots that have one of 100 minutes, once for each minute that some slot has, this
+/// many times.
 pub(crate) fn looks_at_slots<L: Ledger>(
     alloc: Global,
     index: &StandIndex,

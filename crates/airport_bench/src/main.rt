@@ -1,7 +1,8 @@
-//! Measures how fast an airport is read, and how fast its stand rules, its neighbours and the slots of a stand are
-//! looked up: `airport_bench 100 airport.toml types.csv` reads an airport at every limit 100 times, asks of all
-//! pairs of stands of these files, with all pairs of types on them, which exclude each other, then 100,000 times
-//! for the neighbours of each stand, and 100 times for the slots at each minute of a full stand.
+//! Measures how fast an airport is read, and how fast its stand rules, its neighbours and the slots
+//! of a stand are looked up. `airport_bench 100 airport.toml types.csv` reads an airport at every
+//! limit 100 times; looks up, for all pairs of stands of these files with all pairs of types on
+//! them, which exclude each other; and then looks up the neighbours of each stand 100,000 times,
+//! and the slots at each minute of a full stand 100 times.
 #![tactic(auto)]
 
 mod limits;
@@ -27,7 +28,7 @@ fn micros(duration: Duration) -> u64 {
         .max(1)
 }
 
-// Reads the airport at every limit so many times.
+// Reads the airport at every limit this many times.
 fn measure_reading(rt: &HostRuntime, times: u64) -> io::Result<()> {
     let airport = airport_file(rt.alloc())?;
     let types = type_file(rt.alloc())?;
@@ -55,12 +56,12 @@ fn measure_rules(rt: &HostRuntime, airport: &Airport) -> io::Result<()> {
     )
 }
 
-// The nanoseconds of each of so many looks.
+// The nanoseconds of each of this many looks.
 fn nanos_of(duration: Duration, looks: u64) -> u64 {
     micros(duration).saturating_mul(1000) / looks.max(1)
 }
 
-// Looks up the neighbours of each stand, a thousand times so often.
+// Looks up the neighbours of each stand, a thousand times this often.
 fn measure_neighbours(rt: &HostRuntime, airport: &Airport, times: u64) -> io::Result<()> {
     let start = Instant::now(rt)?;
     let Looks { looks, found } = looks_at_neighbours(airport, times.saturating_mul(1000));
@@ -70,7 +71,7 @@ fn measure_neighbours(rt: &HostRuntime, airport: &Airport, times: u64) -> io::Re
     )
 }
 
-// Looks up the slots at each minute of a full stand, so often.
+// Looks up the slots at each minute of a full stand, this often.
 fn measure_slots(rt: &HostRuntime, times: u64) -> io::Result<()> {
     let alloc = rt.alloc();
     let Ok(index) = full_stand(alloc) else {

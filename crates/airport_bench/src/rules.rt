@@ -25,7 +25,7 @@ pub(crate) fn count_of(airport: &Airport) -> Count {
     count
 }
 
-// Counts the pairs of one type on one stand with all.
+// Counts the pairs of one type on one stand with all types on all stands.
 fn add_pairs_of(airport: &Airport, s: StandNo, t: TypeNo, count: &mut Count)
     requires stand { s.0 < length airport.now.stands }
     requires kind { t.0 < length airport.now.types }

@@ -1,4 +1,4 @@
--- What files mean is never want of memory.
+-- What files mean is never a lack of memory.
 use Rattle.std.proofs.Common.{codes, ◌≡◌, ◌≢◌, ℕ, ◌+◌, Bool, true, false, List, [], ◌∷◌, if◌then◌else◌, Option, None, Some, option_map, Result, Ok, Err, refl, ap}
 use Rattle.std.specs.Option.{option_or}
 use Rattle.toml.specs.Data.{Data, Members, Items, array, table, item, no_items, get_member}
@@ -31,7 +31,7 @@ use Rattle.airport_files.specs.declared.type_rows.Columns.{Columns}
 use Rattle.airport_files.specs.TypeRows.{columns_of, row_of}
 use Rattle.airport_files.specs.Meaning.{named_layout, layout_of_table, layout_in, types_of_table, types_in, parts_of, made_of, unless_refused, meaning}
 
--- a step, and the next where it went well
+-- a step, and then the next if it went well
 abbrev after : {A B E : Type 0} → Result A E → (A → Result B E) → Result B E
 after (Ok x) next = next x
 after (Err e) next = Err e
@@ -40,7 +40,7 @@ never : {A B E : Type 0} (bad : E) (step : Result A E) (next : A → Result B E)
 never bad (Ok x) next h k = k x
 never bad (Err e) next h k = λ p. h (let same : e ≡ bad = cc in ap Err same)
 
--- a reading along the keys that doesn't want memory
+-- a reading along the keys that doesn't run out of memory
 abbrev IsTold : {A : Type 0} → Result A WalkFault → Type 0
 IsTold read = read ≢ Err walk.Memory
 
@@ -126,7 +126,7 @@ unfolding layout_of
 told_layout ms =
     never _ _ _ (told_head_value (get_member (codes "airport") ms)) (λ head. never _ _ _ (told_rows_value frontage_value told_frontage key.Frontages (get_member (codes "frontage") ms)) (λ frontages. never _ _ _ (told_rows_value stand_value told_stand key.Stands (get_member (codes "stand") ms)) (λ stands. never _ _ _ (told_rows_value pair_value told_pair key.Pairs (get_member (codes "pair") ms)) (λ pairs. told_ok _))))
 
--- no want of memory, of the files or of the airport that they make
+-- no lack of memory, neither of the files nor of the airport that they make
 abbrev IsSaid : {A : Type 0} → Result A FileFault → Type 0
 IsSaid meant = (meant ≢ Err file.Memory) × (meant ≢ Err (file.Airport refused.Memory))
 
@@ -147,7 +147,7 @@ said_layout : (airport : List ℕ) → IsSaid (layout_in airport)
 unfolding layout_in
 said_layout airport = said_document (document airport)
 
--- a type file that doesn't want memory
+-- a type file whose reading doesn't run out of memory
 abbrev IsListed : {A : Type 0} → Result A TableFault → Type 0
 IsListed read = read ≢ Err rows.Memory
 
@@ -181,7 +181,7 @@ said_types : (types : List ℕ) → IsSaid (types_in types)
 unfolding types_in
 said_types types = said_table (table_in types) (listed_table _)
 
--- a refusal that isn't want of memory, or none
+-- a refusal that isn't a lack of memory, or none
 abbrev IsReason : Option AirportFault → Type 0
 IsReason fault = fault ≢ Some refused.Memory
 

@@ -47,7 +47,7 @@ pub step-end : {A : Type 0} (read : ℕ → Data → Result A WalkFault) (vs : L
 unfolding rows_from
 step-end read vs i found h = rw (drop_all i vs h, append-nil found)
 
--- the test of each value is the test of what they stand for
+-- the test of all values is the test of the data that they show
 pub tables : (vs : List Value) → list_all (λ v. is_table (view v)) vs ≡ are_tables (items_view vs)
 tables [] = refl
 tables (v ∷ vs) = elim (cases_Bool (is_table (view v))) [

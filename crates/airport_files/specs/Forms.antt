@@ -35,7 +35,7 @@ text_if test text = if test text then Some text else None
 abbrev pub longest_name : ℕ
 longest_name = 6
 
--- a name of at least one capital or digit and at most as many as the longest has
+-- a name of at least one capital or digit, and at most as many as the longest name has
 abbrev pub name_of : Data → Option (List ℕ)
 name_of d = option_and_then (text_if (is_short_name 1 longest_name)) (as_str d)
 
@@ -84,12 +84,12 @@ abbrev pub at_key : {A : Type 0} → (Data → Option A) → Key → Option Data
 at_key form at None = Err (Missing at)
 at_key form at (Some d) = in_form at (form d)
 
--- a value in a form, where there is one, or a fault at its key
+-- a value in a form, if there is one, or a fault at its key
 abbrev pub in_form_if_there : {A : Type 0} → Key → Option A → Result (Option A) WalkFault
 in_form_if_there at None = Err (Wrong at)
 in_form_if_there at (Some x) = Ok (Some x)
 
--- the same of a key that may be missing
+-- the same for a key that may be missing
 abbrev pub if_there : {A : Type 0} → (Data → Option A) → Key → Option Data → Result (Option A) WalkFault
 if_there form at None = Ok None
 if_there form at (Some d) = in_form_if_there at (form d)

@@ -24,7 +24,7 @@ rows_from read k (item d ds) = do
 abbrev pub is_table : Data → Bool
 is_table d = is_some (as_table d)
 
--- tables alone
+-- only tables
 abbrev pub are_tables : Items → Bool
 are_tables no_items = true
 are_tables (item d ds) = if is_table d then are_tables ds else false

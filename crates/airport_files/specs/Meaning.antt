@@ -18,7 +18,7 @@ use Rattle.airport_files.specs.Layout.{layout_of}
 use Rattle.airport_files.specs.Table.{table_in}
 use Rattle.airport_files.specs.Words.{key_text}
 
--- what was read is what the texts mean, unless memory was wanting
+-- what was read is what the texts mean, unless memory ran out
 abbrev pub Means : {A : Type 0} → Result A FileFault → Result A FileFault → Type 0
 Means (Ok x) meant = meant ≡ Ok x
 Means (Err e) meant = (e ≡ file.Memory) ⊎ (meant ≡ Err e)
@@ -29,7 +29,7 @@ named (walk.Missing key) = file.MissingKey (key_text key)
 named (walk.Wrong key) = file.WrongKind (key_text key)
 named walk.Memory = file.Memory
 
--- the same, unless memory was wanting for the text
+-- the same, unless there was no memory for the text
 abbrev pub IsNamed : WalkFault → FileFault → Type 0
 IsNamed fault e = (e ≡ file.Memory) ⊎ (e ≡ named fault)
 
@@ -38,7 +38,7 @@ abbrev pub named_layout : Result Layout WalkFault → Result Layout FileFault
 named_layout (Ok layout) = Ok layout
 named_layout (Err fault) = Err (named fault)
 
--- the layout of a table, where there is one
+-- the layout of a table, if there is one
 abbrev pub layout_of_table : Option Members → Result Layout FileFault
 layout_of_table None = Err file.NotToml
 layout_of_table (Some ms) = named_layout (layout_of ms)
@@ -80,7 +80,8 @@ unless_refused parts (Some fault) = Err (file.Airport fault)
 unfoldable pub made_of : AirportParts → Result AirportParts FileFault
 made_of parts = unless_refused parts (fault_of parts)
 
--- the two files together: first the airport file, then the type file, then the airport that they make
+-- the two files together: first the airport file, then the type file, then the airport that they
+-- make
 unfoldable pub meaning : List ℕ → List ℕ → Result AirportParts FileFault
 meaning airport types = do
   layout ← layout_in airport

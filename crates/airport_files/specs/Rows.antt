@@ -21,7 +21,7 @@ use Rattle.airport_files.specs.declared.rows.Head.{Head}
 use Rattle.airport_files.specs.Forms.{number_of, station_of, date_of, name_of, letter_of, in_form, at_key, if_there}
 use Rattle.airport_files.specs.Words.{head_word, frontage_word, stand_word, pair_word}
 
--- what was read is what the definition reads, unless memory was wanting
+-- what was read is what the definition reads, unless memory ran out
 abbrev pub Reads : {A : Type 0} → Result A WalkFault → Result A WalkFault → Type 0
 Reads (Ok x) read = read ≡ Ok x
 Reads (Err e) read = (e ≡ Memory) ⊎ (read ≡ Err e)
@@ -40,7 +40,7 @@ head_in ms = do
   tow ← head_number ms Tow
   Ok (record { station = station; first = first; days = days; taxi_in = taxi_in; tow = tow })
 
--- the table `airport`, where it is a table
+-- the table `airport`, if it is a table
 abbrev pub head_value : Option Data → Result Head WalkFault
 head_value None = Err (Missing key.Airport)
 head_value (Some (table ms)) = head_in ms
@@ -58,7 +58,7 @@ numbers_from at (item d ds) = do
   rest ← numbers_from at ds
   Ok (first ∷ rest)
 
--- an array of numbers, where it is an array
+-- an array of numbers, if it is an array
 abbrev pub numbers_value : Key → Data → Result (List ℕ) WalkFault
 numbers_value at (array ds) = numbers_from at ds
 numbers_value at _ = Err (Wrong at)
@@ -83,7 +83,7 @@ frontage_in k ms = do
   objects ← frontage_objects k ms
   Ok (record { name = name; objects = objects })
 
--- the k-th frontage, where it is a table
+-- the k-th frontage, if it is a table
 abbrev pub frontage_value : ℕ → Data → Result Frontage WalkFault
 frontage_value k (table ms) = frontage_in k ms
 frontage_value k _ = Err (Wrong key.Frontages)
@@ -100,7 +100,7 @@ stand_number k ms word = at_key number_of (key.Stand k word) (get_member (stand_
 abbrev pub stand_letter : ℕ → Members → Result Letter WalkFault
 stand_letter k ms = at_key letter_of (key.Stand k stand.Letter) (get_member (stand_word stand.Letter) ms)
 
--- the stand of which the k-th stand is a half
+-- the stand that the k-th stand is a half of
 abbrev pub stand_half : ℕ → Members → Result (Option (List ℕ)) WalkFault
 stand_half k ms = if_there name_of (key.Stand k stand.HalfOf) (get_member (stand_word stand.HalfOf) ms)
 
@@ -115,7 +115,7 @@ stand_in k ms = do
   half_of ← stand_half k ms
   Ok (record { name = name; frontage = frontage; centre = centre; letter = letter; buffer = buffer; half_of = half_of })
 
--- the k-th stand, where it is a table
+-- the k-th stand, if it is a table
 abbrev pub stand_value : ℕ → Data → Result StandRow WalkFault
 stand_value k (table ms) = stand_in k ms
 stand_value k _ = Err (Wrong key.Stands)
@@ -137,7 +137,7 @@ pair_in k ms = do
   lb ← pair_letter k ms pair.Lb
   Ok (record { a = a; la = la; b = b; lb = lb })
 
--- the k-th pair restriction, where it is a table
+-- the k-th pair restriction, if it is a table
 abbrev pub pair_value : ℕ → Data → Result PairRow WalkFault
 pair_value k (table ms) = pair_in k ms
 pair_value k _ = Err (Wrong key.Pairs)

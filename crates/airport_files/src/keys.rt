@@ -55,7 +55,7 @@ pub(crate) enum Key {
     Pair(usize, PairKey),
 }
 
-/// The first fault along the keys, or want of memory.
+/// The first fault along the keys, or a lack of memory.
 #[derive(Clone, Copy, Debug, PartialEq, Eq)]
 pub(crate) enum WalkFault {
     Missing(Key),

@@ -4,7 +4,7 @@ ghost use Rattle.apron_rules.specs.declared.refusals.AirportFault.TheVariants as
 ghost use Rattle.airport_files.specs.declared.read.FileFault.TheVariants as file;
 ghost use Rattle.airport_files.specs.Meaning.{meaning};
 
-/// Two files never mean want of memory, nor an airport that is refused for it.
+/// The meaning of two files is never a lack of memory, nor an airport that is refused for it.
 pub fn files_mean_no_want_of_memory()
     ensures files { (airport types : List ℕ) → meaning airport types ≢ Err file.Memory }
     ensures made { (airport types : List ℕ) → meaning airport types ≢ Err (file.Airport refused.Memory) }

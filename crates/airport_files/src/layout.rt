@@ -26,7 +26,7 @@ pub(crate) struct Layout {
     pub(crate) pairs: Listed<PairRow>,
 }
 
-/// What a document says, or the first fault along its keys, or want of memory.
+/// What a document says, or the first fault along its keys, or a lack of memory.
 pub(crate) fn layout_of(alloc: Global, document: &Table) -> Result<Layout, WalkFault>
     ensures layout { Reads result (layout_of (table_view document.now)) }
     ensures station { IfOk result (λ layout. IsTrue (is_station layout.head.station)) }
@@ -62,7 +62,7 @@ fn pairs_of(alloc: Global, document: &Table) -> Result<Listed<PairRow>, WalkFaul
     rows_at(alloc, document, "pair", Key::Pairs)
 }
 
-// The rows of the array at a key, none where the key is missing.
+// The rows of the array at a key; none if the key is missing.
 fn rows_at<T: Row>(
     alloc: Global,
     document: &Table,

@@ -1,4 +1,5 @@
-//! An airport, read from its airport file and its type file.
+//! An airport, read from its airport file and its type file. It doesn't know where the bytes come
+//! from, nor how a fault is printed.
 #![tactic(auto)]
 
 mod forms;

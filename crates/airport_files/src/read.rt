@@ -18,25 +18,25 @@ use toml::Table;
 /// Why two files are no airport: the first fault in this order.
 #[derive(Debug, Drop)]
 pub enum FileFault {
-    /// The airport file is no TOML, or no UTF-8.
+    /// The airport file is not TOML, or not UTF-8.
     NotToml,
-    /// A key of the airport file is missing: the first such along the keys, unless a wrong one is before it.
-    /// The text names the key, as `airport.tow` or `stand 3.letter`.
+    /// A key of the airport file is missing: the first such along the keys, unless a wrong one
+    /// comes before it. The text names the key, as `airport.tow` or `stand 3.letter`.
     MissingKey(Listed<u8>),
     /// A key of the airport file has a value of another form.
     WrongKind(Listed<u8>),
-    /// A record of the type file, counted from 1, isn't there as header or has another form: the first
-    /// such.
+    /// The header of the type file is missing, or a record has another form: the first such record,
+    /// counted from 1.
     BadRow(u32),
-    /// The files are read, and make no airport.
+    /// The files were read, but make no airport.
     Airport(AirportFault),
-    /// Memory is wanting.
+    /// There is no memory.
     Memory,
 }
 
-/// The airport of an airport file, which is TOML, and of a type file, which is CSV. At `Err` the first fault
-/// is named: first of the TOML, then along the keys, then of the records of the type file, then of the
-/// airport that they make; or memory is wanting.
+/// The airport of an airport file, which is TOML, and of a type file, which is CSV. `Err` gives the
+/// first fault: of the TOML first, then along the keys, then of the records of the type file, then
+/// of the airport that they make; or it says that there is no memory.
 pub fn read_airport(alloc: Global, airport: &[u8], types: &[u8]) -> Result<Airport, FileFault>
     requires few { length types.now < 2 ^ 31 }
     ensures value { Means result (meaning airport.now types.now) }

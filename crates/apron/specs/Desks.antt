@@ -3,21 +3,21 @@ use Rattle.std.specs.Prelude.{ℕ, nat_le, Option, Some, None, List, if◌then�
 use Rattle.apron_base.specs.Digits.{number_of}
 use Rattle.apron_base.specs.declared.digits.TheConstants.{MAX_DIGITS}
 use Rattle.apron_run.specs.Words.{is_plain_number}
-use Rattle.apron_serve.specs.declared.words.TheConstants.{MAX_CONNECTIONS, MAX_LISTENERS}
+use Rattle.apron_serve.specs.Orders.{most_connections, most_listeners}
 
--- this number, where it is no greater than the most; else none
+-- this number, if it is at most the limit; otherwise 0
 abbrev pub at_most : ℕ → Option ℕ → ℕ
 at_most most None = 0
 at_most most (Some number) = if nat_le number most then number else 0
 
--- the number that a word is, up to the most; none where it is no such number
+-- the number that a word is, up to the limit; 0 if it is no such number
 abbrev pub named_up_to : ℕ → List ℕ → ℕ
 named_up_to most text = if is_plain_number text then at_most most (number_of text MAX_DIGITS) else 0
 
--- how many connections a word names, 1 to 1,000,000; none where it names no such number
+-- how many connections a word names, 1 to 1,000,000; 0 if it names no such number
 abbrev pub connections_named : List ℕ → ℕ
-connections_named text = named_up_to MAX_CONNECTIONS text
+connections_named text = named_up_to most_connections text
 
--- how many workers a word names, 1 to 16; none where it names no such number
+-- how many workers a word names, 1 to 16; 0 if it names no such number
 abbrev pub workers_named : List ℕ → ℕ
-workers_named text = named_up_to MAX_LISTENERS text
+workers_named text = named_up_to most_listeners text

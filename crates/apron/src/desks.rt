@@ -15,7 +15,7 @@ use std::sync::Wait;
 use std::thread::Threads;
 use tcp_desks::TcpDesks;
 
-/// The first word is `serve`, and six words come after it, of which two are numbers in their ranges.
+/// The first word is `serve`, and six words come after it; two of them are numbers in their ranges.
 pub(crate) fn are_asked(words: &[Word]) -> bool {
     match words {
         [word, _, _, connections, _, workers, _] => {
@@ -27,8 +27,8 @@ pub(crate) fn are_asked(words: &[Word]) -> bool {
     }
 }
 
-/// Serves the desks that come to the address, with so many workers, on the journal of this path. A line that tells a fault goes
-/// to the sink. Standard error says where it listens, and how it ended.
+/// Serves the desks that come to the address, with this many workers, on the journal of this path.
+/// A line about a fault goes to the sink. Standard error says where it listens, and how it ended.
 pub(crate) fn serve_words<
     R: Wait
         + Threads
@@ -64,12 +64,12 @@ pub(crate) fn serve_words<
         disk,
     );
     let why = why_ended(status);
-    // Where standard error fails too, the status is all that tells it.
+    // If standard error fails too, only the status says it.
     let _ = eprintln!(rt; "apron: ended with status {status}: {why}");
     status
 }
 
-// Why desks are served no more.
+// Why desks are no longer served.
 fn why_ended(status: u8) -> &'static str {
     match status {
         0 => "each worker has had its connections",
@@ -77,27 +77,27 @@ fn why_ended(status: u8) -> &'static str {
         3 => "the airport file or the type file has a fault",
         4 => "the airport file or the type file could not be read",
         7 => "the journal could not be opened or read",
-        8 => "the journal is none of this airport, or is damaged",
+        8 => "the journal is of an earlier format, of another airport, or damaged",
         11 => "there are no connections for a worker",
         _ => "there is not enough memory",
     }
 }
 
-/// How many connections the word names, 1 to 1,000,000; or none.
+/// How many connections the word names, 1 to 1,000,000; 0 if it names no such number.
 pub(crate) fn connections_of(text: &str) -> u64
     ensures named { result ≡ connections_named text.now }
 {
     number_up_to(text, u64::from(MAX_CONNECTIONS))
 }
 
-// How many workers the word names, 1 to 16; or none.
+// How many workers the word names, 1 to 16; 0 if it names no such number.
 fn workers_of(text: &str) -> u64
     ensures named { result ≡ workers_named text.now }
 {
     number_up_to(text, MAX_LISTENERS as u64)
 }
 
-// The number that the word is, where it is no greater than this; or none.
+// The number that the word is, if it is at most `most`; otherwise 0.
 fn number_up_to(text: &str, most: u64) -> u64
     ensures named { result ≡ named_up_to most text.now }
 {
@@ -108,7 +108,7 @@ fn number_up_to(text: &str, most: u64) -> u64
     }
 }
 
-// Where desks are served, by how many workers, on the journal of which path.
+// Where desks are served, by how many workers, and on the journal of which path.
 #[derive(Clone, Copy)]
 struct Place<'a> {
     address: &'a str,
@@ -116,7 +116,8 @@ struct Place<'a> {
     journal: &'a str,
 }
 
-// So many listeners at the address. Why it can't be bound is told on standard error, and each accept fails then.
+// This many listeners at the address. If it can't be bound, standard error says why, and then each
+// accept fails.
 fn desks_at<'a, R: Eprint + Net<Listener = TcpListener, Stream = TcpStream>>(
     rt: &'a R,
     alloc: Global,
@@ -137,14 +138,14 @@ fn desks_at<'a, R: Eprint + Net<Listener = TcpListener, Stream = TcpStream>>(
     all_beside(rt, alloc, place, &first)
 }
 
-// Says where it listens, with the port that the system chose where none was asked for.
+// Says where it listens, with the port that the system chose if none was asked for.
 fn tell_listening<R: Eprint>(rt: &R, place: Place<'_>, desks: &TcpDesks) {
     let Place {
         address,
         workers,
         journal,
     } = place;
-    // Where standard error fails too, desks are served all the same.
+    // If standard error fails too, desks are served all the same.
     let _ = match desks.address() {
         Some(bound) => {
             eprintln!(rt; "apron: listening at {bound}, workers: {workers}, journal: {journal}")
@@ -155,7 +156,7 @@ fn tell_listening<R: Eprint>(rt: &R, place: Place<'_>, desks: &TcpDesks) {
     };
 }
 
-// So many more that accept at the same address, of which the first says that the journal is open.
+// This many more listeners at the same address. The first of them says that the journal is open.
 fn all_beside<'a, R: Eprint>(
     rt: &'a R,
     alloc: Global,

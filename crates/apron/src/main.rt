@@ -1,5 +1,5 @@
-//! apron: airport stand allocation, from the words of the command line, files, standard input and standard output, and
-//! connections over TCP.
+//! apron: airport stand allocation, from the words of the command line, files, standard input and
+//! standard output, and connections over TCP.
 #![tactic(auto)]
 
 mod desks;
@@ -17,7 +17,8 @@ use std::rt::{Env, Files};
 use std::{env, io};
 
 fn main(rt: HostRuntime) -> ExitCode {
-    // Kept to the end, so that no file or connection gets the number of a standard stream that was closed.
+    // Kept to the end, so that no file or connection gets the number of a standard stream that was
+    // closed.
     let _kept = match null_devices(&rt) {
         Ok(files) => files,
         Err(cause) => {
@@ -42,7 +43,7 @@ const INPUT: &str = "standard input";
 
 const OUTPUT: &str = "standard output";
 
-// The null device three times, to be read alone: as often as there are standard streams.
+// The null device three times, for reading only: as many as there are standard streams.
 fn null_devices<R: Files<File = File>>(rt: &R) -> io::Result<(File, File, File)> {
     let first = File::open(rt, NULL_DEVICE)?;
     let second = File::open(rt, NULL_DEVICE)?;
@@ -50,7 +51,8 @@ fn null_devices<R: Files<File = File>>(rt: &R) -> io::Result<(File, File, File)>
     Ok((first, second, third))
 }
 
-// Does what the words ask for. Where they ask for nothing, standard error says what was not understood.
+// Does what the words ask for. If they ask for nothing, standard error says what was not
+// understood.
 fn run_words(rt: &HostRuntime, words: &[Word]) -> u8 {
     let status = run_with_journal(rt, words);
     if status == Status::Usage.code() {
@@ -59,21 +61,29 @@ fn run_words(rt: &HostRuntime, words: &[Word]) -> u8 {
     status
 }
 
-// After the words that have a journal its path comes last. Other words have an empty disk in memory.
+// Words that need a journal have its path last. Other words get an empty disk in memory.
 fn run_with_journal(rt: &HostRuntime, words: &[Word]) -> u8 {
     match words.split_last() {
         Some((path, asked)) if asks_for(asked, "init") => {
             run_on(rt, asked, FileDisk::make(rt, path.text()))
         }
-        Some((path, asked)) if asks_for(asked, "desk") || asks_for_more(asked, "import") => {
+        Some((path, asked)) if writes_on_journal(asked) => {
             run_on(rt, asked, FileDisk::open(rt, path.text()))
         }
         Some((path, asked)) if asks_for(asked, "export") || asks_for_more(asked, "chart") => {
             run_on(rt, asked, FileDisk::open_to_read(rt, path.text()))
         }
+        Some((path, asked)) if asks_for_draft(asked, "propose") => {
+            run_on(rt, asked, FileDisk::open_to_read(rt, path.text()))
+        }
         Some((_, asked)) if takes_journal(words) => run_on_nothing(rt, asked),
         _ => run_on_nothing(rt, words),
     }
+}
+
+// The words go on with a journal.
+fn writes_on_journal(words: &[Word]) -> bool {
+    asks_for(words, "desk") || asks_for(words, "upgrade") || asks_for_more(words, "import")
 }
 
 // The words are this one and the names of two files.
@@ -92,6 +102,14 @@ fn asks_for_more(words: &[Word], text: &str) -> bool {
     }
 }
 
+// The words are this one, the names of two files, a desk's name and the number of a draft.
+fn asks_for_draft(words: &[Word], text: &str) -> bool {
+    match words {
+        [word, _, _, _, _] => word.text() == text,
+        _ => false,
+    }
+}
+
 // The first word is one that has a journal.
 fn takes_journal(words: &[Word]) -> bool {
     match words {
@@ -101,7 +119,10 @@ fn takes_journal(words: &[Word]) -> bool {
 }
 
 fn has_journal(word: &str) -> bool {
-    word == "init" || word == "desk" || word == "chart" || word == "import" || word == "export"
+    matches!(
+        word,
+        "init" | "desk" | "chart" | "import" | "export" | "propose" | "upgrade"
+    )
 }
 
 fn run_on_nothing(rt: &HostRuntime, words: &[Word]) -> u8 {
@@ -132,7 +153,7 @@ fn run_on<D: Disk + Drop>(rt: &HostRuntime, words: &[Word], disk: D) -> u8 {
     )
 }
 
-// The words after the program's name. Where one is no text, there are none, which is as faulty.
+// The words after the program's name. If one is not text, there are none, which is as faulty.
 fn words(rt: &(impl Env + AllocGlobal)) -> Result<Vec<Word>, Memory> {
     let alloc: Global = rt.alloc();
     let mut words = Vec::new(alloc);

@@ -1,4 +1,4 @@
-// Desks that come over TCP, and what is said of them on standard error.
+// Desks that come over TCP, and what standard error says of them.
 ghost use Rattle.std.specs.Prelude.{◌≡◌};
 
 use apron_base::{Failed, Listener, Outcome, Reading, Writing};
@@ -8,8 +8,8 @@ use std::net::TcpStream;
 use std::sync::Wait;
 use tcp_desks::TcpDesks;
 
-/// Desks over TCP. Why an accept failed is said on standard error; before the first accept of those that have the
-/// journal's name it is said that the journal is open. Contracts see the desks.
+/// Desks over TCP. Standard error says why an accept failed. Before the first accept of those that
+/// have the journal's name, it says that the journal is open. Contracts see the desks.
 #[derive(Drop)]
 pub(crate) struct ToldDesks<'a, R> {
     rt: &'a R,
@@ -27,7 +27,8 @@ impl<'a, R> Model for ToldDesks<'a, R> {
 }
 
 impl<'a, R: Eprint> ToldDesks<'a, R> {
-    /// The desks that come to this address, which say that the journal is open if they have its name.
+    /// The desks that come to this address. They say that the journal is open if they have its
+    /// name.
     pub(crate) fn new(
         rt: &'a R,
         address: &'a str,
@@ -46,7 +47,7 @@ impl<'a, R: Eprint> ToldDesks<'a, R> {
         ensures desks { self.new ≡ self.old }
     {
         if let Some(journal) = self.journal {
-            // Where standard error fails too, desks are served all the same.
+            // If standard error fails too, desks are served all the same.
             let _ = eprintln!(self.rt; "apron: {journal} is open, and desks are served");
             self.journal = None;
         }

@@ -1,4 +1,4 @@
--- Known bytes that stay before a call.
+-- Known bytes that stay as they are before a call.
 use Rattle.std.proofs.Common.{◌∙◌, ◌≡◌, ◌++◌, ℕ, List, [], sym, ap, subst, append-nil}
 use Rattle.std.specs.Prelude.{Option, None, Some, Result, Ok, Err}
 use Rattle.std.specs.Io.KnownBytes.{Appends, Consumes, Keeps, ReadConsumes, WriteAppends}
@@ -23,13 +23,13 @@ pub kept_reads : {E : Type 0} (a b c : Option (List ℕ)) (result : Result ℕ E
 kept_reads a b c (Ok n) into k h = (kept_consumes a b c _ k h.0, h.1)
 kept_reads a b c (Err e) into k h = Keeps-trans a b c k h
 
--- bytes that stay are none taken
+-- if bytes stay, none was taken
 pub kept_takes_none : (a b : Option (List ℕ)) → Keeps a b → Consumes a b []
 kept_takes_none None b k = tt
 kept_takes_none (Some a) None k = absurd k
 kept_takes_none (Some a) (Some b) k = sym k
 
--- what nothing was appended to stays
+-- bytes that nothing was appended to stay
 appended_none : (a b : Option (List ℕ)) → Appends a b [] → Keeps a b
 appended_none None b h = tt
 appended_none (Some a) None h = absurd h

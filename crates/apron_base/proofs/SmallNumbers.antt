@@ -26,7 +26,7 @@ all_digits (c ∷ cs) h =
     let counts = digit_value_digit c (low, high) in
     (omega (arith, counts, high), all_digits cs both.1)
 
--- so few digits write a number below that power of ten
+-- this many digits write a number below that power of ten
 pub digits_small : (text : List ℕ) (most : ℕ) → are_digits text most ≡ true → digits_value 10 text < 10 ^ most
 digits_small text most h =
     let both = and_parts (nat_le 1 (length text) && nat_le (length text) most) (list_all is_ascii_digit text) h in

@@ -1,4 +1,5 @@
--- Lists in an order: what is in them, and that there is one such list of the same items where no two tie.
+-- Lists in an order: what is in them, and that the same items make only one such list if no two
+-- tie.
 use Rattle.std.proofs.Common.{◌≡◌, ◌∙◌, ◌<◌, ◌≤◌, ◌+◌, ◌&&◌, ◌⊎◌, inl, inr, ℕ, zero, suc, Bool, true, false, cond, List, [], ◌∷◌, refl, sym, ap, subst, arith, length, get_or}
 use Rattle.std.specs.Prelude.{Contains, count_by, not, sum_by}
 use Rattle.std.specs.Cmp.{IsStrictWeakOrder}
@@ -7,7 +8,7 @@ use Rattle.std.proofs.lemmas.List.Sorted.{Contains-permutation, IsPermutation-sy
 use Rattle.std.proofs.lemmas.List.Sums.{get_or-le-sum_by, sum_by-cons}
 use Rattle.apron_base.specs.Sorting.{insert_by, sorted_by}
 
--- an item is in a list as its first, or behind it
+-- an item of a list is its first, or after it
 pub listed_first : {X : Type 0} (x : X) (xs : List X) → Contains (x ∷ xs) x
 listed_first x xs = (0, omega arith, refl)
 
@@ -24,17 +25,17 @@ tied false true e f = absurd (cc)
 tied true b e f = absurd (cc)
 
 module _ {X : Type 0} (before : X → X → Bool) where
-  -- no item is before one that stands before it
+  -- no item ought to come before one that is in front of it
   abbrev pub NeverFalls : List X → Type 0
   NeverFalls [] = Unit {0}
   NeverFalls (x ∷ xs) = ((y : X) → Contains xs y → before y x ≡ false) × NeverFalls xs
 
-  -- each item is before those that stand after it
+  -- each item comes before those after it
   abbrev pub Rises : List X → Type 0
   Rises [] = Unit {0}
   Rises (x ∷ xs) = ((y : X) → Contains xs y → before x y ≡ true) × Rises xs
 
-  -- with each item one item ties at most
+  -- each item ties with at most one item
   abbrev pub IsOnce : List X → Type 0
   IsOnce xs = (x : X) → count_by (ties before x) xs ≤ 1
 
@@ -167,7 +168,7 @@ module _ {X : Type 0} (before : X → X → Bool) where
     far x xs h zero d inside = h zero d (omega (arith, inside))
     far x xs h (suc k) d inside = order.chain (get_or xs (suc k) d) (get_or xs k d) x (h (suc k) d (omega (arith, inside))) (far x xs h k d (omega (arith, inside)))
 
-    -- items of which none is before the one that stands just before it
+    -- no item ought to come before the one just in front of it
     pub falls_nowhere : (xs : List X) → ((k : ℕ) (d : X) → suc k < length xs → before (get_or xs (suc k) d) (get_or xs k d) ≡ false) → NeverFalls xs
     falls_nowhere [] h = tt
     falls_nowhere (x ∷ xs) h =

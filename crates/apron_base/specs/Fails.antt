@@ -1,4 +1,4 @@
--- Calls that fail as told.
+-- Calls that fail on command.
 use Rattle.std.specs.Prelude.{◌==◌, ℕ, Bool, true, false, List}
 use Rattle.std.specs.List.{list_any}
 use Rattle.apron_base.specs.Counts.{one_more}
@@ -9,7 +9,7 @@ pub record FailsHeld : Type 0 where
   pub calls : ℕ
   pub faults : ℕ
 
--- none was called yet
+-- no call was made yet
 abbrev pub fails_from : List ℕ → FailsHeld
 fails_from numbers = record { numbers = numbers; calls = 0; faults = 0 }
 

@@ -3,8 +3,9 @@ use Rattle.std.specs.Prelude.{◌≡◌, ◌⊎◌, ◌+◌, ℕ, true, false, L
 use Rattle.std.specs.Option.{option_map}
 use Rattle.apron_base.specs.Counts.{Counts}
 
--- the entries where they are told, the entry that may be found behind them when they are read again, how many entries there
--- are, how long an entry there is room for, and how often a call has failed
+-- the entries, if they are exposed; the entry that may be found after them when they are read
+-- again; how many entries there are; how long an entry there is room for; and how often a call has
+-- failed
 pub record KeeperState : Type 0 where
   pub entries : Option (List (List ℕ))
   pub at_risk : Option (List ℕ)
@@ -12,18 +13,18 @@ pub record KeeperState : Type 0 where
   pub room : ℕ
   pub faults : ℕ
 
--- the entries with this one behind them
+-- the entries with this one after them
 abbrev pub with_last : {E : Type 0} → E → List E → List E
 with_last last entries = entries ++ last ∷ []
 
--- the entry stands last, and none is at risk
+-- the entry is last, and none is at risk
 pub record AddsEntry (before after : KeeperState) (entry : List ℕ) : Type 0 where
   pub entries : after.entries ≡ option_map (with_last entry) before.entries
   pub number : after.number ≡ before.number + 1
   pub at_risk : after.at_risk ≡ None
   pub faults : Counts false before.faults after.faults
 
--- no entry is at risk, or the one that was, or this one
+-- either no entry is at risk, or the same as before, or this one
 abbrev pub IsRiskOf : Option (List ℕ) → Option (List ℕ) → List ℕ → Type 0
 IsRiskOf risk before entry = (risk ≡ None) ⊎ (risk ≡ before) ⊎ (risk ≡ Some entry)
 

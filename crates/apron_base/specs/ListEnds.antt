@@ -10,16 +10,16 @@ pub record PiecesHeld : Type 0 where
   pub sizes : List ℕ
   pub taken : ℕ
 
--- at most the size of this piece, which is 1 at least; past the last size any number
+-- at most the size of this piece, which is at least 1; after the last size any number
 abbrev pub within_size : Option ℕ → ℕ → ℕ
 within_size None most = most
 within_size (Some size) most = min (max size 1) most
 
--- how many bytes the next piece has, where there is so much room
+-- how many bytes the next piece has, if there is room for this many
 abbrev pub next_length : PiecesHeld → ℕ → ℕ
 next_length pieces room = within_size (slice_get pieces.sizes pieces.taken) (min (length pieces.left) room)
 
--- the pieces after one of so many bytes was taken
+-- the pieces after one of this many bytes was taken
 abbrev pub after_piece : PiecesHeld → ℕ → PiecesHeld
 after_piece pieces count = record pieces { left = drop count pieces.left; taken = one_more pieces.taken }
 
@@ -32,7 +32,7 @@ pub record SourceHeld : Type 0 where
 abbrev pub source_state : SourceHeld → SourceState
 source_state source = record { left = Some source.pieces.left; faults = source.fails.faults }
 
--- what is known of one that never fails
+-- what is known of a source that never fails
 abbrev pub steady_source_state : PiecesHeld → SourceState
 steady_source_state pieces = record { left = Some pieces.left; faults = 0 }
 
@@ -46,11 +46,11 @@ pub record SinkHeld : Type 0 where
 abbrev pub sink_state : SinkHeld → SinkState
 sink_state sink = record { told = Some sink.told; faults = sink.fails.faults }
 
--- what is known of one that tells nothing and never fails
+-- what is known of a sink that exposes nothing and never fails
 abbrev pub null_sink_state : SinkState
 null_sink_state = record { told = None; faults = 0 }
 
--- a put of so many bytes is among those that are to fail, or passes the room
+-- a put of this many bytes is among those that are to fail, or exceeds the room
 abbrev pub refuses_put : SinkHeld → ℕ → Bool
 refuses_put sink count = is_to_fail sink.fails || nat_lt sink.room count
 

@@ -21,7 +21,7 @@ pub record ListKeeperHeld : Type 0 where
 abbrev pub keeper_state : ListKeeperHeld → KeeperState
 keeper_state keeper = record (steady_keeper_state keeper.kept) { faults = keeper.fails.faults }
 
--- the spare memory is empty, and where there is any the list has a place for one more
+-- the spare memory is empty, and if there is any, the list has a place for one more entry
 pub record HaveRoom {A : Type 0} (kept : Vec (List ℕ) A) (spare : Vec ℕ A) : Type 0 where
   pub empty : vec_len spare ≡ 0
   pub place : 0 < vec_capacity spare → vec_len kept < vec_capacity kept

@@ -26,7 +26,8 @@ listener_state listener = record {
 abbrev pub refuses_accept : {In Out : Type 0} → ListenerHeld In Out → Bool
 refuses_accept listener = is_to_fail listener.fails || nat_eq (length listener.to_come) 0
 
--- each accepted connection and each one to come has a place among the finished ones, and all are fewer than a count can tell
+-- each accepted connection and each one to come has a place among the finished ones, and a count
+-- can hold the number of all
 pub record HasPlaces {In Out A : Type 0} (to_come : List (In × Out)) (finished : Vec (Finished In Out) A) (accepted : ℕ) : Type 0 where
   pub ended : vec_len finished ≤ accepted
   pub places : accepted + length to_come ≤ vec_capacity finished

@@ -5,8 +5,8 @@ use Rattle.apron_base.specs.Counts.{Counts, last_count}
 use Rattle.apron_base.specs.Keeper.{with_last}
 use Rattle.apron_base.specs.declared.listener.Finished.{Finished}
 
--- the connections to come and the finished ones where they are told, how many were accepted and how many were finished, and
--- how often a call has failed
+-- the connections to come and the finished ones, if they are exposed; how many were accepted and
+-- how many were finished; and how often a call has failed
 pub record ListenerState (In Out : Type 0) : Type 0 where
   pub to_come : Option (List (In × Out))
   pub finished : Option (List (Finished In Out))
@@ -14,7 +14,7 @@ pub record ListenerState (In Out : Type 0) : Type 0 where
   pub ended : ℕ
   pub faults : ℕ
 
--- the first of the connections to come was accepted, where no more were finished than accepted
+-- the first of the connections to come was accepted, and no more had been finished than accepted
 pub record TakesFirst {In Out : Type 0} (before after : ListenerState In Out) (first : In × Out) : Type 0 where
   pub few : before.accepted < last_count
   pub fewer : before.ended ≤ before.accepted
@@ -36,7 +36,7 @@ pub record TakesNone {In Out : Type 0} (before after : ListenerState In Out) : T
 abbrev pub Accepts : {In Out E : Type 0} → ListenerState In Out → ListenerState In Out → Result (In × Out) E → Type 0
 Accepts before after result = MatchResult result (TakesFirst before after) (λ _. TakesNone before after)
 
--- a connection stands last among the finished ones
+-- a connection is last among the finished ones
 pub record Finishes {In Out : Type 0} (before after : ListenerState In Out) (last : Finished In Out) : Type 0 where
   pub finished : after.finished ≡ option_map (with_last last) before.finished
   pub ended : after.ended ≡ before.ended + 1

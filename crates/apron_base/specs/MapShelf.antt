@@ -14,12 +14,12 @@ kept_of files name = find (λ kept. bytes_eq kept.name name) files
 abbrev pub file_in : List Kept → List ℕ → Option (List ℕ)
 file_in files name = option_map (λ kept. kept.bytes) (kept_of files name)
 
--- the bytes of a file, or none
+-- the bytes of a file, or an empty list if there is none
 abbrev pub bytes_or_empty : Option Kept → List ℕ
 bytes_or_empty None = []
 bytes_or_empty (Some kept) = kept.bytes
 
--- the bytes of the first file of a name, or none
+-- the bytes of the first file of a name, or an empty list if there is none
 abbrev pub file_or_empty : List Kept → List ℕ → List ℕ
 file_or_empty files name = bytes_or_empty (kept_of files name)
 

@@ -2,10 +2,11 @@
 ghost use Rattle.std.specs.Prelude.{◌≡◌, ◌<◌, ◌≤◌, ◌^◌, IfSome};
 ghost use Rattle.apron_base.specs.Digits.{number_of};
 
-/// The most digits of a number that is read.
+/// The most digits that a number is read from.
 pub const MAX_DIGITS: usize = 10;
 
-/// The number that a text of 1 to `most` digits writes: below `10^most`. None for every other text.
+/// The number that a text of 1 to `most` digits writes, which is below `10^most`. `None` for every
+/// other text.
 #[tactic(auto, unfolding(crate::specs::Digits::number_of))]
 pub fn number_of(text: &[u8], most: usize) -> Option<u64>
     requires most { most ≤ MAX_DIGITS }

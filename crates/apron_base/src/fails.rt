@@ -1,4 +1,4 @@
-// Calls that fail as told, for the forms in memory.
+// Calls that fail on command, for the forms in memory.
 ghost use Rattle.std.specs.Prelude.{◌≡◌, true};
 ghost use Rattle.apron_base.specs.Counts.{Counts};
 ghost use Rattle.apron_base.specs.Fails.{after_call, after_fault, fails_from, is_to_fail};
@@ -6,8 +6,8 @@ ghost use Rattle.apron_base.specs.Fails.{after_call, after_fault, fails_from, is
 use crate::Failed;
 use std::marker::Model;
 
-/// The numbers of the calls that fail, from 0. Contracts see them, how many calls there were, and how many
-/// have failed.
+/// The numbers of the calls that fail, from 0. Contracts see them, how many calls there were, and
+/// how many have failed.
 #[derive(Drop)]
 pub(crate) struct Fails {
     numbers: Vec<u64>,

@@ -17,21 +17,21 @@ pub const MAX_ENTRY: usize = 1_024;
 
 /// What keeps the entries of a history, in order.
 pub trait Keeper {
-    /// The entries and the entry at risk where it tells them, how many entries there are, how long an
-    /// entry there is room for, and how often a call has failed: a count that never falls, and stands
-    /// still at `2^64 - 1`.
+    /// The entries and the entry at risk, if it exposes them; how many entries there are; how long
+    /// an entry it has room for; and how often a call has failed: a count that never falls, and
+    /// stops at `2^64 - 1`.
     ghost state: { Self → KeeperState };
 
-    /// Takes the memory for one entry of this length, 1 to 1,024 bytes. All but the room stays as it is.
-    /// At `Err` memory is wanting.
+    /// Takes the memory for one entry of this length, 1 to 1,024 bytes. All but the room stays as
+    /// it is. `Err` if there is no memory.
     fn ready(&mut self, alloc: Global, length: usize) -> Result<(), Memory>
         requires some { 1 ≤ length }
         requires most { length ≤ MAX_ENTRY }
         ensures room { OnOk result (length ≤ (state self.new).room) }
         ensures kept { state self.new ≡ record (state self.old) { room = (state self.new).room } };
 
-    /// Puts an entry last, of 1 to 1,024 bytes. It takes no memory. At `Err` nothing was added, and the
-    /// count of faults rose; else it stands still.
+    /// Puts an entry of 1 to 1,024 bytes last. It takes no memory. At `Err` nothing was added, and
+    /// the count of faults rose; otherwise the count stays.
     fn append(&mut self, entry: &[u8]) -> Result<(), Failed>
         requires some { 1 ≤ length entry.now }
         requires most { length entry.now ≤ MAX_ENTRY }

@@ -25,13 +25,13 @@ pub trait Listener {
     /// What a connection is sent.
     type Out: Sink;
 
-    /// The connections to come and the finished ones where it tells them, how many were accepted and how
-    /// many were finished, and how often a call has failed: a count that never falls, and stands still at
-    /// `2^64 - 1`.
+    /// The connections to come and the finished ones, if it exposes them; how many were accepted
+    /// and how many were finished; and how often a call has failed: a count that never falls, and
+    /// stops at `2^64 - 1`.
     ghost state: { Self → ListenerState Self.In Self.Out };
 
-    /// Accepts the first connection to come. Where none is to come it waits, or fails. At `Err` none was
-    /// accepted, and the count of faults rose; else it stands still.
+    /// Accepts the first connection to come. If there is none it waits, or fails. At `Err` none was
+    /// accepted, and the count of faults rose; otherwise the count stays.
     fn accept<R: Wait>(&mut self, rt: &R) -> Result<(Self::In, Self::Out), Failed>
         ensures accepts { Accepts (state self.old) (state self.new) result };
 

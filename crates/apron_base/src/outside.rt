@@ -1,4 +1,4 @@
-// What calls of the outside, asks and sessions end in.
+// How calls of the outside, asks and sessions end.
 use crate::Listed;
 
 /// A call of the outside failed.
@@ -10,9 +10,9 @@ pub struct Failed;
 pub enum Acted {
     /// The bytes of the reply.
     Reply(Listed<u8>),
-    /// Memory is wanting.
+    /// There is no memory.
     Memory,
-    /// What keeps the entries failed.
+    /// The keeper of the entries failed.
     Fault,
     /// There are no more call numbers.
     Spent,
@@ -29,7 +29,7 @@ pub enum Outcome {
     Cut,
     /// A request's head or length was refused.
     Malformed,
-    /// As many requests were answered as one session may have.
+    /// One session's limit of requests was reached, all of them answered.
     Limit,
     /// The source failed.
     ReadFault,
@@ -37,6 +37,6 @@ pub enum Outcome {
     WriteFault,
     /// There were no more call numbers.
     Spent,
-    /// Memory was wanting.
+    /// Memory ran out.
     Memory,
 }

@@ -14,19 +14,19 @@ pub enum ShelfFault {
     Failed,
     /// The file is longer than was asked for.
     TooLong,
-    /// Memory is wanting.
+    /// There is no memory.
     Memory,
 }
 
 /// A shelf of files.
 pub trait Shelf {
-    /// The bytes of the file of a name where it tells them, how often it has failed, and how many bytes
-    /// were read. The two counts never fall, and stand still at `2^64 - 1`.
+    /// The bytes of the file of a name, if it exposes them; how often it has failed; and how many
+    /// bytes were read. The two counts never fall, and stop at `2^64 - 1`.
     ghost state: { Self → ShelfState };
 
-    /// Reads the whole file of this name, of at most `limit` bytes. A longer file is `TooLong`: where the
-    /// shelf doesn't tell the file, more than `limit` bytes were read. At `Failed` the count of faults
-    /// rose; else it stands still.
+    /// Reads the whole file of this name, of at most `limit` bytes. A longer file is `TooLong`: if
+    /// the shelf doesn't expose the file, more than `limit` bytes were read. At `Failed` the count
+    /// of faults rose; otherwise the count stays.
     fn read_file(&mut self, alloc: Global, name: &str, limit: u32) -> Result<Vec<u8>, ShelfFault>
         ensures gives { Gives (state self.old) (state self.new) name.now limit result };
 }

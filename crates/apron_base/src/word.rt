@@ -20,7 +20,7 @@ impl Model for Word {
 }
 
 impl Word {
-    /// The word of this text. At `Err` memory is wanting.
+    /// The word of this text. `Err` if there is no memory.
     pub fn new(alloc: Global, text: &str) -> Result<Word, Memory>
         ensures ok { IfOk result (λ word. word ≡ text.now) }
     {

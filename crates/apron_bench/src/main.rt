@@ -1,5 +1,6 @@
-//! Measures how fast a desk's commits are answered, over few visits and over many: `apron_bench airport.toml types.csv`
-//! has them answered in memory, on a journal in memory, at the large example airport.
+//! Measures how fast a desk's commits are answered, over few visits and over many. `apron_bench
+//! airport.toml types.csv` has them answered in memory, on a journal in memory, at the large
+//! example airport.
 #![tactic(auto)]
 
 mod replies;
@@ -18,7 +19,8 @@ use std::{env, io};
 // The most bytes that the source gives at once, as in a packet of a network.
 const PIECE: usize = 1460;
 
-// More bytes than the entry of a visit or of a commit of one edit has on the disk, with its share of those of 64 edits.
+// More bytes than the entry of a visit or of a commit of one edit takes on the disk, with its share
+// of those of 64 edits.
 const MOST_OF_AN_ENTRY: usize = 100;
 
 // This command's words.
@@ -30,7 +32,7 @@ fn words(alloc: Global, word: &str, airport: &str, types: &str) -> Result<Vec<Wo
     Ok(words)
 }
 
-// An empty disk with room for a journal of so many entries.
+// An empty disk with room for a journal of this many entries.
 fn disk_for(alloc: Global, entries: usize) -> Result<MemoryDisk, Memory> {
     let bytes = entries.saturating_add(10).saturating_mul(MOST_OF_AN_ENTRY);
     let room = Room {
@@ -51,8 +53,9 @@ fn in_pieces(alloc: Global, bytes: Vec<u8>) -> Result<SteadySource, Memory> {
     Ok(SteadySource::new(bytes, pieces))
 }
 
-// Has so many commits answered over so many visits, and prints how many replies were of status 200 and how many not, how many
-// commits were answered a second, and how long the first and the last of them took.
+// Has this many commits answered over this many visits. It prints how many replies had status 200
+// and how many did not, how many commits were answered a second, and how long the first and the
+// last of them took.
 fn measure(
     rt: &HostRuntime,
     init: &[Word],

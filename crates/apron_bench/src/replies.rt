@@ -1,4 +1,5 @@
-// A sink that counts the replies, and notes when those to the first and to the last commits came.
+// A sink that counts the replies, and notes when the replies to the first and to the last commits
+// came.
 ghost use Rattle.std.specs.Prelude.{None, IsOk};
 ghost use Rattle.apron_base.specs.Ends.{Puts};
 
@@ -11,7 +12,7 @@ const THOUSAND: u64 = 1000;
 #[derive(Drop)]
 pub(crate) struct Replies<'a> {
     clock: &'a HostRuntime,
-    // How many come before those that are measured.
+    // How many come before the measured ones.
     before: u64,
     // How many are measured.
     times: u64,
@@ -19,9 +20,9 @@ pub(crate) struct Replies<'a> {
     pub(crate) accepted: u64,
     /// The others.
     pub(crate) refused: u64,
-    /// When all had come that come before.
+    /// When all that come before had come.
     pub(crate) start: Option<Instant>,
-    /// When the first of those that are measured had come.
+    /// When the first of the measured ones had come.
     pub(crate) first: Option<Instant>,
     /// When all but the last of them had come.
     pub(crate) last: Option<Instant>,
@@ -30,7 +31,7 @@ pub(crate) struct Replies<'a> {
 }
 
 impl<'a> Replies<'a> {
-    /// None yet, of so many that come before and so many that are measured.
+    /// None yet; this many come before, and this many are measured.
     pub(crate) fn new(clock: &'a HostRuntime, before: u32, times: u32) -> Replies<'a> {
         Replies {
             clock,
@@ -45,7 +46,7 @@ impl<'a> Replies<'a> {
         }
     }
 
-    /// How many count as the first, and as the last: a thousand, or all where there are fewer.
+    /// How many count as the first, and as the last: a thousand, or all if there are fewer.
     pub(crate) fn few(&self) -> u64 {
         self.times.min(THOUSAND)
     }

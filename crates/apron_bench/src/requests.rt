@@ -1,7 +1,7 @@
 // The requests that are answered.
 use std::alloc::{AllocError, Global};
 
-// Visits stand in turn on A1 to A24, and each round of them begins 90 minutes after the one before.
+// Visits are on A1 to A24 in turn, and each round of them begins 90 minutes after the one before.
 const STANDS: u32 = 24;
 
 const ROUND: u32 = 90;
@@ -11,15 +11,15 @@ const STAY: u32 = 60;
 // The most edits of a commit.
 const MOST_EDITS: u32 = 64;
 
-/// Requests, and how many of them come before those that are measured.
+/// Requests, and how many of them come before the measured ones.
 #[derive(Drop)]
 pub(crate) struct Requests {
     pub(crate) bytes: Vec<u8>,
     pub(crate) before: u32,
 }
 
-/// So many visits are added and placed apart, and then the first of them goes to and fro between two stands, by so many
-/// commits. Each is made over the version that the one before it leaves.
+/// This many visits are added and placed apart; then the first of them goes to and fro between two
+/// stands, by this many commits. Each is made over the version that the one before it leaves.
 pub(crate) fn requests_of(
     alloc: Global,
     visits: u32,
@@ -43,7 +43,7 @@ pub(crate) fn requests_of(
     })
 }
 
-// The visit that comes after so many others.
+// The visit that comes after this many others.
 fn visit_of(alloc: Global, before: u32) -> Result<String, AllocError> {
     let on = (before / STANDS).saturating_mul(ROUND);
     let off = on.saturating_add(STAY);
@@ -52,7 +52,8 @@ fn visit_of(alloc: Global, before: u32) -> Result<String, AllocError> {
     )
 }
 
-// Puts each visit on its stand, in commits of as many edits as there may be, and gives the number of these.
+// Puts each visit on its stand, in commits of as many edits as there may be, and gives the number
+// of these commits.
 fn place_all(alloc: Global, bytes: &mut Vec<u8>, visits: u32) -> Result<u32, AllocError> {
     let mut commits = 0u32;
     let mut edits = String::new(alloc);
@@ -78,7 +79,7 @@ fn put(alloc: Global, visit: u32, stand: &str) -> Result<String, AllocError> {
     format!(in alloc; "{{\"put\":{{\"visit\":{visit},\"part\":1,\"stand\":\"{stand}\"}}}}")
 }
 
-// The commit that comes after so many others, over the plan as they leave it.
+// The commit that comes after this many others, over the plan as they leave it.
 fn commit(alloc: Global, visits: u32, before: u32, edits: &str) -> Result<String, AllocError> {
     let draft = before.saturating_add(1);
     let base = visits.saturating_add(before);

@@ -6,7 +6,7 @@ use Rattle.std.proofs.lemmas.List.{take-append-le}
 use Rattle.apron_base.specs.Ends.{Puts, SinkState, Wrote}
 use Rattle.apron_base.proofs.Runs.{wrote_both}
 
--- a front of a list is a front of what begins with the list
+-- a front of a list is a front of any list that begins with it
 front_left : (n : ℕ) (xs ys : List ℕ) → (count : ℕ) × (take n xs ≡ take count (xs ++ ys))
 front_left n xs ys = elim (cases_lt n (length xs)) [
   | inl less ↦ (n, sym (take-append-le n xs ys (omega arith)))
@@ -21,7 +21,7 @@ front_right n (x ∷ xs) ys = let e : suc (length xs) + n ≡ suc (length xs + n
 abbrev pub IsCut : SinkState → SinkState → List ℕ → Type 0
 IsCut before after text = (n : ℕ) × Wrote true before after (take n text)
 
--- a front of a text is one of what begins with the text
+-- a front of a text is one of any text that begins with it
 pub cut_more : (before after : SinkState) (xs ys : List ℕ) → IsCut before after xs → IsCut before after (xs ++ ys)
 cut_more before after xs ys (n, wrote) =
     let front = front_left n xs ys in
@@ -32,7 +32,7 @@ pub cut_behind : (before mid after : SinkState) (xs ys : List ℕ) → Wrote fal
 cut_behind before mid after xs ys one (n, two) =
     (length xs + n, subst (Wrote true before after) (sym (front_right n xs ys)) (wrote_both false true before mid after xs (take n ys) one two))
 
--- what is told of a front that was written
+-- what a result says of a front that was written
 pub puts_cut : {T E : Type 0} (before after : SinkState) (result : Result T E) (text : List ℕ) → IsErr result → IsCut before after text → Puts before after result text
 puts_cut before after (Ok done) text h cut = absurd cc
 puts_cut before after (Err e) text h cut = cut

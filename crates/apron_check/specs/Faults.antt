@@ -6,12 +6,12 @@ use Rattle.airport_files.specs.declared.read.FileFault.TheVariants as file
 use Rattle.apron_check.specs.declared.faults.FilesFault.{FilesFault}
 use Rattle.apron_check.specs.declared.faults.FilesFault.TheVariants.{Faulty, ShelfFault, Memory}
 
--- a fault in what the files say; want of memory is want of memory
+-- a fault in what the files say; a lack of memory stays one
 abbrev pub of_file_fault : FileFault → FilesFault
 of_file_fault file.Memory = Memory
 of_file_fault fault = Faulty fault
 
--- why there is no airport where a file isn't given; where it is too long, that is told of this file
+-- why there is no airport if a file isn't given; a file that is too long has its own fault
 abbrev pub unread_as : Unread → FilesFault → FilesFault
 unread_as unread.Failed too_long = ShelfFault
 unread_as unread.TooLong too_long = too_long

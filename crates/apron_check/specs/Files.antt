@@ -14,7 +14,7 @@ use Rattle.apron_check.specs.declared.faults.FilesFault.TheVariants.{Faulty, Air
 abbrev pub max_file : ℕ
 max_file = 1048576
 
--- these are the bytes of a file that isn't too long, where the shelf tells it
+-- these are the bytes of a file that isn't too long, if the shelf exposes it
 pub record AreOfFile (file : Option (List ℕ)) (bytes : List ℕ) : Type 0 where
   pub told : IfSome file (λ kept. bytes ≡ kept)
   pub short : length bytes ≤ max_file
@@ -36,12 +36,12 @@ pub record Mean (airport types : Option (List ℕ)) (meant : Result AirportParts
   pub of_types : AreOfFile types types_bytes
   pub meant_is : meaning airport_bytes types_bytes ≡ meant
 
--- a file has more than the most bytes; where the shelf doesn't tell it, more were read
+-- a file has more than the most bytes; if the shelf doesn't expose it, more were read
 abbrev pub IsTooLong : Option (List ℕ) → ShelfState → ShelfState → Type 0
 IsTooLong file before after = MatchOption file (RoseBy (max_file + 1) before.read after.read) (λ kept. max_file < length kept)
 
--- why an airport, or a fault in its place, is found in the files of two names: each has its cause but want of memory, and that of a failing shelf
--- is its count
+-- why an airport, or a fault in its place, is found in the files of two names: each result except a
+-- lack of memory has its cause, and the cause of a failing shelf is its count
 abbrev pub HasCause : ShelfState → ShelfState → List ℕ → List ℕ → Result AirportFiles FilesFault → Type 0
 HasCause before after airport types (Ok made) = Make (before.file airport) (before.file types) made
 HasCause before after airport types (Err (Faulty fault)) = Mean (before.file airport) (before.file types) (Err fault)
@@ -55,7 +55,8 @@ abbrev pub is_shelf_fault : Result AirportFiles FilesFault → Bool
 is_shelf_fault (Err ShelfFault) = true
 is_shelf_fault found = false
 
--- what is found in the files of two names, and what that does to the shelf: its files stay, and it fails only where that is told
+-- what is found in the files of two names, and what that does to the shelf: its files stay, and it
+-- fails only if that is reported
 pub record Finds (before after : ShelfState) (airport types : List ℕ) (found : Result AirportFiles FilesFault) : Type 0 where
   pub cause : HasCause before after airport types found
   pub counts : Counts (is_shelf_fault found) before.faults after.faults

@@ -1,4 +1,4 @@
--- The lines that tell of two files.
+-- The lines about two files.
 use Rattle.std.specs.Prelude.{ℕ, List, [], ◌∷◌, ◌++◌, length, codes, decimal}
 use Rattle.apron_rules.specs.declared.parts.AirportParts.{AirportParts}
 use Rattle.apron_rules.specs.declared.refusals.Limit.{Limit}
@@ -24,11 +24,11 @@ limit_word Pairs = codes "pairs"
 limit_word Types = codes "types"
 limit_word Least = codes "least"
 
--- what tells want of memory
+-- the text for a lack of memory
 abbrev pub memory_text : List ℕ
 memory_text = codes "memory"
 
--- what tells why parts are no airport
+-- the text for why parts are no airport
 abbrev pub airport_text : AirportFault → List ℕ
 airport_text (airport.DuplicateName name) = codes "airport: duplicate " ++ name
 airport_text (airport.UnknownName name) = codes "airport: unknown " ++ name
@@ -38,7 +38,7 @@ airport_text (airport.BadSpan name) = codes "airport: span " ++ name
 airport_text (airport.BadFold name) = codes "airport: fold " ++ name
 airport_text airport.Memory = memory_text
 
--- what tells the first fault in two files
+-- the text for the first fault in two files
 abbrev pub file_text : FileFault → List ℕ
 file_text file.NotToml = codes "airport file: not toml"
 file_text (file.MissingKey key) = codes "airport file: missing " ++ key
@@ -47,7 +47,7 @@ file_text (file.BadRow row) = codes "type file: record " ++ decimal row
 file_text (file.Airport fault) = airport_text fault
 file_text file.Memory = memory_text
 
--- what tells why two files give no airport
+-- the text for why two files give no airport
 abbrev pub fault_text : FilesFault → List ℕ
 fault_text (files.Faulty fault) = file_text fault
 fault_text files.AirportTooLong = codes "airport file: too long"
@@ -55,11 +55,11 @@ fault_text files.TypesTooLong = codes "type file: too long"
 fault_text files.ShelfFault = codes "shelf fault"
 fault_text files.Memory = memory_text
 
--- the line of it
+-- its line
 abbrev pub fault_line : FilesFault → List ℕ
 fault_line fault = fault_text fault ++ 10 ∷ []
 
--- the line that tells how much there is of an airport
+-- the line with the numbers of an airport's stands, types and days
 abbrev pub counts_line : AirportParts → List ℕ
 counts_line parts =
     (codes "ok: " ++ decimal (length parts.stands)) ++ (codes " stands, " ++ decimal (length parts.types))

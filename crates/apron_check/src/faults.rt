@@ -4,7 +4,7 @@ use airport_files::FileFault;
 /// Why two files give no airport.
 #[derive(Debug, Drop)]
 pub enum FilesFault {
-    /// The first fault in what they say, which isn't want of memory.
+    /// The first fault in what they say. It isn't a lack of memory.
     Faulty(FileFault),
     /// The airport file is longer than 1 MiB.
     AirportTooLong,
@@ -12,7 +12,7 @@ pub enum FilesFault {
     TypesTooLong,
     /// The shelf failed.
     ShelfFault,
-    /// Memory is wanting.
+    /// There is no memory.
     Memory,
 }
 

@@ -23,10 +23,10 @@ pub struct AirportFiles {
     pub digests: [u8; 64],
 }
 
-/// The airport that the airport file and the type file of these names make, with their digests. First the
-/// airport file is read from the shelf and then the type file, and then what they mean together is looked
-/// at. At `Err` the first fault on this way is told: that a file is over 1 MiB, what is wrong in them, that
-/// the shelf failed, or that memory is wanting.
+/// The airport that the airport file and the type file of these names make, with their digests. The
+/// airport file is read from the shelf first, then the type file, and then what they mean together
+/// is tested. `Err` gives the first fault on the way: a file is over 1 MiB, something is wrong in
+/// them, the shelf failed, or there is no memory.
 pub fn airport_of<F: Shelf>(
     alloc: Global,
     airport: &str,
@@ -52,7 +52,7 @@ pub fn airport_of<F: Shelf>(
     }
 }
 
-// The digests of two files, one behind the other.
+// The digests of two files, one after the other.
 fn digests_of(airport: &[u8], types: &[u8]) -> [u8; 64]
     ensures are { result ≡ digests_of airport.now types.now }
 {
@@ -63,7 +63,7 @@ fn digests_of(airport: &[u8], types: &[u8]) -> [u8; 64]
     both
 }
 
-// Why there is no airport where a file isn't given.
+// Why there is no airport if a file isn't given.
 fn unread(fault: ShelfFault, too_long: FilesFault) -> FilesFault
     ensures value { result ≡ unread_as fault too_long }
 {

@@ -1,5 +1,5 @@
-//! The two files of an airport on a shelf: the airport that they make and their digests, or why they make none, and the
-//! lines that tell either. It doesn't know what is done at the airport.
+//! The two files of an airport on a shelf: the airport that they make and their digests, or why
+//! they make none, and the lines that say so. It knows nothing of plans and desks.
 #![tactic(auto)]
 
 mod faults;

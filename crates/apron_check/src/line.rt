@@ -1,4 +1,4 @@
-// The lines that tell of two files. Writing one takes no memory.
+// The lines about two files. Writing one takes no memory.
 ghost use Rattle.std.specs.Prelude.{◌≡◌, ◌++◌, decimal};
 ghost use Rattle.apron_base.specs.Ends.{Puts};
 ghost use Rattle.apron_check.specs.Lines.{airport_text, counts_line, fault_line, fault_text, file_text, limit_word};
@@ -9,8 +9,8 @@ use apron_base::{Failed, Sink};
 use apron_rules::{Airport, AirportFault, Limit};
 use itoa::Buffer;
 
-/// Writes the line that tells how much there is of an airport: its stands, types and days. At `Err` the
-/// sink failed, and a front of the line was written.
+/// Writes the line with the numbers of an airport's stands, types and days. At `Err` the sink
+/// failed, and only a front of the line was written.
 pub fn put_counts<W: Sink>(sink: &mut W, airport: &Airport) -> Result<(), Failed>
     ensures puts { Puts (W.state sink.old) (W.state sink.new) result (counts_line airport.now) }
 {
@@ -21,8 +21,8 @@ pub fn put_counts<W: Sink>(sink: &mut W, airport: &Airport) -> Result<(), Failed
     sink.put(b" days\n")
 }
 
-/// Writes the line that tells why two files give no airport. At `Err` the sink failed, and a front of the
-/// line was written.
+/// Writes the line that says why two files give no airport. At `Err` the sink failed, and only a
+/// front of the line was written.
 pub fn put_fault<W: Sink>(sink: &mut W, fault: &FilesFault) -> Result<(), Failed>
     ensures puts { Puts (W.state sink.old) (W.state sink.new) result (fault_line fault.now) }
 {
@@ -89,14 +89,15 @@ fn limit_word(limit: Limit) -> &'static str
     }
 }
 
-/// Writes a text and a number in digits behind it. At `Err` the sink failed, and a front of both was written.
+/// Writes a text and a number in digits after it. At `Err` the sink failed, and only a front of
+/// both was written.
 pub fn put_number<W: Sink>(sink: &mut W, head: &[u8], number: u64) -> Result<(), Failed>
     ensures puts { Puts (W.state sink.old) (W.state sink.new) result (head.now ++ decimal number) }
 {
     put_both(sink, head, Buffer::new().format(number).as_bytes())
 }
 
-/// Writes a text and then another. At `Err` the sink failed, and a front of both was written.
+/// Writes a text and then another. At `Err` the sink failed, and only a front of both was written.
 pub fn put_both<W: Sink>(sink: &mut W, head: &[u8], tail: &[u8]) -> Result<(), Failed>
     ensures puts { Puts (W.state sink.old) (W.state sink.new) result (head.now ++ tail.now) }
 {

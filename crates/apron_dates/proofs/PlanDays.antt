@@ -1,4 +1,4 @@
--- A plan's days lie within the calendar.
+-- A plan's days are within the calendar.
 use Rattle.std.proofs.Common.{true, ◌≡◌, ℕ, ◌≤◌, pos, ◌+ℤ◌, ◌-ℤ◌, ◌≤ℤ◌, ◌<ℤ◌, inl, arith, rules}
 use Rattle.jiff_core.specs.declared.civil.date.Date.{Date}
 use Rattle.std.proofs.lemmas.Bool.{le-leb}

@@ -27,7 +27,7 @@ Ymd = ℕ × ℕ × ℕ
 abbrev pub ymd_of : Date → Ymd
 ymd_of d = (d.year, d.month, d.day)
 
--- the same of a date of the calendar
+-- the same for a date of the calendar
 abbrev pub civil_ymd : civil.Date → Ymd
 civil_ymd d = (unsigned_abs d.year, d.month, d.day)
 
@@ -35,7 +35,7 @@ civil_ymd d = (unsigned_abs d.year, d.month, d.day)
 abbrev pub is_date : ℕ → ℕ → ℕ → Bool
 is_date y m d = (nat_le 1 m && nat_le m 12) && (nat_le 1 d && nat_le d (days_in_month (pos y) m))
 
--- the date, where the calendar has it
+-- the date, if the calendar has it
 abbrev pub date_if : ℕ → ℕ → ℕ → Option Date
 date_if y m d = if is_date y m d then Some (record { year = y; month = m; day = d }) else None
 
@@ -53,7 +53,7 @@ of_digits a b c d e f = do
   day ← two_of e f
   date_if (2000 + year) month day
 
--- 20YY-MM-DD, by its length and the bytes that stand fast
+-- 20YY-MM-DD, by its length and the bytes that are fixed
 abbrev pub is_shape : List ℕ → Bool
 is_shape text = (length text == 10)
     && ((slice_index text 0 == 50) && ((slice_index text 1 == 48) && ((slice_index text 4 == 45) && (slice_index text 7 == 45))))
@@ -83,7 +83,7 @@ previous_ymd (y, m, d) =
     else if nat_lt 1 m then (y, m - 1, days_in_month (pos y) (m - 1))
     else (y - 1, 12, 31)
 
--- the day so many days later
+-- the day this many days later
 unfoldable pub days_later : ℕ → Ymd → Ymd
 days_later zero ymd = ymd
 days_later (suc n) ymd = next_ymd (days_later n ymd)

@@ -5,7 +5,7 @@ ghost use Rattle.apron_dates.specs.Dates.{IsFirstDay, IsPlanDay, civil_ymd, ymd_
 
 use jiff::{ToSpan, civil};
 
-/// A day of the calendar. Nothing is said here of which months and days there are.
+/// A day of the calendar. The type does not say which months and days exist.
 #[derive(Clone, Copy, Debug, PartialEq, Eq)]
 pub struct Date {
     pub year: u16,
@@ -13,7 +13,8 @@ pub struct Date {
     pub day: u8,
 }
 
-/// The day of the month of a day of the plan, where day 1 is the first and day 0 the one before: 1 to 31.
+/// The day of the month of a day of the plan: day 1 is the first, and day 0 the one before. 1 to
+/// 31.
 pub fn month_day(first: Date, day: u32) -> u32
     requires first { IsFirstDay first }
     requires day { day ≤ 28 }
@@ -22,7 +23,7 @@ pub fn month_day(first: Date, day: u32) -> u32
     month_day_of(plan_date(first, day))
 }
 
-/// The date of a day of the plan, where day 1 is the first and day 0 the one before.
+/// The date of a day of the plan: day 1 is the first, and day 0 the one before.
 pub fn plan_date(first: Date, day: u32) -> civil::Date
     requires first { IsFirstDay first }
     requires day { day ≤ 28 }

@@ -1,4 +1,4 @@
-//! The first day of a plan, and the days counted from it.
+//! The first day of a plan, and the days counted from it. It knows nothing else of apron.
 #![tactic(auto)]
 
 mod day;

@@ -6,8 +6,8 @@ use crate::Date;
 use crate::day::small;
 use jiff::civil;
 
-/// The date of a text YYYY-MM-DD, of the years 2000 to 2099. None for another text, and where the calendar
-/// hasn't the day.
+/// The date of a text YYYY-MM-DD, of the years 2000 to 2099. `None` for any other text, or if the
+/// calendar doesn't have the day.
 pub fn date_in(text: &[u8]) -> Option<Date>
     ensures date { result ≡ read_date text.now }
     ensures first { IfSome result IsFirstDay }
@@ -54,7 +54,7 @@ fn digit(b: u8) -> Option<u8>
     }
 }
 
-// The date in the century from 2000 on, where the calendar has it.
+// The date in the century from 2000 on, if the calendar has it.
 fn checked(year: u8, month: u8, day: u8) -> Option<Date>
     requires years { year ≤ 99 }
     requires months { month ≤ 99 }

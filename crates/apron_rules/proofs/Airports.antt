@@ -39,7 +39,7 @@ each : {X : Type 0} (P : X → Type 0) (p : X → Bool) (xs : List X) → ((x : 
 each P p [] f h = tt
 each P p (x ∷ xs) f h = (f x (grind (arith, nat_tests)), each P p xs f (grind (arith, nat_tests)))
 
--- no limit is passed
+-- no limit is exceeded
 pub record IsLimited (parts : AirportParts) : Type 0 where
   pub days : is_within 1 most_days parts.days ≡ true
   pub tow : is_within 1 most_tow parts.tow ≡ true
@@ -49,7 +49,7 @@ pub record IsLimited (parts : AirportParts) : Type 0 where
   pub types : is_within 1 most_types (length parts.types) ≡ true
   pub least : list_all (λ row. is_within 1 most_least row.least) parts.types ≡ true
 
--- nothing is there
+-- none is given
 abbrev AllNone : {A : Type 0} → List (Option A) → Type 0
 AllNone [] = Unit {0}
 AllNone (found ∷ others) = (found ≡ None) × AllNone others
@@ -86,7 +86,7 @@ unknown_none parts h =
     let later = right_none _ (first_reason (unknown_of parts) (bad_half_of parts) (limit_of parts) (bad_span_of parts) (bad_fold_of parts)) h in
     unmapped _ (unknown_of parts) (left_none _ _ later)
 
--- no name of a stand is there twice
+-- no name of a stand occurs twice
 pub stands_once : (parts : AirportParts) → fault_of parts ≡ None → first_repeated (stand_names parts) ≡ None
 unfolding fault_of
 stands_once parts h =
@@ -112,7 +112,7 @@ airport_of parts station first none =
       objects = All-from_recursion _ _ (each (λ (f : Frontage). length f.objects ≤ most_objects) _ parts.frontages (λ f h. grind (arith, nat_tests)) l.objects);
     }
 
--- none of the reasons behind a name that is there twice
+-- none of the reasons after a name that occurs twice
 reasons_none : (parts : AirportParts) → fault_of parts ≡ None
     → AllNone (option_map UnknownName (unknown_of parts) ∷ option_map BadHalf (bad_half_of parts) ∷ option_map LimitPassed (limit_of parts) ∷ option_map BadSpan (bad_span_of parts) ∷ option_map BadFold (bad_fold_of parts) ∷ [])
 unfolding fault_of later_fault_of

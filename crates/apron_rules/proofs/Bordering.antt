@@ -1,4 +1,4 @@
--- The widest type excludes all that some two types exclude, so it tells the neighbours.
+-- The widest type excludes all that some two types exclude, so it decides the neighbours.
 use Rattle.std.proofs.Common.{◌≡◌, ◌∙◌, ◌<◌, ◌≤◌, ◌+◌, ◌⊎◌, inl, inr, add-one, append-nil, ℕ, zero, suc, Bool, true, false, cond, List, [], ◌∷◌, ◌++◌, refl, sym, ap, subst, arith, Option, None, Some, length, get_or, if◌then◌else◌}
 use Rattle.std.specs.Prelude.{All, Contains, IsSome, filter, find, is_none, is_some, not, slice_get}
 use Rattle.std.specs.List.{list_any}
@@ -27,7 +27,7 @@ use Rattle.apron_rules.proofs.Airports.{folds_kept, spans_known}
 use Rattle.apron_rules.proofs.ByPlace.{row_at}
 use Rattle.apron_rules.proofs.Wider.{IsWider, is_wider, rule_wider, wide_as_itself}
 
--- the rule between four rows that are there
+-- the rule between four rows that exist
 abbrev rule_of_rows : List PairRow → Bool → Option StandRow → Option TypeRow → Wing → Option StandRow → Option TypeRow → Wing → Option Rule
 rule_of_rows pairs is_one stand kind wing other other_kind other_wing = do
   span ← option_map (span_of wing) kind
@@ -36,7 +36,7 @@ rule_of_rows pairs is_one stand kind wing other other_kind other_wing = do
   other_row ← other
   rule_between pairs is_one stand_row span other_row other_span
 
--- four rows that are there, and the rule between them
+-- four rows that exist, and the rule between them
 record HasRows (pairs : List PairRow) (one : Bool) (x : Option StandRow) (k : Option TypeRow) (w : Wing) (y : Option StandRow) (l : Option TypeRow) (w2 : Wing) (rule : Rule) : Type 0 where
   x_row : StandRow
   k_row : TypeRow
@@ -57,7 +57,7 @@ rows_there pairs one x (Some k) w y None w2 rule h = absurd (cc)
 rows_there pairs one None (Some k) w y (Some l) w2 rule h = absurd (cc)
 rows_there pairs one (Some x) (Some k) w None (Some l) w2 rule h = absurd (cc)
 
--- a row that is there is within the list
+-- a row that exists is within the list
 row_within : {X : Type 0} (xs : List X) (i : ℕ) (x : X) → slice_get xs i ≡ Some x → (i < length xs) × (get_or xs i x ≡ x)
 row_within [] i x h = absurd (cc)
 row_within (y ∷ xs) zero x h = (omega arith, cc)
@@ -89,7 +89,7 @@ parked_within : (airport : AirportParts) (i : ℕ) (row : TypeRow) (w : Wing) �
 parked_within airport i row Full none at = omega arith
 parked_within airport i row Parked none at = kept_within row (none_found (λ (row : TypeRow). not (is_fold_kept row)) airport.types i row (folds_kept airport none) at)
 
--- wing tips are unfolded, or are as others
+-- wing tips are unfolded, or the same as others
 abbrev pub AreAsFull : Wing → Wing → Type 0
 AreAsFull wing other = (wing ≡ Full) ⊎ (wing ≡ other)
 
@@ -98,7 +98,8 @@ full_wider airport i row w v none at (inl full) =
     subst (λ (v : Wing). IsWider (span_of w row) (span_of v row)) (sym full) (is_wider (span_of w row) row.span (has_span airport i row none at) (parked_within airport i row w none at))
 full_wider airport i row w v none at (inr same) = subst (λ (v : Wing). IsWider (span_of w row) (span_of v row)) (sym same) (wide_as_itself (span_of w row))
 
--- what types exclude with some wing tips folded, they exclude with these unfolded, perhaps by a rule before it
+-- what types exclude with some wing tips folded, they exclude with these unfolded, perhaps by an
+-- earlier rule
 pub fuller_rule : (airport : AirportParts) → fault_of airport ≡ None → (s : StandNo) (t : TypeNo) (w v : Wing) (s2 : StandNo) (t2 : TypeNo) (w2 v2 : Wing) (rule : Rule) → AreAsFull v w → AreAsFull v2 w2
     → breaks_with_wings airport s t w s2 t2 w2 ≡ Some rule → (other : Rule) × (breaks_with_wings airport s t v s2 t2 v2 ≡ Some other)
 fuller_rule airport none s t w v s2 t2 w2 v2 rule full full_too h =
@@ -191,7 +192,7 @@ passed_by p y xs x true e rest (zero, inside, at) = ((0, omega arith, at), subst
 passed_by p y xs x true e rest (suc k, inside, at) = let found = rest (k, omega arith, at) in ((suc found.0.0, omega (arith, found.0.1), found.0.2), found.1)
 passed_by p y xs x false e rest h = let found = rest h in ((suc found.0.0, omega (arith, found.0.1), found.0.2), found.1)
 
--- what a filter keeps was there, and passes
+-- what a filter keeps was in the list, and passes
 pub filter_passed : {X : Type 0} (p : X → Bool) (xs : List X) (x : X) → Contains (filter p xs) x → Contains xs x × (p x ≡ true)
 filter_passed p [] x (k, inside, at) = absurd (omega arith)
 filter_passed p (y ∷ xs) x h = passed_by p y xs x (p y) refl (filter_passed p xs x) h
@@ -224,7 +225,7 @@ same_tests true false f g = sym (f refl)
 same_tests false true f g = g refl
 same_tests false false f g = refl
 
--- the widest type tells the neighbours
+-- the widest type decides the neighbours
 pub widest_tells : (airport : AirportParts) (s s2 : StandNo) (w : TypeNo) → fault_of airport ≡ None → IsWidest airport.types w → is_some (breaks_with_wings airport s w Full s2 w Full) ≡ is_neighbour airport s s2
 widest_tells airport s s2 w none widest =
     same_tests _ _ (λ some. let rule = is_there (breaks_with_wings airport s w Full s2 w Full) some in neighbour_when airport s s2 w w rule.0 rule.1)
@@ -234,7 +235,7 @@ next_by : (p : StandNo → Bool) (s : StandNo) (old new xs : List StandNo) (b : 
 next_by p s old new xs true is before grown = grown ∙ (ap (λ ys. ys ++ s ∷ []) before ∙ sym (filter-append p xs (s ∷ []) ∙ (rw (← is) refl)))
 next_by p s old new xs false is before grown = grown ∙ (before ∙ sym (filter-append p xs (s ∷ []) ∙ (rw (← is) (append-nil (filter p xs)))))
 
--- one more stand, which is a neighbour where the widest type has a rule
+-- one more stand, which is a neighbour if the widest type has a rule
 pub neighbours_next : (airport : AirportParts) (s other : StandNo) (w : TypeNo) (n : ℕ) (old new : List StandNo) (rule : Option Rule) → fault_of airport ≡ None → IsWidest airport.types w → other.0 ≡ n
     → rule ≡ breaks_with_wings airport s w Full other w Full → new ≡ (if is_some rule then old ++ other ∷ [] else old) → old ≡ filter (is_neighbour airport s) (first_stands n) → new ≡ filter (is_neighbour airport s) (first_stands (n + 1))
 neighbours_next airport s other w n old new rule none widest at is grown before =
@@ -243,7 +244,7 @@ neighbours_next airport s other w n old new rule none widest at is grown before 
     let next : first_stands n ++ other ∷ [] ≡ first_stands (n + 1) = ap (λ (x : StandNo). first_stands n ++ x ∷ []) same ∙ sym (rw add-one refl) in
     next_by (is_neighbour airport s) other old new (first_stands n) (is_some rule) test before grown ∙ ap (filter (is_neighbour airport s)) next
 
--- one more type, which is the widest now or not
+-- one more type, which is now the widest or not
 pub widest_next : (types : List TypeRow) (widest i next : ℕ) (e f : TypeRow) → i < length types → widest < length types → IsWidestBelow types i widest
     → ((next ≡ i) × ((get_or types widest f).span < (get_or types i e).span)) ⊎ ((next ≡ widest) × ((get_or types i e).span ≤ (get_or types widest f).span)) → IsWidestBelow types (i + 1) next
 widest_next types widest i next e f inside inside_w before here k d below =

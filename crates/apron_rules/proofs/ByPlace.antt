@@ -1,4 +1,4 @@
--- What places say is what the names say.
+-- Places give what the names give.
 use Rattle.std.proofs.Common.{◌≡◌, ◌∙◌, ◌<◌, ◌≤◌, ◌==◌, ◌+◌, ℕ, Bool, true, false, cond, List, [], ◌∷◌, ◌++◌, length, get_or, zero, suc, refl, sym, ap, subst, arith, append_assoc, Option, None, Some, if◌then◌else◌}
 use Rattle.std.specs.Prelude.{is_some, find, slice_get, option_and_then, nat_lt, not}
 use Rattle.std.specs.List.{list_any, position_or_len, prefix_len}
@@ -28,7 +28,7 @@ use Rattle.apron_rules.specs.Links.{is_place, is_one_place, links_of, is_split_a
 use Rattle.apron_rules.proofs.Symmetry.{bytes_eq_sym}
 use Rattle.apron_rules.proofs.Airports.{left_none, unknown_none, stands_once}
 
--- the name at the place that is found is the name
+-- the name at the place that is found is this name
 at_place : (name : List ℕ) (names : List (List ℕ)) (i : ℕ) → place_of name names ≡ Some i → (other : List ℕ) → name ≡ get_or names i other
 at_place name names i e other =
     let h = cond_some _ _ i e in
@@ -40,7 +40,7 @@ apart : (test : Bool) (i j : ℕ) → test ≡ (i == j) → (i ≡ j → ⊥) �
 apart true i j e differ = absurd (differ (grind (arith, nat_tests)))
 apart false i j e differ = refl
 
--- one name exactly where the places are one
+-- the names are the same exactly if their places are
 same_by : (a b : List ℕ) (names : List (List ℕ)) (i : ℕ) (test : Bool) (found : Option ℕ) → place_of a names ≡ Some i → bytes_eq a b ≡ test → place_of b names ≡ found → test ≡ is_place i found
 same_by a b names i true found at_a same at_b =
     let one : a ≡ b = (bytes_decides a b).0 same in
@@ -60,7 +60,7 @@ not_found : (test : Bool) (k : ℕ) → is_some (cond test (Some k) None) ≡ fa
 not_found true k h = absurd (false≢true (sym h))
 not_found false k h = refl
 
--- a new name is found behind the names before it
+-- a new name is found after the names before it
 found_behind : (before rest : List (List ℕ)) (name : List ℕ) → is_known name before ≡ false → place_of name (before ++ name ∷ rest) ≡ Some (length before + 0)
 found_behind before rest name new =
     let p : List ℕ → Bool = λ x. not (bytes_eq name x) in
@@ -77,7 +77,7 @@ new_by : (known : Bool) (name : List ℕ) (rest : Option (List ℕ)) → cond kn
 new_by true name rest h = absurd (cc)
 new_by false name rest h = (refl, h)
 
--- where no name is there twice, each is found at its place
+-- if no name occurs twice, each is found at its place
 found_at : (before rest : List (List ℕ)) (i : ℕ) (name : List ℕ) → repeated_after before rest ≡ None → slice_get rest i ≡ Some name → place_of name (before ++ rest) ≡ Some (length before + i)
 unfolding repeated_after
 found_at before [] i name none at = absurd (cc)
@@ -93,7 +93,7 @@ found_at before (first ∷ rest) (suc i) name none at =
 pub place_at : (names : List (List ℕ)) (i : ℕ) (name : List ℕ) → first_repeated names ≡ None → slice_get names i ≡ Some name → place_of name names ≡ Some i
 place_at names i name none at = let plain : 0 + i ≡ i = omega arith in found_at [] names i name none at ∙ ap Some plain
 
--- where f finds nothing, it finds nothing in any row
+-- if f finds nothing, it finds nothing in any row
 nothing_by : {Row Found : Type 0} (f : Row → Option Found) (row : Row) (rest : Option Row) (here : Option Found) → f row ≡ here → option_and_then f (cond (is_some here) (Some row) rest) ≡ None
     → (here ≡ None) × (option_and_then f rest ≡ None)
 nothing_by f row rest None e h = (refl, h)
@@ -119,12 +119,12 @@ one_by : (a b : List ℕ) (names : List (List ℕ)) (found : Option ℕ) → pla
 one_by a b names None at known = absurd (false≢true known)
 one_by a b names (Some i) at known = sym (same_place a b names i at)
 
--- a half is told by the place of its whole
+-- a half is recognised by the place of its whole
 half_is : (name : List ℕ) (names : List (List ℕ)) (s2 : ℕ) (half_of : Option (List ℕ)) → place_of name names ≡ Some s2 → is_place s2 (option_and_then (λ whole. place_of whole names) half_of) ≡ is_named half_of name
 half_is name names s2 None at = refl
 half_is name names s2 (Some whole) at = sym (same_place name whole names s2 at) ∙ bytes_eq_sym name whole
 
--- a restriction of two stands is told by their places
+-- a restriction of two stands is recognised by their places
 restricted_is : (names : List (List ℕ)) (s s2 : ℕ) (x y : StandRow) (k l : ℕ) (pairs : List PairRow) → place_of x.name names ≡ Some s → place_of y.name names ≡ Some s2
     → list_any (is_restricted_at names s k s2 l) pairs ≡ list_any (is_restricted x k y l) pairs
 restricted_is names s s2 x y k l [] at_x at_y = refl
@@ -138,7 +138,7 @@ stand_place : (parts : AirportParts) (s : ℕ) (x : StandRow) → fault_of parts
 stand_place parts s x none at =
     place_at (stand_names parts) s x.name (stands_once parts none) (slice_get-map (λ (row : StandRow). row.name) parts.stands s ∙ ap (option_map (λ (row : StandRow). row.name)) at)
 
--- of two rows, what places say is what the names say
+-- for two rows, places give what the names give
 by_rows : (parts : AirportParts) (links : List StandLinks) (pairs : List (List StandPair)) → IsLinked parts links pairs
     → (s s2 : ℕ) (x y : StandRow) (k l : ℕ) → slice_get parts.stands s ≡ Some x → slice_get parts.stands s2 ≡ Some y
     → first_rule (s == s2) (is_split_at s (links_of (frontage_names parts) (stand_names parts) x) s2 (links_of (frontage_names parts) (stand_names parts) y)) (is_near_at (links_of (frontage_names parts) (stand_names parts) x) k (links_of (frontage_names parts) (stand_names parts) y) l) (list_any (is_barred s2 k l) (pairs_at pairs s))
@@ -172,7 +172,7 @@ links_at parts links pairs kept s row x at_row at =
     let f : StandRow → StandLinks = links_of (frontage_names parts) (stand_names parts) in
     some_is x (f row) (sym at ∙ (ap (λ (ls : List StandLinks). slice_get ls s) kept.linked ∙ (slice_get-map f parts.stands s ∙ ap (option_map f) at_row)))
 
--- the first rule that the places say is the first rule
+-- the first rule by the places is the first rule
 pub breaks_by_place : (parts : AirportParts) (links : List StandLinks) (pairs : List (List StandPair)) → IsLinked parts links pairs
     → (s : StandNo) (t : TypeNo) (w : Wing) (s2 : StandNo) (t2 : TypeNo) (w2 : Wing) → s.0 < length parts.stands → t.0 < length parts.types → s2.0 < length parts.stands → t2.0 < length parts.types
     → (d e : StandLinks) (k l : TypeRow) (own : List StandPair)

@@ -1,4 +1,4 @@
--- How many halves a stand has, one row more.
+-- How many halves a stand has, with one more row.
 use Rattle.std.proofs.Common.{◌≡◌, ◌∙◌, ◌+◌, ℕ, Bool, true, false, cond, List, refl, ap, arith, Option, Some, unwrap_or}
 use Rattle.std.specs.Str.{bytes_eq}
 use Rattle.std.specs.Ordering.{nat_cmp}

@@ -15,7 +15,7 @@ none_is : (b : Bool) (k : ℕ) → cond b (Some k) None ≡ None → b ≡ false
 none_is true k e = absurd (cc)
 none_is false k e = refl
 
--- the place among what f gives is the place of the first item
+-- the place among what f gives is the place of the first such item
 pub found_some : {X Y : Type 0} (p : Y → Bool) (f : X → Y) (xs : List X) (k : ℕ) (x : X) → position p (map f xs) ≡ Some k → x ≡ get_or xs k x → find (λ y. p (f y)) xs ≡ Some x
 found_some p f xs k x e at =
     let h = cond_some _ _ k e in

@@ -45,7 +45,7 @@ turned true false c d = refl
 turned false true c d = refl
 turned false false c d = refl
 
--- a restriction of two stands bars as each of them sees it
+-- a restriction of two stands bars the same as each of them sees it
 pub added_both : (stands : List (List ℕ)) (row : PairRow) (a b : ℕ) (before : Bool) → place_of row.a stands ≡ Some a → place_of row.b stands ≡ Some b
     → (s s2 k l : ℕ)
     → ((before || (s == a && is_barred s2 k l (record { other = b; own = row.la; least = row.lb }))) || (s == b && is_barred s2 k l (record { other = a; own = row.lb; least = row.la })))
@@ -57,7 +57,7 @@ added_both stands row a b before at_a at_b s s2 k l =
     rw (at_a, at_b) (turned (s == b) (s2 == a) (has_letter row.lb k) (has_letter row.la l)) in
     rw (first, second) (or_assoc before (is_restricted_so_at stands row s k s2 l) (is_restricted_so_at stands row s2 l s k))
 
--- a restriction that names no stand restricts none
+-- a restriction that doesn't name a stand doesn't restrict it
 pub added_none : (stands : List (List ℕ)) (row : PairRow) (s s2 k l : ℕ) (before : Bool) → place_of row.b stands ≡ None → before ≡ (before || is_restricted_at stands s k s2 l row)
 added_none stands row s s2 k l before none =
     rw (none, and_false (is_place s (place_of row.a stands)), and_false (is_place s2 (place_of row.a stands))) (sym (or_false before))

@@ -1,4 +1,5 @@
--- The first minute at which two slots clash, whose wing tips are unfolded at the start and at the end.
+-- The first minute at which two slots clash, with wing tips that are unfolded at the start and at
+-- the end.
 use Rattle.std.proofs.Common.{◌≡◌, ◌∙◌, ◌<◌, ◌≤◌, ◌+◌, ◌-◌, ◌==◌, ◌&&◌, ◌||◌, ◌⊎◌, inl, inr, max, ℕ, Bool, true, false, cond, refl, sym, ap, subst, arith, Option, None, Some, if◌then◌else◌}
 use Rattle.std.specs.Prelude.{nat_le, nat_lt, option_map}
 use Rattle.std.specs.Option.{option_or}
@@ -27,14 +28,14 @@ still_full : (from to fold c m : ℕ) → c ≤ m → (m < to - fold) ⊎ (to - 
 still_full from to fold c m less (inl before) h = grind (arith, nat_tests)
 still_full from to fold c m less (inr after) h = grind (arith, nat_tests)
 
--- back to the minute at which they unfold, wing tips are as full
+-- back to the minute at which they unfold, wing tips stay as full
 as_full : (airport : AirportParts) (p : Slot) (c m : ℕ) → c ≤ m → (m < unfolds airport p) ⊎ (unfolds airport p ≤ c) → AreAsFull (wing_of airport p c) (wing_of airport p m)
 as_full airport p c m less turn =
     let to = p.end - buffer_of airport p.stand in
     let fold = fold_of airport p.kind in
     as_full_by (nat_lt m (p.from + fold) || nat_le to (m + fold)) (nat_lt c (p.from + fold) || nat_le to (c + fold)) (still_full p.from to fold c m less turn)
 
--- what a rule at a minute says
+-- what a rule at a minute means
 pub record Meets (airport : AirportParts) (p q : Slot) (m : ℕ) (rule : Rule) : Type 0 where
   pub apart : (p.part.visit.0 == q.part.visit.0) ≡ false
   pub held : is_held p m ≡ true
@@ -60,7 +61,8 @@ rule_when airport p q m rule apart held held_too breaks = rw (apart, held, held_
 held_before : (from end c m : ℕ) → from ≤ c → c ≤ m → (nat_le from m && nat_lt m end) ≡ true → (nat_le from c && nat_lt c end) ≡ true
 held_before from end c m low less h = grind (arith, nat_tests)
 
--- slots that clash at a minute clash at a minute before it that both hold, if since then neither has begun to unfold its wing tips
+-- slots that clash at a minute clash at a minute before it that both hold, if since then neither
+-- has begun to unfold its wing tips
 pub clash_before : (airport : AirportParts) → fault_of airport ≡ None → (p q : Slot) (c m : ℕ) (rule : Rule) → p.from ≤ c → q.from ≤ c → c ≤ m
     → (m < unfolds airport p) ⊎ (unfolds airport p ≤ c) → (m < unfolds airport q) ⊎ (unfolds airport q ≤ c)
     → rule_at airport p q m ≡ Some rule → (other : Rule) × (rule_at airport p q c ≡ Some other)
@@ -70,7 +72,7 @@ clash_before airport none p q c m rule from_p from_q less turn turn_too h =
     (as_full airport p c m less turn) (as_full airport q c m less turn_too) met.breaks in
     (found.0, rule_when airport p q c found.0 met.apart (held_before p.from p.end c m from_p less met.held) (held_before q.from q.end c m from_q less met.held_too) found.1)
 
--- of the starts, the last before a clash
+-- the last of the starts before a clash
 record HasClashBefore (airport : AirportParts) (p q : Slot) (starts : Starts) (m : ℕ) : Type 0 where
   at : ℕ
   tried : (at ≡ starts.shared) ⊎ ((at ≡ starts.unfolded) ⊎ (at ≡ starts.both_unfolded))
@@ -150,11 +152,11 @@ no_later_by c d low a b =
       | inr over ↦ inr (omega arith, inr (a, subst (IsAtMost c.b) b (at_most_itself c.b)))
     ]
 
--- no slots clash before the first minute that both hold
+-- slots don't clash before the first minute that both hold
 before_start : (airport : AirportParts) (p q : Slot) (from start m : ℕ) (rule : Rule) → start ≡ max from (max p.from q.from) → from ≤ m → m < start → rule_at airport p q m ≡ Some rule → ⊥
 before_start airport p q from start m rule is low below h = let met = meets airport p q m rule h in unheld p q from start m is low below met.held met.held_too
 
--- none before a minute up to which none of the starts clashes
+-- there is no clash before a minute up to which none of the starts has one
 none_before : (airport : AirportParts) → fault_of airport ≡ None → (p q : Slot) (from : ℕ) (starts : Starts) (m : ℕ) → AreStarts airport p q from starts → from ≤ m
     → ((k : ℕ) (rule : Rule) → (k ≡ starts.shared) ⊎ ((k ≡ starts.unfolded) ⊎ (k ≡ starts.both_unfolded)) → k ≤ m → rule_at airport p q k ≡ Some rule → ⊥) → rule_at airport p q m ≡ None
 none_before airport none p q from starts m are low never =

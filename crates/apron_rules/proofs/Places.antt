@@ -18,7 +18,7 @@ use Rattle.apron_rules.specs.Names.{place_of, is_known, repeated_after}
 use Rattle.apron_rules.specs.Tables.{IsPlaces}
 use Rattle.apron_rules.proofs.Symmetry.{bytes_eq_sym}
 
--- the next name is known already, and is the first such
+-- the next name is known already, and is the first of these
 pub repeat_here : (names : List (List ℕ)) (i : ℕ) (name : List ℕ) → i < length names → name ≡ get_or names i name → is_known name (take i names) ≡ true
     → repeated_after (take i names) (drop i names) ≡ Some name
 unfolding repeated_after

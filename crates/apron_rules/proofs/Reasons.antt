@@ -18,7 +18,7 @@ or_some o p x h = rw h refl
 or_other : {A : Type 0} (o p q : Option A) → o ≡ None → p ≡ q → option_or o p ≡ q
 or_other o p q h k = rw h k
 
--- a name that is there twice is the first reason
+-- a name that occurs twice is the first reason
 pub twice : (parts : AirportParts) (e : AirportFault) → (e ≡ Memory) ⊎ (option_map DuplicateName (duplicate_of parts) ≡ Some e) → (e ≡ Memory) ⊎ (fault_of parts ≡ Some e)
 unfolding fault_of
 twice parts e (inl memory) = inl memory

@@ -14,7 +14,7 @@ use Rattle.apron_rules.specs.declared.rules.Rule.{Rule}
 use Rattle.apron_rules.specs.declared.rules.Rule.TheVariants.{Same, Split, Clearance, Pair}
 use Rattle.apron_rules.specs.Rules.{is_half_of, is_too_near, is_restricted, is_restricted_so, has_letter, distance, rule_between}
 
--- the least span of a letter
+-- the least span that has a letter
 abbrev from_of : Letter → ℕ
 from_of A = 1
 from_of B = 1500
@@ -97,7 +97,7 @@ in_bounds : (span : ℕ) (letter : Letter) → letter_for span ≡ Some letter �
 in_bounds span letter h =
     found_in span letter_table letter ((refl, refl), ((refl, refl), ((refl, refl), ((refl, refl), ((refl, refl), ((refl, refl), tt)))))) h
 
--- a span is at least as wide as another, so that no rule spares it that holds of the other
+-- a span is at least as wide as another, so every rule that holds of the other holds of it
 pub record IsWider (span wide : ℕ) : Type 0 where
   pub order : span ≤ wide
   pub clear : clearance_of_span span ≤ clearance_of_span wide
@@ -175,7 +175,7 @@ restricted_wider x y k l u v (pair ∷ pairs) wide_k wide_l h =
     (so_wider pair x y k l u v wide_k wide_l) (so_wider pair y x l k v u wide_l wide_k))
     (restricted_wider x y k l u v pairs wide_k wide_l) h
 
--- a rule that some conditions give is given by weaker ones, or one before it is
+-- if a rule holds by some conditions, it or an earlier rule holds by weaker ones
 rule_by : (one split near near_w paired paired_w : Bool) (rule : Rule) → (near ≡ true → near_w ≡ true) → (paired ≡ true → paired_w ≡ true)
     → ◌≡◌ {A = Option Rule} (if one then Some Same else (if split then Some Split else (if near then Some Clearance else (if paired then Some Pair else None)))) (Some rule)
     → (other : Rule) × (◌≡◌ {A = Option Rule} (if one then Some Same else (if split then Some Split else (if near_w then Some Clearance else (if paired_w then Some Pair else None)))) (Some other))
@@ -187,7 +187,7 @@ rule_by false false false false paired true rule f g h = (Pair, refl)
 rule_by false false false false true false rule f g h = absurd (cc (g refl))
 rule_by false false false false false false rule f g h = absurd (cc)
 
--- wider aircraft have a rule where these have one
+-- if some aircraft have a rule, so have wider ones
 pub rule_wider : (pairs : List PairRow) (one : Bool) (x y : StandRow) (k l u v : ℕ) (rule : Rule) → IsWider k u → IsWider l v → rule_between pairs one x k y l ≡ Some rule
     → (other : Rule) × (rule_between pairs one x u y v ≡ Some other)
 rule_wider pairs one x y k l u v rule wide_k wide_l h =

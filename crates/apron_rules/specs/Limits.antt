@@ -3,7 +3,7 @@ use Rattle.std.specs.Prelude.{ℕ}
 
 -- the most days of a plan
 abbrev pub most_days : ℕ
-most_days = 14
+most_days = 28
 
 -- the most minutes from touchdown to on block
 abbrev pub most_taxi_in : ℕ
@@ -45,7 +45,7 @@ most_pairs = 1000
 abbrev pub most_types : ℕ
 most_types = 400
 
--- the most least minutes of a type
+-- the greatest number that the least minutes of a type can be
 abbrev pub most_least : ℕ
 most_least = 600
 

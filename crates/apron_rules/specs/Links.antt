@@ -1,4 +1,4 @@
--- What the stands are linked with, by places in place of names.
+-- The links of stands, by places instead of names.
 use Rattle.std.specs.Prelude.{◌≡◌, ◌==◌, ◌&&◌, ◌||◌, ◌*◌, ◌+◌, max, ℕ, Bool, false, nat_lt, List, [], Option, None, Some, slice_get, unwrap_or, option_and_then, if◌then◌else◌}
 use Rattle.std.specs.List.{list_any}
 use Rattle.apron_rules.specs.declared.links.StandLinks.{StandLinks}
@@ -16,12 +16,12 @@ abbrev pub is_place : ℕ → Option ℕ → Bool
 is_place s None = false
 is_place s (Some place) = s == place
 
--- both were found, at one place
+-- both were found, at the same place
 abbrev pub is_one_place : Option ℕ → Option ℕ → Bool
 is_one_place None found = false
 is_one_place (Some place) found = is_place place found
 
--- the place of the stand of which the row is a half
+-- the place of the stand that the row is a half of
 abbrev pub whole_of : List (List ℕ) → StandRow → Option ℕ
 whole_of stands row = option_and_then (λ name. place_of name stands) row.half_of
 
@@ -33,7 +33,8 @@ links_of frontages stands row = record { frontage = place_of row.frontage fronta
 abbrev pub is_split_at : ℕ → StandLinks → ℕ → StandLinks → Bool
 is_split_at s x s2 y = is_place s2 x.whole || is_place s y.whole
 
--- the stands are on one frontage, and aircraft of the spans k and l come nearer to each other than the greater clearance
+-- the stands are on the same frontage, and aircraft of the spans k and l come nearer to each other
+-- than the greater clearance
 abbrev pub is_near_at : StandLinks → ℕ → StandLinks → ℕ → Bool
 is_near_at x k y l = is_one_place x.frontage y.frontage
     && nat_lt (2 * distance x.centre y.centre) (k + l + 2 * max (clearance_of_span k) (clearance_of_span l))
@@ -54,7 +55,8 @@ first_rule is_one is_split is_near is_paired =
     else (if is_near then Some Clearance
     else (if is_paired then Some Pair else None)))
 
--- the restriction is of the stands at the two places in this order, and both spans are of its letters
+-- the restriction is of the stands at the two places in this order, and both spans have its letters
+-- or greater
 abbrev pub is_restricted_so_at : List (List ℕ) → PairRow → ℕ → ℕ → ℕ → ℕ → Bool
 is_restricted_so_at stands pair s k s2 l =
     is_place s (place_of pair.a stands) && is_place s2 (place_of pair.b stands)

@@ -24,7 +24,7 @@ place_of name names = position (bytes_eq name) names
 abbrev pub is_known : List ℕ → List (List ℕ) → Bool
 is_known name names = is_some (place_of name names)
 
--- the first of the rest that stands among the names before it
+-- the first of the rest that is among the names before it
 unfoldable pub repeated_after : List (List ℕ) → List (List ℕ) → Option (List ℕ)
 repeated_after before [] = None
 repeated_after before (name ∷ rest) = if is_known name before then Some name else repeated_after (before ++ name ∷ []) rest

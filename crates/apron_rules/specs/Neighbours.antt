@@ -17,12 +17,14 @@ abbrev pub first_types : ℕ → List TypeNo
 first_types zero = []
 first_types (suc n) = first_types n ++ record { 0 = n } ∷ []
 
--- with type t on the first stand, some type of the table on the second has a rule, both with unfolded wing tips
+-- with type t on the first stand, some type of the table on the second has a rule, with the wing
+-- tips of both unfolded
 abbrev pub breaks_with : AirportParts → StandNo → StandNo → TypeNo → Bool
 breaks_with airport s s2 t =
     list_any (λ t2. is_some (breaks_with_wings airport s t Full s2 t2 Full)) (first_types (length airport.types))
 
--- some two types of the table have a rule on the two stands with unfolded wing tips, whether they fit there or not
+-- some two types of the table have a rule on the two stands, with wing tips unfolded, whether they
+-- fit there or not
 abbrev pub is_neighbour : AirportParts → StandNo → StandNo → Bool
 is_neighbour airport s s2 = list_any (breaks_with airport s s2) (first_types (length airport.types))
 

@@ -1,4 +1,5 @@
--- Why an airport is refused: the first of the reasons in a fixed order, and of its names the first in list order.
+-- Why an airport is refused: the first of the reasons in a fixed order, and for a reason that names
+-- something, the first name in list order.
 use Rattle.std.specs.Prelude.{ℕ, Bool, false, ◌&&◌, ◌||◌, not, nat_le, nat_lt, List, [], ◌∷◌, length, Option, None, Some, is_some, is_none, find, count_by, option_and_then, if◌then◌else◌}
 use Rattle.std.specs.Option.{option_map, option_or}
 use Rattle.std.specs.List.{list_all}
@@ -16,12 +17,12 @@ use Rattle.apron_rules.specs.declared.refusals.Limit.TheVariants as limit
 use Rattle.apron_rules.specs.declared.refusals.AirportFault.{AirportFault}
 use Rattle.apron_rules.specs.declared.refusals.AirportFault.TheVariants.{DuplicateName, UnknownName, BadHalf, LimitPassed, BadSpan, BadFold}
 
--- the first that is there
+-- the first that is given
 abbrev pub first_some : {A : Type 0} → List (Option A) → Option A
 first_some [] = None
 first_some (found ∷ others) = option_or found (first_some others)
 
--- a name twice among the frontages, then among the stands, then among the types
+-- a name that occurs twice among the frontages, or else among the stands, or else among the types
 abbrev pub duplicate_of : AirportParts → Option (List ℕ)
 duplicate_of parts = option_or (first_repeated (frontage_names parts)) (option_or (first_repeated (stand_names parts)) (first_repeated (type_names parts)))
 
@@ -29,19 +30,20 @@ duplicate_of parts = option_or (first_repeated (frontage_names parts)) (option_o
 abbrev pub first_found : {Row Found : Type 0} → (Row → Option Found) → List Row → Option Found
 first_found f rows = option_and_then f (find (λ row. is_some (f row)) rows)
 
--- the name, where it is none of these
+-- the name, if it is none of these
 abbrev pub unless_known : List (List ℕ) → List ℕ → Option (List ℕ)
 unless_known names name = if is_known name names then None else Some name
 
--- the stand's frontage, then the stand of which it is a half
+-- the stand's frontage, or else the stand that it is a half of, if unknown
 abbrev pub unknown_of_stand : List (List ℕ) → List (List ℕ) → StandRow → Option (List ℕ)
 unknown_of_stand frontages stands row = option_or (unless_known frontages row.frontage) (option_and_then (unless_known stands) row.half_of)
 
--- one of the two stands of the restriction
+-- one of the two stands of the restriction, if unknown
 abbrev pub unknown_of_pair : List (List ℕ) → PairRow → Option (List ℕ)
 unknown_of_pair stands pair = option_or (unless_known stands pair.a) (unless_known stands pair.b)
 
--- a name that is nowhere: of the first stand that names one, then of the first pair restriction
+-- a name that doesn't exist: the one of the first stand that names such a one, or else of the first
+-- pair restriction
 abbrev pub unknown_of : AirportParts → Option (List ℕ)
 unknown_of parts =
     option_or (first_found (unknown_of_stand (frontage_names parts) (stand_names parts)) parts.stands) (first_found (unknown_of_pair (stand_names parts)) parts.pairs)
@@ -50,7 +52,7 @@ unknown_of parts =
 abbrev pub halves_of : List ℕ → List StandRow → ℕ
 halves_of name stands = count_by (λ row. is_named row.half_of name) stands
 
--- the stand of this name is a half itself, is on another frontage, or has more than two halves
+-- the stand is a half itself, or is on another frontage, or has more than two halves
 abbrev pub is_bad_whole : List StandRow → StandRow → Option StandRow → Bool
 is_bad_whole stands half None = false
 is_bad_whole stands half (Some whole) =
@@ -61,15 +63,15 @@ is_bad_whole stands half (Some whole) =
 abbrev pub stand_named : List StandRow → List ℕ → Option StandRow
 stand_named stands name = find (λ row. bytes_eq name row.name) stands
 
--- the stand is a half of no proper whole
+-- the stand is a half, but not of a proper whole
 abbrev pub is_bad_half : List StandRow → StandRow → Bool
 is_bad_half stands half = is_bad_whole stands half (option_and_then (stand_named stands) half.half_of)
 
--- the first stand that is a half of no proper whole
+-- the first stand that is a half, but not of a proper whole
 abbrev pub bad_half_of : AirportParts → Option (List ℕ)
 bad_half_of parts = option_map (λ row. row.name) (find (is_bad_half parts.stands) parts.stands)
 
--- the number is not below and not above
+-- the number is not below the first and not above the second
 abbrev pub is_within : ℕ → ℕ → ℕ → Bool
 is_within low high number = nat_le low number && nat_le number high
 
@@ -102,19 +104,20 @@ passed_limits parts =
     ∷ unless_kept limit.Least (list_all (λ row. is_within 1 most_least row.least) parts.types)
     ∷ []
 
--- the first limit that is passed
+-- the first limit that is exceeded
 abbrev pub limit_of : AirportParts → Option Limit
 limit_of parts = first_some (passed_limits parts)
 
--- the first type of whose span there is no code letter
+-- the first type whose span has no code letter
 abbrev pub bad_span_of : AirportParts → Option (List ℕ)
 bad_span_of parts = option_map (λ row. row.name) (find (λ row. is_none (letter_for row.span)) parts.types)
 
--- the span with folded wing tips is 1 to the wing span, and the minutes to fold are within their limit
+-- the span with folded wing tips is 1 to the wing span, and the minutes to fold are within their
+-- limit
 abbrev pub is_fold_kept : TypeRow → Bool
 is_fold_kept row = is_within 1 row.span row.parked && nat_le row.fold most_fold
 
--- the first type whose folded span or minutes to fold are not so
+-- the first type whose folded span or minutes to fold are not within these
 abbrev pub bad_fold_of : AirportParts → Option (List ℕ)
 bad_fold_of parts = option_map (λ row. row.name) (find (λ row. not (is_fold_kept row)) parts.types)
 
@@ -131,12 +134,12 @@ first_reason unknown half passed span fold =
     ∷ []
     )
 
--- the refusals that come after that of a name that is there twice
+-- the refusals that come after that of a name that occurs twice
 unfoldable pub later_fault_of : AirportParts → Option AirportFault
 later_fault_of parts =
     first_reason (unknown_of parts) (bad_half_of parts) (limit_of parts)
     (bad_span_of parts) (bad_fold_of parts)
 
--- why the airport is refused, or none where it is an airport
+-- why the airport is refused; none if it is an airport
 unfoldable pub fault_of : AirportParts → Option AirportFault
 fault_of parts = option_or (option_map DuplicateName (duplicate_of parts)) (later_fault_of parts)

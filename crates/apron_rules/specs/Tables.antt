@@ -13,15 +13,15 @@ use Rattle.apron_rules.specs.declared.refusals.AirportFault.TheVariants.{Memory}
 abbrev pub IsPlaces : BTreeMap (List ℕ) ℕ → List (List ℕ) → Type 0
 IsPlaces places names = (name : List ℕ) → get (slice_cmp nat_cmp) places name ≡ place_of name names
 
--- the check passes where there is no fault, and names the fault else, unless memory is wanting
+-- the check passes if there is no fault, and otherwise gives the fault, unless there is no memory
 abbrev pub Checks : {A : Type 0} → Result A AirportFault → Option AirportFault → Type 0
 Checks (Ok passed) fault = fault ≡ None
 Checks (Err named) fault = (named ≡ Memory) ⊎ (fault ≡ Some named)
 
--- how many halves the map has of a stand, by its name
+-- how many halves of a stand the map has, by its name
 abbrev pub half_count : BTreeMap (List ℕ) ℕ → List ℕ → ℕ
 half_count halves name = unwrap_or (get (slice_cmp nat_cmp) halves name) 0
 
--- the map has how many halves each stand has
+-- the map has the number of halves of each stand
 abbrev pub AreHalves : BTreeMap (List ℕ) ℕ → List StandRow → Type 0
 AreHalves halves rows = (name : List ℕ) → half_count halves name ≡ halves_of name rows

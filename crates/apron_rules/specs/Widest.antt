@@ -7,7 +7,7 @@ use Rattle.apron_rules.specs.declared.parts.TypeRow.{TypeRow}
 abbrev pub IsWidestBelow : List TypeRow → ℕ → ℕ → Type 0
 IsWidestBelow types high w = (i : ℕ) (d : TypeRow) → i < high → (slice_index_or types i d).span ≤ (slice_index_or types w d).span
 
--- the type is of the table, and no other one of it is wider
+-- the type is one of the table, and no other type of it is wider
 pub record IsWidest (types : List TypeRow) (t : TypeNo) : Type 0 where
   pub inside : t.0 < length types
   pub widest : IsWidestBelow types (length types) t.0

@@ -29,7 +29,7 @@ pub(crate) struct Names {
 }
 
 impl Names {
-    /// The names of these parts. At `Err` a name is there twice, or memory is wanting.
+    /// The names of these parts. `Err` if a name occurs twice, or there is no memory.
     pub(crate) fn of(alloc: Global, parts: &AirportParts) -> Result<Names, AirportFault>
         ensures frontages { IfOk result (λ names. names.frontages ≡ frontage_names parts.now) }
         ensures stands { IfOk result (λ names. names.stands ≡ stand_names parts.now) }
@@ -77,8 +77,8 @@ fn type_names(alloc: Global, rows: &[TypeRow]) -> Result<Vec<Name>, AirportFault
     }
 }
 
-/// Whether parts with these names are an airport: at `Err` they aren't for the reason that is named, or
-/// memory is wanting.
+/// Whether parts with these names are an airport: `Err` gives the reason why not, or says that
+/// there is no memory.
 pub(crate) fn check(
     alloc: Global,
     parts: &AirportParts,

@@ -3,7 +3,7 @@ ghost use Rattle.std.specs.Prelude.{◌≡◌};
 ghost use Rattle.apron_rules.specs.Limits.{greatest_place, most_buffer, most_days, most_fold, most_frontages, most_halves, most_least, most_objects, most_pairs, most_stands, most_taxi_in, most_tow, most_types};
 
 /// The most days of a plan; the least is 1.
-pub const MAX_DAYS: u32 = 14;
+pub const MAX_DAYS: u32 = 28;
 
 /// The most minutes from touchdown to on block.
 pub const MAX_TAXI_IN: u32 = 60;
@@ -38,10 +38,10 @@ pub const MAX_TYPES: usize = 400;
 /// The most minutes for which wing tips are unfolded at the start and at the end of a part.
 pub const MAX_FOLD: u32 = 60;
 
-/// The most least minutes of a type; the least is 1.
+/// The greatest number that the least minutes of a type can be; the least is 1.
 pub const MAX_LEAST: u32 = 600;
 
-/// Each limit of the code is the number that its definition has.
+/// Each limit in the code is the number in its definition.
 pub fn limits_are_as_defined()
     ensures days { MAX_DAYS ≡ most_days }
     ensures taxi_in { MAX_TAXI_IN ≡ most_taxi_in }

@@ -1,4 +1,4 @@
-// What the stands are linked with, by places from 0 in place of names.
+// The links of stands, by places from 0 instead of names.
 ghost use Rattle.std.specs.Prelude.{◌≡◌, ◌<◌, ◌||◌, ◌&&◌, ◌==◌, ◌^◌, [], ℕ, Bool, List, length, map, replicate, IfOk, IfErr, OnOk};
 ghost use Rattle.std.specs.List.{list_any};
 ghost use Rattle.apron_rules.specs.declared.links.StandPair.{StandPair};
@@ -12,14 +12,14 @@ use crate::{AirportFault, AirportParts, PairRow, Rule, StandRow, TypeRow, Wing};
 use apron_base::{Letter, Listed, StandNo, TypeNo, clearance, letter_of};
 use std::alloc::Global;
 
-/// Where a stand lies, and of which stand it is a half.
+/// Where a stand lies, and which stand it is a half of.
 #[derive(Clone, Copy, Debug)]
 pub(crate) struct StandLinks {
     /// The place of its frontage.
     pub(crate) frontage: Option<usize>,
     /// The place of its centreline in centimetres along the frontage.
     pub(crate) centre: u32,
-    /// The place of the stand of which it is a half, if it is one.
+    /// The place of the stand that it is a half of, if it is one.
     pub(crate) whole: Option<usize>,
 }
 
@@ -153,8 +153,8 @@ fn add(
     }
 }
 
-/// The first rule by which two stands exclude each other with these types on them, each with its wing tips as
-/// given.
+/// The first rule by which two stands exclude each other with these types on them, each with its
+/// wing tips as given.
 pub(crate) fn breaks_by_place(
     parts: &AirportParts,
     links: &[StandLinks],
@@ -191,8 +191,8 @@ fn span_of(wing: Wing, row: &TypeRow) -> u32
     }
 }
 
-// The first rule by which two stands exclude each other with aircraft of the spans k and l on them: from the
-// links of both, and from the pair restrictions of the first.
+// The first rule by which two stands exclude each other with aircraft of the spans k and l on them:
+// by the links of both, and the pair restrictions of the first.
 fn first_rule(
     s: StandNo,
     x: &StandLinks,
@@ -225,7 +225,8 @@ fn is_split(s: StandNo, x: &StandLinks, s2: StandNo, y: &StandLinks) -> bool
     is_place(s2.0 as usize, x.whole) || is_place(s.0 as usize, y.whole)
 }
 
-// Whether two stands are on one frontage, and aircraft of the two spans come too near to each other.
+// Whether two stands are on the same frontage, and aircraft of the two spans come too near to each
+// other.
 fn is_near(x: &StandLinks, k: u32, y: &StandLinks, l: u32) -> bool
     ensures is { result ≡ is_near_at x.now k y.now l }
 {
@@ -234,7 +235,8 @@ fn is_near(x: &StandLinks, k: u32, y: &StandLinks, l: u32) -> bool
     is_one_place(x.frontage, y.frontage) && 2 * apart < k as u64 + l as u64 + 2 * clear
 }
 
-// Whether one of a stand's restrictions bars the two spans from it and from the other stand at once.
+// Whether one of a stand's restrictions bars the two spans from it and from the other stand at
+// once.
 fn is_barred_by_any(pairs: &[StandPair], other: StandNo, k: u32, l: u32) -> bool
     ensures is { result ≡ list_any (is_barred other.0 k l) pairs.now }
 {
@@ -256,7 +258,7 @@ fn has_letter_of(least: Letter, span: u32) -> bool
     }
 }
 
-/// The clearance of a wing span in centimetres, 0 where it has no letter.
+/// The clearance of a wing span in centimetres, 0 if it has no letter.
 pub(crate) fn clearance_of(span: u32) -> u64
     ensures is { result ≡ clearance_of_span span }
     ensures small { result < 2 ^ 32 }
@@ -267,7 +269,7 @@ pub(crate) fn clearance_of(span: u32) -> u64
     }
 }
 
-// Whether both were found, at one place.
+// Whether both were found, at the same place.
 fn is_one_place(found: Option<usize>, other: Option<usize>) -> bool
     ensures is { result ≡ is_one_place found other }
 {

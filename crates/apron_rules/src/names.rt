@@ -1,4 +1,4 @@
-// Names and their places, for look-ups in sorted order.
+// Names and their places, for look-ups by sorted order.
 ghost use Rattle.std.specs.Prelude.{◌≡◌, IfOk};
 ghost use Rattle.std.specs.Option.{option_map};
 ghost use Rattle.apron_rules.specs.Names.{place_of, first_repeated};
@@ -12,7 +12,8 @@ use std::alloc::Global;
 use std::collections::BTreeMap;
 use std::marker::Model;
 
-/// Names, each once, that are found in sorted order. Contracts see it as the list of the names.
+/// Names, each once, that are looked up by sorted order. Contracts see them as the list of the
+/// names.
 #[derive(Debug, Drop)]
 pub(crate) struct NameTable {
     names: Vec<Name>,
@@ -31,8 +32,8 @@ impl Model for NameTable {
 }
 
 impl NameTable {
-    /// The table of these names. At `Err` a name is there twice, the first such is named, or memory is
-    /// wanting.
+    /// The table of these names. `Err` gives the first name that occurs twice, or says that there
+    /// is no memory.
     pub(crate) fn of(alloc: Global, names: Vec<Name>) -> Result<NameTable, AirportFault>
         ensures names { IfOk result (λ table. table ≡ names.items) }
         ensures fault { Checks result (option_map DuplicateName (first_repeated names.items)) }
@@ -41,14 +42,14 @@ impl NameTable {
         Ok(NameTable { names, places })
     }
 
-    /// The place of a name, from 0: None exactly where it isn't there.
+    /// The place of a name, from 0: `None` exactly if the table doesn't have it.
     pub(crate) fn place(&self, name: &Name) -> Option<usize>
         ensures place { result ≡ place_of name.now self.now }
     {
         self.places.get(name).copied()
     }
 
-    /// The name, where the table hasn't it.
+    /// The name, if the table doesn't have it.
     pub(crate) fn unless_known(&self, name: &Name) -> Option<Name>
         ensures is { result ≡ unless_known self.now name.now }
     {

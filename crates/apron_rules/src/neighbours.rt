@@ -1,5 +1,5 @@
-// Which stands can exclude each other at all. All rules get stricter with the span, so only the widest type is
-// tried, and only with unfolded wing tips.
+// Which stands can exclude each other at all. All rules get stricter with the span, so only the
+// widest type is tried, and only with unfolded wing tips.
 ghost use Rattle.std.specs.Prelude.{◌≡◌, ◌<◌, ◌≤◌, ◌++◌, ◌∷◌, [], IfOk, IfErr, OnOk, Contains, IsSome, None, length, if◌then◌else◌};
 ghost use Rattle.apron_base.specs.declared.numbers.StandNo.{StandNo};
 ghost use Rattle.apron_base.specs.declared.numbers.TypeNo.{TypeNo};
@@ -88,7 +88,7 @@ fn push_if(
     Ok(())
 }
 
-// The type of the greatest span, the first of them.
+// The first of the types with the greatest span.
 fn widest_of(types: &[TypeRow]) -> TypeNo
     requires some { 0 < length types.now }
     requires few { length types.now ≤ most_types }
@@ -103,8 +103,8 @@ fn widest_of(types: &[TypeRow]) -> TypeNo
     TypeNo(widest as u16)
 }
 
-/// The neighbours of a stand of an airport are all the stands with which some types have a rule, whatever their
-/// wing tips, and no others.
+/// The neighbours of a stand of an airport are all the stands with which some types have a rule,
+/// whatever their wing tips, and no others.
 pub fn neighbours_are_all_that_break()
     ensures all { (airport : AirportParts) (s : StandNo) (t : TypeNo) (w : Wing) (s2 : StandNo) (t2 : TypeNo) (w2 : Wing)
         → fault_of airport ≡ None → IsSome (breaks_with_wings airport s t w s2 t2 w2)

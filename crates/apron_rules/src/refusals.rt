@@ -4,28 +4,28 @@ use apron_base::Name;
 /// Why parts are no airport: the first of these in their order.
 #[derive(Clone, Copy, Debug, PartialEq, Eq)]
 pub enum AirportFault {
-    /// The first frontage, stand or type whose name an earlier one of its kind has.
+    /// The first frontage, stand or type that has the name of an earlier one of its kind.
     DuplicateName(Name),
-    /// The first frontage or stand that a stand or a pair restriction names and that isn't there.
+    /// The first frontage or stand that a stand or a pair restriction names and that doesn't exist.
     UnknownName(Name),
-    /// The first stand that is a half of one that is a half itself, is on another frontage, or has more
-    /// than two halves.
+    /// The first stand that is a half, but of a stand that is a half itself, is on another
+    /// frontage, or has more than two halves.
     BadHalf(Name),
-    /// The first limit that is passed.
+    /// The first limit that is exceeded.
     LimitPassed(Limit),
-    /// The first type of whose span there is no code letter.
+    /// The first type whose span has no code letter.
     BadSpan(Name),
-    /// The first type whose span with folded wing tips is 0 or greater than its wing span, or whose wing tips are
-    /// unfolded for more than 60 minutes.
+    /// The first type whose span with folded wing tips is 0 or greater than its wing span, or whose
+    /// wing tips are unfolded for more than 60 minutes.
     BadFold(Name),
     /// Memory has run out.
     Memory,
 }
 
-/// The limits of an airport, in the order in which they are looked at.
+/// The limits of an airport, in the order in which they are tested.
 #[derive(Clone, Copy, Debug, PartialEq, Eq)]
 pub enum Limit {
-    /// 1 to 14 days.
+    /// 1 to 28 days.
     Days,
     /// 0 to 60 minutes from touchdown to on block.
     TaxiIn,

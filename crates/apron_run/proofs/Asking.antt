@@ -2,7 +2,6 @@
 use Rattle.std.proofs.Common.{◌≡◌, ◌∙◌, ◌≤◌, ◌<◌, ◌+◌, ℕ, true, false, List, [], ◌∷◌, ◌++◌, length, length-append, append-nil, append_assoc, nat_lt, refl, sym, ap, subst, arith, inl, inr, Option, None, Some}
 use Rattle.std.specs.Prelude.{IfSome}
 use Rattle.std.proofs.lemmas.Bool.Decides.{nat_tests}
-use Rattle.apron_base.specs.declared.numbers.VisitNo.{VisitNo}
 use Rattle.apron_base.specs.Counts.{Counts}
 use Rattle.apron_base.specs.Histories.{Every}
 use Rattle.apron_base.specs.Machine.{Standing}
@@ -22,11 +21,11 @@ use Rattle.desk_words.specs.declared.replies.Reply.{Reply}
 use Rattle.history_core.specs.Answer.{ActsAs, IsAccepted, Replies, Sought, added, changes, keeper_fault, no_memory, replied, sought}
 use Rattle.history_core.specs.AtRisk.{IsAskedFor, LeavesAtRisk}
 use Rattle.history_core.specs.History.{IsLegal, replay}
-use Rattle.history_core.specs.Laws.{HasAdded, HasEntry, HasVisit}
-use Rattle.history_core.specs.Steps.{IsSameName, Refusal, Stepped, Steps, accepted, ahead, denied, edit, full, name, refused, repeated}
+use Rattle.history_core.specs.Laws.{HasAdded, HasVisit}
+use Rattle.history_core.specs.Steps.{Stepped, Steps, accepted, ahead, denied, edit, full, name, refused, repeated}
 use Rattle.history_core.proofs.Added.{visits_added}
 use Rattle.history_core.proofs.Legal.{front_legal}
-use Rattle.apron_run.specs.Asking.{Asks, AsksSeason, IsMet, IsMissing, IsThere, Meets, MeetsAll, NoMoreAtRisk, OnlyAtRisk, Reached, Stops, StopsAmong, record_behind}
+use Rattle.apron_run.specs.Asking.{AsksSeason, IsMet, IsMissing, IsThere, Meets, MeetsAll, NoMoreAtRisk, OnlyAtRisk, Reached, Stops, StopsAmong, record_behind}
 use Rattle.apron_run.specs.SecondImport.{AddsNothing, SecondAddsNothing}
 use Rattle.apron_run.specs.declared.imported.Imported.{Imported}
 use Rattle.apron_run.specs.declared.imported.Imported.TheVariants.{Whole, ShelfFault, TooLong, Refused, Full, DiskFault, Spent, Memory}
@@ -35,9 +34,9 @@ use Rattle.apron_run.specs.declared.imported.Imported.TheVariants.{Whole, ShelfF
 abbrev pub asking : NewVisit → Ask
 asking new = record { seen = 0; what = Change (AddVisit new) }
 
--- it is a command at every plan
-pub seeks : (plan : PlanState) (new : NewVisit) → sought plan (asking new) ≡ changes (AddVisit new)
-seeks plan new = let none : nat_lt plan.version 0 ≡ false = grind (arith, nat_tests) in rw none refl
+-- it is a command at every plan and history
+pub seeks : (plan : PlanState) (history : List Entry) (new : NewVisit) → sought plan history (asking new) ≡ changes (AddVisit new)
+seeks plan history new = let none : nat_lt plan.version 0 ≡ false = grind (arith, nat_tests) in rw none refl
 
 -- an ask that was answered took a step, which made the history
 pub record TookStep (airport : AirportParts) (before : List Entry) (call : ℕ) (new : NewVisit) (after : List Entry) : Type 0 where
@@ -54,7 +53,7 @@ replied_step airport before after call new asked reply is replies =
 pub answered_step : (airport : AirportParts) (before after : List Entry) (call : ℕ) (new : NewVisit) (bytes : List ℕ)
     → ActsAs airport before call (asking new) (Replied bytes) after → TookStep airport before call new after
 answered_step airport before after call new bytes (replied reply, is, gives) =
-    replied_step airport before after call new (sought (replay airport before) (asking new)) reply (seeks (replay airport before) new) gives
+    replied_step airport before after call new (sought (replay airport before) before (asking new)) reply (seeks (replay airport before) before new) gives
 answered_step airport before after call new bytes (no_memory, is, gives) = absurd cc
 answered_step airport before after call new bytes (keeper_fault, is, gives) = absurd cc
 
@@ -81,7 +80,7 @@ pub fault_stops : (airport : AirportParts) (number : ℕ) (before after : Reache
     → Counts true before.faults after.faults → LeavesAtRisk (standing_at before) before.next (asking new).what true (standing_at after)
     → Stops airport number before new after DiskFault
 fault_stops airport number before after new (keeper_fault, is, (took, same)) counts risk = (
-  subst (λ (s : Sought). IsAccepted (replay airport before.history) (length before.history) s) (seeks (replay airport before.history) new) took,
+  subst (λ (s : Sought). IsAccepted (replay airport before.history) (length before.history) s) (seeks (replay airport before.history) before.history new) took,
   same,
   counts,
   only_at_risk before after new risk,
@@ -185,12 +184,7 @@ module _ (airport : AirportParts) (before after : Reached) (new : NewVisit) (byt
           at_risk = no_more before after new risk;
         },
       )
-  stops_missing number (Whole added present) few missing = absurd missing
-  stops_missing number ShelfFault few missing = absurd missing
-  stops_missing number TooLong few missing = absurd missing
-  stops_missing number DiskFault few missing = absurd missing
-  stops_missing number Spent few missing = absurd missing
-  stops_missing number Memory few missing = absurd missing
+  stops_missing number imported few missing = absurd missing
 
 module _ (airport : AirportParts) where
   -- one visit more was met
@@ -208,9 +202,7 @@ module _ (airport : AirportParts) where
           → (length before.history ≤ length after.history) × (length after.history ≤ length before.history + 1)
       counts accepted met is = let more : length after.history ≡ length before.history + 1 = ap length is ∙ length-append before.history _ in (omega arith, omega arith)
       counts (repeated entry) met is = let same : length after.history ≡ length before.history = ap length (is ∙ append-nil before.history) in (omega arith, omega arith)
-      counts ahead met is = absurd met
-      counts (refused why) met is = absurd met
-      counts full met is = absurd met
+      counts other met is = absurd met
 
   -- the history has grown
   one_grows : (before after : Reached) (new : NewVisit) → Meets airport before new after → (more : List Entry) × (after.history ≡ before.history ++ more)
@@ -253,9 +245,7 @@ module _ (airport : AirportParts) where
       has (repeated entry) met (visit, (found, same), at) is =
           let there : HasVisit (replay airport before.history).visits visit.added new = (visit, found, (same, refl)) in
           (visit.added, still_added before.history [] after.history visit.added new is ((visits_added airport before.history visit.added new legal).0 there))
-      has ahead met steps is = absurd met
-      has (refused why) met steps is = absurd met
-      has full met steps is = absurd met
+      has other met steps is = absurd met
 
   -- a visit whose entry is in a legal history is there
   is_there : (history : List Entry) (version : ℕ) (new : NewVisit) → IsLegal airport history → HasAdded history version new → IsThere (replay airport history) new
@@ -312,9 +302,7 @@ module _ (airport : AirportParts) where
       let (entry, same) = step_there (replay airport at.history) (length at.history) new accepted there takes in absurd cc
   stops_same number at new after Spent visits there (next, same) = (ap (λ (r : Reached). r.history) same, tt)
   stops_same number at new after Memory visits there (same, faults, risk) = (same, tt)
-  stops_same number at new after (Whole added present) visits there stops = absurd stops
-  stops_same number at new after ShelfFault visits there stops = absurd stops
-  stops_same number at new after TooLong visits there stops = absurd stops
+  stops_same number at new after imported visits there stops = absurd stops
 
   -- what holds of all holds of those in front, and of the one behind them
   in_front : (P : NewVisit → Type 0) (front : List NewVisit) (new : NewVisit) (back : List NewVisit) → Every P (front ++ new ∷ back) → Every P front × P new
@@ -334,13 +322,7 @@ module _ (airport : AirportParts) where
   pub among_season : (visits : List NewVisit) (before after : Reached) (imported : Imported) → StopsAmong airport visits before after imported
       → AsksSeason airport visits before after imported
   among_season visits before after (Whole added present) stops = absurd stops.stops
-  among_season visits before after ShelfFault stops = stops
-  among_season visits before after TooLong stops = stops
-  among_season visits before after (Refused told) stops = stops
-  among_season visits before after (Full told) stops = stops
-  among_season visits before after DiskFault stops = stops
-  among_season visits before after Spent stops = stops
-  among_season visits before after Memory stops = stops
+  among_season visits before after imported stops = stops
 
   -- a second import of visits that are there
   pub second_same : (visits : List NewVisit) (again left : Reached) (imported : Imported) → Every (IsThere (replay airport again.history)) visits

@@ -13,7 +13,7 @@ use Rattle.history_core.specs.AtRisk.{IsAskedFor}
 use Rattle.history_core.specs.History.{call_of}
 use Rattle.history_core.specs.Opening.{next_after}
 use Rattle.desk_http.specs.Alone.{AloneAsks}
-use Rattle.desk_http.specs.Answers.{Sent, SendsFor, at_once, given}
+use Rattle.desk_http.specs.Answers.{Sent, SendsFor, at_once, fed, given}
 use Rattle.desk_http.specs.Ports.{PortState}
 use Rattle.desk_http.specs.Routes.{routed}
 use Rattle.desk_http.specs.Runs.{Runs}
@@ -76,7 +76,9 @@ module _ (airport : AirportParts) where
     risk = inr (inl (ap (λ (port : PortState). port.at_risk) same, ap (λ (port : PortState). port.seen) same));
   }
   after_one before mid (Err reply) (given answer) h = absurd h
+  after_one before mid (Err reply) (fed answer) h = absurd h
   after_one before mid (Ok ask) (at_once sent) h = absurd h
+  after_one before mid (Ok ask) (fed answer) h = absurd h
   after_one before mid (Ok ask) (given answer) asked = record { number = number_one before mid ask answer asked; risk = risk_one before mid ask answer asked }
 
   module _ (rest : List ℕ) where

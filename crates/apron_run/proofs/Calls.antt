@@ -12,7 +12,7 @@ use Rattle.plan_core.specs.PlanState.{PlanState}
 use Rattle.history_core.specs.Answer.{Given, GivesAt, Sought, changes, keeper_fault, no_memory, replied, sought, told, added}
 use Rattle.history_core.specs.History.{IsLegal, replay}
 use Rattle.desk_http.specs.Alone.{AloneAsks, numbers_from}
-use Rattle.desk_http.specs.Answers.{Sent, SendsFor, at_once, given}
+use Rattle.desk_http.specs.Answers.{Sent, SendsFor, at_once, fed, given}
 use Rattle.desk_http.specs.Ports.{CountsGiven, PortState}
 use Rattle.desk_http.specs.Routes.{routed}
 use Rattle.desk_http.specs.Runs.{Runs}
@@ -64,11 +64,13 @@ module _ (airport : AirportParts) where
   pub sent_leaves : (before after : PortState) (asked : Result Ask Early) (sent : Sent) → SendsFor AloneAsks airport before asked sent after → Leaves before after (cond (is_given sent) 1 0)
   sent_leaves before after (Err reply) (at_once sent) (is, same) = leaves_none before after same
   sent_leaves before after (Err reply) (given answer) h = absurd h
+  sent_leaves before after (Err reply) (fed answer) h = absurd h
   sent_leaves before after (Ok ask) (at_once sent) h = absurd h
+  sent_leaves before after (Ok ask) (fed answer) h = absurd h
   sent_leaves before after (Ok ask) (given answer) (turn, here, next, risk, counts) = record {
     first = turn.first;
     begins = subst (λ history. GoesOnFrom history after.seen) here
-        (gives_more (replay airport turn.history) turn.history turn.call (sought (replay airport turn.history) ask) answer after.seen turn.gives);
+        (gives_more (replay airport turn.history) turn.history turn.call (sought (replay airport turn.history) turn.history ask) answer after.seen turn.gives);
     faults = no_fewer answer before.faults after.faults turn.faults;
     legal = λ _. turn.still;
     calls = λ made are.

@@ -1,26 +1,34 @@
 -- What a run ends with where one of its ends failed.
-use Rattle.std.proofs.Common.{◌≡◌, ◌≢◌, ◌≤◌, ◌∙◌, ◌+◌, ℕ, Bool, true, false, List, Option, None, Some, Result, Ok, Err, inl, inr, min, refl, sym, ap, subst, arith}
+use Rattle.std.proofs.Common.{◌≡◌, ◌≤◌, ◌∙◌, ◌+◌, ℕ, Bool, true, false, List, Result, Ok, Err, inl, inr, min, refl, sym, ap, subst, arith}
 use Rattle.apron_base.specs.Counts.{Counts, Rose, last_count}
 use Rattle.apron_base.specs.Ends.{SinkState}
+use Rattle.apron_check.specs.Files.{is_shelf_fault as is_shelf_found}
 use Rattle.apron_check.specs.declared.files.AirportFiles.{AirportFiles}
 use Rattle.apron_check.specs.declared.faults.FilesFault.{FilesFault}
 use Rattle.apron_run.specs.Causes.{FaultsHaveCause, NoFaultIsTold}
+use Rattle.apron_run.specs.Chart.{ChartsNamed}
 use Rattle.apron_run.specs.Check.{TellsFound}
+use Rattle.apron_run.specs.Export.{IsSeason}
 use Rattle.apron_run.specs.Import.{ImportsFound, around}
 use Rattle.apron_base.specs.Shelf.{ShelfState}
+use Rattle.apron_run.specs.Init.{MakesJournal}
 use Rattle.apron_run.specs.Make.{TellsDay}
+use Rattle.apron_run.specs.PlanText.{PrintsText}
 use Rattle.apron_run.specs.Print.{Writes, usage_text}
+use Rattle.apron_run.specs.Propose.{IsProposed}
 use Rattle.apron_run.specs.Run.{DiskCounts, Does, RunsAs, SinkCounts}
 use Rattle.apron_run.specs.Statuses.{code_of, is_disk_fault, is_read_fault, is_shelf_fault, is_write_fault, status_of_fault}
-use Rattle.apron_run.specs.Words.{Asked, desk, init, check, chart, import, export, make, help, version, faulty, uses_disk, uses_shelf, uses_source}
-use Rattle.apron_run.specs.World.{World, outs_of}
+use Rattle.apron_run.specs.TwoFiles.{DoesWithFiles}
+use Rattle.apron_run.specs.Upgrade.{UpgradesJournal}
+use Rattle.apron_run.specs.Words.{Asked, desk, init, check, chart, import, export, propose, upgrade, make, help, version, faulty, uses_disk, uses_shelf, uses_source}
+use Rattle.apron_run.specs.World.{Outs, World, outs_of}
 use Rattle.apron_run.specs.declared.status.Status.{Status}
 use Rattle.apron_run.specs.declared.status.Status.TheVariants.{Done, Usage, ShelfFault, ReadFault, WriteFault, DiskFault, Memory}
-use Rattle.apron_run.proofs.Charting.{CountsChart, Printed, fault_disk, found_as as chart_found, printed}
-use Rattle.apron_run.proofs.Counting.{Lines, fault_read, lines_of}
-use Rattle.apron_run.proofs.Exporting.{found_as as export_found}
+use Rattle.apron_run.proofs.Counting.{Counted, Lines, OfLine, Printed, fault_spares, fault_status, found_counted, lines_of, printed}
 use Rattle.apron_run.proofs.Importing.{CountsImport, met_as as import_met}
-use Rattle.apron_run.proofs.Plain.{CountsAs, inits_as}
+use Rattle.apron_run.proofs.Plain.{makes_counted}
+use Rattle.apron_run.proofs.PlanTexts.{chart_counted, prints_counted}
+use Rattle.apron_run.proofs.Upgrading.{upgrades_counted}
 
 -- the status of a number
 shelf_code : (status : Status) → code_of status ≡ code_of ShelfFault → is_shelf_fault status ≡ true
@@ -59,12 +67,14 @@ not_both flag off on = cc
 found_read : (found : Result AirportFiles FilesFault) (before after : SinkState) (status : Status) → TellsFound found before after status → is_read_fault status ≡ false
 found_read (Ok files) before after status tells = let print : Printed status before after = printed _ before after status tells in print.read
 found_read (Err fault) before after status tells =
-    let lines : Lines status (status_of_fault fault) before after = lines_of _ (status_of_fault fault) before after status tells in ap is_read_fault lines.is ∙ fault_read fault
+    let lines : Lines status (status_of_fault fault) before after = lines_of _ (status_of_fault fault) before after status tells in
+    let says : OfLine (is_shelf_found (Err fault)) (status_of_fault fault) = fault_status fault in
+    ap is_read_fault lines.is ∙ says.read
 
 found_disk : (found : Result AirportFiles FilesFault) (before after : SinkState) (status : Status) → TellsFound found before after status → is_disk_fault status ≡ false
 found_disk (Ok files) before after status tells = let print : Printed status before after = printed _ before after status tells in print.disk
 found_disk (Err fault) before after status tells =
-    let lines : Lines status (status_of_fault fault) before after = lines_of _ (status_of_fault fault) before after status tells in ap is_disk_fault lines.is ∙ fault_disk fault
+    let lines : Lines status (status_of_fault fault) before after = lines_of _ (status_of_fault fault) before after status tells in ap is_disk_fault lines.is ∙ fault_spares fault
 
 import_read : (found : Result AirportFiles FilesFault) (season : List ℕ) (shelf : ShelfState) (before after : World) (status : Status)
     → ImportsFound found season (around shelf before) (around after.shelf after) status → is_read_fault status ≡ false
@@ -96,51 +106,56 @@ usage_speaks : (before after : SinkState) (status : Status) → Writes usage_tex
 usage_speaks before after status tells = line_speaks usage_text Usage before after status (record { shelf = refl; read = refl; disk = refl }) tells
 
 module _ (before after : World) (status : Status) where
+  -- a word that reads no file
+  speaks : (asked : Asked) → uses_shelf asked ≡ false → Does asked before after status → SpeaksOfSink status
+  speaks (make visits) none does = day_speaks visits before.sink after.sink status does
+  speaks help none does = print_speaks _ before.sink after.sink status does
+  speaks version none does = print_speaks _ before.sink after.sink status does
+  speaks faulty none does = usage_speaks before.sink after.sink status does
+  speaks asked none does = absurd cc
+
   -- the word uses the shelf where that fails
   shelf_used : (asked : Asked) → Does asked before after status → is_shelf_fault status ≡ true → uses_shelf asked ≡ true
-  shelf_used (desk airport types) does is = refl
-  shelf_used (init airport types) does is = refl
-  shelf_used (check airport types) does is = refl
-  shelf_used (chart airport types day) does is = refl
-  shelf_used (import airport types season) does is = refl
-  shelf_used (export airport types) does is = refl
-  shelf_used (make visits) does is = let speaks = day_speaks visits before.sink after.sink status does in absurd (not_both (is_shelf_fault status) speaks.shelf is)
-  shelf_used help does is = let speaks = print_speaks _ before.sink after.sink status does in absurd (not_both (is_shelf_fault status) speaks.shelf is)
-  shelf_used version does is = let speaks = print_speaks _ before.sink after.sink status does in absurd (not_both (is_shelf_fault status) speaks.shelf is)
-  shelf_used faulty does is = let speaks = usage_speaks before.sink after.sink status does in absurd (not_both (is_shelf_fault status) speaks.shelf is)
+  shelf_used asked does is = by_use (uses_shelf asked) refl
+    where
+      by_use : (used : Bool) → uses_shelf asked ≡ used → uses_shelf asked ≡ true
+      by_use true used = used
+      by_use false none = let says : SpeaksOfSink status = speaks asked none does in absurd (not_both (is_shelf_fault status) says.shelf is)
+
+  -- a word that does something with two files does not read the source
+  unread : {airport types : List ℕ} {P : Type 0} (OnFiles : AirportFiles → Outs → Outs → Status → Type 0)
+      → ((files : AirportFiles) → OnFiles files (outs_of before) (outs_of after) status → Counted false status (outs_of before) (outs_of after))
+      → DoesWithFiles OnFiles airport types before after status → is_read_fault status ≡ true → P
+  unread OnFiles counted does is =
+      let counts : Counted (is_shelf_found does.found) status (outs_of before) (outs_of after) =
+      found_counted OnFiles (outs_of before) (outs_of after) status counted does.found does.does in
+      absurd (not_both (is_read_fault status) counts.read is)
 
   -- and the source where that does
   source_used : (asked : Asked) → Does asked before after status → is_read_fault status ≡ true → uses_source asked (code_of ReadFault) ≡ true
   source_used (desk airport types) does is = refl
-  source_used (init airport types) does is =
-      let counts : CountsAs does.found status (outs_of before) (outs_of after) = inits_as does.found (outs_of before) (outs_of after) status does.inits in
-      absurd (not_both (is_read_fault status) counts.read is)
+  source_used (init airport types) does is = unread MakesJournal (λ files. makes_counted files (outs_of before) (outs_of after) status) does is
   source_used (check airport types) does is = absurd (not_both (is_read_fault status) (found_read does.found before.sink after.sink status does.tells) is)
-  source_used (chart airport types day) does is =
-      let counts : CountsChart does.found status (outs_of before) (outs_of after) = chart_found does.found day (outs_of before) (outs_of after) status does.charts in
-      absurd (not_both (is_read_fault status) counts.read is)
+  source_used (chart airport types day) does is = unread (ChartsNamed day) (λ files. chart_counted day files (outs_of before) (outs_of after) status) does is
   source_used (import airport types season) does is =
       absurd (not_both (is_read_fault status) (import_read does.found season does.shelf before after status does.imports) is)
-  source_used (export airport types) does is =
-      let counts : CountsChart does.found status (outs_of before) (outs_of after) = export_found does.found (outs_of before) (outs_of after) status does.exports in
-      absurd (not_both (is_read_fault status) counts.read is)
-  source_used (make visits) does is = let speaks = day_speaks visits before.sink after.sink status does in absurd (not_both (is_read_fault status) speaks.read is)
-  source_used help does is = let speaks = print_speaks _ before.sink after.sink status does in absurd (not_both (is_read_fault status) speaks.read is)
-  source_used version does is = let speaks = print_speaks _ before.sink after.sink status does in absurd (not_both (is_read_fault status) speaks.read is)
-  source_used faulty does is = let speaks = usage_speaks before.sink after.sink status does in absurd (not_both (is_read_fault status) speaks.read is)
+  source_used (export airport types) does is = unread (PrintsText IsSeason) (λ files. prints_counted IsSeason files (outs_of before) (outs_of after) status) does is
+  source_used (upgrade airport types) does is = unread UpgradesJournal (λ files. upgrades_counted files (outs_of before) (outs_of after) status) does is
+  source_used (propose airport types name draft) does is =
+      unread (PrintsText (IsProposed name draft)) (λ files. prints_counted (IsProposed name draft) files (outs_of before) (outs_of after) status) does is
+  source_used asked does is = let says : SpeaksOfSink status = speaks asked refl does in absurd (not_both (is_read_fault status) says.read is)
 
   -- and the disk
   disk_used : (asked : Asked) → Does asked before after status → is_disk_fault status ≡ true → uses_disk asked (code_of DiskFault) ≡ true
+  disk_used (check airport types) does is = absurd (not_both (is_disk_fault status) (found_disk does.found before.sink after.sink status does.tells) is)
   disk_used (desk airport types) does is = refl
   disk_used (init airport types) does is = refl
-  disk_used (check airport types) does is = absurd (not_both (is_disk_fault status) (found_disk does.found before.sink after.sink status does.tells) is)
   disk_used (chart airport types day) does is = refl
   disk_used (import airport types season) does is = refl
   disk_used (export airport types) does is = refl
-  disk_used (make visits) does is = let speaks = day_speaks visits before.sink after.sink status does in absurd (not_both (is_disk_fault status) speaks.disk is)
-  disk_used help does is = let speaks = print_speaks _ before.sink after.sink status does in absurd (not_both (is_disk_fault status) speaks.disk is)
-  disk_used version does is = let speaks = print_speaks _ before.sink after.sink status does in absurd (not_both (is_disk_fault status) speaks.disk is)
-  disk_used faulty does is = let speaks = usage_speaks before.sink after.sink status does in absurd (not_both (is_disk_fault status) speaks.disk is)
+  disk_used (upgrade airport types) does is = refl
+  disk_used (propose airport types name draft) does is = refl
+  disk_used asked does is = let says : SpeaksOfSink status = speaks asked refl does in absurd (not_both (is_disk_fault status) says.disk is)
 
 -- the faults that a run tells have their causes
 pub faults_have_cause : (asked : Asked) (before after : World) (code : ℕ) → RunsAs asked before after code → FaultsHaveCause asked before after code

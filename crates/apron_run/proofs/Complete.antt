@@ -1,13 +1,16 @@
 -- Every run is complete.
-use Rattle.std.proofs.Common.{◌≡◌, ◌∙◌, ◌⊎◌, ℕ, inl, inr, ap}
+use Rattle.std.proofs.Common.{◌≡◌, ◌∙◌, ℕ, inl, inr, ap}
 use Rattle.apron_run.specs.Complete.{EndsWell, IsComplete, IsValid, NoneFails}
+use Rattle.apron_run.specs.Export.{IsSeason}
+use Rattle.apron_run.specs.Propose.{IsProposed}
 use Rattle.apron_run.specs.Run.{Does, RunsAs}
 use Rattle.apron_run.specs.Statuses.{code_of}
-use Rattle.apron_run.specs.Words.{Asked, desk, init, check, chart, import, export, make, help, version, faulty}
+use Rattle.apron_run.specs.Words.{Asked, desk, init, check, chart, import, export, propose, upgrade, make, help, version, faulty}
 use Rattle.apron_run.specs.World.{World}
 use Rattle.apron_run.specs.declared.status.Status.{Status}
-use Rattle.apron_run.proofs.Completing.{Well, chart_well, check_well, export_well, import_well, init_well, make_well, print_well}
+use Rattle.apron_run.proofs.Completing.{Well, chart_well, check_well, import_well, init_well, make_well, print_well, prints_well}
 use Rattle.apron_run.proofs.Sessions.{desk_well}
+use Rattle.apron_run.proofs.Upgrading.{upgrade_well}
 
 -- each word
 does_well : (asked : Asked) (before after : World) (status : Status) → IsValid asked before → NoneFails before after → Does asked before after status → Well status
@@ -17,11 +20,15 @@ does_well (init airport types) before after status (made, has, empty) free does 
     init_well made airport types before after status has empty free.shelf free.sink free.disk does
 does_well (check airport types) before after status (made, has, rest) free does = check_well made airport types before after status has free.shelf free.sink does
 does_well (chart airport types day) before after status (made, has, (history, journal, named)) free does =
-    chart_well made history airport types day before after status has journal named free.shelf free.sink free.disk does
+    chart_well made history airport types before after status has journal free.shelf free.sink free.disk day named does
 does_well (import airport types season) before after status (made, has, (history, journal, valid)) free does =
     import_well made history airport types season before after status has journal valid free.shelf free.sink free.disk does
 does_well (export airport types) before after status (made, has, (history, journal, rest)) free does =
-    export_well made history airport types before after status has journal free.shelf free.sink free.disk does
+    prints_well made history airport types before after status has journal free.shelf free.sink free.disk IsSeason does
+does_well (upgrade airport types) before after status (made, has, can) free does =
+    upgrade_well made airport types before after status has can free.shelf free.sink free.disk does
+does_well (propose airport types name draft) before after status (made, has, (history, journal, rest)) free does =
+    prints_well made history airport types before after status has journal free.shelf free.sink free.disk (IsProposed name draft) does
 does_well (make visits) before after status valid free does = make_well visits before.sink after.sink status free.sink does
 does_well help before after status valid free does = print_well _ before.sink after.sink status free.sink does
 does_well version before after status valid free does = print_well _ before.sink after.sink status free.sink does

@@ -1,6 +1,6 @@
 -- How a run ends that is valid and at whose ends nothing fails.
-use Rattle.std.proofs.Common.{◌≡◌, ◌≢◌, ◌∙◌, ◌<◌, ◌≤◌, ◌+◌, ◌⊎◌, ℕ, true, false, List, [], ◌∷◌, ◌++◌, length, length-append, take, Option, None, Some, Result, Ok, Err, inl, inr, refl, sym, ap, subst, arith}
-use Rattle.std.specs.Prelude.{IfSome, IsSome}
+use Rattle.std.proofs.Common.{◌≡◌, ◌≢◌, ◌∙◌, ◌<◌, ◌≤◌, ◌+◌, ◌⊎◌, ℕ, true, List, [], ◌∷◌, length, length-append, Option, None, Some, Result, Ok, Err, inl, inr, refl, sym, ap, subst, arith}
+use Rattle.std.specs.Prelude.{IsSome}
 use Rattle.apron_base.specs.Counts.{Counts, Rose}
 use Rattle.apron_base.specs.Ends.{SinkState}
 use Rattle.apron_base.specs.Shelf.{ShelfState}
@@ -17,24 +17,23 @@ use Rattle.apron_check.specs.declared.files.AirportFiles.{AirportFiles}
 use Rattle.apron_check.specs.declared.faults.FilesFault.{FilesFault}
 use Rattle.apron_check.specs.declared.faults.FilesFault.TheVariants as files
 use Rattle.apron_run.specs.Asking.{AsksSeason, MeetsAll, Reached, Stops, StopsAmong, record_behind}
-use Rattle.apron_run.specs.Chart.{ChartsDay, ChartsFiles, ChartsFound, MeetsChart, TellsChart, day_named}
+use Rattle.apron_run.specs.Chart.{ChartsDay, ChartsFiles, ChartsNamed, IsChart, day_named}
 use Rattle.apron_run.specs.Check.{ChecksFiles, TellsFault, TellsFound}
 use Rattle.apron_run.specs.Complete.{Admits, AdmitsEach, HasFiles, HasJournal, HasSeason, IsEmpty}
-use Rattle.apron_run.specs.Export.{ExportsFiles, ExportsFound, MeetsExport}
-use Rattle.apron_run.specs.Import.{Around, AsksFound, FindsSeason, HasCause as HasSeasonCause, ImportsFiles, ImportsFound, ImportsSeason, IsTooLong, MeetsImport, Stores, Tells, TellsMet, around, begun, most_season}
-use Rattle.apron_run.specs.Imported.{TellsImported, imported_line, status_of_imported}
-use Rattle.apron_run.specs.Init.{InitsFound, InitsJournal, Makes, TellsMade}
-use Rattle.apron_run.specs.Journal.{NotOpened}
+use Rattle.apron_run.specs.Import.{Around, AsksFound, FindsSeason, ImportsFiles, ImportsFound, IsTooLong, MeetsImport, Stores, Tells, TellsMet, around, begun, most_season}
+use Rattle.apron_run.specs.Imported.{TellsImported, imported_line}
+use Rattle.apron_run.specs.Init.{InitsJournal, Makes, MakesJournal, TellsMade}
 use Rattle.apron_run.specs.Make.{TellsDay}
+use Rattle.apron_run.specs.PlanText.{MeetsText, PrintsFiles, PrintsText, TellsText}
 use Rattle.apron_run.specs.Print.{Writes, made_text}
+use Rattle.apron_run.specs.TwoFiles.{DoesFound, DoesWithFiles}
 use Rattle.apron_run.specs.Unusable.{TellsUnusable, status_of_unusable, unusable_line}
-use Rattle.apron_run.specs.World.{DiskSeen, Outs, World, outs_of}
+use Rattle.apron_run.specs.World.{Outs, World, outs_of}
 use Rattle.apron_run.specs.declared.imported.Imported.{Imported}
 use Rattle.apron_run.specs.declared.imported.Imported.TheVariants as how
 use Rattle.apron_run.specs.declared.status.Status.{Status}
 use Rattle.apron_run.specs.declared.status.Status.TheVariants.{Done, Memory, WriteFault}
 use Rattle.apron_run.specs.declared.unusable.Unusable.{Unusable}
-use Rattle.apron_run.specs.declared.unusable.Unusable.TheVariants.{Journal}
 use Rattle.apron_run.proofs.Counting.{Lines, lines_of}
 use Rattle.apron_run.proofs.Importing.{all_faults}
 use Rattle.apron_run.proofs.Valid.{both_told, found_well, opened_once, same_bytes, unopened_wants}
@@ -45,7 +44,7 @@ Well status = (status ≡ Done) ⊎ (status ≡ Memory)
 
 module _ (before after : SinkState) (still : ¬ (Rose before.faults after.faults)) where
   -- a text was written whole
-  printed_well : (text : List ℕ) (status : Status) → Writes text Done WriteFault before after status → Well status
+  pub printed_well : (text : List ℕ) (status : Status) → Writes text Done WriteFault before after status → Well status
   printed_well text status (inl (is, wrote)) = inl is
   printed_well text status (inr (is, (count, wrote))) = let rose = wrote.faults in absurd (still rose.1)
 
@@ -91,6 +90,15 @@ module _ (made : AirportFiles) (before after : ShelfState) (airport types : List
       by_case (inl is) = with_airport (subst Does is does)
       by_case (inr is) = wanting (subst Does is does)
 
+-- where a word does with the airport of the two files what goes well, its run goes well
+module _ (made : AirportFiles) (airport types : List ℕ) (before after : World) (status : Status) (has : HasFiles before.shelf airport types made)
+    (still : ¬ (Rose before.shelf.faults after.shelf.faults)) where
+  pub files_well : (OnFiles : AirportFiles → Outs → Outs → Status → Type 0) → (OnFiles made (outs_of before) (outs_of after) status → Well status)
+      → DoesWithFiles OnFiles airport types before after status → Well status
+  files_well OnFiles well does =
+      goes_well made before.shelf after.shelf airport types has still (λ found. DoesFound OnFiles found (outs_of before) (outs_of after) status) status
+      well (λ told. memory_well before.sink after.sink status told.1) does.found does.finds does.does
+
 -- a run of the word `check`
 pub check_well : (made : AirportFiles) (airport types : List ℕ) (before after : World) (status : Status) → HasFiles before.shelf airport types made
     → ¬ (Rose before.shelf.faults after.shelf.faults) → ¬ (Rose before.sink.faults after.sink.faults) → ChecksFiles airport types before after status → Well status
@@ -107,62 +115,45 @@ module _ (digests : List ℕ) (before after : Outs) (empty : IsEmpty before.disk
   made_well (Some journal.NotEmpty) makes tells =
       let (bytes, none, some) = both_told before.disk.contents (λ bytes. length bytes ≡ 0) (λ bytes. length bytes ≢ 0) empty.told empty.bytes makes.bytes in
       absurd (some none)
-  made_well (Some journal.NotAJournal) makes tells = absurd makes
-  made_well (Some (journal.OtherAirport kept given)) makes tells = absurd makes
-  made_well (Some (journal.BadRecord number)) makes tells = absurd makes
-  made_well (Some journal.Memory) makes tells = absurd makes
+  made_well (Some fault) makes tells = absurd makes
 
 -- a run of the word `init`
 pub init_well : (made : AirportFiles) (airport types : List ℕ) (before after : World) (status : Status) → HasFiles before.shelf airport types made → IsEmpty before.disk
     → ¬ (Rose before.shelf.faults after.shelf.faults) → ¬ (Rose before.sink.faults after.sink.faults) → ¬ (Rose before.disk.faults after.disk.faults)
     → InitsJournal airport types before after status → Well status
-init_well made airport types before after status has empty shelf sink disk inits =
-    goes_well made before.shelf after.shelf airport types has shelf (λ found. InitsFound found (outs_of before) (outs_of after) status) status
+init_well made airport types before after status has empty shelf sink disk =
+    files_well made airport types before after status has shelf MakesJournal
     (λ makes. made_well made.digests (outs_of before) (outs_of after) empty sink disk status makes.refused makes.makes makes.tells)
-    (λ does. memory_well before.sink after.sink status does.1) inits.found inits.finds inits.inits
 
 -- a text is made of a journal
 module _ (made : AirportFiles) (history : List Entry) (before after : Outs) (has : HasJournal made before.disk history) (sink : ¬ (Rose before.sink.faults after.sink.faults))
     (disk : ¬ (Rose before.disk.faults after.disk.faults)) (status : Status) where
-  text_well : (met : Result (Result (List ℕ) Wanting) Unusable) → ((why : Unusable) → met ≡ Err why → NotOpened made before.disk after.disk why)
-      → TellsChart met before.sink after.sink status → Well status
-  text_well (Ok (Ok text)) unopened tells = printed_well before.sink after.sink sink text status tells
-  text_well (Ok (Err wanting)) unopened tells = memory_well before.sink after.sink status tells
-  text_well (Err why) unopened tells =
-      unopened_well why before.sink after.sink status (unopened_wants made before.disk after.disk history has why (unopened why refl) disk) tells
-
-  drawn_unopened : (day : ℕ) (met : Result (Result (List ℕ) Wanting) Unusable) → MeetsChart made day before.disk after.disk met → (why : Unusable) → met ≡ Err why
-      → NotOpened made before.disk after.disk why
-  drawn_unopened day met meets why is = subst (MeetsChart made day before.disk after.disk) is meets
-
-  written_unopened : (met : Result (Result (List ℕ) Wanting) Unusable) → MeetsExport made before.disk after.disk met → (why : Unusable) → met ≡ Err why
-      → NotOpened made before.disk after.disk why
-  written_unopened met meets why is = subst (MeetsExport made before.disk after.disk) is meets
+  text_well : (Answers : AirportParts → List Entry → List ℕ → Type 0) (met : Result (Result (List ℕ) Wanting) Unusable)
+      → MeetsText Answers made before.disk after.disk met → TellsText met before.sink after.sink status → Well status
+  text_well Answers (Ok (Ok text)) meets tells = printed_well before.sink after.sink sink text status tells
+  text_well Answers (Ok (Err wanting)) meets tells = memory_well before.sink after.sink status tells
+  text_well Answers (Err why) meets tells =
+      unopened_well why before.sink after.sink status (unopened_wants made before.disk after.disk history has why meets disk) tells
 
   day_well : (day : Option ℕ) → IsSome day → ChartsDay made day before after status → Well status
   day_well None some charts = absurd cc
-  day_well (Some day) some charts = text_well charts.met (drawn_unopened day charts.met charts.meets) charts.tells
+  day_well (Some day) some charts = text_well (IsChart day) charts.met charts.meets charts.tells
 
--- a run of the word `chart`
-pub chart_well : (made : AirportFiles) (history : List Entry) (airport types day : List ℕ) (before after : World) (status : Status) → HasFiles before.shelf airport types made
-    → HasJournal made before.disk history → IsSome (day_named made.airport day)
-    → ¬ (Rose before.shelf.faults after.shelf.faults) → ¬ (Rose before.sink.faults after.sink.faults) → ¬ (Rose before.disk.faults after.disk.faults)
-    → ChartsFiles airport types day before after status → Well status
-chart_well made history airport types day before after status has journal named shelf sink disk charts =
-    goes_well made before.shelf after.shelf airport types has shelf (λ found. ChartsFound found day (outs_of before) (outs_of after) status) status
-    (λ does. day_well made history (outs_of before) (outs_of after) journal sink disk status (day_named made.airport day) named does)
-    (λ does. memory_well before.sink after.sink status does.1) charts.found charts.finds charts.charts
+-- a run of a word at a journal
+module _ (made : AirportFiles) (history : List Entry) (airport types : List ℕ) (before after : World) (status : Status) (has : HasFiles before.shelf airport types made)
+    (journal : HasJournal made before.disk history) (shelf : ¬ (Rose before.shelf.faults after.shelf.faults)) (sink : ¬ (Rose before.sink.faults after.sink.faults))
+    (disk : ¬ (Rose before.disk.faults after.disk.faults)) where
+  -- of the word `chart`
+  pub chart_well : (day : List ℕ) → IsSome (day_named made.airport day) → ChartsFiles airport types day before after status → Well status
+  chart_well day named =
+      files_well made airport types before after status has shelf (ChartsNamed day)
+      (λ charts. day_well made history (outs_of before) (outs_of after) journal sink disk status (day_named made.airport day) named charts)
 
--- a run of the word `export`
-pub export_well : (made : AirportFiles) (history : List Entry) (airport types : List ℕ) (before after : World) (status : Status) → HasFiles before.shelf airport types made
-    → HasJournal made before.disk history
-    → ¬ (Rose before.shelf.faults after.shelf.faults) → ¬ (Rose before.sink.faults after.sink.faults) → ¬ (Rose before.disk.faults after.disk.faults)
-    → ExportsFiles airport types before after status → Well status
-export_well made history airport types before after status has journal shelf sink disk exports =
-    goes_well made before.shelf after.shelf airport types has shelf (λ found. ExportsFound found (outs_of before) (outs_of after) status) status
-    (λ does. text_well made history (outs_of before) (outs_of after) journal sink disk status does.met
-    (written_unopened made history (outs_of before) (outs_of after) journal sink disk status does.met does.meets) does.tells)
-    (λ does. memory_well before.sink after.sink status does.1) exports.found exports.finds exports.exports
+  -- of each other that prints a text of the plan
+  pub prints_well : (Answers : AirportParts → List Entry → List ℕ → Type 0) → PrintsFiles Answers airport types before after status → Well status
+  prints_well Answers =
+      files_well made airport types before after status has shelf (PrintsText Answers)
+      (λ prints. text_well made history (outs_of before) (outs_of after) journal sink disk status Answers prints.met prints.meets prints.tells)
 
 -- a run of the word `make`
 pub make_well : (visits : ℕ) (before after : SinkState) (status : Status) → ¬ (Rose before.faults after.faults) → TellsDay visits before after status → Well status
@@ -194,9 +185,7 @@ module _ (airport : AirportParts) (visits : List NewVisit) (before after : Reach
           let all : length visits ≡ length stops.front + length (stops.new ∷ stops.back) = ap length stops.are ∙ length-append stops.front (stops.new ∷ stops.back) in
           absurd (omega arith)
       well how.Memory stops = refl
-      well (how.Whole added present) stops = absurd stops
-      well how.ShelfFault stops = absurd stops
-      well how.TooLong stops = absurd stops
+      well other stops = absurd stops
 
   -- so all were asked, or that is told
   asked_well : (imported : Imported) (sink now : SinkState) (status : Status) → AsksSeason airport visits before after imported → ¬ (Rose sink.faults now.faults)

@@ -1,36 +1,32 @@
--- What a run of the word `desk` counts at each end.
+-- What a run counts at each end, by the status that it ends with.
 use Rattle.std.proofs.Common.{◌≡◌, ◌≤◌, ◌∙◌, ℕ, List, Bool, true, false, inl, inr, refl, sym, ap, subst, arith, Result, Ok, Err}
 use Rattle.apron_base.specs.Counts.{Counts}
 use Rattle.apron_base.specs.Ends.{SinkState}
-use Rattle.apron_base.specs.declared.outside.Outcome.{Outcome}
-use Rattle.apron_base.specs.declared.outside.Outcome.TheVariants as came
-use Rattle.desk_http.specs.Session.{is_read_fault as is_read_outcome, is_write_fault as is_write_outcome}
 use Rattle.journal_disk.specs.declared.fault.JournalFault.TheVariants as journal
 use Rattle.history_core.specs.declared.opening.OpenFault.TheVariants as entries
 use Rattle.apron_check.specs.Files.{is_shelf_fault as is_shelf_found}
+use Rattle.apron_check.specs.Lines.{fault_line}
 use Rattle.apron_check.specs.declared.files.AirportFiles.{AirportFiles}
 use Rattle.apron_check.specs.declared.faults.FilesFault.{FilesFault}
 use Rattle.apron_check.specs.declared.faults.FilesFault.TheVariants as files
 use Rattle.apron_run.specs.Check.{TellsFault}
-use Rattle.apron_run.specs.Desk.{FindsNoJournal, MeetsDesk, RunsDesk, RunsFound, ServedCounts, ServesDesk, TellsMet, TellsOutcome}
-use Rattle.apron_run.specs.Run.{RunsAs, SinkCounts}
+use Rattle.apron_run.specs.Desk.{ServedCounts}
+use Rattle.apron_run.specs.Journal.{WhyUnusable}
 use Rattle.apron_run.specs.Print.{Writes}
-use Rattle.apron_run.specs.Statuses.{code_of, is_read_fault, is_shelf_fault, is_told, status_of_fault, status_of_outcome}
+use Rattle.apron_run.specs.Run.{DiskCounts, Does, RunsAs, SinkCounts}
+use Rattle.apron_run.specs.Statuses.{code_of, is_disk_fault, is_read_fault, is_shelf_fault, is_told, status_of_fault}
+use Rattle.apron_run.specs.TwoFiles.{DoesFound, DoesWithFiles}
 use Rattle.apron_run.specs.Unusable.{TellsUnusable, status_of_unusable, unusable_line}
-use Rattle.apron_run.specs.Words.{desk as desk_asked}
-use Rattle.apron_run.specs.World.{Ends, World, ends_of}
+use Rattle.apron_run.specs.Words.{Asked}
+use Rattle.apron_run.specs.World.{DiskSeen, Outs, World, outs_of}
 use Rattle.apron_run.specs.declared.status.Status.{Status}
-use Rattle.apron_run.specs.declared.status.Status.TheVariants.{Memory}
+use Rattle.apron_run.specs.declared.status.Status.TheVariants.{Done, WriteFault}
 use Rattle.apron_run.specs.declared.unusable.Unusable.{Unusable}
 use Rattle.apron_run.specs.declared.unusable.Unusable.TheVariants.{Journal, Entries}
-use Rattle.apron_run.proofs.Serving.{session_counts, unusable_counts}
 
--- what is counted at each end, by the status
-record CountsAs (found : Result AirportFiles FilesFault) (status : Status) (before after : Ends) : Type 0 where
-  pub shelf : is_shelf_fault status ≡ is_shelf_found found
-  pub source : Counts (is_read_fault status) before.source.faults after.source.faults
-  pub sink : SinkCounts status before.sink.faults after.sink.faults
-  pub disk : ServedCounts status before.disk.faults after.disk.faults
+-- what stands still where the status doesn't speak of it
+pub still : (failed : Bool) (before now : ℕ) → failed ≡ false → now ≡ before → Counts failed before now
+still failed before now none same = subst (λ (b : Bool). Counts b before now) (sym none) same
 
 -- a line that was written with its status, whole or a front of it: its status is that, and the sink's count doesn't fall
 pub record Lines (status of : Status) (before after : SinkState) : Type 0 where
@@ -45,194 +41,137 @@ lines_of text of before after status (inr (is, (count, wrote))) = record { is = 
 pub told_sink : (status of : Status) (before after : SinkState) → is_told of ≡ true → Lines status of before after → SinkCounts status before.faults after.faults
 told_sink status of before after told lines = let is : is_told status ≡ true = ap is_told lines.is ∙ told in rw is lines.least
 
--- what an outcome's status tells of each end
-reads_so : (outcome : Outcome) → is_read_fault (status_of_outcome outcome) ≡ is_read_outcome outcome
-reads_so came.Ended = refl
-reads_so came.Closed = refl
-reads_so came.Cut = refl
-reads_so came.Malformed = refl
-reads_so came.Limit = refl
-reads_so came.ReadFault = refl
-reads_so came.WriteFault = refl
-reads_so came.Spent = refl
-reads_so came.Memory = refl
+-- a status that a line tells: it says nothing of the source, and of the shelf whether it failed
+pub record OfLine (failed : Bool) (of : Status) : Type 0 where
+  pub told : is_told of ≡ true
+  pub shelf : is_shelf_fault of ≡ failed
+  pub read : is_read_fault of ≡ false
 
-no_shelf : (outcome : Outcome) → is_shelf_fault (status_of_outcome outcome) ≡ false
-no_shelf came.Ended = refl
-no_shelf came.Closed = refl
-no_shelf came.Cut = refl
-no_shelf came.Malformed = refl
-no_shelf came.Limit = refl
-no_shelf came.ReadFault = refl
-no_shelf came.WriteFault = refl
-no_shelf came.Spent = refl
-no_shelf came.Memory = refl
+-- that of a journal that can't be worked on
+pub unusable_status : (why : Unusable) → OfLine false (status_of_unusable why)
+unusable_status (Journal journal.DiskFault) = record { told = refl; shelf = refl; read = refl }
+unusable_status (Journal fault) = record { told = refl; shelf = refl; read = refl }
+unusable_status (Entries entries.Memory) = record { told = refl; shelf = refl; read = refl }
+unusable_status (Entries fault) = record { told = refl; shelf = refl; read = refl }
 
--- the sink behind a session, of which this was told
-record Behind (outcome : Outcome) (status : Status) (before after : SinkState) : Type 0 where
-  pub is : status ≡ status_of_outcome outcome
-  pub sink : SinkCounts status before.faults after.faults
+-- that of a fault of the files
+pub fault_status : (fault : FilesFault) → OfLine (is_shelf_found (Err fault)) (status_of_fault fault)
+fault_status files.ShelfFault = record { told = refl; shelf = refl; read = refl }
+fault_status fault = record { told = refl; shelf = refl; read = refl }
 
-silent : (outcome : Outcome) (status : Status) (before mid after : SinkState) → SinkCounts (status_of_outcome outcome) before.faults mid.faults
-    → (after ≡ mid) × (status ≡ status_of_outcome outcome) → Behind outcome status before after
-silent outcome status before mid after counts (same, is) = record {
-  is = is;
-  sink = subst (λ (s : Status). SinkCounts s before.faults after.faults) (sym is)
-      (subst (λ (s : SinkState). SinkCounts (status_of_outcome outcome) before.faults s.faults) (sym same) counts);
-}
-
-behind : (outcome : Outcome) (status : Status) (before mid after : SinkState) → Counts (is_write_outcome outcome) before.faults mid.faults → TellsOutcome outcome mid after status
-    → Behind outcome status before after
-behind came.Memory status before mid after counts tells =
-    let lines : Lines status Memory mid after = lines_of _ Memory mid after status tells in
-    let all : Lines status Memory before after =
-    record { is = lines.is; least = let same : mid.faults ≡ before.faults = counts in let more : mid.faults ≤ after.faults = lines.least in omega arith } in
-    record { is = lines.is; sink = told_sink status Memory before after refl all }
-behind came.Ended status before mid after counts tells = silent came.Ended status before mid after counts tells
-behind came.Closed status before mid after counts tells = silent came.Closed status before mid after counts tells
-behind came.Cut status before mid after counts tells = silent came.Cut status before mid after counts tells
-behind came.Malformed status before mid after counts tells = silent came.Malformed status before mid after counts tells
-behind came.Limit status before mid after counts tells = silent came.Limit status before mid after counts tells
-behind came.ReadFault status before mid after counts tells = silent came.ReadFault status before mid after counts tells
-behind came.WriteFault status before mid after counts tells = silent came.WriteFault status before mid after counts tells
-behind came.Spent status before mid after counts tells = silent came.Spent status before mid after counts tells
-
--- a session
-session_as : (files : AirportFiles) (before after : Ends) (mid : SinkState) (outcome : Outcome) (status : Status)
-    → ServesDesk files before (record { source = after.source; sink = mid; disk = after.disk }) outcome → TellsOutcome outcome mid after.sink status
-    → CountsAs (Ok files) status before after
-session_as files before after mid outcome status serves tells =
-    let session = serves.session in
-    let took = session.took in
-    let wrote = session.wrote in
-    let told : Behind outcome status before.sink after.sink = behind outcome status before.sink mid after.sink wrote.faults tells in
-    record {
-      shelf = ap is_shelf_fault told.is ∙ no_shelf outcome;
-      source = subst (λ (b : Bool). Counts b before.source.faults after.source.faults) (sym (ap is_read_fault told.is ∙ reads_so outcome)) took.faults;
-      sink = told.sink;
-      disk = session_counts files before (record { source = after.source; sink = mid; disk = after.disk }) outcome status serves told.is;
-    }
-
--- the status of a journal that can't be worked on is told by its line, and says nothing of the shelf and the source
-pub unusable_told : (why : Unusable) → is_told (status_of_unusable why) ≡ true
-unusable_told (Journal journal.DiskFault) = refl
-unusable_told (Journal journal.NotEmpty) = refl
-unusable_told (Journal journal.NotAJournal) = refl
-unusable_told (Journal (journal.OtherAirport kept given)) = refl
-unusable_told (Journal (journal.BadRecord number)) = refl
-unusable_told (Journal journal.Memory) = refl
-unusable_told (Entries (entries.BadEntry number)) = refl
-unusable_told (Entries (entries.WrongEntry number)) = refl
-unusable_told (Entries entries.Memory) = refl
-
+-- what they say of the shelf, and of the disk, alone and after a session
 pub unusable_shelf : (why : Unusable) → is_shelf_fault (status_of_unusable why) ≡ false
-unusable_shelf (Journal journal.DiskFault) = refl
-unusable_shelf (Journal journal.NotEmpty) = refl
-unusable_shelf (Journal journal.NotAJournal) = refl
-unusable_shelf (Journal (journal.OtherAirport kept given)) = refl
-unusable_shelf (Journal (journal.BadRecord number)) = refl
-unusable_shelf (Journal journal.Memory) = refl
-unusable_shelf (Entries (entries.BadEntry number)) = refl
-unusable_shelf (Entries (entries.WrongEntry number)) = refl
-unusable_shelf (Entries entries.Memory) = refl
-
-pub unusable_read : (why : Unusable) → is_read_fault (status_of_unusable why) ≡ false
-unusable_read (Journal journal.DiskFault) = refl
-unusable_read (Journal journal.NotEmpty) = refl
-unusable_read (Journal journal.NotAJournal) = refl
-unusable_read (Journal (journal.OtherAirport kept given)) = refl
-unusable_read (Journal (journal.BadRecord number)) = refl
-unusable_read (Journal journal.Memory) = refl
-unusable_read (Entries (entries.BadEntry number)) = refl
-unusable_read (Entries (entries.WrongEntry number)) = refl
-unusable_read (Entries entries.Memory) = refl
-
--- what stands still where the status doesn't speak of it
-pub still : (failed : Bool) (before now : ℕ) → failed ≡ false → now ≡ before → Counts failed before now
-still failed before now none same = subst (λ (b : Bool). Counts b before now) (sym none) same
-
--- no journal
-unusable_as : (files : AirportFiles) (before after : Ends) (mid : SinkState) (why : Unusable) (status : Status)
-    → FindsNoJournal files before (record { source = after.source; sink = mid; disk = after.disk }) why → TellsUnusable why mid after.sink status
-    → CountsAs (Ok files) status before after
-unusable_as files before after mid why status finds tells =
-    let lines : Lines status (status_of_unusable why) mid after.sink = lines_of (unusable_line why) (status_of_unusable why) mid after.sink status tells in
-    let all : Lines status (status_of_unusable why) before.sink after.sink = record {
-      is = lines.is;
-      least = subst (λ (s : SinkState). s.faults ≤ after.sink.faults) finds.sink lines.least;
-    } in
-    record {
-      shelf = ap is_shelf_fault lines.is ∙ unusable_shelf why;
-      source = still (is_read_fault status) before.source.faults after.source.faults (ap is_read_fault lines.is ∙ unusable_read why) (ap (λ s. s.faults) finds.source);
-      sink = told_sink status (status_of_unusable why) before.sink after.sink (unusable_told why) all;
-      disk = unusable_counts files before (record { source = after.source; sink = mid; disk = after.disk }) why status finds lines.is;
-    }
-
--- a fault of the files
-pub fault_told : (fault : FilesFault) → is_told (status_of_fault fault) ≡ true
-fault_told (files.Faulty fault) = refl
-fault_told files.AirportTooLong = refl
-fault_told files.TypesTooLong = refl
-fault_told files.ShelfFault = refl
-fault_told files.Memory = refl
-
-pub fault_read : (fault : FilesFault) → is_read_fault (status_of_fault fault) ≡ false
-fault_read (files.Faulty fault) = refl
-fault_read files.AirportTooLong = refl
-fault_read files.TypesTooLong = refl
-fault_read files.ShelfFault = refl
-fault_read files.Memory = refl
+unusable_shelf why = let says : OfLine false (status_of_unusable why) = unusable_status why in says.shelf
 
 pub fault_shelf : (fault : FilesFault) → is_shelf_fault (status_of_fault fault) ≡ is_shelf_found (Err fault)
-fault_shelf (files.Faulty fault) = refl
-fault_shelf files.AirportTooLong = refl
-fault_shelf files.TypesTooLong = refl
-fault_shelf files.ShelfFault = refl
-fault_shelf files.Memory = refl
+fault_shelf fault = let says : OfLine (is_shelf_found (Err fault)) (status_of_fault fault) = fault_status fault in says.shelf
+
+pub fault_spares : (fault : FilesFault) → is_disk_fault (status_of_fault fault) ≡ false
+fault_spares files.ShelfFault = refl
+fault_spares fault = refl
 
 pub fault_disk : (fault : FilesFault) (before now : ℕ) → now ≡ before → ServedCounts (status_of_fault fault) before now
-fault_disk (files.Faulty fault) before now same = same
-fault_disk files.AirportTooLong before now same = same
-fault_disk files.TypesTooLong before now same = same
-fault_disk files.ShelfFault before now same = same
 fault_disk files.Memory before now same = omega arith
+fault_disk fault before now same = same
 
-fault_as : (fault : FilesFault) (before after : Ends) (status : Status) → after.source ≡ before.source → after.disk ≡ before.disk → TellsFault fault before.sink after.sink status
-    → CountsAs (Err fault) status before after
-fault_as fault before after status source disk tells =
-    let lines : Lines status (status_of_fault fault) before.sink after.sink = lines_of _ (status_of_fault fault) before.sink after.sink status tells in
-    record {
-      shelf = ap is_shelf_fault lines.is ∙ fault_shelf fault;
-      source = still (is_read_fault status) before.source.faults after.source.faults (ap is_read_fault lines.is ∙ fault_read fault) (ap (λ s. s.faults) source);
-      sink = told_sink status (status_of_fault fault) before.sink after.sink (fault_told fault) lines;
-      disk = subst (λ (s : Status). ServedCounts s before.disk.faults after.disk.faults) (sym lines.is)
-          (fault_disk fault before.disk.faults after.disk.faults (ap (λ d. d.faults) disk));
-    }
+-- a text that was written, or a front of it: its status speaks of the sink alone
+pub record Printed (status : Status) (before after : SinkState) : Type 0 where
+  pub shelf : is_shelf_fault status ≡ false
+  pub read : is_read_fault status ≡ false
+  pub disk : is_disk_fault status ≡ false
+  pub sink : SinkCounts status before.faults after.faults
 
--- what was met
-met_as : (files : AirportFiles) (before after : Ends) (mid : SinkState) (met : Result Outcome Unusable) (status : Status)
-    → MeetsDesk files before (record { source = after.source; sink = mid; disk = after.disk }) met → TellsMet met mid after.sink status
-    → CountsAs (Ok files) status before after
-met_as files before after mid (Ok outcome) status meets tells = session_as files before after mid outcome status meets tells
-met_as files before after mid (Err why) status meets tells = unusable_as files before after mid why status meets tells
+printed_with : (status of : Status) (before after : SinkState) → status ≡ of → Printed of before after → Printed status before after
+printed_with status of before after is print = subst (λ (s : Status). Printed s before after) (sym is) print
 
--- what was found in the files
-found_as : (found : Result AirportFiles FilesFault) (before after : Ends) (status : Status) → RunsFound found before after status → CountsAs found status before after
-found_as (Ok files) before after status runs = met_as files before after runs.sink runs.met status runs.meets runs.tells
-found_as (Err fault) before after status (source, disk, tells) = fault_as fault before after status source disk tells
+pub printed : (text : List ℕ) (before after : SinkState) (status : Status) → Writes text Done WriteFault before after status → Printed status before after
+printed text before after status (inl (is, wrote)) =
+    printed_with status Done before after is (record { shelf = refl; read = refl; disk = refl; sink = wrote.faults })
+printed text before after status (inr (is, (count, wrote))) =
+    printed_with status WriteFault before after is (record { shelf = refl; read = refl; disk = refl; sink = wrote.faults })
 
--- a run of the word
-pub desk_as : (airport types : List ℕ) (before after : World) (status : Status) → RunsDesk airport types before after status
-    → RunsAs (desk_asked airport types) before after (code_of status)
-desk_as airport types before after status runs =
-    let counts : CountsAs runs.found status (ends_of before) (ends_of after) = found_as runs.found (ends_of before) (ends_of after) status runs.runs in
-    let finds = runs.finds in
-    record {
-      status = status;
-      code_is = refl;
-      does = runs;
-      shelf = subst (λ (b : Bool). Counts b before.shelf.faults after.shelf.faults) (sym counts.shelf) finds.counts;
-      source = counts.source;
-      sink = counts.sink;
-      disk = counts.disk;
-    }
+-- what is counted where the source is not used, by the status: of the shelf it says whether it failed
+pub record Counted (failed : Bool) (status : Status) (before after : Outs) : Type 0 where
+  pub shelf : is_shelf_fault status ≡ failed
+  pub read : is_read_fault status ≡ false
+  pub sink : SinkCounts status before.sink.faults after.sink.faults
+  pub disk : Counts (is_disk_fault status) before.disk.faults after.disk.faults
+
+module _ (before after : Outs) (status : Status) where
+  -- a text that was written, of a disk of which no call has failed
+  pub text_counted : (text : List ℕ) → Counts false before.disk.faults after.disk.faults → Writes text Done WriteFault before.sink after.sink status
+      → Counted false status before after
+  text_counted text counts tells =
+      let print : Printed status before.sink after.sink = printed text before.sink after.sink status tells in
+      record {
+        shelf = print.shelf;
+        read = print.read;
+        sink = print.sink;
+        disk = still (is_disk_fault status) before.disk.faults after.disk.faults print.disk counts;
+      }
+
+  -- a line that was written with its status
+  pub line_counted : (text : List ℕ) (of : Status) (failed : Bool) → OfLine failed of → Counts (is_disk_fault of) before.disk.faults after.disk.faults
+      → Writes text of of before.sink after.sink status → Counted failed status before after
+  line_counted text of failed says counts tells =
+      let lines : Lines status of before.sink after.sink = lines_of text of before.sink after.sink status tells in
+      record {
+        shelf = ap is_shelf_fault lines.is ∙ says.shelf;
+        read = ap is_read_fault lines.is ∙ says.read;
+        sink = told_sink status of before.sink after.sink says.told lines;
+        disk = subst (λ (s : Status). Counts (is_disk_fault s) before.disk.faults after.disk.faults) (sym lines.is) counts;
+      }
+
+  -- the line of a journal that can't be worked on
+  pub unusable_counted : (why : Unusable) → Counts (is_disk_fault (status_of_unusable why)) before.disk.faults after.disk.faults
+      → TellsUnusable why before.sink after.sink status → Counted false status before after
+  unusable_counted why counts tells = line_counted (unusable_line why) (status_of_unusable why) false (unusable_status why) counts tells
+
+  -- the line of a fault of the files
+  pub fault_counted : (fault : FilesFault) → after.disk.faults ≡ before.disk.faults → TellsFault fault before.sink after.sink status
+      → Counted (is_shelf_found (Err fault)) status before after
+  fault_counted fault same tells =
+      line_counted (fault_line fault) (status_of_fault fault) (is_shelf_found (Err fault)) (fault_status fault)
+      (still (is_disk_fault (status_of_fault fault)) before.disk.faults after.disk.faults (fault_spares fault) same) tells
+
+-- the disk where there is no journal to work on
+pub why_disk : (files : AirportFiles) (before after : DiskSeen) (why : Unusable) → WhyUnusable files before after why
+    → Counts (is_disk_fault (status_of_unusable why)) before.faults after.faults
+why_disk files before after (Journal journal.DiskFault) fails = fails
+why_disk files before after (Journal journal.NotEmpty) fails = absurd fails
+why_disk files before after (Journal fault) (counts, told) = counts
+why_disk files before after (Entries entries.Memory) (found, vain, why) = vain.counts
+why_disk files before after (Entries fault) (found, vain, why) = vain.counts
+
+-- a run that is counted so
+pub runs_counted : (asked : Asked) (failed : Bool) (before after : World) (status : Status) → after.source ≡ before.source
+    → Counts failed before.shelf.faults after.shelf.faults → Counted failed status (outs_of before) (outs_of after) → Does asked before after status
+    → DiskCounts asked status before.disk.faults after.disk.faults → RunsAs asked before after (code_of status)
+runs_counted asked failed before after status source shelf counted does disk = record {
+  status = status;
+  code_is = refl;
+  does = does;
+  shelf = subst (λ (b : Bool). Counts b before.shelf.faults after.shelf.faults) (sym counted.shelf) shelf;
+  source = still (is_read_fault status) before.source.faults after.source.faults counted.read (ap (λ s. s.faults) source);
+  sink = counted.sink;
+  disk = disk;
+}
+
+module _ (OnFiles : AirportFiles → Outs → Outs → Status → Type 0) where
+  -- what is done with what was found in two files
+  pub found_counted : (before after : Outs) (status : Status) → ((files : AirportFiles) → OnFiles files before after status → Counted false status before after)
+      → (found : Result AirportFiles FilesFault) → DoesFound OnFiles found before after status → Counted (is_shelf_found found) status before after
+  found_counted before after status counted (Ok files) does = counted files does
+  found_counted before after status counted (Err fault) (disk, tells) = fault_counted before after status fault (ap (λ (d : DiskSeen). d.faults) disk) tells
+
+  -- a run of a word that does so
+  pub files_as : (asked : Asked) (airport types : List ℕ) (before after : World) (status : Status)
+      → ((files : AirportFiles) → OnFiles files (outs_of before) (outs_of after) status → Counted false status (outs_of before) (outs_of after))
+      → (DoesWithFiles OnFiles airport types before after status → Does asked before after status)
+      → (Counts (is_disk_fault status) before.disk.faults after.disk.faults → DiskCounts asked status before.disk.faults after.disk.faults)
+      → after.source ≡ before.source → DoesWithFiles OnFiles airport types before after status → RunsAs asked before after (code_of status)
+  files_as asked airport types before after status counted does disk source with_files =
+      let finds = with_files.finds in
+      let counts : Counted (is_shelf_found with_files.found) status (outs_of before) (outs_of after) =
+      found_counted (outs_of before) (outs_of after) status counted with_files.found with_files.does in
+      runs_counted asked (is_shelf_found with_files.found) before after status source finds.counts counts (does with_files) (disk counts.disk)

@@ -1,9 +1,9 @@
 -- What a crash leaves of a run, by its word.
-use Rattle.std.proofs.Common.{◌≡◌, ℕ, Bool, true, false, refl}
+use Rattle.std.proofs.Common.{◌≡◌, ℕ, Bool, true, false, subst}
 use Rattle.apron_run.specs.Crash.{CrashesAs, LeavesAll}
 use Rattle.apron_run.specs.Run.{RunsAs}
 use Rattle.apron_run.specs.Survival.{DiskStates}
-use Rattle.apron_run.specs.Words.{Asked, desk, init, check, chart, import, export, make, help, version, faulty}
+use Rattle.apron_run.specs.Words.{Asked, desk, init, import, upgrade}
 use Rattle.apron_run.specs.World.{World}
 
 -- whether a word may write on the disk
@@ -11,6 +11,7 @@ abbrev pub may_write : Asked → Bool
 may_write (desk airport types) = true
 may_write (init airport types) = true
 may_write (import airport types season) = true
+may_write (upgrade airport types) = true
 may_write asked = false
 
 -- a run of a word that writes nothing there
@@ -19,14 +20,13 @@ pub unwritten : (disk : DiskStates) (asked : Asked) (before after : World) (code
 unwritten disk (desk airport types) before after code is runs stays = absurd cc
 unwritten disk (init airport types) before after code is runs stays = absurd cc
 unwritten disk (import airport types season) before after code is runs stays = absurd cc
-unwritten disk (check airport types) before after code is runs stays =
-    record { status = runs.status; code_is = runs.code_is; does = runs.does; leaves = stays }
-unwritten disk (chart airport types day) before after code is runs stays =
-    record { status = runs.status; code_is = runs.code_is; does = runs.does; leaves = stays }
-unwritten disk (export airport types) before after code is runs stays =
-    record { status = runs.status; code_is = runs.code_is; does = runs.does; leaves = stays }
-unwritten disk (make visits) before after code is runs stays =
-    record { status = runs.status; code_is = runs.code_is; does = runs.does; leaves = stays }
-unwritten disk help before after code is runs stays = record { status = runs.status; code_is = runs.code_is; does = runs.does; leaves = stays }
-unwritten disk version before after code is runs stays = record { status = runs.status; code_is = runs.code_is; does = runs.does; leaves = stays }
-unwritten disk faulty before after code is runs stays = record { status = runs.status; code_is = runs.code_is; does = runs.does; leaves = stays }
+unwritten disk (upgrade airport types) before after code is runs stays = absurd cc
+unwritten disk asked before after code is runs stays = record { status = runs.status; code_is = runs.code_is; does = runs.does; leaves = stays }
+
+-- what is asked by other words
+pub asked_runs : {asked words : Asked} {before after : World} {code : ℕ} → asked ≡ words → RunsAs asked before after code → RunsAs words before after code
+asked_runs {asked} {words} {before} {after} {code} is runs = subst (λ (a : Asked). RunsAs a before after code) is runs
+
+pub asked_crashes : {disk : DiskStates} {asked words : Asked} {before after : World} {code : ℕ} → asked ≡ words → CrashesAs disk asked before after code
+    → CrashesAs disk words before after code
+asked_crashes {disk} {asked} {words} {before} {after} {code} is crashes = subst (λ (a : Asked). CrashesAs disk a before after code) is crashes

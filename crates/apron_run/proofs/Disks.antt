@@ -47,7 +47,4 @@ is_refused digests before after journal.DiskFault fails spares = record {
 }
 is_refused digests before after journal.NotEmpty (told, stays, counts) spares =
     record { bytes = if_told before.contents (λ bytes. length bytes ≢ 0) told; reads = stays.contents; counts = counts }
-is_refused digests before after journal.NotAJournal fails spares = absurd fails
-is_refused digests before after (journal.OtherAirport kept given) fails spares = absurd fails
-is_refused digests before after (journal.BadRecord number) fails spares = absurd fails
-is_refused digests before after journal.Memory fails spares = absurd fails
+is_refused digests before after fault fails spares = absurd fails

@@ -57,15 +57,19 @@ pub record AreAlike (one other : PortState) : Type 0 where
   pub calls : one.calls ≡ other.calls
   pub faults : one.faults ≡ other.faults
 
--- a port is like itself
-same_alike : (one other : PortState) → other ≡ one → AreAlike one other
-same_alike one other same = record {
+-- a port is like what it is when it is exhausted
+exhausted_alike : (one other : PortState) → IsExhausted one other → AreAlike one other
+exhausted_alike one other same = record {
   first = sym (ap (λ (port : PortState). port.first) same);
   seen = sym (ap (λ (port : PortState). port.seen) same);
   at_risk = sym (ap (λ (port : PortState). port.at_risk) same);
   calls = sym (ap (λ (port : PortState). port.calls) same);
   faults = sym (ap (λ (port : PortState). port.faults) same);
 }
+
+-- and like itself
+same_alike : (one other : PortState) → other ≡ one → AreAlike one other
+same_alike one other same = subst (AreAlike one) (sym same) (record { first = refl; seen = refl; at_risk = refl; calls = refl; faults = refl })
 
 -- what a session that began with this port answered of its input, how it stopped, and the port after it
 pub record Meets (airport : AirportParts) (start : PortState) (carried : Carried) (status : Status) (after : PortState) : Type 0 where
@@ -173,14 +177,7 @@ module _ (airport : AirportParts) (start : PortState) (input taken more : List �
       → length done.requests < most_requests → output ≡ texts → Meets airport start (carrying output) Spent after
   spent_meets request first output few wrote =
       let found : FoundSpent (routed airport request) = found_spent (routed airport request) first.comes in
-      open_stops output Spent
-      (record {
-        first = sym (ap (λ (port : PortState). port.first) found.exhausted);
-        seen = sym (ap (λ (port : PortState). port.seen) found.exhausted);
-        at_risk = sym (ap (λ (port : PortState). port.at_risk) found.exhausted);
-        calls = sym (ap (λ (port : PortState). port.calls) found.exhausted);
-        faults = sym (ap (λ (port : PortState). port.faults) found.exhausted);
-      })
+      open_stops output Spent (exhausted_alike served after found.exhausted)
       (λ is. ap (λ (port : PortState). port.spent) found.exhausted) (omega arith) (
         record { stay = stay; few = few },
         record { request = request; behind = first.behind ++ more; whole = whole_more done.rest more request first.behind first.first; ask = found.ask; asks = found.asks },

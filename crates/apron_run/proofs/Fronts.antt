@@ -1,5 +1,5 @@
 -- What a crash may leave of a journal, from the call that opens it on.
-use Rattle.std.proofs.Common.{◌≡◌, ◌∙◌, ◌≤◌, ◌<◌, ◌+◌, ◌++◌, ◌∷◌, [], ℕ, Bool, List, length, take, refl, sym, ap, subst, arith, inl, inr, append-nil, length-append, Option, None, Some, Result, Ok, Err, OnOk, OnErr}
+use Rattle.std.proofs.Common.{◌≡◌, ◌∙◌, ◌≤◌, ◌<◌, ◌+◌, ◌++◌, ◌∷◌, [], ℕ, List, length, refl, sym, ap, subst, arith, inl, inr, append-nil, length-append, Option, None, Some, Result, Ok, Err, OnOk, OnErr}
 use Rattle.std.specs.Prelude.{IfSome, option_and_then}
 use Rattle.std.specs.Option.{option_map}
 use Rattle.std.specs.Result.{result_ok}
@@ -8,14 +8,14 @@ use Rattle.std.proofs.lemmas.List.{take-append-le, take_all}
 use Rattle.apron_base.specs.Keeper.{AddsEntry, FailsToAdd, KeeperState, with_last}
 use Rattle.apron_rules.specs.declared.parts.AirportParts.{AirportParts}
 use Rattle.desk_words.specs.declared.asks.Entry.{Entry}
-use Rattle.entry_bytes.specs.Entries.{decoded, entry_text}
+use Rattle.entry_bytes.specs.Entries.{decoded}
 use Rattle.history_core.specs.AtRisk.{entry_at_risk as entry_behind}
 use Rattle.history_core.specs.Board.{IsKept, IsNextText, entry_texts}
-use Rattle.journal_disk.specs.Disk.{Between, Continues, DiskState, EachImage, IsDurable, Passes, Same, Stays, TellsAlike, Told}
-use Rattle.journal_disk.specs.Extent.{AppendsSafely, Extent, HasOpened, IsCrashSafe, StandsFor, entries_within, entry_at_risk, keeper_of}
-use Rattle.journal_disk.specs.Header.{digests_in, opening_of}
+use Rattle.journal_disk.specs.Disk.{Between, Continues, DiskState, IsDurable, Passes, Stays, Told}
+use Rattle.journal_disk.specs.Extent.{AppendsSafely, Extent, HasOpened, IsCrashSafe, StandsFor, entries_within, keeper_of}
+use Rattle.journal_disk.specs.Header.{opening_of}
 use Rattle.apron_run.specs.Journal.{IsOf}
-use Rattle.apron_run.specs.Survival.{DiskStates, EachImageFrom, IsTextOf, LeavesFronts, OpensToFront, OpensWith, Survives}
+use Rattle.apron_run.specs.Survival.{EachImageFrom, IsTextOf, LeavesFronts, OpensToFront, OpensWith, Survives}
 use Rattle.apron_run.proofs.Disks.{known}
 use Rattle.apron_run.proofs.Headers.{told_before}
 
@@ -70,14 +70,14 @@ stays_both a b c one two = record {
         ]
 
 -- a disk that reads as before tells alike
-alike_same : (before now : Option (List ℕ)) → now ≡ before → Between (λ _ _. Unit {0}) before now
+pub alike_same : (before now : Option (List ℕ)) → now ≡ before → Between (λ _ _. Unit {0}) before now
 alike_same None None is = tt
 alike_same None (Some now) is = absurd cc
 alike_same (Some before) None is = absurd cc
 alike_same (Some before) (Some now) is = tt
 
 -- what tells alike twice
-alike_both : (a b c : Option (List ℕ)) → Between (λ _ _. Unit {0}) a b → Between (λ _ _. Unit {0}) b c → Between (λ _ _. Unit {0}) a c
+pub alike_both : (a b c : Option (List ℕ)) → Between (λ _ _. Unit {0}) a b → Between (λ _ _. Unit {0}) b c → Between (λ _ _. Unit {0}) a c
 alike_both None None c one two = two
 alike_both None (Some b) c one two = absurd one
 alike_both (Some a) None c one two = absurd one

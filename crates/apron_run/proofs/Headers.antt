@@ -1,19 +1,18 @@
 -- The header of a journal that opens, and of one that goes on.
-use Rattle.std.proofs.Common.{◌≡◌, ◌≤◌, ◌∙◌, ℕ, Bool, true, false, not, List, nat_eq, refl, sym, arith, inl, inr, Option, None, Some, Result, Ok, Err}
+use Rattle.std.proofs.Common.{◌≡◌, ◌≤◌, ◌∙◌, ℕ, Bool, true, false, not, List, refl, sym, arith, inl, inr, Option, None, Some, Result, Ok}
 use Rattle.std.specs.Prelude.{IfSome, cond, ◌||◌}
-use Rattle.std.specs.List.{starts_with}
 use Rattle.std.specs.Str.{bytes_eq}
 use Rattle.std.proofs.lemmas.Slice.Eq.{bytes_eq-Decides}
 use Rattle.journal_disk.specs.Disk.{Between, Continues, DiskState, Told}
 use Rattle.journal_disk.specs.Extent.{AppendsSafely, Extent, StandsFor}
-use Rattle.journal_disk.specs.Header.{digests_in, magic, opening_of}
+use Rattle.journal_disk.specs.Header.{digests_in, has_magic, opening_of, unless}
 use Rattle.journal_disk.specs.declared.fault.JournalFault.{JournalFault}
 use Rattle.apron_run.specs.Journal.{IsOf}
 use Rattle.apron_run.proofs.Disks.{if_told, known}
 
 -- what opens has passed the test of its digests
 passed : (short starts same : Bool) (one two : JournalFault) (read : Result (List (List ℕ)) JournalFault) (entries : List (List ℕ))
-    → cond (short || not starts) (Err one) (cond (not same) (Err two) read) ≡ Ok entries → same ≡ true
+    → unless (cond (short || not starts) (Some one) (cond (not same) (Some two) None)) read ≡ Ok entries → same ≡ true
 passed true starts same one two read entries is = absurd cc
 passed false false same one two read entries is = absurd cc
 passed false true false one two read entries is = absurd cc
@@ -22,7 +21,7 @@ passed false true true one two read entries is = refl
 -- bytes that open as a journal of these digests have them in their header
 pub opens_of : (digests bytes : List ℕ) (entries : List (List ℕ)) → opening_of digests bytes ≡ Ok entries → IsOf digests bytes
 opens_of digests bytes entries is =
-    (bytes_eq-Decides (digests_in bytes) digests).0 (passed _ (starts_with nat_eq bytes magic) (bytes_eq (digests_in bytes) digests) _ _ _ entries is)
+    (bytes_eq-Decides (digests_in bytes) digests).0 (passed _ (has_magic bytes) (bytes_eq (digests_in bytes) digests) _ _ _ entries is)
 
 -- a disk that was opened as the journal of these files, and reads as before
 pub opened_of : (digests given : List ℕ) (before now : DiskState) (entries : List (List ℕ)) → given ≡ digests → Told before (λ bytes. opening_of given bytes ≡ Ok entries)

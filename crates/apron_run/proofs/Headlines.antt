@@ -27,6 +27,7 @@ use Rattle.apron_run.specs.Check.{TellsFault}
 use Rattle.apron_run.specs.Journal.{KeepsHistory}
 use Rattle.apron_run.specs.Desk.{FindsNoJournal, MeetsDesk, RunsDesk, RunsFound, ServesDesk, TellsMet, TellsOutcome, begun}
 use Rattle.apron_run.specs.Headline.{AllSound, Carried, CountsUnkept, HasItsEntry, Headline, IsOfItsEntry, TellsEarly, TellsFoundHeadline, TellsHeadline, TellsOf, TellsUnopened, is_given, tells_unkept}
+use Rattle.apron_run.specs.Run.{RunsAs}
 use Rattle.apron_run.specs.Statuses.{code_of, status_of_outcome}
 use Rattle.apron_run.specs.Unusable.{TellsUnusable, unusable_line}
 use Rattle.apron_run.specs.Words.{Asked, desk as desk_asked}
@@ -60,14 +61,7 @@ told came.Memory before after status (inl (is, wrote)) = record {
   status_is = is;
 }
 told came.Memory before after status (inr (is, (n, wrote))) = record { failed = true; tail = take n (fault_line files.Memory); wrote = wrote; end = (n, refl); status_is = is }
-told came.Ended before after status h = silent came.Ended before after status refl h
-told came.Closed before after status h = silent came.Closed before after status refl h
-told came.Cut before after status h = silent came.Cut before after status refl h
-told came.Malformed before after status h = silent came.Malformed before after status refl h
-told came.Limit before after status h = silent came.Limit before after status refl h
-told came.ReadFault before after status h = silent came.ReadFault before after status refl h
-told came.WriteFault before after status h = silent came.WriteFault before after status refl h
-told came.Spent before after status h = silent came.Spent before after status refl h
+told outcome before after status h = silent outcome before after status refl h
 
 module _ (airport : AirportParts) where
   -- the plan is sound after each entry of a legal history
@@ -207,16 +201,14 @@ found_tells (Ok files) before after status runs =
 found_tells (Err fault) before after status (source, disk, tells) = early_tells fault before after status source disk tells
 
 -- the headline of a run
-pub run_headline : (airport types : List ℕ) (before after : World) (status : Status) → RunsDesk airport types before after status
+run_headline : (airport types : List ℕ) (before after : World) (status : Status) → RunsDesk airport types before after status
     → TellsHeadline airport types before after (code_of status)
 run_headline airport types before after status runs =
     record { found = runs.found; finds = runs.finds; tells = found_tells runs.found (ends_of before) (ends_of after) status runs.runs }
 
--- the headline of what is asked, by whatever names that is told
-pub asked_headline : (asked : Asked) (airport types other_airport other_types : List ℕ) (before after : World) (code : ℕ)
-    → desk_asked airport types ≡ asked → asked ≡ desk_asked other_airport other_types → TellsHeadline airport types before after code
-    → TellsHeadline other_airport other_types before after code
-asked_headline asked airport types other_airport other_types before after code is asks tells =
-    let same_airport : airport ≡ other_airport = cc in
-    let same_types : types ≡ other_types = cc in
-    subst (λ names. TellsHeadline names other_types before after code) same_airport (subst (λ names. TellsHeadline airport names before after code) same_types tells)
+-- the headline of a run that is asked a session
+pub asked_headline : (asked : Asked) (airport types : List ℕ) (before after : World) (code : ℕ) → asked ≡ desk_asked airport types → RunsAs asked before after code
+    → TellsHeadline airport types before after code
+asked_headline asked airport types before after code is runs =
+    let desk : RunsAs (desk_asked airport types) before after code = subst (λ (a : Asked). RunsAs a before after code) is runs in
+    subst (TellsHeadline airport types before after) (sym desk.code_is) (run_headline airport types before after desk.status desk.does)

@@ -1,5 +1,5 @@
 -- What a run of the word `import` counts at each end.
-use Rattle.std.proofs.Common.{◌≡◌, ◌∙◌, ℕ, List, [], ◌∷◌, Bool, true, false, refl, sym, ap, subst, Result, Ok, Err}
+use Rattle.std.proofs.Common.{◌≡◌, ◌∙◌, ℕ, List, [], ◌∷◌, Bool, false, refl, sym, ap, subst, Result, Ok, Err}
 use Rattle.apron_base.specs.Counts.{Counts}
 use Rattle.apron_base.specs.Keeper.{KeeperState}
 use Rattle.apron_base.specs.Ends.{SinkState}
@@ -9,25 +9,25 @@ use Rattle.visit_book.specs.declared.visits.NewVisit.{NewVisit}
 use Rattle.history_core.specs.AtRisk.{entry_at_risk}
 use Rattle.history_core.specs.Board.{BoardHeld}
 use Rattle.history_core.specs.History.{IsLegal}
+use Rattle.journal_disk.specs.Disk.{DiskState}
 use Rattle.apron_check.specs.Files.{Finds, is_shelf_fault as is_shelf_found}
 use Rattle.apron_check.specs.declared.files.AirportFiles.{AirportFiles}
 use Rattle.apron_check.specs.declared.faults.FilesFault.{FilesFault}
 use Rattle.apron_run.specs.Asking.{AsksSeason, MeetsAll, Reached, Stops, StopsAmong, reached, record_behind}
-use Rattle.apron_run.specs.Import.{Around, AsksFound, FindsSeason, HasCause, ImportsFound, ImportsSeason, MeetsImport, Stores, TellsMet, around, begun, is_shelf_fault as is_shelf_read}
-use Rattle.apron_run.specs.Imported.{TellsImported, status_of_imported}
+use Rattle.apron_run.specs.Crash.{ImportsOnJournalLeaving, MeetsImportLeaving}
+use Rattle.apron_run.specs.Import.{Around, AsksFound, FindsSeason, HasCause, ImportsFound, ImportsSeason, MeetsImport, Stores, TellsMet, around, around_at, begun, is_shelf_fault as is_shelf_read, stores_at}
+use Rattle.apron_run.specs.Imported.{TellsImported, imported_line, status_of_imported}
 use Rattle.apron_run.specs.Journal.{IsOpened, KeepsHistory}
 use Rattle.apron_run.specs.Run.{RunsAs, SinkCounts}
-use Rattle.apron_run.specs.Statuses.{code_of, is_disk_fault, is_read_fault, is_shelf_fault, status_of_fault}
-use Rattle.apron_run.specs.Unusable.{status_of_unusable, unusable_line}
+use Rattle.apron_run.specs.Statuses.{code_of, is_disk_fault, is_read_fault, is_shelf_fault}
+use Rattle.apron_run.specs.Print.{Writes}
 use Rattle.apron_run.specs.Words.{import as import_asked}
-use Rattle.apron_run.specs.World.{DiskSeen, World}
+use Rattle.apron_run.specs.World.{World, outs_of}
 use Rattle.apron_run.specs.declared.imported.Imported.{Imported}
 use Rattle.apron_run.specs.declared.imported.Imported.TheVariants.{Whole, ShelfFault, TooLong, Refused, Full, DiskFault, Spent, Memory}
 use Rattle.apron_run.specs.declared.status.Status.{Status}
-use Rattle.apron_run.specs.declared.status.Status.TheVariants as ending
 use Rattle.apron_run.specs.declared.unusable.Unusable.{Unusable}
-use Rattle.apron_run.proofs.Charting.{Printed, fault_disk, printed, why_disk}
-use Rattle.apron_run.proofs.Counting.{Lines, fault_read, fault_shelf, fault_told, lines_of, still, told_sink, unusable_read, unusable_shelf, unusable_told}
+use Rattle.apron_run.proofs.Counting.{Counted, Lines, OfLine, Printed, fault_counted, lines_of, printed, runs_counted, still, told_sink, unusable_counted, why_disk}
 
 -- how an import ended was told: its status says of the ends what that does
 record ToldSo (imported : Imported) (status : Status) (before after : SinkState) : Type 0 where
@@ -36,14 +36,18 @@ record ToldSo (imported : Imported) (status : Status) (before after : SinkState)
   pub disk : is_disk_fault status ≡ is_disk_fault (status_of_imported imported)
   pub sink : SinkCounts status before.faults after.faults
 
-told_by : (imported : Imported) (of status : Status) (before after : SinkState) → of ≡ status_of_imported imported → Lines status of before after
-    → is_read_fault of ≡ false → SinkCounts status before.faults after.faults → ToldSo imported status before after
-told_by imported of status before after is lines read sink = record {
-  shelf = ap is_shelf_fault (lines.is ∙ is);
-  read = ap is_read_fault lines.is ∙ read;
-  disk = ap is_disk_fault (lines.is ∙ is);
-  sink = sink;
-}
+-- by a line
+line_told : (imported : Imported) (before after : SinkState) (status : Status) → OfLine (is_shelf_fault (status_of_imported imported)) (status_of_imported imported)
+    → Writes (imported_line imported) (status_of_imported imported) (status_of_imported imported) before after status → ToldSo imported status before after
+line_told imported before after status says tells =
+    let lines : Lines status (status_of_imported imported) before after =
+    lines_of (imported_line imported) (status_of_imported imported) before after status tells in
+    record {
+      shelf = ap is_shelf_fault lines.is;
+      read = ap is_read_fault lines.is ∙ says.read;
+      disk = ap is_disk_fault lines.is;
+      sink = told_sink status (status_of_imported imported) before after says.told lines;
+    }
 
 told_so : (imported : Imported) (before after : SinkState) (status : Status) → TellsImported imported before after status → ToldSo imported status before after
 told_so (Whole added present) before after status tells =
@@ -55,24 +59,7 @@ told_so Spent before after status (same, is) = record {
   disk = ap is_disk_fault is;
   sink = subst (λ (s : Status). SinkCounts s before.faults after.faults) (sym is) (ap (λ (s : SinkState). s.faults) same);
 }
-told_so ShelfFault before after status tells =
-    let lines : Lines status ending.ShelfFault before after = lines_of _ ending.ShelfFault before after status tells in
-    told_by ShelfFault ending.ShelfFault status before after refl lines refl (told_sink status ending.ShelfFault before after refl lines)
-told_so TooLong before after status tells =
-    let lines : Lines status ending.SeasonFault before after = lines_of _ ending.SeasonFault before after status tells in
-    told_by TooLong ending.SeasonFault status before after refl lines refl (told_sink status ending.SeasonFault before after refl lines)
-told_so (Refused number) before after status tells =
-    let lines : Lines status ending.SeasonFault before after = lines_of _ ending.SeasonFault before after status tells in
-    told_by (Refused number) ending.SeasonFault status before after refl lines refl (told_sink status ending.SeasonFault before after refl lines)
-told_so (Full number) before after status tells =
-    let lines : Lines status ending.Full before after = lines_of _ ending.Full before after status tells in
-    told_by (Full number) ending.Full status before after refl lines refl (told_sink status ending.Full before after refl lines)
-told_so DiskFault before after status tells =
-    let lines : Lines status ending.DiskFault before after = lines_of _ ending.DiskFault before after status tells in
-    told_by DiskFault ending.DiskFault status before after refl lines refl (told_sink status ending.DiskFault before after refl lines)
-told_so Memory before after status tells =
-    let lines : Lines status ending.Memory before after = lines_of _ ending.Memory before after status tells in
-    told_by Memory ending.Memory status before after refl lines refl (told_sink status ending.Memory before after refl lines)
+told_so imported before after status tells = line_told imported before after status (record { told = refl; shelf = refl; read = refl }) tells
 
 -- the count of faults, while visits are met
 pub all_faults : (airport : AirportParts) (visits : List NewVisit) (before after : Reached) → MeetsAll airport visits before after → after.faults ≡ before.faults
@@ -87,27 +74,13 @@ stop_faults airport number at new after (Full told) (is, asks) = asks.faults
 stop_faults airport number at new after DiskFault (takes, history, faults, risk) = faults
 stop_faults airport number at new after Spent (next, same) = ap (λ (r : Reached). r.faults) same
 stop_faults airport number at new after Memory (history, faults, risk) = faults
-stop_faults airport number at new after (Whole added present) stops = absurd stops
-stop_faults airport number at new after ShelfFault stops = absurd stops
-stop_faults airport number at new after TooLong stops = absurd stops
+stop_faults airport number at new after imported stops = absurd stops
 
 among_faults : (airport : AirportParts) (visits : List NewVisit) (before after : Reached) (imported : Imported) → StopsAmong airport visits before after imported
     → Counts (is_disk_fault (status_of_imported imported)) before.faults after.faults
 among_faults airport visits before after imported stops =
     subst (λ (n : ℕ). Counts (is_disk_fault (status_of_imported imported)) n after.faults) (all_faults airport stops.front before stops.at stops.met)
     (stop_faults airport (record_behind stops.front) stops.at stops.new after imported stops.stops)
-
--- the asks stopped at no fault of the shelf
-among_shelf : (airport : AirportParts) (visits : List NewVisit) (before after : Reached) (imported : Imported) → StopsAmong airport visits before after imported
-    → is_shelf_fault (status_of_imported imported) ≡ false
-among_shelf airport visits before after (Whole added present) stops = refl
-among_shelf airport visits before after ShelfFault stops = absurd stops.stops
-among_shelf airport visits before after TooLong stops = refl
-among_shelf airport visits before after (Refused number) stops = refl
-among_shelf airport visits before after (Full number) stops = refl
-among_shelf airport visits before after DiskFault stops = refl
-among_shelf airport visits before after Spent stops = refl
-among_shelf airport visits before after Memory stops = refl
 
 -- what the end of an import says of the shelf and the disk
 record SaysSo (found : Result (List NewVisit) Imported) (before after : ℕ) (imported : Imported) : Type 0 where
@@ -117,14 +90,8 @@ record SaysSo (found : Result (List NewVisit) Imported) (before after : ℕ) (im
 season_says : (airport : AirportParts) (visits : List NewVisit) (before after : Reached) (imported : Imported) → AsksSeason airport visits before after imported
     → SaysSo (Ok visits) before.faults after.faults imported
 season_says airport visits before after (Whole added present) asks = record { shelf = refl; disk = all_faults airport visits before after asks.met }
-season_says airport visits before after ShelfFault asks =
-    record { shelf = among_shelf airport visits before after ShelfFault asks; disk = among_faults airport visits before after ShelfFault asks }
-season_says airport visits before after TooLong asks = record { shelf = refl; disk = among_faults airport visits before after TooLong asks }
-season_says airport visits before after (Refused number) asks = record { shelf = refl; disk = among_faults airport visits before after (Refused number) asks }
-season_says airport visits before after (Full number) asks = record { shelf = refl; disk = among_faults airport visits before after (Full number) asks }
-season_says airport visits before after DiskFault asks = record { shelf = refl; disk = among_faults airport visits before after DiskFault asks }
-season_says airport visits before after Spent asks = record { shelf = refl; disk = among_faults airport visits before after Spent asks }
-season_says airport visits before after Memory asks = record { shelf = refl; disk = among_faults airport visits before after Memory asks }
+season_says airport visits before after ShelfFault asks = absurd asks.stops
+season_says airport visits before after imported asks = record { shelf = refl; disk = among_faults airport visits before after imported asks }
 
 -- nothing was asked
 unread_says : (airport : AirportParts) (season : List ℕ) (before after : ShelfState) (why : Imported) (faults now : ℕ) → HasCause airport season before after (Err why)
@@ -133,10 +100,7 @@ unread_says airport season before after ShelfFault faults now cause same = recor
 unread_says airport season before after TooLong faults now cause same = record { shelf = refl; disk = same }
 unread_says airport season before after (Refused number) faults now cause same = record { shelf = refl; disk = same }
 unread_says airport season before after Memory faults now cause same = record { shelf = refl; disk = same }
-unread_says airport season before after (Whole added present) faults now cause same = absurd cause
-unread_says airport season before after (Full number) faults now cause same = absurd cause
-unread_says airport season before after DiskFault faults now cause same = absurd cause
-unread_says airport season before after Spent faults now cause same = absurd cause
+unread_says airport season before after imported faults now cause same = absurd cause
 
 found_says : (airport : AirportParts) (season : List ℕ) (shelf now : ShelfState) (found : Result (List NewVisit) Imported) (before after : Reached) (imported : Imported)
     → HasCause airport season shelf now found → AsksFound airport found before after imported → SaysSo found before.faults after.faults imported
@@ -171,14 +135,15 @@ pub met_as : (files : AirportFiles) (season : List ℕ) (before after : Around) 
     → MeetsImport files season before.stores after.stores met → TellsMet met before.sink after.sink status → CountsImport status before after
 met_as files season before after (Ok imported) status meets tells = imported_as files season before after imported status meets tells
 met_as files season before after (Err why) status meets tells =
-    let lines : Lines status (status_of_unusable why) before.sink after.sink = lines_of (unusable_line why) (status_of_unusable why) before.sink after.sink status tells in
+    let not_opened = meets.disk in
+    let counted : Counted false status (record { sink = before.sink; disk = before.stores.disk }) (record { sink = after.sink; disk = after.stores.disk }) =
+    unusable_counted (record { sink = before.sink; disk = before.stores.disk }) (record { sink = after.sink; disk = after.stores.disk }) status why
+    (why_disk files before.stores.disk after.stores.disk why not_opened.cause) tells in
     record {
-      shelf = still (is_shelf_fault status) before.stores.shelf.faults after.stores.shelf.faults (ap is_shelf_fault lines.is ∙ unusable_shelf why)
-          (ap (λ (s : ShelfState). s.faults) meets.shelf);
-      read = ap is_read_fault lines.is ∙ unusable_read why;
-      sink = told_sink status (status_of_unusable why) before.sink after.sink (unusable_told why) lines;
-      disk = subst (λ (s : Status). Counts (is_disk_fault s) before.stores.disk.faults after.stores.disk.faults) (sym lines.is)
-          (why_disk files before.stores.disk after.stores.disk why meets.disk.cause);
+      shelf = still (is_shelf_fault status) before.stores.shelf.faults after.stores.shelf.faults counted.shelf (ap (λ (s : ShelfState). s.faults) meets.shelf);
+      read = counted.read;
+      sink = counted.sink;
+      disk = counted.disk;
     }
 
 -- an import into a board that was opened
@@ -213,29 +178,27 @@ module _ (airport types season : List ℕ) (before after : World) (status : Stat
   found_as (Ok files) mid finds imports =
       let counts : CountsImport status (around mid before) (around after.shelf after) =
       met_as files season (around mid before) (around after.shelf after) imports.met status imports.meets imports.tells in
-      record {
-        status = status;
-        code_is = refl;
-        does = record { found = Ok files; shelf = mid; finds = finds; imports = imports };
-        shelf = subst (λ (n : ℕ). Counts (is_shelf_fault status) n after.shelf.faults) finds.counts counts.shelf;
-        source = still (is_read_fault status) before.source.faults after.source.faults counts.read (ap (λ s. s.faults) source);
-        sink = counts.sink;
-        disk = counts.disk;
-      }
+      runs_counted (import_asked airport types season) (is_shelf_fault status) before after status source
+      (subst (λ (n : ℕ). Counts (is_shelf_fault status) n after.shelf.faults) finds.counts counts.shelf)
+      (record { shelf = refl; read = counts.read; sink = counts.sink; disk = counts.disk })
+      (record { found = Ok files; shelf = mid; finds = finds; imports = imports }) counts.disk
   found_as (Err fault) mid finds (same, tells) =
-      let lines : Lines status (status_of_fault fault) before.sink after.sink = lines_of _ (status_of_fault fault) before.sink after.sink status tells in
-      record {
-        status = status;
-        code_is = refl;
-        does = record { found = Err fault; shelf = mid; finds = finds; imports = (same, tells) };
-        shelf = subst (λ (b : Bool). Counts b before.shelf.faults after.shelf.faults) (sym (ap is_shelf_fault lines.is ∙ fault_shelf fault))
-            (subst (λ (s : ShelfState). Counts (is_shelf_found (Err fault)) before.shelf.faults s.faults) (sym (ap (λ (s : Stores). s.shelf) same)) finds.counts);
-        source = still (is_read_fault status) before.source.faults after.source.faults (ap is_read_fault lines.is ∙ fault_read fault) (ap (λ s. s.faults) source);
-        sink = told_sink status (status_of_fault fault) before.sink after.sink (fault_told fault) lines;
-        disk = still (is_disk_fault status) before.disk.faults after.disk.faults (ap is_disk_fault lines.is ∙ fault_disk fault)
-            (ap (λ (s : Stores). s.disk.faults) same);
-      }
+      let counted : Counted (is_shelf_found (Err fault)) status (outs_of before) (outs_of after) =
+      fault_counted (outs_of before) (outs_of after) status fault (ap (λ (s : Stores). s.disk.faults) same) tells in
+      runs_counted (import_asked airport types season) (is_shelf_found (Err fault)) before after status source
+      (subst (λ (s : ShelfState). Counts (is_shelf_found (Err fault)) before.shelf.faults s.faults) (sym (ap (λ (s : Stores). s.shelf) same)) finds.counts) counted
+      (record { found = Err fault; shelf = mid; finds = finds; imports = (same, tells) }) counted.disk
 
   pub import_as : ((found : Result AirportFiles FilesFault) × (mid : ShelfState) × Finds before.shelf mid airport types found
       × ImportsFound found season (around mid before) (around after.shelf after) status) → RunsAs (import_asked airport types season) before after (code_of status)
   import_as (found, mid, finds, imports) = found_as found mid finds imports
+
+-- an import after which it was told how it ended, and its disk given back
+pub told_leaving : {D : Type 0} (state : D → DiskState) {files : AirportFiles} {season : List ℕ} {shelf now : ShelfState} {before after : SinkState} {old left new : D}
+    {status : Status} (met : Result Imported Unusable)
+    → MeetsImportLeaving (record { before = state old; after = state left }) files season (stores_at shelf (state old)) (stores_at now (state left)) met
+    → TellsMet met before after status → left ≡ new
+    → ImportsOnJournalLeaving (record { before = state old; after = state new }) files season (around_at shelf (state old) before) (around_at now (state new) after) status
+told_leaving {D} state {files} {season} {shelf} {now} {before} {after} {old} {left} {new} {status} met meets tells same =
+    subst (λ d. ImportsOnJournalLeaving (record { before = state old; after = state d }) files season (around_at shelf (state old) before)
+    (around_at now (state d) after) status) same (record { met = met; meets = meets.0; tells = tells }, meets.1)

@@ -34,7 +34,7 @@ use Rattle.journal_disk.specs.Header.{digests_in, opening_of}
 use Rattle.journal_disk.specs.declared.fault.JournalFault.{JournalFault}
 use Rattle.journal_disk.specs.declared.fault.JournalFault.TheVariants as journal
 use Rattle.apron_check.specs.declared.files.AirportFiles.{AirportFiles}
-use Rattle.apron_run.specs.Desk.{FindsNoJournal, ServedCounts, ServesDesk, begun, moment}
+use Rattle.apron_run.specs.Desk.{ServedCounts, ServesDesk, begun, moment}
 use Rattle.apron_run.specs.Journal.{FailsToOpen, Holds, IsOf, IsOpened, KeepsHistory, WhyUnusable}
 use Rattle.apron_run.specs.World.{DiskSeen, Ends, seen_of}
 use Rattle.apron_run.specs.Statuses.{may_serve, status_of_outcome}
@@ -130,10 +130,7 @@ alone_spent tells alone below spent =
 pub seen_fails : (digests : List ℕ) (before after : DiskState) (fault : JournalFault) → OpenFails digests before after fault → FailsToOpen digests (seen_of before) (seen_of after) fault
 seen_fails digests before after journal.DiskFault fails = fails
 seen_fails digests before after journal.NotEmpty fails = fails
-seen_fails digests before after journal.NotAJournal (counts, told) = (counts, if_told before.contents _ told)
-seen_fails digests before after (journal.OtherAirport kept given) (counts, told) = (counts, if_told before.contents _ told)
-seen_fails digests before after (journal.BadRecord number) (counts, told) = (counts, if_told before.contents _ told)
-seen_fails digests before after journal.Memory (counts, told) = (counts, if_told before.contents _ told)
+seen_fails digests before after fault (counts, told) = (counts, if_told before.contents _ told)
 
 -- the number of the call after a legal history is at most the last
 pub next_below : (low high : ℕ) (history : List Entry) → Rises call_of low high history → next_from low history ≤ high
@@ -242,15 +239,8 @@ may_tell status before now may least = rw may least
 
 -- each outcome of a session has a status before which one may have come
 outcomes_may : (outcome : Outcome) → may_serve (status_of_outcome outcome) ≡ true
-outcomes_may came.Ended = refl
-outcomes_may came.Closed = refl
-outcomes_may came.Cut = refl
-outcomes_may came.Malformed = refl
-outcomes_may came.Limit = refl
-outcomes_may came.ReadFault = refl
-outcomes_may came.WriteFault = refl
-outcomes_may came.Spent = refl
 outcomes_may came.Memory = refl
+outcomes_may outcome = refl
 
 -- the counts of a session that is told so
 pub session_counts : (files : AirportFiles) (before after : Ends) (outcome : Outcome) (status : Status) → ServesDesk files before after outcome
@@ -263,17 +253,7 @@ pub why_counts : (files : AirportFiles) (before after : DiskSeen) (why : Unusabl
     → ServedCounts (status_of_unusable why) before.faults after.faults
 why_counts files before after (Journal journal.DiskFault) cause = cause
 why_counts files before after (Journal journal.NotEmpty) cause = absurd cause
-why_counts files before after (Journal journal.NotAJournal) (counts, told) = counts
-why_counts files before after (Journal (journal.OtherAirport kept given)) (counts, told) = counts
-why_counts files before after (Journal (journal.BadRecord number)) (counts, told) = counts
 why_counts files before after (Journal journal.Memory) (counts, told) = omega arith
-why_counts files before after (Entries (entries.BadEntry number)) (texts, vain, cannot) = vain.counts
-why_counts files before after (Entries (entries.WrongEntry number)) (texts, vain, cannot) = vain.counts
+why_counts files before after (Journal fault) (counts, told) = counts
 why_counts files before after (Entries entries.Memory) (texts, vain, cannot) = let same : after.faults ≡ before.faults = vain.counts in omega arith
-
--- the same, told so
-pub unusable_counts : (files : AirportFiles) (before after : Ends) (why : Unusable) (status : Status) → FindsNoJournal files before after why
-    → status ≡ status_of_unusable why → ServedCounts status before.disk.faults after.disk.faults
-unusable_counts files before after why status finds is =
-    let not_opened = finds.disk in
-    subst (λ (s : Status). ServedCounts s before.disk.faults after.disk.faults) (sym is) (why_counts files before.disk after.disk why not_opened.cause)
+why_counts files before after (Entries fault) (texts, vain, cannot) = vain.counts

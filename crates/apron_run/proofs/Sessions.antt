@@ -1,5 +1,5 @@
 -- How a session of the word `desk` ends that is valid and at whose ends nothing fails.
-use Rattle.std.proofs.Common.{◌≡◌, ◌≢◌, ◌∙◌, ◌<◌, ◌≤◌, ◌+◌, ◌⊎◌, ℕ, true, false, List, [], ◌∷◌, ◌++◌, length, take, Option, Some, Result, Ok, Err, inl, inr, refl, sym, ap, ap₂, subst, arith}
+use Rattle.std.proofs.Common.{◌≡◌, ◌≢◌, ◌∙◌, ◌<◌, ◌≤◌, ◌+◌, ◌⊎◌, ℕ, true, List, [], ◌∷◌, ◌++◌, length, take, Some, Result, Ok, Err, inl, inr, refl, sym, ap, ap₂, subst, arith}
 use Rattle.std.specs.Prelude.{All, cond, count_by, is_ok}
 use Rattle.std.specs.Io.KnownBytes.{Consumes}
 use Rattle.std.proofs.lemmas.List.{take_all}
@@ -22,7 +22,7 @@ use Rattle.desk_words.specs.declared.early.Early.{Early}
 use Rattle.history_core.specs.History.{call_limit}
 use Rattle.history_core.specs.Opening.{next_after}
 use Rattle.desk_http.specs.Alone.{AloneAsks, numbers_from}
-use Rattle.desk_http.specs.Answers.{Answers, FindsExhausted, SendsFor, Sent, at_once, given}
+use Rattle.desk_http.specs.Answers.{Answers, FindsExhausted, SendsFor, Sent, at_once, fed, given}
 use Rattle.desk_http.specs.Complete.{AnswersEach, ComesToEnd, IsUnhindered}
 use Rattle.desk_http.specs.Ports.{PortState}
 use Rattle.desk_http.specs.Routes.{routed}
@@ -31,15 +31,13 @@ use Rattle.desk_http.specs.Session.{EndsAfter, Last, Moment, SessionOf, most_req
 use Rattle.desk_http.proofs.Complete.{GoesOnBehind, listed_behind, sessions_complete}
 use Rattle.desk_http.proofs.OneDesk.{length-numbers_from}
 use Rattle.apron_check.specs.declared.files.AirportFiles.{AirportFiles}
-use Rattle.apron_check.specs.declared.faults.FilesFault.TheVariants as files
 use Rattle.apron_run.specs.Complete.{EndsInTime, HasFiles, HasInput, HasJournal, NoneFails, count_of_asks}
 use Rattle.apron_run.specs.Desk.{MeetsDesk, RunsDesk, RunsFound, ServesDesk, TellsMet, TellsOutcome, begun, moment}
 use Rattle.apron_run.specs.Headline.{Sends, is_given}
 use Rattle.apron_run.specs.Statuses.{status_of_outcome}
-use Rattle.apron_run.specs.Unusable.{status_of_unusable}
 use Rattle.apron_run.specs.World.{Ends, World, ends_of}
 use Rattle.apron_run.specs.declared.status.Status.{Status}
-use Rattle.apron_run.specs.declared.status.Status.TheVariants.{Done, Memory}
+use Rattle.apron_run.specs.declared.status.Status.TheVariants.{Done}
 use Rattle.apron_run.specs.declared.unusable.Unusable.{Unusable}
 use Rattle.apron_run.proofs.Calls.{Leaves, run_leaves}
 use Rattle.apron_run.proofs.Completing.{Well, goes_well, memory_well, unopened_well}
@@ -51,7 +49,9 @@ module _ (airport : AirportParts) where
   sent_asks : (before after : PortState) (asked : Result Ask Early) (sent : Sent) → SendsFor AloneAsks airport before asked sent after → is_given sent ≡ is_ok asked
   sent_asks before after (Err early) (at_once sent) h = refl
   sent_asks before after (Err early) (given answer) h = absurd h
+  sent_asks before after (Err early) (fed answer) h = absurd h
   sent_asks before after (Ok ask) (at_once sent) h = absurd h
+  sent_asks before after (Ok ask) (fed answer) h = absurd h
   sent_asks before after (Ok ask) (given answer) h = refl
 
   runs_ask : (before after : PortState) (requests : List Request) (sents : List Sent) → Runs (Sends airport) before requests sents after

@@ -1,5 +1,5 @@
 -- The count of faults over a run of requests: it rises at each one that was told that its entry could not be kept, and at no other.
-use Rattle.std.proofs.Common.{◌≡◌, ◌≤◌, ◌+◌, ◌∙◌, ℕ, Bool, true, false, List, [], ◌∷◌, refl, sym, ap, subst, arith, Result, Ok, Err}
+use Rattle.std.proofs.Common.{◌≡◌, ◌+◌, ◌∙◌, ℕ, Bool, true, false, List, [], ◌∷◌, sym, ap, subst, arith, Result, Ok, Err}
 use Rattle.std.specs.Prelude.{cond, count_by}
 use Rattle.std.proofs.lemmas.List.Sums.{sum_by-cons}
 use Rattle.apron_base.specs.Counts.{Counts, RoseBy}
@@ -8,7 +8,7 @@ use Rattle.http_framing.specs.Requests.{Request}
 use Rattle.desk_words.specs.declared.asks.Ask.{Ask}
 use Rattle.desk_words.specs.declared.early.Early.{Early}
 use Rattle.desk_http.specs.Alone.{AloneAsks}
-use Rattle.desk_http.specs.Answers.{Sent, SendsFor, at_once, given}
+use Rattle.desk_http.specs.Answers.{Sent, SendsFor, at_once, fed, given}
 use Rattle.desk_http.specs.Ports.{PortState}
 use Rattle.desk_http.specs.Routes.{routed}
 use Rattle.desk_http.specs.Runs.{Runs}
@@ -41,7 +41,9 @@ module _ (airport : AirportParts) where
       → CountsUnkept (cond (tells_unkept sent) 1 0) before.faults after.faults
   sent_counts before after (Err reply) (at_once sent) (is, same) = counts_none before.faults after.faults (ap (λ (port : PortState). port.faults) same)
   sent_counts before after (Err reply) (given answer) h = absurd h
+  sent_counts before after (Err reply) (fed answer) h = absurd h
   sent_counts before after (Ok ask) (at_once sent) h = absurd h
+  sent_counts before after (Ok ask) (fed answer) h = absurd h
   sent_counts before after (Ok ask) (given answer) (turn, here, next, risk, counts) = counts_one _ before.faults after.faults counts
 
   -- a run of requests

@@ -8,7 +8,6 @@ use Rattle.apron_rules.specs.declared.parts.AirportParts.{AirportParts}
 use Rattle.airport_files.specs.Meaning.{meaning}
 use Rattle.airport_files.specs.declared.read.FileFault.{FileFault}
 use Rattle.desk_words.specs.declared.asks.Entry.{Entry}
-use Rattle.entry_bytes.specs.declared.faults.EntryFault.{EntryFault}
 use Rattle.entry_bytes.specs.Entries.{decoded}
 use Rattle.history_core.specs.Board.{Spells, entry_texts}
 use Rattle.history_core.specs.History.{IsLegal}
@@ -194,10 +193,7 @@ module _ (made : AirportFiles) (before after : DiskSeen) (history : List Entry) 
       wants : (why : Unusable) → WhyUnusable made before after why → status_of_unusable why ≡ Memory
       wants (Journal journal.DiskFault) cause = absurd (still cause.1)
       wants (Journal journal.NotEmpty) cause = absurd cause
-      wants (Journal journal.NotAJournal) (counts, fails) = absurd (opens_well journal.NotAJournal fails)
-      wants (Journal (journal.OtherAirport kept given)) (counts, fails) = absurd (opens_well (journal.OtherAirport kept given) fails)
-      wants (Journal (journal.BadRecord number)) (counts, fails) = absurd (opens_well (journal.BadRecord number) fails)
       wants (Journal journal.Memory) cause = refl
-      wants (Entries (entries.BadEntry number)) (texts, vain, cannot) = absurd (reads_well texts (entries.BadEntry number) vain.opening (λ is. cc) cannot)
-      wants (Entries (entries.WrongEntry number)) (texts, vain, cannot) = absurd (reads_well texts (entries.WrongEntry number) vain.opening (λ is. cc) cannot)
+      wants (Journal fault) (counts, fails) = absurd (opens_well fault fails)
       wants (Entries entries.Memory) cause = refl
+      wants (Entries fault) (texts, vain, cannot) = absurd (reads_well texts fault vain.opening (λ is. cc) cannot)

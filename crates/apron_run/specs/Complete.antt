@@ -24,7 +24,8 @@ use Rattle.apron_run.specs.Chart.{day_named}
 use Rattle.apron_run.specs.Import.{Tells, begun}
 use Rattle.apron_run.specs.Journal.{OpensTo}
 use Rattle.apron_run.specs.Statuses.{code_of}
-use Rattle.apron_run.specs.Words.{Asked, desk, init, check, chart, import, export, make, help, version, faulty}
+use Rattle.apron_run.specs.Upgrade.{CanUpgrade}
+use Rattle.apron_run.specs.Words.{Asked, desk, init, check, chart, import, export, propose, upgrade, make, help, version, faulty}
 use Rattle.apron_run.specs.World.{DiskSeen, World}
 use Rattle.apron_run.specs.declared.status.Status.TheVariants.{Done, Memory}
 
@@ -101,6 +102,8 @@ IsValid (chart airport types day) world = OnJournal world airport types (λ file
 IsValid (import airport types season) world =
     OnJournal world airport types (λ files history. HasSeason files.airport world.shelf season (begun history world.disk.faults))
 IsValid (export airport types) world = OnJournal world airport types (λ files history. Unit {0})
+IsValid (upgrade airport types) world = OnFiles world airport types (λ files. CanUpgrade files world.disk)
+IsValid (propose airport types name draft) world = OnJournal world airport types (λ files history. Unit {0})
 IsValid (make visits) world = Unit {0}
 IsValid help world = Unit {0}
 IsValid version world = Unit {0}

@@ -2,18 +2,20 @@
 -- own beside what is seen of a disk without a crash.
 use Rattle.std.specs.Prelude.{◌≡◌, ◌≢◌, ℕ, List, length, Option, None, Some, Result, Ok, Err}
 use Rattle.apron_base.specs.declared.outside.Outcome.{Outcome}
-use Rattle.journal_disk.specs.Disk.{DiskState, IsSafe, Stays, Told}
+use Rattle.journal_disk.specs.Disk.{IsSafe, Stays, Told}
 use Rattle.journal_disk.specs.Header.{empty_journal}
 use Rattle.journal_disk.specs.declared.fault.JournalFault.{JournalFault}
 use Rattle.apron_check.specs.declared.files.AirportFiles.{AirportFiles}
 use Rattle.apron_check.specs.declared.faults.FilesFault.{FilesFault}
-use Rattle.apron_run.specs.Desk.{MeetsDesk, RunsFound}
-use Rattle.apron_run.specs.Import.{Around, ImportsFound, MeetsImport, Stores, around}
-use Rattle.apron_run.specs.Init.{InitsFound}
+use Rattle.apron_run.specs.Desk.{MeetsDesk, RunsDesk, RunsFound, RunsOnJournal}
+use Rattle.apron_run.specs.Import.{Around, ImportsFound, ImportsOnJournal, MeetsImport, Stores, around}
+use Rattle.apron_run.specs.Init.{MakesJournal}
 use Rattle.apron_run.specs.Run.{Does}
 use Rattle.apron_run.specs.Statuses.{code_of}
 use Rattle.apron_run.specs.Survival.{DiskStates, Survives}
-use Rattle.apron_run.specs.Words.{Asked, desk, init, check, chart, import, export, make, help, version, faulty}
+use Rattle.apron_run.specs.TwoFiles.{DoesFound}
+use Rattle.apron_run.specs.UpgradeCrash.{LeavesUpgrade}
+use Rattle.apron_run.specs.Words.{Asked, desk, init, import, upgrade}
 use Rattle.apron_run.specs.World.{Ends, Outs, World, ends_of, outs_of}
 use Rattle.apron_run.specs.declared.imported.Imported.{Imported}
 use Rattle.apron_run.specs.declared.status.Status.{Status}
@@ -39,6 +41,17 @@ module _ (disk : DiskStates) where
       Survives files.digests serves.port.seen serves.port.at_risk disk
   LeavesMet files before after (Err why) finds = LeavesAll disk
 
+  -- such a session, and what a crash may leave of it
+  abbrev pub MeetsDeskLeaving : AirportFiles → Ends → Ends → Result Outcome Unusable → Type 0
+  MeetsDeskLeaving files before after met =
+      (meets : MeetsDesk files before after met) × LeavesMet files before after met meets
+
+  -- the same where it was told how it ended
+  abbrev pub RunsOnJournalLeaving : AirportFiles → Ends → Ends → Status → Type 0
+  RunsOnJournalLeaving files before after status = (runs : RunsOnJournal files before after status)
+      × LeavesMet files before (record { source = after.source; sink = runs.sink; disk = after.disk })
+      runs.met runs.meets
+
   -- the same of what was found in the two files, whose fault writes nothing
   abbrev pub LeavesServed : (found : Result AirportFiles FilesFault) (before after : Ends)
       (status : Status) → RunsFound found before after status → Type 0
@@ -46,6 +59,11 @@ module _ (disk : DiskStates) where
       LeavesMet files before (record { source = after.source; sink = runs.sink; disk = after.disk })
       runs.met runs.meets
   LeavesServed (Err fault) before after status runs = LeavesAll disk
+
+  -- a run of the word `desk`, and what a crash may leave of it
+  abbrev pub RunsDeskLeaving : List ℕ → List ℕ → World → World → Status → Type 0
+  RunsDeskLeaving airport types before after status = (runs : RunsDesk airport types before after status)
+      × LeavesServed runs.found (ends_of before) (ends_of after) status runs.runs
 
   -- an import: the history to which it came survives; and where there was no journal to work on,
   -- nothing is written
@@ -55,6 +73,19 @@ module _ (disk : DiskStates) where
       Survives files.digests imports.left.history imports.left.at_risk disk
   LeavesImported files season before after (Err why) finds = LeavesAll disk
 
+  -- such an import, and what a crash may leave of it
+  abbrev pub MeetsImportLeaving : AirportFiles → List ℕ → Stores → Stores → Result Imported Unusable
+      → Type 0
+  MeetsImportLeaving files season before after met =
+      (meets : MeetsImport files season before after met)
+      × LeavesImported files season before after met meets
+
+  -- the same where it was told how it ended
+  abbrev pub ImportsOnJournalLeaving : AirportFiles → List ℕ → Around → Around → Status → Type 0
+  ImportsOnJournalLeaving files season before after status =
+      (imports : ImportsOnJournal files season before after status)
+      × LeavesImported files season before.stores after.stores imports.met imports.meets
+
   -- the same of what was found in the two files
   abbrev pub LeavesAdded : (found : Result AirportFiles FilesFault) (season : List ℕ)
       (before after : Around) (status : Status)
@@ -63,11 +94,28 @@ module _ (disk : DiskStates) where
       LeavesImported files season before.stores after.stores imports.met imports.meets
   LeavesAdded (Err fault) season before after status imports = LeavesAll disk
 
+  -- what is done with what was found, and what a crash may leave of it
+  abbrev pub ImportsFoundLeaving : Result AirportFiles FilesFault → List ℕ → Around → Around → Status
+      → Type 0
+  ImportsFoundLeaving found season before after status =
+      (imports : ImportsFound found season before after status)
+      × LeavesAdded found season before after status imports
+
+  -- a journal that is made, and what a crash may leave of it
+  abbrev pub MakesJournalLeaving : AirportFiles → Outs → Outs → Status → Type 0
+  MakesJournalLeaving files before after status = (makes : MakesJournal files before after status)
+      × LeavesMade files.digests makes.refused disk
+
   -- a journal that is made of what was found in the two files
   abbrev pub LeavesNew : (found : Result AirportFiles FilesFault) (before after : Outs)
-      (status : Status) → InitsFound found before after status → Type 0
+      (status : Status) → DoesFound MakesJournal found before after status → Type 0
   LeavesNew (Ok files) before after status makes = LeavesMade files.digests makes.refused disk
   LeavesNew (Err fault) before after status inits = LeavesAll disk
+
+  -- what is done with what was found, and what a crash may leave of it
+  abbrev pub InitsFoundLeaving : Result AirportFiles FilesFault → Outs → Outs → Status → Type 0
+  InitsFoundLeaving found before after status = (inits : DoesFound MakesJournal found before after status)
+      × LeavesNew found before after status inits
 
   -- what is done, by what is asked: no other word writes
   abbrev pub Leaves : (asked : Asked) (before after : World) (status : Status)
@@ -75,10 +123,12 @@ module _ (disk : DiskStates) where
   Leaves (desk airport types) before after status runs =
       LeavesServed runs.found (ends_of before) (ends_of after) status runs.runs
   Leaves (init airport types) before after status inits =
-      LeavesNew inits.found (outs_of before) (outs_of after) status inits.inits
+      LeavesNew inits.found (outs_of before) (outs_of after) status inits.does
   Leaves (import airport types season) before after status imports =
       LeavesAdded imports.found season (around imports.shelf before) (around after.shelf after) status
       imports.imports
+  Leaves (upgrade airport types) before after status upgrades =
+      LeavesUpgrade disk upgrades.found (outs_of before) (outs_of after) status upgrades.does
   Leaves asked before after status does = LeavesAll disk
 
   -- what the program does for what is asked of it, the status that its number stands for, and what

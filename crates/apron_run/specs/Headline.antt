@@ -16,7 +16,7 @@ use Rattle.history_core.specs.AtRisk.{IsAskedFor}
 use Rattle.history_core.specs.History.{IsLegal, IsSoundPlan, call_limit, call_of, replay}
 use Rattle.history_core.specs.Laws.{HasAdded, HasCommit, HasVisit}
 use Rattle.history_core.specs.Opening.{next_after}
-use Rattle.desk_http.specs.Answers.{Answers, Sent, TakesMemory, at_once, given, sends, sent_text}
+use Rattle.desk_http.specs.Answers.{Answers, Sent, TakesMemory, at_once, fed, given, sends, sent_text}
 use Rattle.desk_http.specs.Alone.{AloneAsks, numbers_from}
 use Rattle.desk_http.specs.Ports.{PortState, is_unkept}
 use Rattle.desk_http.specs.Routes.{routed}
@@ -36,13 +36,13 @@ use Rattle.apron_run.specs.declared.status.Status.{Status}
 use Rattle.apron_run.specs.declared.status.Status.TheVariants.{Done, ReadFault, WriteFault, Cut, Memory, Malformed, Limit, Spent}
 use Rattle.apron_run.specs.declared.unusable.Unusable.{Unusable}
 
--- the bytes of a session: all that the source had, what it still has behind it, and what was written
+-- the bytes of a session: all that the source had, what is left of it, and what was written
 pub record Carried : Type 0 where
   pub input : List ℕ
   pub left : List ℕ
   pub output : List ℕ
 
--- the requests at the front of an input that were answered, in order, what was sent for each, and the bytes behind them
+-- the requests at the front of an input that were answered, in order, what was sent for each, and the bytes after them
 pub record Exchange : Type 0 where
   pub requests : List Request
   pub sents : List Sent
@@ -82,14 +82,16 @@ GoesOnFrom opened history = (added : List Entry) × (history ≡ opened ++ added
 abbrev pub is_given : Sent → Bool
 is_given (at_once reply) = false
 is_given (given answer) = true
+is_given (fed answer) = true
 
 -- whether a reply is 503: the entry could not be kept
 abbrev pub tells_unkept : Sent → Bool
 tells_unkept (at_once reply) = false
 tells_unkept (given answer) = is_unkept answer
+tells_unkept (fed answer) = false
 
--- a count of faults over some replies, so many of which are 503: it stands still where none is, and else it rises by at least as many, or stands at its
--- last value
+-- a count of faults over some replies: it stays as it is if none of them is 503, and else it rises by
+-- at least as many as are, or is at its last value
 pub record CountsUnkept (unkept before after : ℕ) : Type 0 where
   pub none : unkept ≡ 0 → after ≡ before
   pub some : RoseBy unkept before after
@@ -129,7 +131,7 @@ module _ (airport : AirportParts) where
   -- Where in its input a session stopped that ended with this status, and what it wrote. With Done, Cut and Malformed it came to the end of the
   -- input's requests, and with Limit it answered as many as it may. With ReadFault it stopped inside a request, with WriteFault at a reply, with Spent
   -- at a request that asks something of the plan, and with Memory before it took anything or at a request whose body is to be read as JSON; then the
-  -- line that tells it was written behind the replies, or a front of it.
+  -- line that says so was written after the replies, or a front of it.
   abbrev pub StopsWith : Status → Carried → Exchange → Type 0
   StopsWith Done carried exchange =
       (GoesOn exchange × Requests carried.input exchange.requests ended ⊎ Requests carried.input exchange.requests closed)
@@ -187,11 +189,11 @@ module _ (files : AirportFiles) where
   -- entry exactly where nothing refuses it and the history takes one more entry: nothing refuses a message; a report is refused for the first cause
   -- against its visit, its part and its minute, and never for a clash; a cancel is, where its visit is not there, has left or is on block. A message and
   -- a report change the one visit that they are of, and then settle the plan: planned parts that can't stay lose their stands, and the reply names them.
-  -- A cancelled visit stands nowhere. A question is told what the plan then is. In the place of each of these replies there may be the one that memory is
-  -- wanting, and in the place of the reply to a command that the plan accepts the one that its entry could not be kept, where the disk's count of faults
-  -- rose at it; and then nothing has changed. The count stands still where no reply is that one. After each entry the plan is sound. At the end the disk is a journal of the same two files with the history, or,
-  -- where it has failed, with this and perhaps one entry more, with which it is still legal: that of a request which was told that its entry could not be
-  -- kept, and after which none was added.
+  -- A cancelled visit stands nowhere. A question is answered from the plan and the history as they then are. In place of each of these replies there may be the
+  -- one that says that memory has run out, and in place of the reply to a command that the plan accepts the one that says that its entry could not be
+  -- kept, if the disk's count of faults rose at it; and then nothing has changed. The count stays as it is if no reply is that one. After each entry the
+  -- plan is sound. At the end the disk is a journal of the same two files with the history, or, if it has failed, with this and perhaps one entry more,
+  -- with which it is still legal: that of a request whose reply said that its entry could not be kept, and after which none was added.
   pub record Headline (opened : List Entry) (before after : DiskSeen) (carried : Carried) (code : ℕ) : Type 0 where
     pub status : Status
     pub code_is : code ≡ code_of status

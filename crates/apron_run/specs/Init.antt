@@ -1,17 +1,15 @@
 -- What the word `init` does: an empty journal for the airport of two files.
-use Rattle.std.specs.Prelude.{◌≡◌, ◌≢◌, ℕ, List, length, false, true, Option, None, Some, IfSome, Result, Ok, Err}
+use Rattle.std.specs.Prelude.{◌≡◌, ◌≢◌, ℕ, List, length, false, true, Option, None, Some, IfSome}
 use Rattle.apron_base.specs.Counts.{Counts}
 use Rattle.apron_base.specs.Ends.{SinkState}
 use Rattle.journal_disk.specs.Header.{empty_journal}
 use Rattle.journal_disk.specs.declared.fault.JournalFault.{JournalFault}
 use Rattle.journal_disk.specs.declared.fault.JournalFault.TheVariants as journal
-use Rattle.apron_check.specs.Files.{Finds}
 use Rattle.apron_check.specs.declared.files.AirportFiles.{AirportFiles}
-use Rattle.apron_check.specs.declared.faults.FilesFault.{FilesFault}
-use Rattle.apron_run.specs.Check.{TellsFault}
 use Rattle.apron_run.specs.Print.{Writes, made_text}
+use Rattle.apron_run.specs.TwoFiles.{DoesWithFiles}
 use Rattle.apron_run.specs.Unusable.{TellsUnusable}
-use Rattle.apron_run.specs.World.{DiskSeen, Outs, World, outs_of}
+use Rattle.apron_run.specs.World.{DiskSeen, Outs, World}
 use Rattle.apron_run.specs.declared.status.Status.{Status}
 use Rattle.apron_run.specs.declared.status.Status.TheVariants.{Done, WriteFault}
 use Rattle.apron_run.specs.declared.unusable.Unusable.TheVariants.{Journal}
@@ -51,13 +49,6 @@ pub record MakesJournal (files : AirportFiles) (before after : Outs) (status : S
   pub makes : Makes files.digests before.disk after.disk refused
   pub tells : TellsMade refused before.sink after.sink status
 
--- what is done with what was found in the two files: a journal is made of them; or the line of their fault is written, and the disk is as it was
-abbrev pub InitsFound : Result AirportFiles FilesFault → Outs → Outs → Status → Type 0
-InitsFound (Ok files) before after status = MakesJournal files before after status
-InitsFound (Err fault) before after status = (after.disk ≡ before.disk) × TellsFault fault before.sink after.sink status
-
 -- the airport file and the type file of these names were read, and this was done with what was found in them
-pub record InitsJournal (airport types : List ℕ) (before after : World) (status : Status) : Type 0 where
-  pub found : Result AirportFiles FilesFault
-  pub finds : Finds before.shelf after.shelf airport types found
-  pub inits : InitsFound found (outs_of before) (outs_of after) status
+abbrev pub InitsJournal : List ℕ → List ℕ → World → World → Status → Type 0
+InitsJournal airport types before after status = DoesWithFiles MakesJournal airport types before after status

@@ -1,7 +1,7 @@
 -- What the program does with its words, its files, its bytes and its disk.
 use Rattle.std.specs.Prelude.{◌≡◌, ◌≤◌, ℕ, Bool, true, false, MatchBool}
 use Rattle.apron_base.specs.Counts.{Counts}
-use Rattle.apron_run.specs.Words.{Asked, desk, init, check, chart, import, export, make, help, version, faulty}
+use Rattle.apron_run.specs.Words.{Asked, desk, init, check, chart, import, export, propose, upgrade, make, help, version, faulty}
 use Rattle.apron_run.specs.World.{World}
 use Rattle.apron_run.specs.Statuses.{code_of, is_disk_fault, is_read_fault, is_shelf_fault, is_told, is_write_fault}
 use Rattle.apron_run.specs.Desk.{RunsDesk, ServedCounts}
@@ -11,6 +11,8 @@ use Rattle.apron_run.specs.Check.{ChecksFiles}
 use Rattle.apron_run.specs.Export.{ExportsFiles}
 use Rattle.apron_run.specs.Import.{ImportsFiles}
 use Rattle.apron_run.specs.Make.{TellsDay}
+use Rattle.apron_run.specs.Upgrade.{UpgradesFiles}
+use Rattle.apron_run.specs.Propose.{ProposesFiles}
 use Rattle.apron_run.specs.Print.{Writes, help_text, usage_text, version_text}
 use Rattle.apron_run.specs.declared.status.Status.{Status}
 use Rattle.apron_run.specs.declared.status.Status.TheVariants.{Done, Usage, WriteFault}
@@ -23,6 +25,8 @@ Does (check airport types) before after status = ChecksFiles airport types befor
 Does (chart airport types day) before after status = ChartsFiles airport types day before after status
 Does (import airport types season) before after status = ImportsFiles airport types season before after status
 Does (export airport types) before after status = ExportsFiles airport types before after status
+Does (upgrade airport types) before after status = UpgradesFiles airport types before after status
+Does (propose airport types name draft) before after status = ProposesFiles airport types name draft before after status
 Does (make visits) before after status = TellsDay visits before.sink after.sink status
 Does help before after status = Writes help_text Done WriteFault before.sink after.sink status
 Does version before after status = Writes version_text Done WriteFault before.sink after.sink status

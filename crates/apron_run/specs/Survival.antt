@@ -13,6 +13,10 @@ pub record DiskStates : Type 1 where
   pub before : DiskState
   pub after : DiskState
 
+-- a disk that was in the first of these states before a run, and is in the other after it
+abbrev pub from_to : DiskState → DiskState → DiskStates
+from_to before after = record { before = before; after = after }
+
 -- each image that a crash may leave from one moment of a disk to another
 abbrev pub EachImageFrom : ℕ → ℕ → DiskState → (List ℕ → Type 0) → Type 0
 EachImageFrom first last disk P =
@@ -26,7 +30,7 @@ OpensWith digests entries IsMore image =
     (opening_of digests image ≡ Ok entries)
     ⊎ ((more : List ℕ) × IsMore more × (opening_of digests image ≡ Ok (with_last more entries)))
 
--- the image opens to the first of these entries, at least so many, or to these and one more
+-- the image opens to the first of these entries, at least this number of them, or to these and one more
 pub record OpensToFront (digests : List ℕ) (least : ℕ) (entries : List (List ℕ)) (image : List ℕ) : Type 0 where
   pub count : ℕ
   pub some : least ≤ count

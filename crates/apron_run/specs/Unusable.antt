@@ -19,6 +19,7 @@ journal_text journal.DiskFault = codes "disk fault"
 journal_text journal.NotEmpty = codes "journal not empty"
 journal_text journal.NotAJournal = codes "journal: not a journal"
 journal_text (journal.OtherAirport kept given) = (codes "journal: other airport " ++ encode_lower kept) ++ (codes " " ++ encode_lower given)
+journal_text journal.OldFormat = codes "journal: old format"
 journal_text (journal.BadRecord number) = codes "journal: record " ++ decimal number
 journal_text journal.Memory = memory_text
 

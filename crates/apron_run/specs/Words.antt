@@ -2,8 +2,10 @@
 use Rattle.std.specs.Prelude.{ℕ, ◌==◌, length, nat_le, slice_index, ◌&&◌, ◌||◌, not, Option, Some, None, List, [], ◌∷◌, Bool, true, false, codes, if◌then◌else◌}
 use Rattle.std.specs.Char.{is_ascii_digit}
 use Rattle.std.specs.List.{list_all}
+use Rattle.std.specs.Option.{option_and_then}
 use Rattle.std.specs.Str.{bytes_eq}
 use Rattle.apron_base.specs.Digits.{number_of}
+use Rattle.apron_base.specs.Name.{is_name}
 use Rattle.apron_base.specs.declared.digits.TheConstants.{MAX_DIGITS}
 use Rattle.generated_day.specs.Days.{most_made}
 use Rattle.apron_run.specs.Statuses.{code_of}
@@ -11,7 +13,7 @@ use Rattle.apron_run.specs.declared.status.Status.TheVariants.{Usage, FileFault,
 
 -- what words ask for, with the names of an airport file and a type file where it has to do with an airport: a session of a desk on its journal, an empty
 -- journal, a check of the two files, a chart of the day that these digits name, the adding of the visits of a season file of this name, a season file of
--- the plan's visits; or a text, or nothing that there is
+-- the plan's visits, a proposal to the desk of this name for its draft of this number, the journal in format 2; or a text, or nothing that there is
 pub data Asked : Type 0 where
   desk : List ℕ → List ℕ → Asked
   init : List ℕ → List ℕ → Asked
@@ -19,6 +21,8 @@ pub data Asked : Type 0 where
   chart : List ℕ → List ℕ → List ℕ → Asked
   import : List ℕ → List ℕ → List ℕ → Asked
   export : List ℕ → List ℕ → Asked
+  propose : List ℕ → List ℕ → List ℕ → ℕ → Asked
+  upgrade : List ℕ → List ℕ → Asked
   make : ℕ → Asked
   help : Asked
   version : Asked
@@ -35,7 +39,8 @@ asked_of_files word airport types =
     else (if bytes_eq word (codes "init") then init airport types
     else (if bytes_eq word (codes "check") then check airport types
     else (if bytes_eq word (codes "export") then export airport types
-    else faulty)))
+    else (if bytes_eq word (codes "upgrade") then upgrade airport types
+    else faulty))))
 
 -- a zero stands before others
 abbrev pub is_padded : List ℕ → Bool
@@ -45,30 +50,59 @@ is_padded text = nat_le 2 (length text) && slice_index text 0 == 48
 abbrev pub is_plain_number : List ℕ → Bool
 is_plain_number text = nat_le 1 (length text) && list_all is_ascii_digit text && not (is_padded text)
 
--- what a word asks for that has the names of an airport file and a type file and then digits behind it
-abbrev pub asked_of_day : List ℕ → List ℕ → List ℕ → List ℕ → Asked
-asked_of_day word airport types day = if bytes_eq word (codes "chart") && is_plain_number day then chart airport types day else faulty
+-- the number, if it is from the first to the last
+abbrev pub within : ℕ → ℕ → ℕ → Option ℕ
+within first last number = if nat_le first number && nat_le number last then Some number else None
 
--- what a word asks for that has the names of an airport file and a type file and then one word more behind it: the name of a season file, or a day
+-- the number from the first to the last that the digits write, if they write one
+abbrev pub number_within : List ℕ → ℕ → ℕ → Option ℕ
+number_within text first last = option_and_then (within first last) (number_of text MAX_DIGITS)
+
+-- what a word asks for that has the names of an airport file and a type file and then one word more: the name of a season file, or a day
 abbrev pub asked_of_more : List ℕ → List ℕ → List ℕ → List ℕ → Asked
-asked_of_more word airport types more = if bytes_eq word (codes "import") then import airport types more else asked_of_day word airport types more
+asked_of_more word airport types more =
+    if bytes_eq word (codes "import") then import airport types more
+    else (if bytes_eq word (codes "chart") && is_plain_number more then chart airport types more
+    else faulty)
 
--- what the word `make` asks for with this number: a generated day of 1 to 5,000 visits
+-- what the word `make` asks for with this number of visits, if it is one that a generated day can have
 abbrev pub made_of : Option ℕ → Asked
 made_of None = faulty
-made_of (Some visits) = if nat_le 1 visits && nat_le visits most_made then make visits else faulty
+made_of (Some visits) = make visits
 
--- what a word asks for that has digits behind it
+-- what a word asks for that has digits after it: `make` a generated day of 1 to 5,000 visits
 abbrev pub asked_with_number : List ℕ → List ℕ → Asked
-asked_with_number word number = if bytes_eq word (codes "make") && is_plain_number number then made_of (number_of number MAX_DIGITS) else faulty
+asked_with_number word number =
+    if bytes_eq word (codes "make") && is_plain_number number then made_of (number_within number 1 most_made) else faulty
 
--- what the words ask for: `desk`, `init`, `check` or `export` with the names of two files, `chart` with these and a number, `import` with the names of
--- three, `make` with a number, `--help` or `--version`
+-- the greatest number of a draft
+abbrev pub last_draft : ℕ
+last_draft = 4294967295
+
+-- what the word `propose` asks for with this name of a desk, if it is one, and this number
+abbrev pub proposed_to : List ℕ → List ℕ → List ℕ → ℕ → Asked
+proposed_to airport types name draft =
+    if is_name name then propose airport types name draft else faulty
+
+-- the same with the number of a draft, if it is one
+abbrev pub proposed_of : List ℕ → List ℕ → List ℕ → Option ℕ → Asked
+proposed_of airport types name None = faulty
+proposed_of airport types name (Some draft) = proposed_to airport types name draft
+
+-- what a word asks for that has the names of an airport file and a type file, a name and digits after it
+abbrev pub asked_of_draft : List ℕ → List ℕ → List ℕ → List ℕ → List ℕ → Asked
+asked_of_draft word airport types name draft =
+    if bytes_eq word (codes "propose") && is_plain_number draft
+    then proposed_of airport types name (number_within draft 0 last_draft) else faulty
+
+-- what the words ask for: `desk`, `init`, `check`, `export` or `upgrade` with the names of two files, `chart` with these and a number, `import` with the names of
+-- three, `propose` with the names of two, a desk's name and a number, `make` with a number, `--help` or `--version`
 abbrev pub asked_by : List (List ℕ) → Asked
 asked_by (word ∷ []) = asked_by_one word
 asked_by (word ∷ number ∷ []) = asked_with_number word number
 asked_by (word ∷ airport ∷ types ∷ []) = asked_of_files word airport types
 asked_by (word ∷ airport ∷ types ∷ more ∷ []) = asked_of_more word airport types more
+asked_by (word ∷ airport ∷ types ∷ name ∷ draft ∷ []) = asked_of_draft word airport types name draft
 asked_by words = faulty
 
 -- the program ends with this number since two files give no airport, or the shelf none of them
@@ -109,14 +143,14 @@ uses_disk (init airport types) code = not (ends_before_journal code)
 uses_disk (chart airport types day) code = not (ends_before_chart code)
 uses_disk (import airport types season) code = not (ends_before_import code)
 uses_disk (export airport types) code = not (ends_at_files code)
+uses_disk (propose airport types name draft) code = not (ends_at_files code)
+uses_disk (upgrade airport types) code = not (ends_at_files code)
 uses_disk asked code = false
 
 -- whether the shelf is read for it
 abbrev pub uses_shelf : Asked → Bool
-uses_shelf (desk airport types) = true
-uses_shelf (init airport types) = true
-uses_shelf (check airport types) = true
-uses_shelf (chart airport types day) = true
-uses_shelf (import airport types season) = true
-uses_shelf (export airport types) = true
-uses_shelf asked = false
+uses_shelf (make visits) = false
+uses_shelf help = false
+uses_shelf version = false
+uses_shelf faulty = false
+uses_shelf asked = true

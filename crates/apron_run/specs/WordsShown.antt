@@ -3,7 +3,7 @@ use Rattle.std.specs.Prelude.{◌≤◌}
 use Rattle.generated_day.specs.Days.{most_made}
 use Rattle.apron_run.specs.declared.words.Asked.{Asked as Read}
 use Rattle.apron_run.specs.declared.words.Asked.TheVariants as read
-use Rattle.apron_run.specs.Words.{Asked, desk, init, check, chart, import, export, make, help, version, faulty}
+use Rattle.apron_run.specs.Words.{Asked, desk, init, check, chart, import, export, propose, upgrade, make, help, version, faulty}
 
 -- the same, with the names in place of the words
 abbrev pub shown : Read → Asked
@@ -13,6 +13,8 @@ shown (read.Check airport types) = check airport.now types.now
 shown (read.Chart airport types day) = chart airport.now types.now day.now
 shown (read.Import airport types season) = import airport.now types.now season.now
 shown (read.Export airport types) = export airport.now types.now
+shown (read.Upgrade airport types) = upgrade airport.now types.now
+shown (read.Propose airport types name draft) = propose airport.now types.now name draft
 shown (read.Make visits) = make visits
 shown read.Help = help
 shown read.Version = version

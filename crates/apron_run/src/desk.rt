@@ -1,12 +1,12 @@
 // The word `desk`.
 ghost use Rattle.std.specs.Prelude.{◌≡◌, ℕ, not, false, OnErr};
 ghost use Rattle.journal_disk.specs.Disk.{Stays};
-ghost use Rattle.apron_run.specs.Crash.{LeavesMet, LeavesServed};
-ghost use Rattle.apron_run.specs.Desk.{MeetsDesk, RunsDesk, RunsOnJournal};
+ghost use Rattle.apron_run.specs.Crash.{MeetsDeskLeaving, RunsDeskLeaving, RunsOnJournalLeaving};
 ghost use Rattle.apron_run.specs.Run.{KeptUnless};
 ghost use Rattle.apron_run.specs.Statuses.{code_of};
+ghost use Rattle.apron_run.specs.Survival.{from_to};
 ghost use Rattle.apron_run.specs.Words.{ends_at_files, ends_at_journal};
-ghost use Rattle.apron_run.specs.World.{ends_at, ends_of, seen_of, world_at};
+ghost use Rattle.apron_run.specs.World.{ends_at, world_at};
 
 use crate::Status;
 use crate::check::tell_fault;
@@ -33,14 +33,11 @@ pub(crate) fn desk<F: Shelf, S: Source, W: Sink, D: Disk>(
     sink: &mut W,
     disk: &mut D,
 ) -> Status
-    ensures runs { RunsDesk airport.now types.now
-        (record { shelf = F.state shelf.old; source = S.state source.old; sink = W.state sink.old; disk = seen_of (D.state disk.old) })
-        (record { shelf = F.state shelf.new; source = S.state source.new; sink = W.state sink.new; disk = seen_of (D.state disk.new) }) result }
-    ensures crash { let before = world_at (F.state shelf.old) (S.state source.old) (W.state sink.old) (D.state disk.old) in
-        let after = world_at (F.state shelf.new) (S.state source.new) (W.state sink.new) (D.state disk.new) in
-        (runs : RunsDesk airport.now types.now before after result)
-        × LeavesServed (record { before = D.state disk.old; after = D.state disk.new })
-        runs.found (ends_of before) (ends_of after) result runs.runs }
+    ensures runs { RunsDeskLeaving (from_to (D.state disk.old) (D.state disk.new))
+        airport.now types.now
+        (world_at (F.state shelf.old) (S.state source.old) (W.state sink.old) (D.state disk.old))
+        (world_at (F.state shelf.new) (S.state source.new) (W.state sink.new) (D.state disk.new))
+        result }
     ensures untaken { KeptUnless (not (ends_at_journal (code_of result))) source.old source.new }
     ensures kept { KeptUnless (not (ends_at_files (code_of result))) disk.old disk.new }
 {
@@ -59,14 +56,9 @@ fn run_on_journal<S: Source, W: Sink, D: Disk>(
     sink: &mut W,
     disk: &mut D,
 ) -> Status
-    ensures runs { RunsOnJournal files.now
-        (record { source = S.state source.old; sink = W.state sink.old; disk = seen_of (D.state disk.old) })
-        (record { source = S.state source.new; sink = W.state sink.new; disk = seen_of (D.state disk.new) }) result }
-    ensures crash { let before = ends_at (S.state source.old) (W.state sink.old) (D.state disk.old) in
-        let after = ends_at (S.state source.new) (W.state sink.new) (D.state disk.new) in
-        (runs : RunsOnJournal files.now before after result)
-        × LeavesMet (record { before = D.state disk.old; after = D.state disk.new })
-        files.now before (record { source = after.source; sink = runs.sink; disk = after.disk }) runs.met runs.meets }
+    ensures runs { RunsOnJournalLeaving (from_to (D.state disk.old) (D.state disk.new)) files.now
+        (ends_at (S.state source.old) (W.state sink.old) (D.state disk.old))
+        (ends_at (S.state source.new) (W.state sink.new) (D.state disk.new)) result }
     ensures untaken { KeptUnless (not (ends_at_journal (code_of result))) source.old source.new }
     ensures no_file { ends_at_files (code_of result) ≡ false }
 {
@@ -90,14 +82,9 @@ fn serve_on<'d, N: Named + OfFiles, S: Source, W: Sink, D: Disk>(
     requires digests { files.now.digests ≡ N.digests }
     requires begun { Stays N.begun (D.state disk.old) }
     ensures same { result.1.ghost_name ≡ disk.entry.ghost_name }
-    ensures meets { MeetsDesk files.now
-        (record { source = S.state source.old; sink = W.state sink.old; disk = seen_of (D.state disk.old) })
-        (record { source = S.state source.new; sink = W.state sink.new; disk = seen_of (D.state result.1.now) }) result.0 }
-    ensures crash { let before = ends_at (S.state source.old) (W.state sink.old) (D.state disk.old) in
-        let after = ends_at (S.state source.new) (W.state sink.new) (D.state result.1.now) in
-        (meets : MeetsDesk files.now before after result.0)
-        × LeavesMet (record { before = N.begun; after = D.state result.1.now })
-        files.now before after result.0 meets }
+    ensures meets { MeetsDeskLeaving (from_to N.begun (D.state result.1.now)) files.now
+        (ends_at (S.state source.old) (W.state sink.old) (D.state disk.old))
+        (ends_at (S.state source.new) (W.state sink.new) (D.state result.1.now)) result.0 }
     ensures untaken { OnErr result.0 (source.new ≡ source.old) }
 {
     let same: SameDisk<'d, N, D> = SameDisk {
@@ -119,14 +106,9 @@ fn serve<N: OfFiles, S: Source, W: Sink, D: Disk>(
 ) -> (Result<Outcome, Unusable>, D)
     requires digests { files.now.digests ≡ N.digests }
     requires begun { Stays N.begun (D.state disk) }
-    ensures meets { MeetsDesk files.now
-        (record { source = S.state source.old; sink = W.state sink.old; disk = seen_of (D.state disk) })
-        (record { source = S.state source.new; sink = W.state sink.new; disk = seen_of (D.state result.1) }) result.0 }
-    ensures crash { let before = ends_at (S.state source.old) (W.state sink.old) (D.state disk) in
-        let after = ends_at (S.state source.new) (W.state sink.new) (D.state result.1) in
-        (meets : MeetsDesk files.now before after result.0)
-        × LeavesMet (record { before = N.begun; after = D.state result.1 })
-        files.now before after result.0 meets }
+    ensures meets { MeetsDeskLeaving (from_to N.begun (D.state result.1)) files.now
+        (ends_at (S.state source.old) (W.state sink.old) (D.state disk))
+        (ends_at (S.state source.new) (W.state sink.new) (D.state result.1)) result.0 }
     ensures untaken { OnErr result.0 (source.new ≡ source.old) }
 {
     let board = match open_board::<N, D>(alloc, files, disk) {

@@ -64,7 +64,7 @@ impl<N: OfFiles, D: Disk> FilesJournal<N, D> {
         }
     }
 
-    /// The disk as it is: the journal's entries are on it, or these and the one at risk, behind the header of these files.
+    /// The disk as it is: the journal's entries are on it, or these and the one at risk, after the header of these files.
     pub(crate) fn into_disk(self) -> D
         ensures disk { result ≡ self.disk }
         ensures entries { IsCrashSafe self.extent (D.state result) }

@@ -5,12 +5,12 @@ ghost use Rattle.journal_disk.specs.Disk.{Stays};
 ghost use Rattle.apron_check.specs.Files.{Finds};
 ghost use Rattle.apron_check.specs.declared.faults.FilesFault.{FilesFault};
 ghost use Rattle.apron_check.specs.declared.files.AirportFiles.{AirportFiles};
-ghost use Rattle.apron_run.specs.Crash.{LeavesAdded, LeavesImported};
-ghost use Rattle.apron_run.specs.Import.{ImportsFound, ImportsOnJournal, MeetsImport, around_at, stores_at};
+ghost use Rattle.apron_run.specs.Crash.{ImportsFoundLeaving, ImportsOnJournalLeaving, MeetsImportLeaving};
+ghost use Rattle.apron_run.specs.Import.{around_at, stores_at};
 ghost use Rattle.apron_run.specs.Run.{KeptUnless};
 ghost use Rattle.apron_run.specs.Statuses.{code_of};
+ghost use Rattle.apron_run.specs.Survival.{from_to};
 ghost use Rattle.apron_run.specs.Words.{ends_before_import};
-ghost use Rattle.apron_run.specs.World.{seen_of};
 
 use crate::Status;
 use crate::check::tell_fault;
@@ -37,16 +37,11 @@ pub(crate) fn import<F: Shelf, W: Sink, D: Disk>(
     sink: &mut W,
     disk: &mut D,
 ) -> Status
-    ensures imports { (found : Result AirportFiles FilesFault) × (mid : ShelfState) × Finds (F.state shelf.old) mid airport.now types.now found
-        × ImportsFound found season.now
-        (record { stores = record { shelf = mid; disk = seen_of (D.state disk.old) }; sink = W.state sink.old })
-        (record { stores = record { shelf = F.state shelf.new; disk = seen_of (D.state disk.new) }; sink = W.state sink.new }) result }
-    ensures crash { (found : Result AirportFiles FilesFault) × (mid : ShelfState) × Finds (F.state shelf.old) mid airport.now types.now found × (
-        let before = around_at mid (D.state disk.old) (W.state sink.old) in
-        let after = around_at (F.state shelf.new) (D.state disk.new) (W.state sink.new) in
-        (imports : ImportsFound found season.now before after result)
-        × LeavesAdded (record { before = D.state disk.old; after = D.state disk.new })
-        found season.now before after result imports) }
+    ensures imports { (found : Result AirportFiles FilesFault) × (mid : ShelfState)
+        × Finds (F.state shelf.old) mid airport.now types.now found
+        × ImportsFoundLeaving (from_to (D.state disk.old) (D.state disk.new)) found season.now
+        (around_at mid (D.state disk.old) (W.state sink.old))
+        (around_at (F.state shelf.new) (D.state disk.new) (W.state sink.new)) result }
     ensures kept { KeptUnless (not (ends_before_import (code_of result))) disk.old disk.new }
 {
     match airport_of(alloc, airport, types, shelf) {
@@ -64,14 +59,10 @@ fn import_season<F: Shelf, W: Sink, D: Disk>(
     sink: &mut W,
     disk: &mut D,
 ) -> Status
-    ensures imports { ImportsOnJournal files.now season.now
-        (record { stores = record { shelf = F.state shelf.old; disk = seen_of (D.state disk.old) }; sink = W.state sink.old })
-        (record { stores = record { shelf = F.state shelf.new; disk = seen_of (D.state disk.new) }; sink = W.state sink.new }) result }
-    ensures crash { let before = around_at (F.state shelf.old) (D.state disk.old) (W.state sink.old) in
-        let after = around_at (F.state shelf.new) (D.state disk.new) (W.state sink.new) in
-        (imports : ImportsOnJournal files.now season.now before after result)
-        × LeavesImported (record { before = D.state disk.old; after = D.state disk.new })
-        files.now season.now before.stores after.stores imports.met imports.meets }
+    ensures imports { ImportsOnJournalLeaving (from_to (D.state disk.old) (D.state disk.new))
+        files.now season.now
+        (around_at (F.state shelf.old) (D.state disk.old) (W.state sink.old))
+        (around_at (F.state shelf.new) (D.state disk.new) (W.state sink.new)) result }
     ensures comes { ends_before_import (code_of result) ≡ false }
 {
     let (met, _disk) = import_on::<Brand, F, D>(alloc, files, season, shelf, disk);
@@ -93,13 +84,9 @@ fn import_on<'d, N: Named + OfFiles, F: Shelf, D: Disk>(
     requires digests { files.now.digests ≡ N.digests }
     requires begun { Stays N.begun (D.state disk.old) }
     ensures same { result.1.ghost_name ≡ disk.entry.ghost_name }
-    ensures meets { MeetsImport files.now season.now (record { shelf = F.state shelf.old; disk = seen_of (D.state disk.old) })
-        (record { shelf = F.state shelf.new; disk = seen_of (D.state result.1.now) }) result.0 }
-    ensures crash { let before = stores_at (F.state shelf.old) (D.state disk.old) in
-        let after = stores_at (F.state shelf.new) (D.state result.1.now) in
-        (meets : MeetsImport files.now season.now before after result.0)
-        × LeavesImported (record { before = N.begun; after = D.state result.1.now })
-        files.now season.now before after result.0 meets }
+    ensures meets { MeetsImportLeaving (from_to N.begun (D.state result.1.now)) files.now season.now
+        (stores_at (F.state shelf.old) (D.state disk.old))
+        (stores_at (F.state shelf.new) (D.state result.1.now)) result.0 }
 {
     let same: SameDisk<'d, N, D> = SameDisk {
         disk,
@@ -120,13 +107,9 @@ fn import_into<N: OfFiles, F: Shelf, D: Disk>(
 ) -> (Result<Imported, Unusable>, D)
     requires digests { files.now.digests ≡ N.digests }
     requires begun { Stays N.begun (D.state disk) }
-    ensures meets { MeetsImport files.now season.now (record { shelf = F.state shelf.old; disk = seen_of (D.state disk) })
-        (record { shelf = F.state shelf.new; disk = seen_of (D.state result.1) }) result.0 }
-    ensures crash { let before = stores_at (F.state shelf.old) (D.state disk) in
-        let after = stores_at (F.state shelf.new) (D.state result.1) in
-        (meets : MeetsImport files.now season.now before after result.0)
-        × LeavesImported (record { before = N.begun; after = D.state result.1 })
-        files.now season.now before after result.0 meets }
+    ensures meets { MeetsImportLeaving (from_to N.begun (D.state result.1)) files.now season.now
+        (stores_at (F.state shelf.old) (D.state disk))
+        (stores_at (F.state shelf.new) (D.state result.1)) result.0 }
 {
     let mut board = match open_board::<N, D>(alloc, files, disk) {
         Ok(board) => board,

@@ -12,7 +12,7 @@ use apron_check::put_number;
 /// How an import ended. Records are counted from 1 with the header.
 #[derive(Clone, Copy, Debug, PartialEq, Eq)]
 pub(crate) enum Imported {
-    /// Each record was asked: so many visits were added, and so many were there already.
+    /// Each record was asked: this many visits were added, and this many were there already.
     Whole { added: u64, present: u64 },
     /// The shelf failed at the season file.
     ShelfFault,

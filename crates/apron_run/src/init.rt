@@ -3,12 +3,12 @@ ghost use Rattle.std.specs.Prelude.{◌≡◌, false, not, Result};
 ghost use Rattle.apron_check.specs.Files.{Finds};
 ghost use Rattle.apron_check.specs.declared.faults.FilesFault.{FilesFault};
 ghost use Rattle.apron_check.specs.declared.files.AirportFiles.{AirportFiles};
-ghost use Rattle.apron_run.specs.Crash.{LeavesMade, LeavesNew};
-ghost use Rattle.apron_run.specs.Init.{InitsFound, MakesJournal};
+ghost use Rattle.apron_run.specs.Crash.{InitsFoundLeaving, MakesJournalLeaving};
 ghost use Rattle.apron_run.specs.Run.{KeptUnless};
 ghost use Rattle.apron_run.specs.Statuses.{code_of};
+ghost use Rattle.apron_run.specs.Survival.{from_to};
 ghost use Rattle.apron_run.specs.Words.{ends_before_journal};
-ghost use Rattle.apron_run.specs.World.{outs_at, seen_of};
+ghost use Rattle.apron_run.specs.World.{outs_at};
 
 use crate::Status;
 use crate::check::tell_fault;
@@ -29,15 +29,11 @@ pub(crate) fn init<F: Shelf, W: Sink, D: Disk>(
     sink: &mut W,
     disk: &mut D,
 ) -> Status
-    ensures inits { (found : Result AirportFiles FilesFault) × Finds (F.state shelf.old) (F.state shelf.new) airport.now types.now found
-        × InitsFound found (record { sink = W.state sink.old; disk = seen_of (D.state disk.old) })
-        (record { sink = W.state sink.new; disk = seen_of (D.state disk.new) }) result }
-    ensures crash { (found : Result AirportFiles FilesFault) × Finds (F.state shelf.old) (F.state shelf.new) airport.now types.now found × (
-        let before = outs_at (W.state sink.old) (D.state disk.old) in
-        let after = outs_at (W.state sink.new) (D.state disk.new) in
-        (inits : InitsFound found before after result)
-        × LeavesNew (record { before = D.state disk.old; after = D.state disk.new })
-        found before after result inits) }
+    ensures inits { (found : Result AirportFiles FilesFault)
+        × Finds (F.state shelf.old) (F.state shelf.new) airport.now types.now found
+        × InitsFoundLeaving (from_to (D.state disk.old) (D.state disk.new)) found
+        (outs_at (W.state sink.old) (D.state disk.old))
+        (outs_at (W.state sink.new) (D.state disk.new)) result }
     ensures kept { KeptUnless (not (ends_before_journal (code_of result))) disk.old disk.new }
 {
     match airport_of(alloc, airport, types, shelf) {
@@ -48,13 +44,9 @@ pub(crate) fn init<F: Shelf, W: Sink, D: Disk>(
 
 // The journal of these files.
 fn make_journal<W: Sink, D: Disk>(files: &AirportFiles, sink: &mut W, disk: &mut D) -> Status
-    ensures makes { MakesJournal files.now (record { sink = W.state sink.old; disk = seen_of (D.state disk.old) })
-        (record { sink = W.state sink.new; disk = seen_of (D.state disk.new) }) result }
-    ensures crash { let before = outs_at (W.state sink.old) (D.state disk.old) in
-        let after = outs_at (W.state sink.new) (D.state disk.new) in
-        (makes : MakesJournal files.now before after result)
-        × LeavesMade files.now.digests makes.refused
-        (record { before = D.state disk.old; after = D.state disk.new }) }
+    ensures makes { MakesJournalLeaving (from_to (D.state disk.old) (D.state disk.new)) files.now
+        (outs_at (W.state sink.old) (D.state disk.old))
+        (outs_at (W.state sink.new) (D.state disk.new)) result }
     ensures comes { ends_before_journal (code_of result) ≡ false }
 {
     match journal_disk::init(disk, &files.digests) {

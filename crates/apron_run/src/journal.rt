@@ -4,7 +4,7 @@ ghost use Rattle.history_core.specs.History.{IsLegal};
 ghost use Rattle.history_core.specs.AtRisk.{entry_at_risk};
 ghost use Rattle.journal_disk.specs.Disk.{Stays};
 ghost use Rattle.apron_run.specs.Journal.{IsOpened, KeepsHistory, NotOpened, journal_tells};
-ghost use Rattle.apron_run.specs.Survival.{Survives};
+ghost use Rattle.apron_run.specs.Survival.{Survives, from_to};
 ghost use Rattle.apron_run.specs.World.{seen_of};
 
 use crate::files_journal::{FilesJournal, OfFiles};
@@ -14,8 +14,8 @@ use history_core::Board;
 use journal_disk::{Disk, Journal};
 use std::alloc::Global;
 
-/// Opens the journal of these files on the disk, and the board of its entries. At `Err` it is told why there is none to work on,
-/// and the disk is handed back, on which nothing was written.
+/// Opens the journal of these files on the disk, and the board of its entries. At `Err` comes why there is none to work on,
+/// and the disk, on which nothing was written.
 pub fn open_board<'f, N: OfFiles, D: Disk>(
     alloc: Global,
     files: &'f AirportFiles,
@@ -41,13 +41,13 @@ pub fn open_board<'f, N: OfFiles, D: Disk>(
 }
 
 /// Gives back the disk of a board that is not needed any more. It keeps the board's history, or this and the entry at risk
-/// behind it, as the journal of these files; and so does what a crash leaves.
+/// after it, as the journal of these files; and so does what a crash leaves.
 pub fn close_board<N: OfFiles, D: Disk>(board: Board<'_, FilesJournal<N, D>>) -> D
     ensures keeps { KeepsHistory (record { airport = board.entry.airport; digests = N.digests }) board.entry.history
         (entry_at_risk board.entry.airport (journal_tells D.state board.entry.keeper)) (seen_of (D.state result)) }
     ensures survives { Survives N.digests board.entry.history
         (entry_at_risk board.entry.airport (journal_tells D.state board.entry.keeper))
-        (record { before = N.begun; after = D.state result }) }
+        (from_to N.begun (D.state result)) }
     ensures disk { result ≡ board.entry.keeper.disk }
     ensures legal { IsLegal board.entry.airport board.entry.history }
 {

@@ -13,13 +13,17 @@ mod imported;
 mod init;
 mod journal;
 mod laws;
+mod lifting;
 mod make;
+mod plan_text;
 mod print;
 mod program;
+mod propose;
 mod same_disk;
 mod season;
 mod status;
 mod unusable;
+mod upgrade;
 mod words;
 
 pub use check::tell_fault;

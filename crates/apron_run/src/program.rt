@@ -6,18 +6,22 @@ ghost use Rattle.apron_run.specs.Crash.{CrashesAs};
 ghost use Rattle.apron_run.specs.Headline.{TellsHeadline};
 ghost use Rattle.apron_run.specs.Run.{KeptUnless, RunsAs};
 ghost use Rattle.apron_run.specs.Statuses.{code_of};
+ghost use Rattle.apron_run.specs.Survival.{from_to};
 ghost use Rattle.apron_run.specs.Words.{asked_by, desk as desk_word, faulty, may_be_usage, uses_disk, uses_shelf, uses_source};
-ghost use Rattle.apron_run.specs.World.{World, seen_of, world_at};
+ghost use Rattle.apron_run.specs.World.{world_at};
 
 use crate::Status;
 use crate::chart::chart;
 use crate::check::check;
 use crate::desk::desk;
-use crate::export::export;
+use crate::export::Season;
 use crate::import::import;
 use crate::init::init;
 use crate::make::make;
+use crate::plan_text::print_of_files;
 use crate::print::{print_help, print_usage, print_version};
+use crate::propose::Proposal;
+use crate::upgrade::upgrade;
 use crate::words::{Asked, asked_by};
 use apron_base::{Shelf, Sink, Source, Word};
 use journal_disk::Disk;
@@ -33,9 +37,12 @@ use std::alloc::Global;
 /// `check A T` reads both files, and prints the one line that tells what is in them. `chart A T DAY` opens
 /// the journal as `desk` does, and prints the wall chart of that day of the plan. `import A T SEASON` opens
 /// it and asks to add the visits of the season file, one after the other, and prints how many were added and
-/// how many were there; `export A T` opens it and prints the season file of the plan's visits. `make N`
-/// prints the summary of a generated day of `N` visits, 1 to 5,000. `--help` and `--version` print their
-/// text. Other words print the line `usage`.
+/// how many were there; `export A T` opens it and prints the season file of the plan's visits.
+/// `propose A T DESK DRAFT` opens it and prints a first-fit draft for the parts that stand nowhere, or the
+/// line `draft used` if the history has a commit of this desk's draft of this number, 0 to 4,294,967,295.
+/// `upgrade A T` makes a journal of format 1 one of format 2, with the same entries, and prints how many
+/// there are; all other words need format 2. `make N` prints the summary of a generated day of `N` visits,
+/// 1 to 5,000. `--help` and `--version` print their text. Other words print the line `usage`.
 ///
 /// | Status | Comes where |
 /// |---|---|
@@ -47,7 +54,7 @@ use std::alloc::Global;
 /// | 8 | what the disk reads as is no journal of these files, or no history of their airport, which is printed |
 /// | 9 | a record of the season file is refused, or the file is over 16 MiB, which is printed |
 /// | 10 | the source ended inside a request |
-/// | 12 | memory is wanting, which is printed |
+/// | 12 | there is no memory, which is printed |
 /// | 13 | a request's head was refused |
 /// | 14 | a journal is to be made where there are bytes already, which is printed |
 /// | 15 | the history has no place for a visit of the season file, whose record is printed |
@@ -61,76 +68,78 @@ pub fn run<F: Shelf, S: Source, W: Sink, D: Disk>(
     sink: &mut W,
     disk: &mut D,
 ) -> u8
-    ensures headline { let before : World = record { shelf = F.state shelf.old; source = S.state source.old; sink = W.state sink.old; disk = seen_of (D.state disk.old) } in
-        let after : World = record { shelf = F.state shelf.new; source = S.state source.new; sink = W.state sink.new; disk = seen_of (D.state disk.new) } in
-        (airport types : List ℕ) → asked_by words.now ≡ desk_word airport types → TellsHeadline airport types before after result }
-    ensures runs { let before : World = record { shelf = F.state shelf.old; source = S.state source.old; sink = W.state sink.old; disk = seen_of (D.state disk.old) } in
-        let after : World = record { shelf = F.state shelf.new; source = S.state source.new; sink = W.state sink.new; disk = seen_of (D.state disk.new) } in
-        RunsAs (asked_by words.now) before after result }
-    ensures complete { let before : World = record { shelf = F.state shelf.old; source = S.state source.old; sink = W.state sink.old; disk = seen_of (D.state disk.old) } in
-        let after : World = record { shelf = F.state shelf.new; source = S.state source.new; sink = W.state sink.new; disk = seen_of (D.state disk.new) } in
-        IsComplete (asked_by words.now) before after result }
-    ensures faults { let before : World = record { shelf = F.state shelf.old; source = S.state source.old; sink = W.state sink.old; disk = seen_of (D.state disk.old) } in
-        let after : World = record { shelf = F.state shelf.new; source = S.state source.new; sink = W.state sink.new; disk = seen_of (D.state disk.new) } in
-        FaultsHaveCause (asked_by words.now) before after result }
-    ensures crash { CrashesAs (record { before = D.state disk.old; after = D.state disk.new }) (asked_by words.now)
+    ensures headline { (airport types : List ℕ) → asked_by words.now ≡ desk_word airport types
+        → TellsHeadline airport types
         (world_at (F.state shelf.old) (S.state source.old) (W.state sink.old) (D.state disk.old))
-        (world_at (F.state shelf.new) (S.state source.new) (W.state sink.new) (D.state disk.new)) result }
+        (world_at (F.state shelf.new) (S.state source.new) (W.state sink.new) (D.state disk.new))
+        result }
+    ensures runs { RunsAs (asked_by words.now)
+        (world_at (F.state shelf.old) (S.state source.old) (W.state sink.old) (D.state disk.old))
+        (world_at (F.state shelf.new) (S.state source.new) (W.state sink.new) (D.state disk.new))
+        result }
+    ensures complete { IsComplete (asked_by words.now)
+        (world_at (F.state shelf.old) (S.state source.old) (W.state sink.old) (D.state disk.old))
+        (world_at (F.state shelf.new) (S.state source.new) (W.state sink.new) (D.state disk.new))
+        result }
+    ensures faults { FaultsHaveCause (asked_by words.now)
+        (world_at (F.state shelf.old) (S.state source.old) (W.state sink.old) (D.state disk.old))
+        (world_at (F.state shelf.new) (S.state source.new) (W.state sink.new) (D.state disk.new))
+        result }
+    ensures crash { CrashesAs (from_to (D.state disk.old) (D.state disk.new)) (asked_by words.now)
+        (world_at (F.state shelf.old) (S.state source.old) (W.state sink.old) (D.state disk.old))
+        (world_at (F.state shelf.new) (S.state source.new) (W.state sink.new) (D.state disk.new))
+        result }
     ensures usage { asked_by words.now ≡ faulty → result ≡ code_of Status.Usage }
     ensures usage_alone { result ≡ code_of Status.Usage → may_be_usage (asked_by words.now) ≡ true }
     ensures shelf_kept { KeptUnless (uses_shelf (asked_by words.now)) shelf.old shelf.new }
     ensures source_kept { KeptUnless (uses_source (asked_by words.now) result) source.old source.new }
     ensures disk_kept { KeptUnless (uses_disk (asked_by words.now) result) disk.old disk.new }
 {
+    run_words(alloc, words, shelf, source, sink, disk).code()
+}
+
+// The same, with the status.
+fn run_words<F: Shelf, S: Source, W: Sink, D: Disk>(
+    alloc: Global,
+    words: &[Word],
+    shelf: &mut F,
+    source: &mut S,
+    sink: &mut W,
+    disk: &mut D,
+) -> Status
+    ensures runs { RunsAs (asked_by words.now)
+        (world_at (F.state shelf.old) (S.state source.old) (W.state sink.old) (D.state disk.old))
+        (world_at (F.state shelf.new) (S.state source.new) (W.state sink.new) (D.state disk.new))
+        (code_of result) }
+    ensures crash { CrashesAs (from_to (D.state disk.old) (D.state disk.new)) (asked_by words.now)
+        (world_at (F.state shelf.old) (S.state source.old) (W.state sink.old) (D.state disk.old))
+        (world_at (F.state shelf.new) (S.state source.new) (W.state sink.new) (D.state disk.new))
+        (code_of result) }
+    ensures usage { asked_by words.now ≡ faulty → result ≡ Status.Usage }
+    ensures usage_alone { code_of result ≡ code_of Status.Usage → may_be_usage (asked_by words.now) ≡ true }
+    ensures shelf_kept { KeptUnless (uses_shelf (asked_by words.now)) shelf.old shelf.new }
+    ensures source_kept { KeptUnless (uses_source (asked_by words.now) (code_of result)) source.old source.new }
+    ensures disk_kept { KeptUnless (uses_disk (asked_by words.now) (code_of result)) disk.old disk.new }
+{
     match asked_by(words) {
-        Asked::Desk(airport, types) => {
-            desk(
-                alloc,
-                airport.text(),
-                types.text(),
-                shelf,
-                source,
-                sink,
-                disk,
-            )
-            .code()
-        }
-        Asked::Init(airport, types) => {
-            init(alloc, airport.text(), types.text(), shelf, sink, disk).code()
-        }
-        Asked::Check(airport, types) => {
-            check(alloc, airport.text(), types.text(), shelf, sink).code()
-        }
-        Asked::Chart(airport, types, day) => {
-            chart(
-                alloc,
-                airport.text(),
-                types.text(),
-                day.text(),
-                shelf,
-                sink,
-                disk,
-            )
-            .code()
-        }
+        Asked::Desk(airport, types) => desk(alloc, airport, types, shelf, source, sink, disk),
+        Asked::Init(airport, types) => init(alloc, airport, types, shelf, sink, disk),
+        Asked::Check(airport, types) => check(alloc, airport, types, shelf, sink),
+        Asked::Chart(airport, types, day) => chart(alloc, airport, types, day, shelf, sink, disk),
         Asked::Import(airport, types, season) => {
-            import(
-                alloc,
-                airport.text(),
-                types.text(),
-                season,
-                shelf,
-                sink,
-                disk,
-            )
-            .code()
+            import(alloc, airport, types, season, shelf, sink, disk)
         }
         Asked::Export(airport, types) => {
-            export(alloc, airport.text(), types.text(), shelf, sink, disk).code()
+            print_of_files(alloc, airport, types, &Season, shelf, sink, disk)
         }
-        Asked::Make(visits) => make(alloc, visits, sink).code(),
-        Asked::Help => print_help(sink).code(),
-        Asked::Version => print_version(sink).code(),
-        Asked::Faulty => print_usage(sink).code(),
+        Asked::Propose(airport, types, desk, draft) => {
+            let asked = Proposal { desk, draft };
+            print_of_files(alloc, airport, types, &asked, shelf, sink, disk)
+        }
+        Asked::Upgrade(airport, types) => upgrade(alloc, airport, types, shelf, sink, disk),
+        Asked::Make(visits) => make(alloc, visits, sink),
+        Asked::Help => print_help(sink),
+        Asked::Version => print_version(sink),
+        Asked::Faulty => print_usage(sink),
     }
 }

@@ -37,7 +37,7 @@ pub(crate) fn add_season<F: Shelf, K: Keeper>(
     }
 }
 
-// The visits of the season file of this name at the airport. At `Err` it is told why none are asked.
+// The visits of the season file of this name at the airport. `Err` says why none are asked.
 fn find_season<F: Shelf>(
     alloc: Global,
     airport: &Airport,

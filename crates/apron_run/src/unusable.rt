@@ -45,6 +45,7 @@ fn status_of_journal(fault: JournalFault) -> Status
         JournalFault::NotEmpty => Status::NotEmpty,
         JournalFault::NotAJournal
         | JournalFault::OtherAirport { .. }
+        | JournalFault::OldFormat
         | JournalFault::BadRecord(_) => Status::JournalFault,
         JournalFault::Memory => Status::Memory,
     }
@@ -83,6 +84,7 @@ fn put_journal_fault<W: Sink>(sink: &mut W, fault: &JournalFault) -> Result<(), 
         JournalFault::NotEmpty => sink.put(b"journal not empty"),
         JournalFault::NotAJournal => sink.put(b"journal: not a journal"),
         JournalFault::OtherAirport { kept, given } => put_other_airport(sink, kept, given),
+        JournalFault::OldFormat => sink.put(b"journal: old format"),
         JournalFault::BadRecord(number) => put_number(sink, b"journal: record ", *number as u64),
         JournalFault::Memory => sink.put(b"memory"),
     }

@@ -1,31 +1,34 @@
 // What the words of the command line ask for.
-ghost use Rattle.std.specs.Prelude.{◌≡◌};
+ghost use Rattle.std.specs.Prelude.{◌≡◌, ◌≤◌, IfSome};
 ghost use Rattle.std.specs.Char.{is_ascii_digit};
 ghost use Rattle.std.specs.List.{list_all};
-ghost use Rattle.std.specs.Str.{bytes_eq};
-ghost use Rattle.apron_base.specs.Digits.{number_of};
-ghost use Rattle.apron_run.specs.Words.{asked_by, asked_by_one, asked_of_day, asked_of_files, asked_of_more, asked_with_number, is_padded, is_plain_number, made_of};
+ghost use Rattle.generated_day.specs.Days.{most_made};
+ghost use Rattle.apron_run.specs.Words.{asked_by, asked_by_one, asked_of_draft, asked_of_files, asked_of_more, asked_with_number, is_padded, is_plain_number, last_draft, made_of, number_within, proposed_of, proposed_to, within};
 ghost use Rattle.apron_run.specs.WordsShown.{IsFitting, shown};
 
-use apron_base::{MAX_DIGITS, Word, number_of};
+use apron_base::{MAX_DIGITS, Name, Word, number_of};
 use generated_day::MAX_MADE;
 
 /// What the words ask for.
 #[derive(Clone, Copy)]
 pub(crate) enum Asked<'w> {
     /// One session at the airport of the airport file and the type file of these names, on its journal.
-    Desk(&'w Word, &'w Word),
+    Desk(&'w str, &'w str),
     /// An empty journal for the airport of the two files.
-    Init(&'w Word, &'w Word),
+    Init(&'w str, &'w str),
     /// A check of the airport file and the type file of these names.
-    Check(&'w Word, &'w Word),
+    Check(&'w str, &'w str),
     /// The wall chart of the day that these digits name, drawn from the journal of the two files.
-    Chart(&'w Word, &'w Word, &'w Word),
+    Chart(&'w str, &'w str, &'w str),
     /// The visits of the season file of the third name are added to the plan in the journal of the two files.
-    Import(&'w Word, &'w Word, &'w Word),
+    Import(&'w str, &'w str, &'w Word),
     /// The season file of the visits of the plan in the journal of the two files.
-    Export(&'w Word, &'w Word),
-    /// The summary of a generated day of so many visits, 1 to 5,000.
+    Export(&'w str, &'w str),
+    /// A proposal to the desk of this name for its draft of this number, over the plan in the journal of the two files.
+    Propose(&'w str, &'w str, Name, u32),
+    /// The journal of the two files in format 2.
+    Upgrade(&'w str, &'w str),
+    /// The summary of a generated day of this many visits, 1 to 5,000.
     Make(u32),
     Help,
     Version,
@@ -39,84 +42,146 @@ pub(crate) fn asked_by(words: &[Word]) -> Asked<'_>
     ensures fits { IsFitting result }
 {
     match words {
-        [word] => asked_by_one(word),
-        [word, number] => asked_with_number(word, number),
-        [word, airport, types] => asked_of_files(word, airport, types),
-        [word, airport, types, more] => asked_of_more(word, airport, types, more),
+        [word] => asked_by_one(word.text()),
+        [word, number] => asked_with_number(word.text(), number.text()),
+        [word, airport, types] => asked_of_files(word.text(), airport.text(), types.text()),
+        [word, airport, types, more] => {
+            asked_of_more(word.text(), airport.text(), types.text(), more)
+        }
+        [word, airport, types, desk, draft] => asked_of_draft(
+            word.text(),
+            airport.text(),
+            types.text(),
+            desk.text(),
+            draft.text(),
+        ),
         _ => Asked::Faulty,
     }
 }
 
-fn asked_by_one(word: &Word) -> Asked<'_>
+fn asked_by_one(word: &str) -> Asked<'_>
     ensures asked { shown result ≡ asked_by_one word.now }
     ensures fits { IsFitting result }
 {
-    if is(word, "--help") {
+    if word == "--help" {
         Asked::Help
-    } else if is(word, "--version") {
+    } else if word == "--version" {
         Asked::Version
     } else {
         Asked::Faulty
     }
 }
 
-fn asked_of_files<'w>(word: &Word, airport: &'w Word, types: &'w Word) -> Asked<'w>
+fn asked_of_files<'w>(word: &str, airport: &'w str, types: &'w str) -> Asked<'w>
     ensures asked { shown result ≡ asked_of_files word.now airport.now types.now }
     ensures fits { IsFitting result }
 {
-    if is(word, "desk") {
+    if word == "desk" {
         Asked::Desk(airport, types)
-    } else if is(word, "init") {
+    } else if word == "init" {
         Asked::Init(airport, types)
-    } else if is(word, "check") {
+    } else if word == "check" {
         Asked::Check(airport, types)
-    } else if is(word, "export") {
+    } else if word == "export" {
         Asked::Export(airport, types)
+    } else if word == "upgrade" {
+        Asked::Upgrade(airport, types)
     } else {
         Asked::Faulty
     }
 }
 
-fn asked_of_more<'w>(word: &Word, airport: &'w Word, types: &'w Word, more: &'w Word) -> Asked<'w>
+fn asked_of_more<'w>(word: &str, airport: &'w str, types: &'w str, more: &'w Word) -> Asked<'w>
     ensures asked { shown result ≡ asked_of_more word.now airport.now types.now more.now }
     ensures fits { IsFitting result }
 {
-    if is(word, "import") {
+    if word == "import" {
         Asked::Import(airport, types, more)
-    } else {
-        asked_of_day(word, airport, types, more)
-    }
-}
-
-fn asked_of_day<'w>(word: &Word, airport: &'w Word, types: &'w Word, day: &'w Word) -> Asked<'w>
-    ensures asked { shown result ≡ asked_of_day word.now airport.now types.now day.now }
-    ensures fits { IsFitting result }
-{
-    if is(word, "chart") && is_plain_number(day.text().as_bytes()) {
-        Asked::Chart(airport, types, day)
+    } else if word == "chart" && is_plain_number(more.text().as_bytes()) {
+        Asked::Chart(airport, types, more.text())
     } else {
         Asked::Faulty
     }
 }
 
-fn asked_with_number<'w>(word: &Word, number: &Word) -> Asked<'w>
+fn asked_of_draft<'w>(
+    word: &str,
+    airport: &'w str,
+    types: &'w str,
+    desk: &str,
+    draft: &str,
+) -> Asked<'w>
+    ensures asked { shown result
+        ≡ asked_of_draft word.now airport.now types.now desk.now draft.now }
+    ensures fits { IsFitting result }
+{
+    if word == "propose" && is_plain_number(draft.as_bytes()) {
+        proposed_of(airport, types, desk, draft.as_bytes())
+    } else {
+        Asked::Faulty
+    }
+}
+
+fn proposed_of<'w>(airport: &'w str, types: &'w str, desk: &str, draft: &[u8]) -> Asked<'w>
+    ensures asked { shown result
+        ≡ proposed_of airport.now types.now desk.now (number_within draft.now 0 last_draft) }
+    ensures fits { IsFitting result }
+{
+    match number_within(draft, 0, u32::MAX) {
+        Some(draft) => proposed_to(airport, types, desk.as_bytes(), draft),
+        None => Asked::Faulty,
+    }
+}
+
+fn proposed_to<'w>(airport: &'w str, types: &'w str, desk: &[u8], draft: u32) -> Asked<'w>
+    ensures asked { shown result ≡ proposed_to airport.now types.now desk.now draft }
+    ensures fits { IsFitting result }
+{
+    match Name::new(desk) {
+        Some(desk) => Asked::Propose(airport, types, desk, draft),
+        None => Asked::Faulty,
+    }
+}
+
+fn asked_with_number<'w>(word: &str, number: &str) -> Asked<'w>
     ensures asked { shown result ≡ asked_with_number word.now number.now }
     ensures fits { IsFitting result }
 {
-    if is(word, "make") && is_plain_number(number.text().as_bytes()) {
-        made_of(number.text().as_bytes())
+    if word == "make" && is_plain_number(number.as_bytes()) {
+        made_of(number.as_bytes())
     } else {
         Asked::Faulty
     }
 }
 
 fn made_of<'w>(text: &[u8]) -> Asked<'w>
-    ensures asked { shown result ≡ made_of (number_of text.now MAX_DIGITS) }
+    ensures asked { shown result ≡ made_of (number_within text.now 1 most_made) }
     ensures fits { IsFitting result }
 {
-    match number_of(text, MAX_DIGITS) {
-        Some(visits) if visits >= 1 && visits <= u64::from(MAX_MADE) => Asked::Make(visits as u32),
-        _ => Asked::Faulty,
+    match number_within(text, 1, MAX_MADE) {
+        Some(visits) => Asked::Make(visits),
+        None => Asked::Faulty,
+    }
+}
+
+/// The number from the first to the last that the digits write, if they write one: 1 to 10 digits.
+pub(crate) fn number_within(text: &[u8], first: u32, last: u32) -> Option<u32>
+    ensures is { result ≡ number_within text.now first last }
+    ensures first { IfSome result (λ number. first ≤ number) }
+    ensures last { IfSome result (λ number. number ≤ last) }
+{
+    within(first, last, number_of(text, MAX_DIGITS)?)
+}
+
+fn within(first: u32, last: u32, number: u64) -> Option<u32>
+    ensures is { result ≡ within first last number }
+    ensures first { IfSome result (λ number. first ≤ number) }
+    ensures last { IfSome result (λ number. number ≤ last) }
+{
+    if u64::from(first) <= number && number <= u64::from(last) {
+        Some(number as u32)
+    } else {
+        None
     }
 }
 
@@ -138,10 +203,4 @@ fn is_padded(text: &[u8]) -> bool
     ensures is { result ≡ is_padded text.now }
 {
     text.len() >= 2 && text[0] == b'0'
-}
-
-fn is(word: &Word, text: &str) -> bool
-    ensures same { result ≡ bytes_eq word.now text.now }
-{
-    word.text() == text
 }

@@ -12,6 +12,8 @@ use Rattle.history_core.specs.declared.opening.OpenFault.TheVariants as entries
 use Rattle.history_core.proofs.Added.{visits_added}
 use Rattle.history_core.proofs.Drafts.{drafts_made}
 use Rattle.history_core.proofs.Legal.{front_legal, legal_sound}
+use Rattle.desk_http.specs.Ports.{Turn}
+use Rattle.desk_http.specs.Session.{sessions_by}
 use Rattle.desk_turns.specs.Crew.{ServesBoard}
 use Rattle.desk_turns.specs.Work.{EndStates}
 use Rattle.desk_turns.specs.declared.worker.WorkEnd.{WorkEnd}
@@ -43,16 +45,16 @@ pub of_err : {A E P : Type 0} (met : Result A E) (why : E) → met ≡ Err why �
 of_err {A} {E} {P} met why is holds = subst (λ (r : Result A E). IfErr r (λ _. P)) is holds
 
 -- desks that were served at a board that was opened, with the disk that was closed behind them
-abbrev pub desks_serve : {In Out K R : Type 0} (states : EndStates In Out) (tells : K → KeeperState) (files : AirportFiles) (connections : ℕ) (before after : Ends In Out) (board left : BoardHeld K) (met : Result WorkEnd R) (end : WorkEnd)
+abbrev pub desks_serve : {In Out K T R : Type 0} (states : EndStates In Out) (tells : K → KeeperState) (files : AirportFiles) (connections : ℕ) (before after : Ends In Out) (board left : BoardHeld K) (met : Result (WorkEnd × T) R) (ends : WorkEnd × T)
     → IsOpened tells files before.disk board
-    → met ≡ Ok end
-    → IfOk met (ServesBoard states connections (record { listeners = before.listeners; board = machine_state tells board }) (record { listeners = after.listeners; board = machine_state tells left }))
+    → met ≡ Ok ends
+    → IfOk met (λ ended. ServesBoard states (sessions_by Turn) connections (record { listeners = before.listeners; board = machine_state tells board }) (record { listeners = after.listeners; board = machine_state tells left }) ended.0)
     → after.disk.faults ≡ (tells left.keeper).faults → KeepsHistory (record { airport = left.airport; digests = files.digests }) left.history (entry_at_risk left.airport (tells left.keeper)) after.disk
-    → ServesDesks states files connections before after end
-desks_serve {R = R} states tells files connections before after board left met end opened is serve counted keeps =
-    let serves : ServesBoard states connections (record { listeners = before.listeners; board = machine_state tells board }) (record { listeners = after.listeners; board = machine_state tells left }) end =
-    subst (λ (r : Result WorkEnd R).
-    IfOk r (ServesBoard states connections (record { listeners = before.listeners; board = machine_state tells board }) (record { listeners = after.listeners; board = machine_state tells left }))) is serve in
+    → ServesDesks states files connections before after ends.0
+desks_serve {T = T} {R = R} states tells files connections before after board left met ends opened is serve counted keeps =
+    let serves : ServesBoard states (sessions_by Turn) connections (record { listeners = before.listeners; board = machine_state tells board }) (record { listeners = after.listeners; board = machine_state tells left }) ends.0 =
+    subst (λ (r : Result (WorkEnd × T) R).
+    IfOk r (λ ended. ServesBoard states (sessions_by Turn) connections (record { listeners = before.listeners; board = machine_state tells board }) (record { listeners = after.listeners; board = machine_state tells left }) ended.0)) is serve in
     let fresh : machine_state tells board ≡ begun files.airport board.history before.disk.faults =
     opened_begun tells files.airport before.disk.faults _ board opened.airport_is opened.next opened.faults opened.at_risk in
     let same : left.airport ≡ files.airport = serves.fixed ∙ opened.airport_is in
@@ -62,7 +64,7 @@ desks_serve {R = R} states tells files connections before after board left met e
       opens = opened.opens;
       board = machine_state tells left;
       serves = subst (λ (m : MachineState Entry AirportParts).
-          ServesBoard states connections (record { listeners = before.listeners; board = m }) (record { listeners = after.listeners; board = machine_state tells left }) end) fresh serves;
+          ServesBoard states (sessions_by Turn) connections (record { listeners = before.listeners; board = m }) (record { listeners = after.listeners; board = machine_state tells left }) ends.0) fresh serves;
       faults = counted;
       keeps = subst (λ (a : AirportParts).
           KeepsHistory (record { airport = a; digests = files.digests }) left.history (entry_at_risk left.airport (tells left.keeper)) after.disk) same keeps;

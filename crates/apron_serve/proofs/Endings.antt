@@ -5,6 +5,8 @@ use Rattle.apron_base.specs.Ends.{SinkState}
 use Rattle.apron_base.specs.Listener.{ListenerState}
 use Rattle.journal_disk.specs.declared.fault.JournalFault.TheVariants as journal
 use Rattle.history_core.specs.declared.opening.OpenFault.TheVariants as entries
+use Rattle.desk_http.specs.Ports.{Turn}
+use Rattle.desk_http.specs.Session.{sessions_by}
 use Rattle.desk_turns.specs.Work.{EndStates}
 use Rattle.desk_turns.specs.declared.worker.WorkEnd.{WorkEnd}
 use Rattle.desk_turns.specs.declared.worker.WorkEnd.TheVariants as work
@@ -53,6 +55,7 @@ unusable_early airport before after (Journal journal.NotEmpty) cause = absurd ca
 unusable_early airport before after (Journal journal.DiskFault) cause = record { may = refl; done = λ is. absurd cc; failed = λ is. absurd cc; ordered = λ is. absurd cc }
 unusable_early airport before after (Journal journal.NotAJournal) cause = record { may = refl; done = λ is. absurd cc; failed = λ is. absurd cc; ordered = λ is. absurd cc }
 unusable_early airport before after (Journal (journal.OtherAirport kept given)) cause = record { may = refl; done = λ is. absurd cc; failed = λ is. absurd cc; ordered = λ is. absurd cc }
+unusable_early airport before after (Journal journal.OldFormat) cause = record { may = refl; done = λ is. absurd cc; failed = λ is. absurd cc; ordered = λ is. absurd cc }
 unusable_early airport before after (Journal (journal.BadRecord number)) cause = record { may = refl; done = λ is. absurd cc; failed = λ is. absurd cc; ordered = λ is. absurd cc }
 unusable_early airport before after (Journal journal.Memory) cause = record { may = refl; done = λ is. absurd cc; failed = λ is. absurd cc; ordered = λ is. absurd cc }
 unusable_early airport before after (Entries (entries.BadEntry number)) cause = record { may = refl; done = λ is. absurd cc; failed = λ is. absurd cc; ordered = λ is. absurd cc }
@@ -104,7 +107,7 @@ module _ {In Out : Type 0} (states : EndStates In Out) where
     shelf = refl;
     sink = let same : after.sink.faults ≡ before.sink.faults = ap (λ (s : SinkState). s.faults) silent in omega arith;
     disk = least_count airport connections before after work.Done desks;
-    done = ((λ _. done_finished states connections _ _ desks.serves), (λ _. refl));
+    done = ((λ _. done_finished states (sessions_by Turn) connections _ _ desks.serves), (λ _. refl));
     failed = λ is. absurd cc;
     ordered = λ is. absurd cc;
   }
@@ -117,8 +120,8 @@ module _ {In Out : Type 0} (states : EndStates In Out) where
     shelf = refl;
     sink = least;
     disk = least_count airport connections before after work.ListenerFault desks;
-    done = ((λ is. absurd cc), (λ all. let none : work.ListenerFault ≡ work.Done = finished_done states connections _ _ work.ListenerFault desks.serves all in absurd cc));
-    failed = λ _. fault_failed states connections _ _ desks.serves;
+    done = ((λ is. absurd cc), (λ all. let none : work.ListenerFault ≡ work.Done = finished_done states (sessions_by Turn) connections _ _ work.ListenerFault desks.serves all in absurd cc));
+    failed = λ _. fault_failed states (sessions_by Turn) connections _ _ desks.serves;
     ordered = λ is. absurd cc;
   }
 

@@ -1,3 +1,4 @@
+pub mod Crosses
 pub mod Desks
 pub mod Finished
 pub mod Endings

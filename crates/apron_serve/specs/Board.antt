@@ -5,6 +5,8 @@ use Rattle.apron_rules.specs.declared.parts.AirportParts.{AirportParts}
 use Rattle.visit_book.specs.declared.visits.NewVisit.{NewVisit}
 use Rattle.desk_words.specs.declared.asks.Entry.{Entry}
 use Rattle.history_core.specs.Opening.{next_after}
+use Rattle.desk_http.specs.Ports.{Turn}
+use Rattle.desk_http.specs.Session.{sessions_by}
 use Rattle.desk_turns.specs.Crew.{ServesBoard}
 use Rattle.desk_turns.specs.Work.{EndStates}
 use Rattle.desk_turns.specs.declared.worker.WorkEnd.{WorkEnd}
@@ -37,7 +39,7 @@ module _ {In Out : Type 0} (states : EndStates In Out) (files : AirportFiles) (c
     pub opened : List Entry
     pub opens : OpensTo files before.disk opened
     pub board : MachineState Entry AirportParts
-    pub serves : ServesBoard states connections
+    pub serves : ServesBoard states (sessions_by Turn) connections
         (record { listeners = before.listeners; board = begun files.airport opened before.disk.faults })
         (record { listeners = after.listeners; board = board }) end
     pub faults : after.disk.faults ≡ board.faults

@@ -17,8 +17,8 @@ use std::alloc::Global;
 use std::sync::Wait;
 use std::thread::Threads;
 
-/// Opens the journal of these files on the disk, and serves so many connections of each listener at its board. At `Err` it
-/// is told why there is no journal to work on, or that memory is wanting for the turns at it; then no listener was called,
+/// Opens the journal of these files on the disk, and serves this many connections of each listener at its board. `Err`
+/// says why there is no journal to work on, or that there is no memory for the turns at it; then no listener was called,
 /// and nothing was written on the disk.
 pub(crate) fn serve_desks<
     N: OfFiles + Send,
@@ -49,10 +49,19 @@ pub(crate) fn serve_desks<
         Ok(board) => board,
         Err((why, disk)) => return (Err(why), disk),
     };
-    let (served, board) = serve_board(rt, alloc, &files.airport, board, listeners, connections);
+    let mut no_job = || ();
+    let (served, board) = serve_board(
+        rt,
+        alloc,
+        &files.airport,
+        board,
+        listeners,
+        connections,
+        &mut no_job,
+    );
     let disk = close_board(board);
     match served {
-        Ok(end) => (Ok(end), disk),
+        Ok((end, ())) => (Ok(end), disk),
         Err(Memory) => (Err(Unusable::Entries(OpenFault::Memory)), disk),
     }
 }

@@ -41,7 +41,7 @@ use std::thread::Threads;
 /// | 7 | the disk failed before there was a journal to work on, which is printed; later a reply says so |
 /// | 8 | what the disk reads as is no journal of these files, or no history of their airport, which is printed |
 /// | 11 | a listener failed, which is printed when all workers have ended |
-/// | 12 | memory is wanting before any connection is taken, which is printed |
+/// | 12 | there is no memory before any connection is taken, which is printed |
 pub fn serve<F: Shelf, L: Workplace + Send, W: Sink, D: Disk + Send, R: Wait + Threads + Sync>(
     rt: &R,
     alloc: Global,

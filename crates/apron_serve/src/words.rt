@@ -19,7 +19,7 @@ pub fn limits_are_as_defined()
     ensures listeners { MAX_LISTENERS ≡ most_listeners }
 {}
 
-/// Desks at the airport of the airport file and the type file of these names, on its journal: so many connections of each
+/// Desks at the airport of the airport file and the type file of these names, on its journal: this many connections of each
 /// listener.
 #[derive(Clone, Copy)]
 pub(crate) struct Order<'w> {
@@ -28,7 +28,7 @@ pub(crate) struct Order<'w> {
     pub(crate) connections: u32,
 }
 
-/// What the words order of so many listeners.
+/// What the words order of this many listeners.
 pub(crate) fn order_of(words: &[Word], listeners: usize) -> Option<Order<'_>>
     ensures order { option_map shown result ≡ order_of words.now listeners }
     ensures few { IfSome result (λ order. (1 ≤ listeners) × (listeners ≤ most_listeners)) }

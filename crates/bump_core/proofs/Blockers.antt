@@ -24,7 +24,7 @@ any_first : {X Y : Type 0} (h : X → Option Y) (x : X) (xs : List X) (found : O
 any_first h x xs (Some y) is rest e = let whole : y ∷ filter_map h xs ≡ [] = rw is at e in absurd (cc)
 any_first h x xs None is rest e = rw is (rest (rw is at e))
 
--- where nothing comes out, no item gives something
+-- if nothing comes out, no item gives something
 pub none_any : {X Y : Type 0} (h : X → Option Y) (xs : List X) → filter_map h xs ≡ [] → list_any (λ x. is_some (h x)) xs ≡ false
 none_any h [] e = refl
 none_any h (x ∷ xs) e = any_first h x xs (h x) refl (none_any h xs) e
@@ -35,7 +35,7 @@ some_first : {X Y : Type 0} (h : X → Option Y) (x : X) (y : Y) (xs : List X) (
 some_first h x y xs ys (Some z) is rest e = rw is refl
 some_first h x y xs ys None is rest e = rw is (rest y ys (rw is at e))
 
--- where something comes out, some item gives it
+-- if something comes out, some item gives it
 pub some_any : {X Y : Type 0} (h : X → Option Y) (y : Y) (xs : List X) (ys : List Y) → filter_map h xs ≡ y ∷ ys → list_any (λ x. is_some (h x)) xs ≡ true
 some_any h y [] ys e = absurd (cc)
 some_any h y (x ∷ xs) ys e = some_first h x y xs ys (h x) refl (λ z zs g. some_any h z xs zs g) e
@@ -55,7 +55,7 @@ free_by airport kept holder [] e = inl (refl, ap not (none_any (λ other. blocki
 free_by airport kept holder (b ∷ bs) e =
     let found = best_some b bs in inr (found.0, found.1, ap not (some_any (λ other. blocking airport other holder) b kept bs e))
 
--- a part has a best blocker exactly where it is not free
+-- a part has a best blocker exactly if it is not free
 pub free_or_blocked : (airport : AirportParts) (kept : List Ranked) (holder : Ranked)
     → ((best (blockings airport kept holder) ≡ None) × (is_free (blocks airport) kept holder ≡ true))
     ⊎ ((b : Blocking) × (best (blockings airport kept holder) ≡ Some b) × (is_free (blocks airport) kept holder ≡ false))
@@ -64,7 +64,7 @@ free_or_blocked airport kept holder = elim (free_by airport kept holder (blockin
   | inr blocked ↦ inr blocked
 ]
 
--- what blocks it decides
+-- whether it is free depends only on what blocks it
 pub free_same : (airport : AirportParts) (ks ls : List Ranked) (holder : Ranked) → blockings airport ks holder ≡ blockings airport ls holder
     → is_free (blocks airport) ks holder ≡ is_free (blocks airport) ls holder
 free_same airport ks ls holder e =
@@ -94,7 +94,7 @@ actual_free airport holder kept e = ap not (actual_free_by airport holder kept e
 abbrev pub slots_at : AirportParts → Visit → ℕ → Part → List Slot
 slots_at airport visit number part = option_to_list (slot_of airport visit number part)
 
--- the slot of a part that is settled is there where it is free
+-- the slot of a part that is settled is left exactly if the part is free
 slots_against : (airport : AirportParts) (entry : ℕ) (kept : List Ranked) (visit : Visit) (number : ℕ) (part : Part) (stand : StandNo) (holder : Ranked) (found : Option Blocking)
     (free : Bool) → holder ≡ ranked visit (slot_on airport visit number (placed (Planned stand) part) stand)
     → is_free (blocks airport) kept holder ≡ free → ((found ≡ None) × (free ≡ true)) ⊎ ((b : Blocking) × (found ≡ Some b) × (free ≡ false))
@@ -141,7 +141,7 @@ parts_left airport entry kept visit =
     ap (map (ranked visit)) (slots_from_alike airport (settled_visit airport entry kept visit) visit 1 (settled_parts airport entry kept visit 1 visit.parts) refl refl)
     ∙ slots_left airport entry kept visit 1 visit.parts
 
--- and so of visits
+-- and the same for visits
 pub all_left : (airport : AirportParts) (entry : ℕ) (kept : List Ranked) (visits : List Visit)
     → all_parts_on airport (map (settled_visit airport entry kept) visits) ≡ filter (is_free (blocks airport) kept) (all_parts_on airport visits)
 all_left airport entry kept [] = refl
@@ -182,7 +182,7 @@ parts_same airport entry ks ls visit number (part ∷ parts) h =
     parts_same airport entry ks ls visit (number + 1) parts (λ holder in'. h holder (among_along holder _ _ (sym whole) (among_right holder (map (ranked visit) here) (map (ranked visit) more) in'))) in
     rw (first, rest) refl
 
--- a visit is settled by the blockers of its parts alone
+-- how a visit is settled depends only on the blockers of its parts
 pub visit_same : (airport : AirportParts) (entry : ℕ) (ks ls : List Ranked) (visit : Visit)
     → ((holder : Ranked) → Among holder (parts_on airport visit) → blockings airport ks holder ≡ blockings airport ls holder)
     → settled_visit airport entry ks visit ≡ settled_visit airport entry ls visit

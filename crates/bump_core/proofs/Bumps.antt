@@ -68,7 +68,7 @@ same_bump bump other place e f = cc
 stand_within : (airport : AirportParts) (place : Place) (stand : StandNo) → place ≡ Planned stand → IsPlaceOf airport place → stand.0 < length airport.stands
 stand_within airport place stand e h = rw e at h
 
--- parts of the airport that stay but for stands have records of a plan at the entry's version
+-- parts of the airport that stay except for stands have records of a plan at the entry's version
 pub bumped_later : (airport : AirportParts) (version : ℕ) (before after : List Part) → EachMayLose (version + 1) before after
     → All (λ part. IsPlaceOf airport part.place) before → AreBumpsAt airport version before → AreBumpsAt airport (version + 1) after
 bumped_later airport version before after h places bumps = λ bump has.

@@ -147,7 +147,7 @@ met_same : (airport : AirportParts) (visits : List Visit) (own other : Ranked) �
 unfolding met
 met_same airport visits own other called = met_case airport visits own other (meeting airport own.slot other.slot) called
 
--- the clashes of a slot tell which parts it meets
+-- the clashes of a slot show which parts it meets
 pub met_by_clashes : (airport : AirportParts) (visits : List Visit) (own : Ranked) (slots : List Slot) → IsNumbered visits → slots ≡ slots_of airport visits
     → filter_map (met_at airport visits own) (clashes_with airport own.slot slots) ≡ met_by airport (all_parts_on airport visits) own
 met_by_clashes airport visits own slots h e =

@@ -18,18 +18,18 @@ set_at [] post old new (suc i) e = absurd (omega arith)
 set_at (visit ∷ pre) post old new zero e = absurd (omega arith)
 set_at (visit ∷ pre) post old new (suc i) e = ap (λ vs. visit ∷ vs) (set_at pre post old new i (omega arith))
 
--- a visit is put in where the one of its number stands
+-- a visit is put in at the place of the one of its number
 put_one_at : (pre post : List Visit) (old new : Visit) → new.number.0 ≡ length pre + 1 → put_one (pre ++ old ∷ post) new ≡ pre ++ new ∷ post
 put_one_at pre post old new e =
     let within : nat_le new.number.0 (length (pre ++ old ∷ post)) ≡ true = grind (arith, nat_tests, length-append pre (old ∷ post)) in
     rw within (set_at pre post old new (new.number.0 - 1) (omega arith))
 
--- what becomes of visits: each keeps its number, and those that a test leaves out stay
+-- what becomes of visits: each keeps its number, and those that fail a test stay
 pub record KeepsOthers (f : Visit → Visit) (test : Visit → Bool) : Type 0 where
   pub number : (visit : Visit) → (f visit).number.0 ≡ visit.number.0
   pub stays : (visit : Visit) → test visit ≡ false → f visit ≡ visit
 
--- the visits that pass, as they become
+-- the visits that pass the test, after the change
 abbrev pub changed : (Visit → Visit) → (Visit → Bool) → List Visit → List Visit
 changed f test visits = map f (filter test visits)
 
@@ -52,7 +52,7 @@ put_behind f test pre (visit ∷ visits) base keeps long h =
     put_step f test pre visits visit (test visit) keeps refl (omega (arith, h.0))
     (λ w. put_behind f test (pre ++ w ∷ []) visits (base + 1) keeps (omega (arith, length-append pre (w ∷ []))) h.1)
 
--- with the changed ones put in, there are the visits as they become
+-- putting the changed ones in gives the visits after the change
 pub put_changed : (f : Visit → Visit) (test : Visit → Bool) (visits : List Visit) → KeepsOthers f test → IsNumbered visits
     → put_in visits (changed f test visits) ≡ map f visits
 put_changed f test visits keeps h = put_behind f test [] visits 0 keeps refl h
@@ -86,7 +86,7 @@ all_by P f test [] h = tt
 all_by P f test (visit ∷ visits) h =
     all_first P f test visit visits (test visit) refl (h visit (inl refl)) (all_by P f test visits (λ other in'. h other (inr in')))
 
--- what holds of each visit that passes, as it becomes, holds of the changed ones
+-- what holds of each visit that passes, after the change, holds of the changed ones
 pub changed_all : (P : Visit → Type 0) (f : Visit → Visit) (test : Visit → Bool) (visits : List Visit)
     → ((visit : Visit) → Among visit visits → test visit ≡ true → P (f visit)) → All P (changed f test visits)
 changed_all P f test visits h = All-from_recursion P (changed f test visits) (all_by P f test visits h)
@@ -99,7 +99,7 @@ bumped_first f test entry visit visits false keeps is none rest =
     let nothing : bumped_of entry (f visit) ≡ [] = ap (bumped_of entry) (keeps.stays visit is) ∙ none in
     rw (is, nothing) rest
 
--- where no visit had lost stands by the entry, the changed ones have all parts that do
+-- if no visit had lost a stand by the entry, the changed ones have all the parts that do
 pub changed_bumped : (f : Visit → Visit) (test : Visit → Bool) (entry : ℕ) (visits : List Visit) → KeepsOthers f test
     → AllByRecursion (λ visit. bumped_of entry visit ≡ []) visits → bumped_by entry (changed f test visits) ≡ bumped_by entry (map f visits)
 changed_bumped f test entry [] keeps h = refl

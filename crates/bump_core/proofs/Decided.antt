@@ -193,7 +193,7 @@ takes_own : (airport : AirportParts) (other mine : Ranked) → passes (takes oth
 unfolding met blocking
 takes_own airport other mine = take_case other mine (may_block mine other) (meeting airport mine.slot other.slot) refl
 
--- it is taken where an actual own part blocks it
+-- it is taken if an actual own part blocks it
 taken_is : (airport : AirportParts) (owns parts : List Ranked) (other : Ranked) → Distinct parts → Among other parts
     → is_taken (all_met airport owns parts) other ≡ list_any (λ mine. blocks airport mine other) (filter (λ (mine : Ranked). mine.slot.actual) owns)
 taken_is airport owns parts other d in' =

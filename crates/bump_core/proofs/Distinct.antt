@@ -21,7 +21,7 @@ use Rattle.bump_core.proofs.Called.{found_at, found_from, part_above}
 use Rattle.bump_core.proofs.Near.{among_cases, part_of}
 use Rattle.bump_core.proofs.Rounds.{Among}
 
--- the second is another part than the first
+-- the second is not the same part as the first
 abbrev pub Other : Ranked → Ranked → Type 0
 Other holder other = is_same holder.slot.part other.slot.part ≡ false
 
@@ -49,7 +49,7 @@ pub flat_none : {X Y : Type 0} (g : X → List Y) (xs : List X) → ((x : X) →
 flat_none g [] h = refl
 flat_none g (x ∷ xs) h = let rest : flat_map g xs ≡ [] = flat_none g xs (λ y in'. h y (inr in')) in rw (h x (inl refl), rest) refl
 
--- where all other parts give nothing
+-- if all other parts give nothing
 pub flat_one : {Y : Type 0} (g : Ranked → List Y) (parts : List Ranked) (holder : Ranked) → Distinct parts → Among holder parts
     → ((other : Ranked) → Among other parts → Other holder other → g other ≡ []) → flat_map g parts ≡ g holder
 flat_one g [] holder d in' h = absurd in'
@@ -70,7 +70,7 @@ or_false : (b : Bool) → (b || false) ≡ b
 or_false true = refl
 or_false false = refl
 
--- where all other parts fail
+-- if all other parts fail
 pub any_one : (f : Ranked → Bool) (parts : List Ranked) (holder : Ranked) → Distinct parts → Among holder parts
     → ((other : Ranked) → Among other parts → Other holder other → f other ≡ false) → list_any f parts ≡ f holder
 any_one f [] holder d in' h = absurd in'

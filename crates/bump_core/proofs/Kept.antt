@@ -41,7 +41,7 @@ settled_each airport entry kept visit number [] = tt
 settled_each airport entry kept visit number (part ∷ parts) =
     (record { from = refl; to = refl; place = settled_may airport entry kept visit number part part.place }, settled_each airport entry kept visit (number + 1) parts)
 
--- a settled visit stays but for stands of planned parts
+-- a settled visit stays as it is except for stands of planned parts
 pub settled_stays : (airport : AirportParts) (entry : ℕ) (kept : List Ranked) (visit : Visit) → StaysBut entry visit (settled_visit airport entry kept visit)
 settled_stays airport entry kept visit = record { rest = refl; parts = settled_each airport entry kept visit 1 visit.parts }
 
@@ -126,7 +126,7 @@ parts_well_formed airport entry visit parts h w = record {
   cancelled = λ over. may_all entry (λ part. stand_of part.place ≡ None) visit.parts parts (λ part other may e. none_of entry part.place other.place may.place e) h (w.cancelled over);
 }
 
--- a visit that stays but for stands is well formed
+-- a visit that stays as it is except for stands is well formed
 pub stays_well_formed : (airport : AirportParts) (entry : ℕ) (before after : Visit) → StaysBut entry before after → IsWellFormed airport before
     → IsWellFormed airport after
 stays_well_formed airport entry before after h w =

@@ -39,7 +39,7 @@ any_found_first : {X : Type 0} (f : X → Bool) (x : X) (xs : List X) (b : Bool)
 any_found_first f x xs true is rest h = (x, inl refl, is)
 any_found_first f x xs false is rest h = let found = rest (rw is at h) in (found.0, inr found.1, found.2)
 
--- where some item passes there is one
+-- if some item passes there is one
 any_found : {X : Type 0} (f : X → Bool) (xs : List X) → list_any f xs ≡ true → (y : X) × Among y xs × (f y ≡ true)
 any_found f [] h = absurd (cc)
 any_found f (x ∷ xs) h = any_found_first f x xs (f x) refl (any_found f xs) h
@@ -69,7 +69,7 @@ pub given_by : {X Y : Type 0} (h : X → Option Y) (y : Y) (xs : List X) → Amo
 given_by h y [] in' = absurd in'
 given_by h y (x ∷ xs) in' = given_first h y x xs (h x) refl (given_by h y xs) in'
 
--- what stands in joined lists stands in one of them
+-- an item of joined lists is an item of one of them
 joined_by : {X Y : Type 0} (g : X → List Y) (y : Y) (xs : List X) → Among y (flat_map g xs) → (x : X) × Among x xs × Among y (g x)
 joined_by g y [] in' = absurd in'
 joined_by g y (x ∷ xs) in' = elim (among_cases y (g x) (flat_map g xs) in') [
@@ -164,7 +164,7 @@ tail_none : {X : Type 0} (xs ys : List X) → xs ++ ys ≡ [] → ys ≡ []
 tail_none [] ys e = e
 tail_none (x ∷ xs) ys e = absurd (cc)
 
--- where one part of the visit is blocked, some lost their stands
+-- if one part of the visit is blocked, some parts lost their stands
 lost_from : (airport : AirportParts) (entry : ℕ) (found : List Blocking) (visit after : Visit) (number : ℕ) (parts : List Part) (holder : Ranked)
     → Among holder (map (ranked visit) (slots_from airport visit number parts)) → holder.slot.actual ≡ false → list_any (is_of holder.slot.part) found ≡ true
     → bumped_from entry after number (parts_by entry found visit.number number parts) ≢ []
@@ -189,7 +189,7 @@ only_hit : (a b : Bool) → (a || b) ≡ true → b ≡ false → a ≡ true
 only_hit true b h none = refl
 only_hit false b h none = absurd (cc)
 
--- a touched visit but the changed one loses a stand
+-- a touched visit other than the changed one loses a stand
 pub touched_lost : (airport : AirportParts) (entry : ℕ) (visits : List Visit) (changed new visit : Visit) (mets : List Met) (own found : List Blocking)
     → IsNumbered visits
     → Among visit visits → mets ≡ all_met airport (parts_on airport changed) (all_parts_on airport visits) → found ≡ against_others mets own

@@ -53,7 +53,7 @@ after_keeps entry new found = record {
   stays = λ visit out. after_stays entry new found visit out;
 }
 
--- a visit of a plan that stays but for stands is one at the next version
+-- a visit of a plan that stays as it is except for stands is one at the next version
 stays_at : (airport : AirportParts) (version : ℕ) (before after : Visit) → StaysBut (version + 1) before after → IsVisitAt airport version before
     → IsVisitAt airport (version + 1) after
 stays_at airport version before after h at =
@@ -73,7 +73,8 @@ after_first : (P : Visit → Type 0) (entry : ℕ) (new : Visit) (found : List B
 after_first P entry new found visit true is p other = rw is p
 after_first P entry new found visit false is p other = rw is (other refl)
 
--- what holds of the changed visit, and of another by what blocks its parts, holds of a visit as it will be
+-- what holds of the changed visit, and of other visits by what blocks their parts, holds of each
+-- visit as it will be
 after_has : (P : Visit → Type 0) (entry : ℕ) (new : Visit) (found : List Blocking) (visit : Visit) → P new
     → (has_number new.number visit ≡ false → P (visit_by entry found visit)) → P (after_by entry new found visit)
 after_has P entry new found visit p other = after_first P entry new found visit (has_number new.number visit) refl p other
@@ -84,7 +85,7 @@ none_bumped airport version [] h = tt
 none_bumped airport version (visit ∷ visits) h =
     (unbumped airport version (version + 1) visit (omega arith) h.0.bumped, none_bumped airport version visits h.1)
 
--- of a plan's visits none has a part that lost its stand by the next entry
+-- no visit of a plan has a part that lost its stand by the next entry
 pub not_bumped : (airport : AirportParts) (version : ℕ) (visits : List Visit) → All (IsVisitAt airport version) visits → bumped_by (version + 1) visits ≡ []
 not_bumped airport version visits h = nothing visits (none_bumped airport version visits (recursion_from_All (IsVisitAt airport version) visits h))
   where
@@ -106,7 +107,7 @@ found_within visits number before true is h at =
     let none : visit_at visits number ≡ None = visit_at-outside visits number h (λ _. past) in absurd (cc)
 found_within visits number before false is h at = grind (arith, nat_tests)
 
--- the changed visit keeps what that was added as
+-- a changed copy of one of the visits stays one when its blocked parts lose their stands
 new_same : (visits : List Visit) (entry : ℕ) (own : List Blocking) (changed : Visit) → IsOneOf visits changed → IsOneOf visits (visit_by entry own changed)
 new_same visits entry own changed of = record { before = of.before; at = of.at; same = record { new = of.same.new; added = of.same.added } }
 
@@ -150,7 +151,7 @@ are_changes plan changed changes h is are =
           ∙ ap (bumped_by entry) all;
     })
 
--- where no visit is changed no other is
+-- if no visit is changed, no other is
 pub no_changes : (plan : PlanState) (changes : List Visit) → IsPlan plan → changes ≡ [] → AreChanges plan None changes
 no_changes plan changes h none =
     let own : settle plan.airport (plan.version + 1) plan.visits ≡ plan.visits = sound_settled plan.airport (plan.version + 1) plan.visits h.sound in
@@ -167,7 +168,7 @@ pub installs_settled : (plan : PlanState) (changed : Option Visit) (changes : Li
 installs_settled plan changed changes h =
     ap (λ visits. let after : PlanState = record { airport = plan.airport; visits = visits; drafts = plan.drafts; version = plan.version + 1 } in after) h.settled
 
--- such changes there are
+-- such changes exist
 changes_exist : (plan : PlanState) (changed : Option Visit) → IsPlan plan → IfSome changed (IsChanged plan)
     → (changes : List Visit) × AreChanges plan changed changes
 changes_exist plan None h is = ([], no_changes plan [] h refl)

@@ -135,7 +135,8 @@ between_parts visit mine other holder at to e f h number =
     subst (λ xs. is_lower (rank other) xs ≡ true) (rank_is visit holder false to f) number in
     sym (between 1 visit.class visit.on visit.number.0 mine.slot.part.part holder.slot.part.part (if other.slot.actual then 0 else 1) other.class other.on other.slot.part.visit.0 other.slot.part.part first second)
 
--- a part of the changed visit that takes a stand from one which is better than another of its parts is actual
+-- a part of the changed visit that takes a stand from a part better than another of its own parts
+-- is actual
 actual_by : (airport : AirportParts) (visit : Visit) (mine other holder : Ranked) (b : Bool) → mine.slot.actual ≡ b → IsPartOf visit mine
     → IsPartOf visit holder
     → (other.slot.part.visit.0 ≡ visit.number.0 → ⊥) → blocks airport mine other ≡ true → blocks airport other holder ≡ true → b ≡ true
@@ -153,14 +154,14 @@ given_first f g h x xs false true None e i is same rest = rw (e, i, is) rest
 given_first f g h x xs true false (Some y) e i is same rest = absurd (let no' : true ≡ false = same refl in cc)
 given_first f g h x xs false true (Some y) e i is same rest = absurd (let no' : false ≡ true = same refl in cc)
 
--- two tests that agree where an item gives something
+-- two tests that agree on the items that give something
 given_within : {X Y : Type 0} (f g : X → Bool) (h : X → Option Y) (xs : List X) → ((x : X) → Among x xs → is_some (h x) ≡ true → f x ≡ g x)
     → filter_map h (filter f xs) ≡ filter_map h (filter g xs)
 given_within f g h [] same = refl
 given_within f g h (x ∷ xs) same =
     given_first f g h x xs (f x) (g x) (h x) refl refl refl (same x (inl refl)) (given_within f g h xs (λ y in'. same y (inr in')))
 
--- the changed visit stands between these, and their parts don't block each other
+-- the changed visit is between these, and their parts don't block each other
 pub record Around (airport : AirportParts) (pre post : List Visit) (changed : Visit) : Type 0 where
   pub before : Apart changed.number.0 pre
   pub after : Apart changed.number.0 post
@@ -177,7 +178,7 @@ apart_append : (number : ℕ) (pre post : List Visit) → Apart number pre → A
 apart_append number [] post h k = k
 apart_append number (visit ∷ pre) post h k = (h.0, apart_append number pre post h.1 k)
 
--- such a part is left by the actual parts of the changed visit exactly where it is left by what stays of it
+-- the actual parts of the changed visit leave such a part exactly if the parts of it that stay do
 left_same : (airport : AirportParts) (pre post : List Visit) (changed : Visit) (ks : List Ranked) (other holder : Ranked) → Around airport pre post changed
     → Among other (rest_parts airport pre post) → Among holder (parts_on airport changed) → blocks airport other holder ≡ true
     → is_free (blocks airport) (filter (is_free (blocks airport) ks) (parts_on airport changed)) other ≡ is_free (blocks airport) (actual_parts airport changed) other
@@ -230,7 +231,7 @@ no_blockings : (airport : AirportParts) (test : Ranked → Bool) (parts : List R
 no_blockings airport test parts holder h =
     none_given (λ other. blocking airport other holder) (filter test parts) (λ other here. h other (filter_among test other parts here).1)
 
--- a part of another visit is blocked by what stays of the changed one alone
+-- a part of another visit is blocked only by what stays of the changed one
 other_blockings : (airport : AirportParts) (pre post : List Visit) (changed : Visit) (own : List Ranked) (holder : Ranked) → Around airport pre post changed
     → Among holder (rest_parts airport pre post) → blockings airport own holder ≡ blockings airport (staying airport pre post own) holder
 other_blockings airport pre post changed own holder around in' =

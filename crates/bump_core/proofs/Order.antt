@@ -80,7 +80,7 @@ blocking_by airport other part b true (Some at) is meet e =
       blocked = sym (ap (λ (x : Blocking). x.blocked) same);
     }
 
--- what it tells that a part blocks another
+-- what follows from a part blocking another
 pub blocking_tells : (airport : AirportParts) (other part : Ranked) (b : Blocking) → blocking airport other part ≡ Some b → Blocks airport other part b
 unfolding blocking blocking_at
 blocking_tells airport other part b e = blocking_by airport other part b (may_block other part) (meeting airport other.slot part.slot) refl refl e

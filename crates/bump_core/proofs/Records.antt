@@ -28,7 +28,7 @@ trans airport a b c h k = (down airport).trans a b c h k
 never : (airport : AirportParts) (part : Ranked) → is_better part part ≡ true → ⊥
 never airport part h = let apart : is_better part part ≡ false = (down airport).apart part in cc
 
--- the better of some blockings and one before them
+-- the best of some blockings and one before them
 record IsBest (first : Blocking) (found : List Blocking) (b : Blocking) : Type 0 where
   from : (b ≡ first) ⊎ (is_better b.blocker first.blocker ≡ true)
   among : (b ≡ first) ⊎ Among b found

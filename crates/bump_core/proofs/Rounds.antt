@@ -1,4 +1,4 @@
--- Those that stay under any relation that goes down an order.
+-- What stays under any relation that goes down an order.
 use Rattle.std.proofs.Common.{◌≡◌, ◌∙◌, ◌<◌, ◌≤◌, ◌+◌, ◌⊎◌, ℕ, zero, suc, Bool, true, false, ◌&&◌, cond, List, [], ◌∷◌, refl, sym, ap, arith, inl, inr, length}
 use Rattle.std.specs.Prelude.{filter, not}
 use Rattle.std.specs.List.{list_any}
@@ -46,7 +46,7 @@ pub count_le : {X : Type 0} (f g : X → Bool) (xs : List X) → ((x : X) → f 
 count_le f g [] h = omega arith
 count_le f g (x ∷ xs) h = omega (arith, cond_le (f x) (g x) (h x), count_le f g xs h)
 
--- fewer pass f, where all that pass f pass g and one of those that pass g doesn't pass f
+-- fewer pass f, if all that pass f pass g and one of those that pass g doesn't pass f
 pub count_less : {X : Type 0} (f g : X → Bool) (xs : List X) (y : X) → ((x : X) → f x ≡ true → g x ≡ true) → Among y xs → f y ≡ false → g y ≡ true
     → count f xs < count g xs
 count_less f g [] y h in' fails passes = absurd in'
@@ -83,7 +83,7 @@ pub depth_within : {X : Type 0} (blocks before : X → X → Bool) (parts : List
 depth_within blocks before parts part order in' =
     omega (arith, count_less (λ other. before other part) (λ other. true) parts part (λ other h. refl) in' (order.apart part) refl, count_all parts)
 
--- at each of the parts that so few come before, two tests agree
+-- two tests agree on each of the parts with fewer than this many before it
 abbrev pub Agree : {X : Type 0} → (X → X → Bool) → List X → ℕ → (X → Bool) → (X → Bool) → Type 0
 Agree {X} before parts d f g = (part : X) → Among part parts → depth before parts part < d → f part ≡ g part
 
@@ -95,7 +95,7 @@ and_same false true true h = h refl
 and_same true false false h = refl
 and_same false true false h = refl
 
--- two tests that agree at those before leave the same free
+-- two tests that agree on those before leave the same parts free
 pub agree_next : {X : Type 0} (blocks before : X → X → Bool) (parts : List X) (d : ℕ) (f g : X → Bool) → GoesDown blocks before → Agree before parts d f g
     → Agree before parts (suc d) (is_free blocks (filter f parts)) (is_free blocks (filter g parts))
 agree_next blocks before parts d f g order h part in' within =
@@ -113,7 +113,7 @@ fixed_agree blocks before parts ks ls (suc d) order k l = λ part in' within.
     ∙ (agree_next blocks before parts d (is_free blocks ks) (is_free blocks ls) order (fixed_agree blocks before parts ks ls d order k l) part in' within
     ∙ ap (λ vs. is_free blocks vs part) (sym l))
 
--- there is one way to stay at most
+-- there is at most one way to stay
 pub fixed_one : {X : Type 0} (blocks before : X → X → Bool) (parts ks ls : List X) → GoesDown blocks before
     → ks ≡ filter (is_free blocks ks) parts → ls ≡ filter (is_free blocks ls) parts → ks ≡ ls
 fixed_one blocks before parts ks ls order k l =
@@ -150,7 +150,7 @@ rounds_fixed_by blocks before parts (suc d) e order =
     filter_same (is_free blocks (after_rounds blocks d parts)) (is_free blocks (after_rounds blocks (suc d) parts)) parts
     (λ part in'. rounds_agree blocks before parts d order part in' (omega (arith, depth_within blocks before parts part order in')))
 
--- after as many rounds as there are items none changes any more
+-- after as many rounds as there are items, none changes any more
 pub rounds_fixed : {X : Type 0} (blocks before : X → X → Bool) (parts : List X) → GoesDown blocks before
     → after_rounds blocks (length parts) parts ≡ filter (is_free blocks (after_rounds blocks (length parts) parts)) parts
 rounds_fixed blocks before parts order = rounds_fixed_by blocks before parts (length parts) refl order

@@ -73,7 +73,7 @@ slots_are_in airport (visit ∷ visits) =
     sym (map_append slot_in (parts_on airport visit) (all_parts_on airport visits)
     ∙ rw (map_slots visit (slots_of_visit airport visit), slots_are_in airport visits) refl)
 
--- between the two ways to say that an item is there
+-- two ways to say that a list has an item are equivalent
 all_among : {X : Type 0} (xs ys : List X) → ((x : X) → Among x xs → Among x ys) → AllByRecursion (λ x. Among x ys) xs
 all_among [] ys h = tt
 all_among (x ∷ xs) ys h = (h x (inl refl), all_among xs ys (λ y in'. h y (inr in')))
@@ -166,7 +166,7 @@ lower_total (x ∷ xs) (y ∷ ys) e h k = elim (order_of x y) [
   ]
 ]
 
--- a planned part that clashes with one that doesn't block it is better, unless it is actual
+-- if a part clashes with one that doesn't block it, it is actual or the other is not better
 unblocked_cases : (a b : Bool) (g : Meeting → Blocking) (found : Option Meeting) → is_some (if (not a && b) then option_map g found else None) ≡ false
     → is_some found ≡ true → (a ≡ true) ⊎ (b ≡ false)
 unblocked_cases true b g found h e = inl refl
@@ -245,7 +245,7 @@ settled_sound airport entry visits =
     slots_are_in airport (settle airport entry visits) ∙ ap (map slot_in) (settled_parts_stay airport entry visits) in
     subst (IsSound airport) (sym are) (stay_sound airport parts (kept_of airport parts) (kept_stay airport parts))
 
--- where every clash is between two actual parts, none blocks another
+-- if every clash is between two actual parts, none blocks another
 sound_by : (airport : AirportParts) (slots : List Slot) (other part : Ranked) (found : Option Blocking) → IsSound airport slots → Contains slots other.slot
     → Contains slots part.slot
     → blocking airport other part ≡ found → found ≡ None
@@ -267,7 +267,7 @@ sound_unblocked airport visits other part sound cq cp =
     (contained_among slots other.slot (among_along other.slot _ _ (sym are) (map_among slot_in parts other cq)))
     (contained_among slots part.slot (among_along part.slot _ _ (sym are) (map_among slot_in parts part cp))) refl
 
--- where no item gives anything, nothing comes out
+-- if no item gives anything, nothing comes out
 pub none_given : {X Y : Type 0} (h : X → Option Y) (xs : List X) → ((x : X) → Among x xs → h x ≡ None) → filter_map h xs ≡ []
 none_given h [] e = refl
 none_given h (x ∷ xs) e = rw (e x (inl refl)) (none_given h xs (λ y in'. e y (inr in')))

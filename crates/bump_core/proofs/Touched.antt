@@ -11,7 +11,7 @@ use Rattle.plan_core.proofs.Once.{once_only, only_alike, only_none}
 use Rattle.bump_core.specs.declared.ranks.Blocking.{Blocking}
 use Rattle.bump_core.specs.Lists.{is_in, is_touched, touched}
 
--- the visit of one more number, where there is one
+-- the visit of one more number, if there is one
 pub adds_found : (visits before after : List Visit) (number : VisitNo) (visit : Visit) → IsNumbered visits → visit_at visits number ≡ Some visit
     → after ≡ with_visit_once before visit → (test : ℕ → Bool) → before ≡ only test visits → after ≡ only (λ n. test n || number.0 == n) visits
 adds_found visits before after number visit h at put test so_far =

@@ -99,7 +99,8 @@ better_by airport visit mine other part false e cm cp apart planned better h =
     absurd (apart (between_parts visit mine other part (part_of airport visit mine (among_contained (parts_on airport visit) mine cm))
     (part_of airport visit part (among_contained (parts_on airport visit) part cp)) e planned (blocks_tell airport mine other h).1 better))
 
--- a part that is better than a planned part of a visit is blocked by none but its actual parts
+-- a part that is better than a planned part of a visit is blocked only by actual parts of that
+-- visit
 pub better_lose_to_actual : (airport : AirportParts) (visit : Visit) (mine other part : Ranked) → Contains (parts_on airport visit) mine
     → Contains (parts_on airport visit) part
     → (other.slot.part.visit.0 ≡ visit.number.0 → ⊥) → part.slot.actual ≡ false → is_better other part ≡ true → blocks airport mine other ≡ true

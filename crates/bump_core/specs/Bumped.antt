@@ -12,7 +12,8 @@ abbrev pub is_bumped_by : ℕ → Place → Bool
 is_bumped_by entry (Unplaced (Some bump)) = bump.entry == entry
 is_bumped_by entry place = false
 
--- of these parts of the visit, the first of which has this number, those that lost their stands by the entry
+-- of these parts of the visit, the first of which has this number, those that lost their stands by
+-- the entry
 abbrev pub bumped_from : ℕ → Visit → ℕ → List Part → List PartId
 bumped_from entry visit number [] = []
 bumped_from entry visit number (part ∷ parts) =

@@ -120,7 +120,7 @@ after_by entry new blockings visit = if has_number new.number visit then new els
 abbrev pub changes_by : ℕ → Visit → List Blocking → List Visit → List Visit
 changes_by entry new blockings visits = map (after_by entry new blockings) (touched blockings new.number visits)
 
--- the clashes of the parts of a changed visit with those of the visits
+-- the clashes of the parts of a changed visit with parts of the visits
 abbrev pub mets_of : AirportParts → List Visit → Visit → List Met
 mets_of airport visits changed = all_met airport (parts_on airport changed) (all_parts_on airport visits)
 
@@ -132,7 +132,7 @@ own_blockings airport visits changed = against_own (mets_of airport visits chang
 abbrev pub other_blockings : AirportParts → List Visit → Visit → List Blocking
 other_blockings airport visits changed = against_others (mets_of airport visits changed) (own_blockings airport visits changed)
 
--- the visits that an entry changes, as they will be, where it changes this one
+-- the visits that an entry changes, as they will be, if it changes this one
 abbrev pub changes_near : AirportParts → ℕ → List Visit → Visit → List Visit
 changes_near airport entry visits changed =
     changes_by entry (visit_by entry (own_blockings airport visits changed) changed) (other_blockings airport visits changed) visits

@@ -1,4 +1,4 @@
--- Settling near one changed visit, where the visits were sound before it changed.
+-- Settling near one changed visit, if the visits were sound before it changed.
 use Rattle.std.specs.Prelude.{ℕ, Bool, is_some, not, List, filter, map, if◌then◌else◌}
 use Rattle.apron_rules.specs.declared.parts.AirportParts.{AirportParts}
 use Rattle.apron_base.specs.declared.slot.Slot.{Slot}
@@ -13,7 +13,7 @@ use Rattle.bump_core.specs.Settle.{settled_visit}
 abbrev pub meets : AirportParts → Slot → Slot → Bool
 meets airport slot other = is_some (meeting airport slot other)
 
--- the visits but the one that this one takes the place of
+-- the visits except the one whose place this one takes
 abbrev pub others : List Visit → Visit → List Visit
 others visits changed = filter (λ visit. not (has_number changed.number visit)) visits
 

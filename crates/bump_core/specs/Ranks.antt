@@ -14,11 +14,11 @@ use Rattle.bump_core.specs.declared.ranks.Blocking.{Blocking}
 abbrev pub ranked : Visit → Slot → Ranked
 ranked visit slot = record { class = visit.class; on = visit.on; slot = slot }
 
--- the parts on stands of a visit
+-- the parts of a visit that are on stands
 abbrev pub parts_on : AirportParts → Visit → List Ranked
 parts_on airport visit = map (ranked visit) (slots_of_visit airport visit)
 
--- the parts on stands of all visits
+-- the parts of all visits that are on stands
 abbrev pub all_parts_on : AirportParts → List Visit → List Ranked
 all_parts_on airport visits = flat_map (parts_on airport) visits
 
@@ -59,11 +59,11 @@ blocks airport part other = is_some (blocking airport part other)
 abbrev pub is_free : {X : Type 0} → (X → X → Bool) → List X → X → Bool
 is_free blocks kept part = not (list_any (λ other. blocks other part) kept)
 
--- these are the parts that stay: just those that no part that stays blocks
+-- these are the parts that stay: exactly the parts that no staying part blocks
 abbrev pub Stay : AirportParts → List Ranked → List Ranked → Type 0
 Stay airport parts kept = kept ≡ filter (is_free (blocks airport) kept) parts
 
--- those that none of the last ones blocks, so many times over
+-- after this many rounds: each round keeps the parts that no part of the round before blocks
 abbrev pub after_rounds : {X : Type 0} → (X → X → Bool) → ℕ → List X → List X
 after_rounds blocks zero parts = parts
 after_rounds blocks (suc rounds) parts = filter (is_free blocks (after_rounds blocks rounds parts)) parts

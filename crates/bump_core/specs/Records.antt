@@ -7,8 +7,9 @@ use Rattle.bump_core.specs.declared.ranks.Ranked.{Ranked}
 use Rattle.bump_core.specs.Near.{meets}
 use Rattle.bump_core.specs.Ranks.{is_better}
 
--- the record names a part that keeps its stand, the first minute at which it clashes with the part that lost its own,
--- and the rule of that minute; no part that keeps its stand and is better than the named one clashes with the lost one
+-- the record names a part that keeps its stand, the first minute at which it clashes with the part
+-- that lost its own, and the rule of that minute; no part that keeps its stand and is better than
+-- the named one clashes with the one that lost it
 pub record IsRecordOf (airport : AirportParts) (kept : List Ranked) (lost : Ranked) (bump : Bump) : Type 0 where
   pub blocker : Ranked
   pub keeps : Contains kept blocker

@@ -1,4 +1,5 @@
--- What settling makes of the visits: each planned part that does not stay loses its stand to the best part that stays and clashes with it.
+-- What settling makes of the visits: each planned part that does not stay loses its stand to the
+-- best part that stays and clashes with it.
 use Rattle.std.specs.Prelude.{◌+◌, ◌∷◌, [], ℕ, List, Option, None, Some, filter_map, fold, map, if◌then◌else◌}
 use Rattle.apron_base.specs.declared.numbers.StandNo.{StandNo}
 use Rattle.apron_rules.specs.declared.parts.AirportParts.{AirportParts}
@@ -20,17 +21,19 @@ with_better (Some best) found = if is_better found.blocker best.blocker then Som
 abbrev pub best : List Blocking → Option Blocking
 best blockings = fold with_better None blockings
 
--- what of the parts that are kept blocks a part
+-- what blocks a part, among the parts that are kept
 abbrev pub blockings : AirportParts → List Ranked → Ranked → List Blocking
 blockings airport kept part = filter_map (λ other. blocking airport other part) kept
 
--- the place of a part that had this stand: what blocks it takes the stand, and the record tells it with the entry's number
+-- the place of a part that had this stand: what blocks it takes the stand, and the record says so
+-- with the entry's number
 abbrev pub place_after : ℕ → StandNo → Option Blocking → Place
 place_after entry stand None = Planned stand
 place_after entry stand (Some found) =
     Unplaced (Some (record { stand = stand; entry = entry; blocker = found.blocker.slot.part; minute = found.minute; rule = found.rule }))
 
--- the place of a part of the visit: only a planned one loses its stand, to the best kept part that blocks it
+-- the place of a part of the visit: only a planned one loses its stand, to the best kept part that
+-- blocks it
 abbrev pub settled_place : AirportParts → ℕ → List Ranked → Visit → ℕ → Part → Place → Place
 settled_place airport entry kept visit number part (Unplaced bump) = Unplaced bump
 settled_place airport entry kept visit number part (Actual stand) = Actual stand

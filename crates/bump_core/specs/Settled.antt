@@ -11,12 +11,12 @@ use Rattle.plan_core.specs.PlanState.{IsVisitAt, PlanState}
 use Rattle.bump_core.specs.Bumped.{bumped_of}
 use Rattle.bump_core.specs.Settle.{settle}
 
--- the visits with a changed one, if there is one
+-- the visits after one changed, if one did
 abbrev pub with_changed : List Visit → Option Visit → List Visit
 with_changed visits None = visits
 with_changed visits (Some visit) = with_visit visits visit
 
--- the plan after its next entry, which changes this visit, if it changes one: the visits are settled by it
+-- the plan after its next entry, which changes this visit or none: the visits are settled by it
 abbrev pub with_settled : PlanState → Option Visit → PlanState
 with_settled plan changed = record {
   airport = plan.airport;
@@ -25,12 +25,14 @@ with_settled plan changed = record {
   version = plan.version + 1;
 }
 
--- a visit of the plan's, changed: it is such as the plan has, and keeps what that was added as
+-- a changed copy of a plan's visit, valid for the plan and added by the same entry with the same
+-- data
 pub record IsChanged (plan : PlanState) (visit : Visit) : Type 0 where
   pub visit_at : IsVisitAt plan.airport plan.version visit
   pub of : IsOneOf plan.visits visit
 
--- the most steps of settling: those of looking for the clashes of each part on a stand of the changed visit, and none where no visit is changed
+-- the most steps of settling: those of looking for the clashes of each part of the changed visit
+-- that is on a stand, and none if no visit is changed
 abbrev pub settle_steps : AirportParts → List StandSlots → Option Visit → ℕ
 settle_steps airport index None = 0
 settle_steps airport index (Some changed) = sum_by (steps_near airport index) (slots_of_visit airport changed)

@@ -118,7 +118,7 @@ fn touched(
     Ok(some)
 }
 
-// Adds the visit of this number in its place, if there is one, unless it is there.
+// Adds the visit of this number in its place, if it exists and isn't there yet.
 fn add_numbered(some: &mut Vec<Visit>, visits: &[Visit], number: VisitNo) -> Result<(), Memory>
     requires numbered { IsNumbered visits.now }
     ensures ok { OnOk result ((test : ℕ → Bool) → some.old.items ≡ filter (λ visit. test visit.number.0) visits.now
@@ -130,7 +130,7 @@ fn add_numbered(some: &mut Vec<Visit>, visits: &[Visit], number: VisitNo) -> Res
     Ok(())
 }
 
-// Makes each of the visits what it will be.
+// Turns each of the visits into what it will be.
 fn put_after(entry: u32, new: &Visit, blockings: &[Blocking], visits: &mut [Visit])
     ensures is { visits.new ≡ map (after_by entry new.now blockings.now) visits.old }
 {

@@ -6,8 +6,8 @@ use apron_base::{Listed, Memory, PartId};
 use std::alloc::Global;
 use visit_book::{Place, Visit};
 
-/// The parts of these visits that lost their stands by an entry, in the order of the visits and their parts.
-/// The entry's number is the version that it made. The only error is want of memory.
+/// The parts of these visits that lost their stands by an entry, in the order of the visits and
+/// their parts. The entry's number is the version that it made. The only error is a lack of memory.
 pub fn bumped_by(alloc: Global, entry: u32, visits: &[Visit]) -> Result<Listed<PartId>, Memory>
     ensures is { IfOk result (λ parts. parts ≡ bumped_by entry visits.now) }
 {
@@ -18,7 +18,7 @@ pub fn bumped_by(alloc: Global, entry: u32, visits: &[Visit]) -> Result<Listed<P
     Ok(parts)
 }
 
-// Puts the parts of the visit that lost their stands by the entry last.
+// Adds at the end the parts of the visit that lost their stands by the entry.
 fn push_bumped(parts: &mut Listed<PartId>, entry: u32, visit: &Visit) -> Result<(), Memory>
     ensures ok { OnOk result (parts.new ≡ parts.old ++ bumped_of entry visit.now) }
 {

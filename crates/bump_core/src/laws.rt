@@ -19,15 +19,16 @@ ghost use Rattle.bump_core.specs.Records.{IsRecordOf};
 ghost use Rattle.bump_core.specs.Settle.{settle, settled_place, settled_visit};
 ghost use Rattle.bump_core.specs.Settled.{IsChanged, with_changed, with_settled};
 
-/// There is just one way for parts to stay: each stays, unless a better one that stays clashes with it.
+/// There is exactly one way for parts to stay: each stays, unless a better one that stays clashes
+/// with it.
 pub fn parts_stay_in_one_way()
     ensures kept { (airport : AirportParts) (parts kept : List Ranked) → Stay airport parts kept ↔ (kept ≡ kept_of airport parts) }
     ensures settled { (airport : AirportParts) (entry : ℕ) (visits : List Visit)
         → Stay airport (all_parts_on airport visits) (all_parts_on airport (settle airport entry visits)) }
 {}
 
-/// Visits are the settling of others just where they are these, settled against what they themselves have
-/// on stands.
+/// Visits are the settling of others exactly if they are the others settled against the parts that
+/// they themselves have on stands.
 pub fn settling_is_one()
     ensures one { (airport : AirportParts) (entry : ℕ) (visits new : List Visit)
         → (new ≡ map (settled_visit airport entry (all_parts_on airport new)) visits) ↔ (new ≡ settle airport entry visits) }
@@ -39,15 +40,16 @@ pub fn settled_is_sound()
     ensures own { (airport : AirportParts) (entry : ℕ) (visits : List Visit) → IsSound airport (slots_of airport visits) → settle airport entry visits ≡ visits }
 {}
 
-/// Where visits were sound, and one of them is put in changed, settling near it is settling.
+/// If visits were sound, and one of them is replaced by a changed one, settling near it is
+/// settling.
 pub fn near_is_settled()
     ensures near { (airport : AirportParts) (entry : ℕ) (visits : List Visit) (changed : Visit) → IsNumbered visits → 1 ≤ changed.number.0
         → changed.number.0 ≤ length visits → IsSound airport (slots_of airport visits)
         → settled_near airport entry visits changed ≡ settle airport entry (with_visit visits changed) }
 {}
 
-/// Settling takes stands from planned parts and changes nothing else, so visits stay well formed and
-/// numbered. With a changed one put in they stay numbered too.
+/// Settling takes stands from planned parts and changes nothing else, so visits stay well formed
+/// and numbered. They also stay numbered when a changed one is put in.
 pub fn settling_takes_stands_alone()
     ensures stays { (airport : AirportParts) (entry : ℕ) (kept : List Ranked) (visit : Visit) → StaysBut entry visit (settled_visit airport entry kept visit) }
     ensures well_formed { (airport : AirportParts) (entry : ℕ) (visits : List Visit)
@@ -62,9 +64,10 @@ pub fn settled_plan_is_plan()
         → IsPlan (with_settled plan changed) }
 {}
 
-/// Where visits were sound, and one of them is put in changed, a part of another visit that clashes with no
-/// part of the changed one stays; and one that is better than a planned part of the changed visit loses its
-/// stand to none but its actual parts.
+/// If visits were sound, and one of them is replaced by a changed one, then a part of another visit
+/// that clashes with no part of the changed one stays; and a part of another visit that is better
+/// than a planned part of the changed visit loses its stand only to actual parts of the changed
+/// visit.
 pub fn changed_visit_decides()
     ensures untouched { (airport : AirportParts) (entry : ℕ) (visits : List Visit) (changed : Visit) (part : Ranked) → IsNumbered visits → 1 ≤ changed.number.0
         → changed.number.0 ≤ length visits → IsSound airport (slots_of airport visits)
@@ -75,9 +78,10 @@ pub fn changed_visit_decides()
         → own.slot.actual ≡ true }
 {}
 
-/// The record of a part that loses its stand names a part that keeps its own, the first minute at which the two
-/// clash and the rule of that minute. No better part that keeps its stand clashes with the one that lost it: actual
-/// parts are better than planned ones, and else the rank decides.
+/// The record of a part that loses its stand names a part that keeps its own, the first minute at
+/// which the two clash and the rule of that minute. No better part that keeps its stand clashes
+/// with the one that lost it: actual parts are better than planned ones, and otherwise the rank
+/// decides.
 pub fn record_names_the_best_blocker()
     ensures names { (airport : AirportParts) (entry : ℕ) (visits : List Visit) (visit : Visit) (number : ℕ) (part : Part) (stand : StandNo) (bump : Bump)
         → settled_place airport entry (kept_of airport (all_parts_on airport visits)) visit number part (Planned stand)

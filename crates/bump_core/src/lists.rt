@@ -42,7 +42,7 @@ fn is_same(part: PartId, other: PartId) -> bool
     part.visit.0 == other.visit.0 && part.part == other.part
 }
 
-/// The parts on stands of a visit.
+/// The parts of a visit that are on stands.
 pub(crate) fn parts_on(
     alloc: Global,
     airport: &Airport,
@@ -63,7 +63,7 @@ pub(crate) fn parts_on(
     Ok(found)
 }
 
-// Puts the part in this slot last, if there is one.
+// Adds the part in this slot at the end, if there is one.
 fn push_part(found: &mut Listed<Ranked>, visit: &Visit, slot: Option<Slot>) -> Result<(), Memory>
     ensures ok { OnOk result (found.new ≡ found.old ++ map (ranked visit.now) (option_to_list slot)) }
 {

@@ -10,7 +10,8 @@ pub struct Ranked {
     pub slot: Slot,
 }
 
-/// A planned part, a better one with which it clashes, and the first minute and the rule of their clash.
+/// A planned part, a better one that it clashes with, and the first minute and the rule of their
+/// clash.
 #[derive(Clone, Copy, Debug)]
 pub struct Blocking {
     pub blocker: Ranked,
@@ -19,8 +20,8 @@ pub struct Blocking {
     pub rule: Rule,
 }
 
-/// A part of the changed visit and another part with which it clashes, with the first minute and the rule of
-/// their clash.
+/// A part of the changed visit and another part that it clashes with, with the first minute and the
+/// rule of their clash.
 #[derive(Clone, Copy, Debug)]
 pub struct Met {
     pub own: Ranked,

@@ -27,8 +27,9 @@ use std::alloc::Global;
 use std::sync::ledger::Ledger;
 use visit_book::Visit;
 
-/// The change of the plan's next entry, which puts in this visit changed, if one is changed: that one and
-/// those that lose stands by it, in order of number. At `Err` memory is wanting. The plan stays as it is.
+/// The change of the plan's next entry, which puts in this changed visit, if there is one: this
+/// visit and those that lose stands by it, in order of number. `Err` if there is no memory. The
+/// plan stays as it is.
 pub fn settle<L: Ledger>(
     alloc: Global,
     airport: &Airport,
@@ -77,7 +78,7 @@ fn changes_of<L: Ledger>(
     }
 }
 
-// The same where this visit is changed, by the index of the slots of the visits.
+// The same if this visit is changed, by the index of the slots of the visits.
 fn changes_near<L: Ledger>(
     alloc: Global,
     airport: &Airport,
@@ -102,7 +103,8 @@ fn changes_near<L: Ledger>(
     changes_by(alloc, entry, &new, others.as_slice(), visits)
 }
 
-// The clashes of the parts of the changed visit: `clashes_of` is asked once for each that is on a stand.
+// The clashes of the parts of the changed visit: `clashes_of` is called once for each part that is
+// on a stand.
 fn mets_of<L: Ledger>(
     alloc: Global,
     airport: &Airport,

@@ -1,4 +1,4 @@
-// What is found in files, good and bad, and the lines that tell it.
+// What is found in files, good and bad, and the lines that say it.
 use apron_base::{ListSink, MapShelf, Memory};
 use apron_check::{airport_of, put_counts, put_fault};
 use run_inputs::{AIRPORT, TYPES, kept};
@@ -9,12 +9,12 @@ const OK: &str = "ok: 13 stands, 7 types, 3 days\n";
 
 const ONE_TYPE: &str = "ok: 13 stands, 1 types, 3 days\n";
 
-// What stands in place of the first such text.
+// A text, and what replaces its first occurrence.
 type Edit = (&'static str, &'static str);
 
 const SAME: Edit = ("", "");
 
-// What is changed in the airport file, and the line that tells what is found then.
+// What is changed in the airport file, and the line that says what is then found.
 const IN_THE_AIRPORT_FILE: [(Edit, &'static str); 26] = [
     (SAME, OK),
     (("tow = 20", "tow = 20\nbeacon = [1]"), OK),
@@ -157,7 +157,7 @@ const IN_THE_AIRPORT: [(Edit, &'static str); 18] = [
         OK,
     ),
     (("days = 3", "days = 0"), "airport: limit days\n"),
-    (("days = 3", "days = 15"), "airport: limit days\n"),
+    (("days = 3", "days = 29"), "airport: limit days\n"),
     (("taxi_in = 5", "taxi_in = 61"), "airport: limit taxi_in\n"),
     (("tow = 20", "tow = 0"), "airport: limit tow\n"),
     (("tow = 20", "tow = 241"), "airport: limit tow\n"),
@@ -169,11 +169,12 @@ const IN_THE_AIRPORT: [(Edit, &'static str); 18] = [
     ),
 ];
 
-// What is changed in the airport file, up to a limit of the airport or of a name and no further, and the line.
+// What is changed in the airport file, exactly up to a limit of the airport or of a name, and the
+// line.
 const AT_A_LIMIT: [(Edit, &'static str); 7] = [
     (
-        ("days = 3", "days = 14"),
-        "ok: 13 stands, 7 types, 14 days\n",
+        ("days = 3", "days = 28"),
+        "ok: 13 stands, 7 types, 28 days\n",
     ),
     (("taxi_in = 5", "taxi_in = 60"), OK),
     (("tow = 20", "tow = 240"), OK),
@@ -183,7 +184,7 @@ const AT_A_LIMIT: [(Edit, &'static str); 7] = [
     (("name = \"S4\"", "name = \"S4ABCD\""), OK),
 ];
 
-// The same of the type file.
+// The same for the type file.
 const TYPES_AT_A_LIMIT: [(Edit, &'static str); 4] = [
     (("1767,20", "1767,600"), OK),
     (("A388,7975", "A388,7999"), OK),
@@ -259,7 +260,7 @@ const FOLDING_TYPES: [(&'static str, &'static str, &'static str); 24] = [
     ),
 ];
 
-// What is changed in the airport file first and then, what is changed in the type file, and the line.
+// Two changes of the airport file, a change of the type file, and the line.
 const TWO_FAULTS: [(Edit, Edit, Edit, &'static str); 10] = [
     (
         ("tow = 20", ""),
@@ -347,7 +348,8 @@ const COPIES: [(&'static str, &'static str, u16, &'static str); 9] = [
     ("stand = [", HALF, 1, "airport: half 1000\n"),
 ];
 
-// A type file, how many reads and how many writes succeed, the line, and whether it is told whole.
+// A type file, how many reads and how many writes succeed, the line, and whether it is written
+// whole.
 const FAILING: [(&'static str, u64, u64, &'static str, bool); 7] = [
     (TYPES, 9, 99, OK, true),
     (TYPES, 0, 99, "shelf fault\n", true),
@@ -365,7 +367,8 @@ fn edited(alloc: Global, text: &str, edit: (&str, &str)) -> Result<String, Alloc
     }
 }
 
-// Whether there is an airport, whether what was found was told whole, and what was written.
+// Whether there is an airport, whether the line about what was found was written whole, and what
+// was written.
 #[derive(Drop)]
 struct Found {
     fine: bool,
@@ -373,7 +376,7 @@ struct Found {
     line: Vec<u8>,
 }
 
-// What is found in these files, on a shelf and a sink whose calls fail as told.
+// What is found in these files, on a shelf and a sink whose calls fail on command.
 fn found_in(
     alloc: Global,
     airport: &str,
@@ -401,13 +404,14 @@ fn found_in(
     })
 }
 
-// Whether this line, and no other, tells of these files, and an airport is found where it tells of one.
+// Whether exactly this line is written for these files, and an airport is found if the line is
+// about one.
 fn is_told(alloc: Global, airport: &str, types: &str, line: &str) -> Result<bool, Memory> {
     let found = found_in(alloc, airport, types, &[], &[])?;
     Ok(found.line.as_slice() == line.as_bytes() && found.fine == line.starts_with("ok: "))
 }
 
-// The same of the demo airport's files, with these changes.
+// The same for the demo airport's files, with these changes.
 fn is_told_of(
     alloc: Global,
     first: Edit,
@@ -421,7 +425,8 @@ fn is_told_of(
     is_told(alloc, airport.as_str(), types.as_str(), line)
 }
 
-// The text with copies of an entry put in behind a mark, each with its number from 1000 on in place of `#`.
+// The text with copies of an entry put in after a mark, each with its number from 1000 on in place
+// of `#`.
 fn with_copies(
     alloc: Global,
     text: &str,
@@ -435,8 +440,8 @@ fn with_copies(
         let row = edited(alloc, entry, ("#", number.as_str()))?;
         rows.push_str(row.as_str())?;
     }
-    let behind = format!(in alloc; "{}{}", mark, rows)?;
-    edited(alloc, text, (mark, behind.as_str()))
+    let with_rows = format!(in alloc; "{}{}", mark, rows)?;
+    edited(alloc, text, (mark, with_rows.as_str()))
 }
 
 #[test]
@@ -493,7 +498,7 @@ fn a_type_may_be_at_each_limit(rt: HostRuntime) -> Result<(), Fail> {
     Ok(())
 }
 
-// Whether a type file of this header and these records is told so.
+// Whether this line is written for a type file of this header and these records.
 fn is_type_file_told(
     alloc: Global,
     header: &str,
@@ -522,7 +527,7 @@ fn of_two_faults_the_earlier_is_named(rt: HostRuntime) -> Result<(), Fail> {
     Ok(())
 }
 
-// Whether so many copies of an entry in the airport file are told so.
+// Whether this line is written for this number of copies of an entry in the airport file.
 fn are_told(
     alloc: Global,
     mark: &str,
@@ -534,18 +539,18 @@ fn are_told(
     is_told(alloc, airport.as_str(), TYPES, line)
 }
 
-// The same of so many types more.
+// The same for this number of further types.
 fn are_types_told(alloc: Global, copies: u16, line: &str) -> Result<bool, Memory> {
     let types = with_copies(alloc, TYPES, "least\n", "#,3580,40\n", copies)?;
     is_told(alloc, AIRPORT, types.as_str(), line)
 }
 
 #[test]
-fn so_many_entries_are_taken_and_no_more(rt: HostRuntime) -> Result<(), Fail> {
+fn entries_are_taken_up_to_their_limits(rt: HostRuntime) -> Result<(), Fail> {
     let alloc = rt.alloc();
     for (mark, entry, copies, line) in COPIES {
         let are = are_told(alloc, mark, entry, copies, line)?;
-        assert!(rt; are, "{copies} behind {mark}: {line}");
+        assert!(rt; are, "{copies} after {mark}: {line}");
     }
     let most = are_types_told(alloc, 393, "ok: 13 stands, 400 types, 3 days\n")?;
     let more = are_types_told(alloc, 394, "airport: limit types\n")?;
@@ -553,7 +558,7 @@ fn so_many_entries_are_taken_and_no_more(rt: HostRuntime) -> Result<(), Fail> {
     Ok(())
 }
 
-// Whether calls that fail are told so.
+// Whether this line is written if calls fail.
 fn fails_so(
     alloc: Global,
     types: &str,
@@ -575,7 +580,8 @@ fn the_shelf_and_the_sink_may_fail(rt: HostRuntime) -> Result<(), Fail> {
     Ok(())
 }
 
-// Whether files over a mebibyte are told as too long, the airport file before the type file is read at all.
+// Whether files over a mebibyte are reported as too long, the airport file before the type file is
+// read at all.
 fn are_too_long(alloc: Global) -> Result<bool, Memory> {
     let blanks = String::from_utf8(vec![in alloc; b' '; 1_048_577]?).unwrap_or(String::new(alloc));
     let long = blanks.as_str();

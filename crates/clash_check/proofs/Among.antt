@@ -109,7 +109,7 @@ among_next airport others changed i d first second found inside h k sooner =
 pub among_none : (airport : AirportParts) (others changed : List Slot) → IsSound airport others → IsFirstClash airport (others ++ take 0 changed) None
 among_none airport others changed sound = subst (λ (xs : List Slot). IsFirstClash airport xs None) (sym (append-nil others)) (none_from_sound airport others sound)
 
--- among all
+-- the same among all slots
 pub among_all : (airport : AirportParts) (others changed : List Slot) (i : ℕ) (found : Option Clash) → length changed ≤ i → IsFirstClash airport (others ++ take i changed) found → IsFirstClash airport (others ++ changed) found
 among_all airport others changed i found over h = subst (λ (xs : List Slot). IsFirstClash airport (others ++ xs) found) (take_all i changed over) h
 

@@ -35,7 +35,7 @@ use Rattle.clash_check.proofs.Looked.{of_stand, rule_hit_within, rule_neighbour}
 use Rattle.clash_check.proofs.Meetings.{from_below, from_first, whole_meeting}
 use Rattle.clash_check.proofs.Ordered.{IsOnce, NeverFalls, Rises, falls_nowhere, is_part, ordered_from, ordered_rises, ordered_to, part_of, rises_once, rises_one}
 
--- a clash with a slot tells its part, and has its rule at its minute, which is one of those asked for
+-- a clash with a slot has its part and its rule at its minute, which is one of those asked for
 record Tells (airport : AirportParts) (p q : Slot) (from end : ℕ) (c : Clash) : Type 0 where
   b : c.b ≡ q.part
   rule : rule_at airport p q c.minute ≡ Some c.rule
@@ -58,7 +58,7 @@ none_by : {Y : Type 0} (found : Option Y) → ((y : Y) → found ≡ Some y → 
 none_by None never = refl
 none_by (Some y) never = absurd (never y refl)
 
--- what is no hit, and what stands at no neighbour, doesn't clash
+-- what is no hit, or is at no neighbour, doesn't clash
 no_hit : (airport : AirportParts) (p : Slot) (from end : ℕ) (q : Slot) → is_hit (max from p.from) (min end p.end) q ≡ false → clash_within airport p from (end - from) q ≡ None
 no_hit airport p from end q apart = none_by (clash_within airport p from (end - from) q) (λ c e.
     let told = tells airport p q from end c e in
@@ -113,7 +113,7 @@ numbered index (suc n) inside =
 all_numbered : (index : List StandSlots) → flat_map (λ s. slots_at (at_stand index s)) (first_stands (length index)) ≡ all_slots index
 all_numbered index = numbered index (length index) (omega arith) ∙ ap (flat_map slots_at) (take_all (length index) index (omega arith))
 
--- the hits of a stand tell its clashes
+-- the hits of a stand give its clashes
 hits_tell : (airport : AirportParts) (p : Slot) (from end : ℕ) (slots : StandSlots) → clashes_within airport p from (end - from) (hits_of slots (max from p.from) (min end p.end)) ≡ clashes_within airport p from (end - from) (slots_at slots)
 hits_tell airport p from end slots =
     let h : Slot → Option Clash = clash_within airport p from (end - from) in
@@ -123,7 +123,7 @@ hits_tell airport p from end slots =
     ∙ (ap (λ ys. filter_map h slots.planned ++ ys) (mapped_filter h test slots.actual (no_hit airport p from end))
     ∙ sym (filter_map-append h slots.planned slots.actual)))
 
--- the hits at the neighbours tell all clashes
+-- the hits at the neighbours give all clashes
 pub all_clashes : (airport : AirportParts) (index : List StandSlots) (p : Slot) (from end : ℕ) → fault_of airport ≡ None → IsIndex index → length index ≡ length airport.stands
     → clashes_within airport p from (end - from) (flat_map (λ s. hits_of (at_stand index s) (max from p.from) (min end p.end)) (neighbours_of airport p.stand)) ≡ clashes_within airport p from (end - from) (all_slots index)
 all_clashes airport index p from end none is count =

@@ -22,7 +22,7 @@ use Rattle.clash_check.specs.FirstWith.{IsClashOfBoth}
 use Rattle.clash_check.specs.Indexed.{all_slots, slots_at}
 use Rattle.clash_check.proofs.Among.{others_none}
 
--- an item of the lists of some is of the list of one of them
+-- an item of the lists together is an item of one of them
 pub found_in : {X A : Type 0} (f : X → List A) (xs : List X) (y : A) (d : X) → Contains (flat_map f xs) y → (k : ℕ) × (k < length xs) × Contains (f (get_or xs k d)) y
 found_in f [] y d (k, inside, at) = absurd (omega arith)
 found_in f (x ∷ xs) y d h =
@@ -31,7 +31,7 @@ found_in f (x ∷ xs) y d h =
       | inr later ↦ (let found = found_in f xs y d later in (suc found.0, omega (arith, found.1), found.2))
     ]
 
--- an item of the list of one of them is of the lists of all
+-- an item of one of the lists is an item of all together
 pub put_in : {X A : Type 0} (f : X → List A) (xs : List X) (y : A) (d : X) (k : ℕ) → k < length xs → Contains (f (get_or xs k d)) y → Contains (flat_map f xs) y
 put_in f [] y d k inside h = absurd (omega arith)
 put_in f (x ∷ xs) y d zero inside h = Contains-append_left (f x) (flat_map f xs) y h
@@ -45,7 +45,7 @@ of_stand stand slots are q h =
       | inr actual ↦ (All-contains (IsSlotAt stand true) slots.actual q are.actual actual).stand
     ]
 
--- each slot of an index stands at its stand
+-- each slot of an index is at its stand
 pub at_its_stand : (index : List StandSlots) → IsIndex index → (q : Slot) → Contains (all_slots index) q → Contains (slots_at (at_stand index q.stand)) q
 at_its_stand index is q h =
     let found = found_in slots_at index q no_slots h in
@@ -53,7 +53,7 @@ at_its_stand index is q h =
     let own : q.stand ≡ s = of_stand s (at_stand index s) (is s) q found.2 in
     subst (λ (t : StandNo). Contains (slots_at (at_stand index t)) q) (sym own) found.2
 
--- what stands at a stand is of the index
+-- what is at a stand is in the index
 pub of_index : (index : List StandSlots) (s : StandNo) → s.0 < length index → (q : Slot) → Contains (slots_at (at_stand index s)) q → Contains (all_slots index) q
 of_index index s inside q h = put_in slots_at index q no_slots s.0 inside h
 
@@ -65,7 +65,7 @@ hit_of slots from end q h =
       | inr actual ↦ Contains-append_right slots.planned slots.actual q (filter_passed (is_hit from end) slots.actual q actual).0
     ]
 
--- what has a minute in common is a hit
+-- a slot with a minute in common is a hit
 pub hit_listed : (slots : StandSlots) (from end : ℕ) (q : Slot) → Contains (slots_at slots) q → is_hit from end q ≡ true → Contains (hits_of slots from end) q
 hit_listed slots from end q h passes =
     elim (Contains-append_cases slots.planned slots.actual q h) [
@@ -73,7 +73,7 @@ hit_listed slots from end q h passes =
       | inr actual ↦ Contains-append_right (filter (is_hit from end) slots.planned) (filter (is_hit from end) slots.actual) q (passes_filter (is_hit from end) slots.actual q actual passes)
     ]
 
--- the hits of a stand have what all slots of the index have
+-- what holds of all slots of the index holds of the hits of a stand
 pub all_hits : (P : Slot → Type 0) (index : List StandSlots) (s : StandNo) (from end : ℕ) → s.0 < length index → All P (all_slots index) → All P (hits_of (at_stand index s) from end)
 all_hits P index s from end inside all k d within =
     let hits = hits_of (at_stand index s) from end in
@@ -88,7 +88,7 @@ hit_by m from end f e held held_too =
     let both : max from f < min end e = omega arith in
     grind (arith, nat_tests)
 
--- two slots with a rule at a minute have it in common
+-- two slots with a rule at a minute both hold that minute
 pub rule_hit : (airport : AirportParts) (p q : Slot) (m : ℕ) (rule : Rule) → rule_at airport p q m ≡ Some rule → is_hit p.from p.end q ≡ true
 rule_hit airport p q m rule h = let met = meets airport p q m rule h in hit_by m p.from p.end q.from q.end met.held met.held_too
 

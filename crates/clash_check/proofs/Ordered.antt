@@ -1,4 +1,4 @@
--- Lists in order of parts: where no two items are of one part, there is one such list.
+-- Lists in order of parts: if no two items are of the same part, there is one such list.
 use Rattle.std.proofs.Common.{◌≡◌, ◌≤◌, ◌<◌, ◌==◌, ◌&&◌, inl, inr, ℕ, suc, Bool, true, false, cond, List, [], ◌∷◌, refl, subst, arith, length, get_or}
 use Rattle.std.specs.Cmp.{IsStrictWeakOrder}
 use Rattle.std.specs.List.Sorted.{ties}
@@ -50,7 +50,7 @@ module _ {X : Type 0} (key : X → PartId) where
   abbrev pub IsOnce : List X → Type 0
   IsOnce xs = (part : PartId) → count_by (λ x. is_part part (key x)) xs ≤ 1
 
-  -- items that tie are of one part
+  -- items that tie are of the same part
   tied_by : (x y : X) (a b : Bool) → is_smaller (key x) (key y) ≡ a → is_smaller (key y) (key x) ≡ b → cond (ties before x y) 1 0 ≤ cond (is_part (key x) (key y)) 1 0
   tied_by x y true b e f = rw e (omega arith)
   tied_by x y false true e f = rw (e, f) (omega arith)
@@ -67,11 +67,11 @@ module _ {X : Type 0} (key : X → PartId) where
         sum_by-cons (λ z. cond (is_part (key x) (key z)) 1 0) y ys,
       )
 
-  -- items in order, of which no two are of one part, rise
+  -- items in order, of which no two are of the same part, rise
   pub rises_once : (xs : List X) → NeverFalls xs → IsOnce xs → Rises xs
   rises_once xs falls once = sorting.rises_once before order xs falls (λ x. omega (arith, once (key x), fewer_tie x xs))
 
-  -- two lists that rise and have the same items are one
+  -- two lists that rise and have the same items are the same
   pub rises_one : (xs ys : List X) → Rises xs → Rises ys → ((x : X) → Contains xs x → Contains ys x) → ((x : X) → Contains ys x → Contains xs x) → xs ≡ ys
   rises_one xs ys up up2 to from = sorting.rises_one before order xs ys up up2 to from
 
@@ -97,7 +97,7 @@ ordered_from slots y h = sorted_from (before part_of) slots y h
 pub ordered_to : (slots : List Slot) (y : Slot) → Contains slots y → Contains (by_part slots) y
 ordered_to slots y h = sorted_to (before part_of) slots y h
 
--- slots of which no two are of one part rise in order of their parts
+-- slots of which no two are of the same part rise in order of their parts
 pub ordered_rises : (slots : List Slot) → HasPartsOnce slots → Rises part_of (by_part slots)
 ordered_rises slots once =
     rises_once part_of (by_part slots) (sorting.sorted_falls (before part_of) (order part_of) slots)

@@ -1,4 +1,4 @@
--- Which index clashes are looked for in, and what is left of it without some visits.
+-- In which index clashes are looked for, and what is left of it without some visits.
 use Rattle.std.specs.Prelude.{◌≡◌, ◌≤◌, ◌==◌, Bool, not, List, All, length, filter, count_by}
 use Rattle.std.specs.List.{list_any}
 use Rattle.apron_base.specs.declared.numbers.PartId.{PartId}
@@ -21,11 +21,12 @@ is_of_other visits slot = not (is_of_any visits slot)
 abbrev pub others_of : List StandSlots → List VisitNo → List Slot
 others_of index without = filter (is_of_other without) (all_slots index)
 
--- of each part there is at most one slot
+-- each part has at most one slot
 abbrev pub HasPartsOnce : List Slot → Type 0
 HasPartsOnce slots = (part : PartId) → count_by (is_of_part part) slots ≤ 1
 
--- the index is one of the airport's stands; its slots have a stand and a type of the airport, and no two are of one part; without those of these visits, each clash is between two actual ones
+-- the index has the airport's stands; its slots have a stand and a type of the airport, and no two
+-- are of the same part; leaving these visits out, only actual slots clash
 pub record IsClear (airport : AirportParts) (index : List StandSlots) (without : List VisitNo) : Type 0 where
   pub stands : length index ≡ length airport.stands
   pub slots : All (IsSlotOf airport) (all_slots index)

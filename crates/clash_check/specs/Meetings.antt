@@ -1,4 +1,4 @@
--- When two slots clash first, by trying each minute, and the clashes of one slot.
+-- The first minute at which two slots clash, by trying each minute, and the clashes of one slot.
 use Rattle.std.specs.Prelude.{ℕ, zero, suc, ◌+◌, ◌==◌, ◌&&◌, ◌||◌, min, nat_lt, Bool, List, Option, None, option_map, filter_map}
 use Rattle.std.specs.Option.{option_or}
 use Rattle.apron_base.specs.declared.numbers.PartId.{PartId}
@@ -9,18 +9,19 @@ use Rattle.apron_rules.specs.declared.rules.Clash.{Clash}
 use Rattle.apron_rules.specs.declared.rules.Meeting.{Meeting}
 use Rattle.apron_rules.specs.Clash.{rule_at}
 
--- the first of the next minutes, this many from this one on, at which the slots clash, with its rule
+-- the first of this many minutes, from this one on, at which the slots clash, with its rule
 unfoldable pub meeting_from : AirportParts → Slot → Slot → ℕ → ℕ → Option Meeting
 meeting_from airport slot other minute zero = None
 meeting_from airport slot other minute (suc more) =
     option_or (option_map (λ rule. record { minute = minute; rule = rule }) (rule_at airport slot other minute))
     (meeting_from airport slot other (minute + 1) more)
 
--- the first minute at which the slots clash, with its rule: the minutes are tried up to the end of either
+-- the first minute at which the slots clash, with its rule: the minutes are tried up to the end of
+-- either
 unfoldable pub meeting : AirportParts → Slot → Slot → Option Meeting
 meeting airport slot other = meeting_from airport slot other 0 (min slot.end other.end)
 
--- the clash of two slots that meet so: the first one's part is a
+-- the clash of two slots with this meeting: the first one's part is a
 abbrev pub clash_at : Slot → Slot → Meeting → Clash
 clash_at slot other at = record { minute = at.minute; a = slot.part; b = other.part; rule = at.rule }
 
@@ -32,7 +33,7 @@ clash_with airport slot other = option_map (λ at. clash_at slot other at) (meet
 abbrev pub clashes_with : AirportParts → Slot → List Slot → List Clash
 clashes_with airport slot others = filter_map (clash_with airport slot) others
 
--- the clash of a slot with another, at the first of the next minutes, this many from this one on
+-- the clash of a slot with another, at the first of this many minutes, from this one on
 abbrev pub clash_within : AirportParts → Slot → ℕ → ℕ → Slot → Option Clash
 clash_within airport slot minute more other =
     option_map (λ at. clash_at slot other at) (meeting_from airport slot other minute more)

@@ -11,7 +11,7 @@ abbrev pub steps_near : AirportParts → List StandSlots → Slot → ℕ
 steps_near airport index slot =
     sum_by (λ stand. most_steps (at_stand index stand) slot.from slot.end) (neighbours_of airport slot.stand)
 
--- the same for the slot's minutes from the one to below the other
+-- the same for the slot's minutes from the first to below the second
 abbrev pub steps_within : AirportParts → List StandSlots → Slot → ℕ → ℕ → ℕ
 steps_within airport index slot from end =
     sum_by (λ stand. most_steps (at_stand index stand) (max from slot.from) (min end slot.end))
@@ -22,6 +22,7 @@ abbrev pub pairs_among : ℕ → ℕ
 pairs_among zero = 0
 pairs_among (suc before) = pairs_among before + before
 
--- the most steps for changed slots: a look at each neighbour stand of each, and one for each pair of them
+-- the most steps for changed slots: for each, a look at each neighbour stand, and one step for each
+-- pair of them
 abbrev pub steps_of : AirportParts → List StandSlots → List Slot → ℕ
 steps_of airport index changed = sum_by (steps_near airport index) changed + pairs_among (length changed)

@@ -12,9 +12,9 @@ use stand_index::StandIndex;
 use std::alloc::Global;
 use std::sync::ledger::Ledger;
 
-/// The slots of the index that clash with this one, actual ones with actual ones too: of each the first
-/// minute and the rule of that minute, in order of its part, which is `b`. No slot of the same visit is one of
-/// these. The only error is want of memory.
+/// The slots of the index that clash with this one, actual ones with actual ones too: for each, the
+/// first minute and the rule of that minute, in order of its part, which is `b`. Slots of the same
+/// visit are not among these. The only error is a lack of memory.
 pub fn clashes_of<L: Ledger>(
     alloc: Global,
     airport: &Airport,
@@ -31,8 +31,9 @@ pub fn clashes_of<L: Ledger>(
     clashes_within(alloc, airport, index, slot, 0, slot.end, steps)
 }
 
-/// The slots of the index that clash with this one at a minute from `from` to below `end`: of each the first of
-/// these minutes and the rule of that minute, in order of its part, which is `b`. The only error is want of memory.
+/// The slots of the index that clash with this one at a minute from `from` to below `end`: for
+/// each, the first of these minutes and the rule of that minute, in order of its part, which is
+/// `b`. The only error is a lack of memory.
 pub fn clashes_within<L: Ledger>(
     alloc: Global,
     airport: &Airport,
@@ -80,7 +81,7 @@ fn clashes_near<L: Ledger>(
     Ok(clashes)
 }
 
-// Puts the clashes of a slot with some others at these minutes last.
+// Adds at the end the clashes of a slot with some others at these minutes.
 fn push_clashes(
     airport: &Airport,
     clashes: &mut Vec<Clash>,
@@ -100,7 +101,7 @@ fn push_clashes(
     Ok(())
 }
 
-// Puts the clash last, if there is one.
+// Adds the clash at the end, if there is one.
 fn push_some(clashes: &mut Vec<Clash>, clash: Option<Clash>) -> Result<(), Memory>
     ensures pushed { OnOk result (clashes.new.items ≡ clashes.old.items ++ option_to_list clash) }
 {
@@ -110,7 +111,8 @@ fn push_some(clashes: &mut Vec<Clash>, clash: Option<Clash>) -> Result<(), Memor
     Ok(())
 }
 
-// The clash of a slot with another at the first minute of these at which they clash, if there is one.
+// The clash of a slot with another at the first minute of these at which they clash, if there is
+// one.
 fn clash_within(
     airport: &Airport,
     slot: &Slot,

@@ -1,4 +1,4 @@
-// The first clash of all, where only what changed can clash.
+// The first clash of all, if only what changed can clash.
 ghost use Rattle.std.specs.Prelude.{◌≡◌, ◌≤◌, ◌+◌, ◌++◌, [], All, IfOk};
 ghost use Rattle.apron_rules.specs.Clash.{IsFirstClash, IsSlotOf};
 ghost use Rattle.clash_check.specs.Clear.{IsClear, others_of};
@@ -12,9 +12,9 @@ use stand_index::StandIndex;
 use std::alloc::Global;
 use std::sync::ledger::Ledger;
 
-/// The first clash that isn't between two actual parts, over the slots of the index and the changed ones
-/// together: the least by minute, then by the smaller part, then by the greater one. The only error is want
-/// of memory.
+/// The first clash that isn't between two actual parts, over the slots of the index and the changed
+/// ones together: the least by minute, then by the smaller part, then by the greater one. The only
+/// error is a lack of memory.
 pub fn first_clash<L: Ledger>(
     alloc: Global,
     airport: &Airport,
@@ -30,8 +30,8 @@ pub fn first_clash<L: Ledger>(
     first_clash_without(alloc, airport, index, &[], changed, steps)
 }
 
-/// The same where the slots of some visits don't count, of those in the index: slots of these that are among
-/// the changed ones do.
+/// The same, leaving out the slots in the index of some visits. Slots of these visits among the
+/// changed ones do count.
 pub fn first_clash_without<L: Ledger>(
     alloc: Global,
     airport: &Airport,

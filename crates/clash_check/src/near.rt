@@ -14,8 +14,8 @@ use stand_index::StandIndex;
 use std::alloc::Global;
 use std::sync::ledger::Ledger;
 
-/// The first clash of a slot with those of the index that are of other visits than these, and with some
-/// more. A step is counted for each of these.
+/// The first clash of a slot with those of the index that are of other visits than these, and with
+/// some more slots. Each of the latter counts as a step.
 pub(crate) fn first_with<L: Ledger>(
     alloc: Global,
     airport: &Airport,
@@ -89,7 +89,7 @@ fn first_at<L: Ledger>(
     Ok(first)
 }
 
-// The first clash of a slot with those of some that are of other visits.
+// The first clash of a slot with those of a list that are of other visits.
 fn first_of_others(
     airport: &Airport,
     slots: &[Slot],
@@ -131,8 +131,9 @@ fn is_of_any(visits: &[VisitNo], slot: &Slot) -> bool
     visits.iter().any(|visit| visit.0 == slot.part.visit.0)
 }
 
-// The first clash of a slot with some. A step is counted for each.
-fn first_among<L: Ledger>(
+/// The first clash of a slot with some others. Two slots of the same visit don't clash. Each is
+/// counted as a step.
+pub fn first_among<L: Ledger>(
     airport: &Airport,
     slots: &[Slot],
     slot: &Slot,

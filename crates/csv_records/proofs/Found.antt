@@ -1,4 +1,4 @@
--- What a read that found a record, or none, says.
+-- What follows from a read that found a record, or none.
 use Rattle.std.proofs.Common.{◌≡◌, ℕ, true, false, List, Option, Some, None, refl, sym}
 use Rattle.std.proofs.lemmas.Bool.{false≢true}
 use Rattle.csv.specs.Machine.{Read}

@@ -1,4 +1,5 @@
-//! The records of a text of comma-separated values, one after the other. It knows nothing of what they tell.
+//! The records of a text of comma-separated values, one after the other. It knows nothing of what
+//! they mean.
 #![tactic(auto)]
 
 mod records;

@@ -4,7 +4,7 @@ use Rattle.apron_base.specs.Name.{IsName, is_name}
 use Rattle.apron_base.proofs.NameTests.{name_decides}
 use Rattle.desk_bodies.specs.Commits.{if_name}
 
--- a name by the property is one by the test
+-- a text that has the property of a name passes the test of one
 pub named : (text : List ℕ) (o : Option (List ℕ)) → SomeIff o (IsName text) text → o ≡ if_name text
 named text None h =
     elim (is_name text) as (λ b. is_name text ≡ b → None ≡ cond b (Some text) None)

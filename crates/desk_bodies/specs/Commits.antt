@@ -7,14 +7,14 @@ use Rattle.apron_base.specs.Name.{is_name}
 use Rattle.desk_bodies.specs.declared.commits.TheConstants.{MAX_EDITS}
 use Rattle.desk_bodies.specs.Fields.{body_data, max_u32, max_u8, number_at, text_at}
 
--- an edit, its stand by the bytes of its name
+-- an edit, with its stand by the bytes of its name
 pub data EditSaid : Type 0 where
   put : ℕ → ℕ → List ℕ → EditSaid
   lift : ℕ → ℕ → EditSaid
   cut : ℕ → ℕ → ℕ → EditSaid
   join : ℕ → ℕ → EditSaid
 
--- a commit, its desk by the bytes of its name
+-- a commit, with its desk by the bytes of its name
 pub record CommitSaid : Type 0 where
   pub desk : List ℕ
   pub draft : ℕ
@@ -47,7 +47,7 @@ cut_of d =
 abbrev pub join_of : Data → Option EditSaid
 join_of d = option_and_then (λ visit. option_map (join visit) (part_at d)) (visit_at d)
 
--- the edit where exactly one of the four keys is there, whatever the value of the others would be
+-- the edit if exactly one of the four keys is there, whatever the value of the others would be
 abbrev pub only_edit : Option Data → Option Data → Option Data → Option Data → Option EditSaid
 only_edit (Some d) None None None = put_of d
 only_edit None (Some d) None None = lift_of d
@@ -68,7 +68,7 @@ edits_of (item d ds) = option_and_then (λ e. option_map (λ es. e ∷ es) (edit
 unfoldable pub edits_within : Items → Option (List EditSaid)
 edits_within ds = if nat_le 1 (items_len ds) && nat_le (items_len ds) MAX_EDITS then edits_of ds else None
 
--- the text, where it is a name
+-- the text, if it is a name
 abbrev pub if_name : List ℕ → Option (List ℕ)
 if_name text = if is_name text then Some text else None
 

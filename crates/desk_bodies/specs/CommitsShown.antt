@@ -1,4 +1,4 @@
--- What the program's commit stands for.
+-- What the program's commit means.
 use Rattle.std.specs.Prelude.{◌≤◌, List, length, map, string_bytes}
 use Rattle.desk_bodies.specs.Commits.{EditSaid, put, lift, cut, join, CommitSaid}
 use Rattle.desk_bodies.specs.declared.commits.TheConstants.{MAX_EDITS}

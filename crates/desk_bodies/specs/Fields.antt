@@ -5,7 +5,8 @@ use Rattle.serde_json.specs.Data.{Data}
 use Rattle.serde_json.specs.Read.{read}
 use Rattle.serde_json.specs.Find.{get, as_number, as_u64, as_str}
 
--- the JSON that a body in UTF-8 holds, nested at most 127 deep; of a key written twice the last value
+-- the JSON that a body in UTF-8 holds, nested at most 127 deep; if a key is written twice, its last
+-- value
 unfoldable pub body_data : List ℕ → Option Data
 body_data bytes = if is_utf8 bytes then read bytes else None
 
@@ -17,11 +18,11 @@ max_u32 = 2 ^ 32 - 1
 abbrev pub max_u8 : ℕ
 max_u8 = 2 ^ 8 - 1
 
--- the number, where it is at most that
+-- the number, if it is at most that
 abbrev pub at_most : ℕ → ℕ → Option ℕ
 at_most most n = if nat_le n most then Some n else None
 
--- the whole number under a key, written without sign, fraction and exponent, where it is at most that
+-- the whole number under a key, written without sign, fraction and exponent, if it is at most that
 abbrev pub number_at : List ℕ → ℕ → Data → Option ℕ
 number_at key most d = option_and_then (at_most most) (option_and_then as_u64 (option_and_then as_number (get key d)))
 

@@ -5,7 +5,7 @@ use Rattle.serde_json.specs.Find.{get}
 use Rattle.desk_bodies.specs.Commits.{part_at, visit_at}
 use Rattle.desk_bodies.specs.Fields.{body_data, max_u32, number_at, text_at}
 
--- what happened, its stand by the bytes of its name
+-- what happened, with its stand by the bytes of its name
 pub data EventSaid : Type 0 where
   on : ℕ → List ℕ → ℕ → EventSaid
   off : ℕ → EventSaid
@@ -28,7 +28,7 @@ on_of d =
 abbrev pub off_of : Data → Option EventSaid
 off_of d = option_map off (minute_at d)
 
--- the event where exactly one of the two keys is there, whatever the value of the other would be
+-- the event if exactly one of the two keys is there, whatever the value of the other would be
 abbrev pub only_event : Option Data → Option Data → Option EventSaid
 only_event (Some d) None = on_of d
 only_event None (Some d) = off_of d

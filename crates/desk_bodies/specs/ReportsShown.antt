@@ -1,4 +1,4 @@
--- What the program's report stands for.
+-- What the program's report means.
 use Rattle.std.specs.Prelude.{string_bytes}
 use Rattle.desk_bodies.specs.Reports.{EventSaid, ReportSaid, on, off}
 use Rattle.desk_bodies.specs.declared.reports.EventText.{EventText}

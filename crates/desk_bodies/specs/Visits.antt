@@ -8,7 +8,7 @@ use Rattle.visit_book.specs.declared.visits.Key.{Key}
 use Rattle.desk_bodies.specs.Commits.{name_at}
 use Rattle.desk_bodies.specs.Fields.{body_data, max_u32, max_u8, number_at, text_at}
 
--- what is said of a visit, its name and its type by their bytes
+-- what is said of a visit, with its name and its type by their bytes
 pub record VisitSaid : Type 0 where
   pub name : List ℕ
   pub kind : List ℕ
@@ -24,7 +24,7 @@ key_of d =
     option_and_then (λ flight. option_map (λ day. record { flight = flight; day = day }) (number_at (codes "day") max_u8 d))
     (option_and_then flight_of (text_at (codes "flight") d))
 
--- a key, or none where it is null or missing
+-- a key, or none if it is null or missing
 abbrev pub key_if : Option Data → Option (Option Key)
 key_if None = Some None
 key_if (Some null) = Some None

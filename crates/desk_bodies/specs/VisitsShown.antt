@@ -1,4 +1,4 @@
--- What the program's visit stands for.
+-- What the program's visit means.
 use Rattle.std.specs.Prelude.{◌≤◌, IfSome, string_bytes}
 use Rattle.visit_book.specs.NewVisits.{HasFlight}
 use Rattle.visit_book.specs.WellFormed.{greatest_class}

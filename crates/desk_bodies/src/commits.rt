@@ -13,8 +13,8 @@ use std::alloc::Global;
 /// The most edits of a commit; the least is 1.
 pub const MAX_EDITS: usize = 64;
 
-/// An edit as a desk writes it, its stand by name. Visits and parts are counted from 1, but any
-/// number may be written.
+/// An edit as a desk writes it, with its stand by name. Visits and parts are counted from 1, but
+/// any number may be written.
 #[derive(Debug, Drop)]
 pub enum EditText {
     Put { visit: u32, part: u8, stand: String },
@@ -35,7 +35,8 @@ pub struct CommitText {
     pub edits: Listed<EditText>,
 }
 
-/// The commit of a body: `Form` where the body isn't of the form, and `Memory` for want of memory.
+/// The commit of a body: `Form` if the body doesn't have the form, and `Memory` if there is no
+/// memory.
 pub fn read_commit(alloc: Global, body: &[u8]) -> Result<CommitText, BodyFault>
     ensures ok { IfOk result (λ c. body_commit body.now ≡ Some (commit_shown c)) }
     ensures few { IfOk result (λ c. HasFewEdits c.edits) }

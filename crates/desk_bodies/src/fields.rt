@@ -11,9 +11,9 @@ use std::alloc::Global;
 /// Why a body wasn't read.
 #[derive(Clone, Copy, Debug, PartialEq, Eq)]
 pub enum BodyFault {
-    /// It isn't of the form.
+    /// It doesn't have the form.
     Form,
-    /// Memory is wanting; nothing is known of the body.
+    /// There is no memory; nothing is known of the body.
     Memory,
 }
 
@@ -28,7 +28,7 @@ impl From<apron_base::Memory> for BodyFault {
     }
 }
 
-/// The JSON of a body: `Form` where it is no JSON in UTF-8, or nests more than 127 deep.
+/// The JSON of a body: `Form` if it isn't JSON in UTF-8, or nests more than 127 deep.
 #[tactic(auto, unfolding(crate::specs::Fields::body_data))]
 pub fn read_json(alloc: Global, body: &[u8]) -> Result<Value, BodyFault>
     ensures ok { IfOk result (λ v. body_data body.now ≡ Some (view v)) }
@@ -44,7 +44,7 @@ pub fn read_json(alloc: Global, body: &[u8]) -> Result<Value, BodyFault>
     }
 }
 
-/// The whole number of at most this under a key. None where none is there.
+/// The whole number under a key, at most `most`. `None` if there is none.
 pub fn number_to(object: &Value, key: &str, most: u64) -> Option<u64>
     ensures value { result ≡ number_at key.now most (view object.now) }
     ensures most { IfSome result (λ n. n ≤ most) }
@@ -53,7 +53,7 @@ pub fn number_to(object: &Value, key: &str, most: u64) -> Option<u64>
     if n <= most { Some(n) } else { None }
 }
 
-/// The whole number of 32 bits under a key. None where none is there.
+/// The whole number of 32 bits under a key. `None` if there is none.
 pub fn number(object: &Value, key: &str) -> Option<u32>
     ensures value { result ≡ number_at key.now max_u32 (view object.now) }
 {
@@ -61,7 +61,7 @@ pub fn number(object: &Value, key: &str) -> Option<u32>
     Some(n as u32)
 }
 
-/// The whole number of 8 bits under a key. None where none is there.
+/// The whole number of 8 bits under a key. `None` if there is none.
 pub fn small_number(object: &Value, key: &str) -> Option<u8>
     ensures value { result ≡ number_at key.now max_u8 (view object.now) }
 {
@@ -69,14 +69,14 @@ pub fn small_number(object: &Value, key: &str) -> Option<u8>
     Some(n as u8)
 }
 
-/// The text under a key. None where none is there.
+/// The text under a key. `None` if there is none.
 pub fn text<'v>(object: &'v Value, key: &str) -> Option<&'v str>
     ensures text { option_map (λ s. s.now) result ≡ text_at key.now (view object.now) }
 {
     object.get(key)?.as_str()
 }
 
-/// The name under a key. None where none is there.
+/// The name under a key. `None` if there is none.
 #[tactic(auto, using(crate::proofs::Names::named), unfolding(crate::specs::Commits::name_at))]
 pub fn name(object: &Value, key: &str) -> Option<Name>
     ensures value { result ≡ name_at key.now (view object.now) }

@@ -1,4 +1,5 @@
-//! The JSON bodies of requests, as `serde_json` reads them.
+//! The JSON bodies of requests, as `serde_json` reads them. It knows nothing of the airport and the
+//! plan: a stand stays the text that was written.
 #![tactic(auto)]
 
 mod commits;

@@ -15,15 +15,16 @@ use std::alloc::Global;
 /// What happened to a visit, as a desk writes it.
 #[derive(Debug, Drop)]
 pub struct ReportText {
-    /// The visit's number; any may be written.
+    /// The visit's number; any number may be written.
     pub visit: u32,
     pub event: EventText,
 }
 
-/// What happened, the stand by name.
+/// What happened, with the stand by name.
 #[derive(Debug, Drop)]
 pub enum EventText {
-    /// It came on block with a part at a minute from 00:00 UTC of the first day, on the stand that the text names.
+    /// It came on block with a part at a minute from 00:00 UTC of the first day, on the stand that
+    /// the text names.
     On {
         part: u8,
         stand: String,
@@ -35,7 +36,8 @@ pub enum EventText {
     },
 }
 
-/// The report of a body: `Form` where the body isn't of the form, and `Memory` for want of memory.
+/// The report of a body: `Form` if the body doesn't have the form, and `Memory` if there is no
+/// memory.
 pub fn read_report(alloc: Global, body: &[u8]) -> Result<ReportText, BodyFault>
     ensures ok { IfOk result (λ report. body_report body.now ≡ Some (report_shown report)) }
     ensures form { result ≡ Err BodyFault.Form → body_report body.now ≡ None }
@@ -47,7 +49,8 @@ pub fn read_report(alloc: Global, body: &[u8]) -> Result<ReportText, BodyFault>
     }
 }
 
-/// The number of the visit that a body cancels: `Form` where the body isn't of the form, and `Memory` for want of memory.
+/// The number of the visit that a body cancels: `Form` if the body doesn't have the form, and
+/// `Memory` if there is no memory.
 pub fn read_cancel(alloc: Global, body: &[u8]) -> Result<u32, BodyFault>
     ensures ok { IfOk result (λ visit. body_cancel body.now ≡ Some visit) }
     ensures form { result ≡ Err BodyFault.Form → body_cancel body.now ≡ None }
@@ -72,7 +75,7 @@ fn report_of(alloc: Global, value: &Value) -> Result<Option<ReportText>, Memory>
     }
 }
 
-// The event where exactly one of the two keys is there.
+// The event if exactly one of the two keys is there.
 fn only_event(alloc: Global, value: &Value) -> Result<Option<EventText>, Memory>
     ensures is { IfOk result (λ o. option_map event_shown o
         ≡ only_event (get (codes "on") (view value.now)) (get (codes "off") (view value.now))) }

@@ -18,7 +18,7 @@ use visit_book::Key;
 // The greatest class of a visit.
 const GREATEST_CLASS: u64 = 9;
 
-/// A visit as a desk writes it, its type by name.
+/// A visit as a desk writes it, with its type by name.
 #[derive(Debug, Drop)]
 pub struct VisitText {
     pub name: Name,
@@ -28,7 +28,7 @@ pub struct VisitText {
     pub class: u8,
     /// The scheduled minute on block, from 00:00 UTC of the first day; any number may be written.
     pub on: Minute,
-    /// The scheduled minute off block, likewise.
+    /// The scheduled minute off block, in the same way.
     pub off: Minute,
     /// The flight that the visit comes by, of any day.
     pub arr: Option<Key>,
@@ -36,7 +36,8 @@ pub struct VisitText {
     pub dep: Option<Key>,
 }
 
-/// The visit of a body: `Form` where the body isn't of the form, and `Memory` for want of memory.
+/// The visit of a body: `Form` if the body doesn't have the form, and `Memory` if there is no
+/// memory.
 pub fn read_visit(alloc: Global, body: &[u8]) -> Result<VisitText, BodyFault>
     ensures ok { IfOk result (λ visit. body_visit body.now ≡ Some (visit_shown visit)) }
     ensures has_form { IfOk result HasForm }
@@ -87,7 +88,7 @@ fn class(object: &Value) -> Option<u8>
     Some(class as u8)
 }
 
-// The key under a name, and `Some(None)` where it is null or missing. None where it is of another form.
+// The key under a name; `Some(None)` if it is null or missing. `None` if it has another form.
 #[tactic(auto, using(crate::proofs::Keys::null_key, crate::proofs::Keys::other_key))]
 fn key_at(object: &Value, name: &str) -> Option<Option<Key>>
     ensures value { result ≡ key_at name.now (view object.now) }

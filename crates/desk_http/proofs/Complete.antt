@@ -17,11 +17,11 @@ use Rattle.http_framing.proofs.OneReading.{HasRequest-unique, one_reading, reque
 use Rattle.http_framing.proofs.StreamLaws.{malformed_more, requests_closed, requests_of, splits_more, splits_push}
 use Rattle.desk_words.specs.declared.asks.Ask.{Ask}
 use Rattle.history_core.specs.Answer.{Given}
-use Rattle.desk_http.specs.Answers.{Answers, Sent, sends, sent_text}
-use Rattle.desk_http.specs.Complete.{AnswersEach, ComesToEnd, IsUnhindered, SessionsAreComplete}
+use Rattle.desk_http.specs.Answers.{Answered, Answers, Sent, sends, sent_text}
+use Rattle.desk_http.specs.Complete.{AnswersEachBy, ComesToEnd, IsCompleteBy, IsUnhindered, SessionsAreComplete}
 use Rattle.desk_http.specs.Ports.{PortState}
 use Rattle.desk_http.specs.Runs.{Runs}
-use Rattle.desk_http.specs.Session.{ComesFirst, EndsAfter, IsCount, IsRead, Last, Moment, Progress, WritesLast, is_read_fault, is_write_fault, last_text, most_requests, nothing, refusal, reply, texts_of}
+use Rattle.desk_http.specs.Session.{ComesFirst, EndsAfter, IsCount, IsRead, Last, Moment, Progress, SessionBy, WritesLast, is_read_fault, is_write_fault, last_text, most_requests, nothing, refusal, reply, texts_of}
 use Rattle.desk_http.proofs.SoFar.{runs_push, texts_of-push}
 
 -- the requests that are listed of some bytes begin with those that stand open at their front, and go on behind them
@@ -61,9 +61,9 @@ each_is_listed input requests ending reads few listed other lists =
     let count : length requests ≡ length listed = ap length same.0 in
     same.0 ∙ sym (take_all most_requests listed (omega arith))
 
-module _ (asks : AirportParts → PortState → Ask → Given → PortState → Type 0) (airport : AirportParts) (before after : Moment) (input taken more : List ℕ)
+module _ (Comes : PortState → Request → Answered → PortState → Type 0) (airport : AirportParts) (before after : Moment) (input taken more : List ℕ)
     (front : input ≡ taken ++ more) (done : Progress) (served : PortState) (splits : Splits taken done.requests done.rest) (stay : All IsOpen done.requests)
-    (runs : Runs (λ old request sent new. Answers asks airport old request (sends sent) new) before.port done.requests done.sents served) where
+    (runs : Runs (λ old request sent new. Comes old request (sends sent) new) before.port done.requests done.sents served) where
   -- the requests that left the session open, in the whole input
   open_splits : Splits input done.requests (done.rest ++ more)
   open_splits = subst (λ i. Splits i done.requests (done.rest ++ more)) (sym front) (splits_more taken more done.rest done.requests splits)
@@ -76,13 +76,13 @@ module _ (asks : AirportParts → PortState → Ask → Given → PortState → 
   answers_open : (outcome : Outcome) (last : List ℕ) → after.port ≡ served
       → ((listed : List Request) (ending : Ending) → Requests input listed ending → done.requests ≡ take most_requests listed)
       → ComesToEnd outcome input done.requests last → Wrote false before.sink after.sink (texts_of airport done.sents ++ last)
-      → AnswersEach asks airport before after outcome input
+      → AnswersEachBy Comes airport before after outcome input
   answers_open outcome last same each ends wrote = record {
     requests = done.requests;
     sents = done.sents;
     last = last;
     each = each;
-    runs = subst (λ (p : PortState). Runs (λ old request sent new. Answers asks airport old request (sends sent) new) before.port done.requests done.sents p) (sym same) runs;
+    runs = subst (λ (p : PortState). Runs (λ old request sent new. Comes old request (sends sent) new) before.port done.requests done.sents p) (sym same) runs;
     ends = ends;
     wrote = wrote;
   }
@@ -104,9 +104,9 @@ module _ (asks : AirportParts → PortState → Ask → Given → PortState → 
       sym (ap (take most_requests) behind.are ∙ take_at done.requests behind.more most_requests most)
 
   -- it ended with a request that closes it
-  closes_with : (request : Request) (sent : Sent) → is_closing request.head ≡ true → ComesFirst (Answers asks airport) done.rest request (sends sent) served after.port
+  closes_with : (request : Request) (sent : Sent) → is_closing request.head ≡ true → ComesFirst Comes done.rest request (sends sent) served after.port
       → length done.requests < most_requests → Wrote false before.sink after.sink (texts_of airport done.sents ++ sent_text airport sent)
-      → AnswersEach asks airport before after Closed input
+      → AnswersEachBy Comes airport before after Closed input
   closes_with request sent closing first few wrote =
       let all : Splits input (done.requests ++ request ∷ []) (first.behind ++ more) = subst (λ i. Splits i (done.requests ++ request ∷ []) (first.behind ++ more)) (sym front)
       (splits_more taken more first.behind (done.requests ++ request ∷ []) (splits_push taken done.rest first.behind done.requests request splits first.first)) in
@@ -117,17 +117,17 @@ module _ (asks : AirportParts → PortState → Ask → Given → PortState → 
         sents = done.sents ++ sent ∷ [];
         last = [];
         each = each_is_listed input (done.requests ++ request ∷ []) closed reads (omega arith);
-        runs = runs_push (λ old r s new. Answers asks airport old r (sends s) new) before.port served after.port done.requests done.sents request sent runs first.comes;
+        runs = runs_push (λ old r s new. Comes old r (sends s) new) before.port served after.port done.requests done.sents request sent runs first.comes;
         ends = (reads, refl);
         wrote = subst (Wrote false before.sink after.sink) (sym (append-nil (texts_of airport (done.sents ++ sent ∷ [])) ∙ texts_of-push airport done.sents sent)) wrote;
       }
 
   -- how it ended, for each outcome
-  comes_to_end : (outcome : Outcome) (last : Last) (written : List ℕ) → EndsAfter (Answers asks airport) outcome done last served after.port
+  comes_to_end : (outcome : Outcome) (last : Last) (written : List ℕ) → EndsAfter Comes outcome done last served after.port
       → IsRead outcome (Some more) → IsCount outcome (length done.requests) → WritesLast outcome (last_text airport last) written
       → Wrote (is_write_fault outcome) before.sink after.sink (texts_of airport done.sents ++ written)
       → Counts (is_read_fault outcome) before.source.faults after.source.faults → IsUnhindered before after outcome
-      → AnswersEach asks airport before after outcome input
+      → AnswersEachBy Comes airport before after outcome input
   comes_to_end Ended nothing written ends read count is wrote counts free =
       let reads : Requests input done.requests ended = ends_so ended (requests_of taken done.rest done.requests ended splits stay ends.0) read in
       answers_open Ended written ends.1 (each_is_listed input done.requests ended reads (omega arith)) (reads, is) wrote
@@ -148,10 +148,14 @@ module _ (asks : AirportParts → PortState → Ask → Given → PortState → 
   comes_to_end other last written ends read count is wrote counts free = absurd ends.0
 
 -- every session is complete
-pub sessions_complete : (asks : AirportParts → PortState → Ask → Given → PortState → Type 0) → SessionsAreComplete asks
-sessions_complete asks airport before after outcome session input told free =
+pub sessions_complete_by : (Comes : PortState → Request → Answered → PortState → Type 0) (airport : AirportParts) (before after : Moment) (outcome : Outcome)
+    → SessionBy Comes airport before after outcome → IsCompleteBy Comes airport before after outcome
+sessions_complete_by Comes airport before after outcome session input told free =
     let took = session.took in
     let consumed : Consumes (Some input) after.source.left session.taken = subst (λ l. Consumes l after.source.left session.taken) told took.left in
     let more : HasMore input session.taken after.source.left = has_more input session.taken after.source.left consumed in
-    comes_to_end asks airport before after input session.taken more.rest more.front session.done session.served session.splits session.stay session.runs outcome session.last session.written
+    comes_to_end Comes airport before after input session.taken more.rest more.front session.done session.served session.splits session.stay session.runs outcome session.last session.written
     session.ends (subst (IsRead outcome) more.is session.read) session.count session.last_written session.wrote took.faults free
+
+pub sessions_complete : (asks : AirportParts → PortState → Ask → Given → PortState → Type 0) → SessionsAreComplete asks
+sessions_complete asks airport before after outcome session = sessions_complete_by (Answers asks airport) airport before after outcome session

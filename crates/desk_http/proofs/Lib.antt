@@ -2,9 +2,12 @@ pub mod OneDesk
 pub mod Asking
 pub mod Named
 pub mod Parts
+pub mod Unheard
+pub mod FedParts
 pub mod Takes
 pub mod Rows
 pub mod Pieces
+pub mod FeedTargets
 pub mod SoFar
 pub mod Ending
 pub mod Complete

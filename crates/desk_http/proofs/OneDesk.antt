@@ -4,18 +4,17 @@ use Rattle.std.proofs.lemmas.Bool.{eqb-true}
 use Rattle.std.proofs.lemmas.Bool.Decides.{nat_tests}
 use Rattle.apron_base.specs.Counts.{Counts}
 use Rattle.apron_base.specs.Histories.{Every}
-use Rattle.apron_base.specs.Keeper.{KeeperState}
-use Rattle.apron_base.specs.Machine.{Standing, is_fault, standing}
+use Rattle.apron_base.specs.Machine.{MachineState, Standing, is_fault, standing}
 use Rattle.apron_base.specs.declared.outside.Acted.{Acted}
 use Rattle.apron_base.specs.declared.outside.Acted.TheVariants.{Reply as Replied, Memory as NoMemory, Fault, Spent}
+use Rattle.apron_rules.specs.declared.parts.AirportParts.{AirportParts}
 use Rattle.desk_words.specs.declared.asks.Ask.{Ask}
 use Rattle.desk_words.specs.declared.asks.Entry.{Entry}
 use Rattle.desk_words.specs.declared.asks.What.{What}
 use Rattle.history_core.specs.Answer.{ActsAs, Given, Gives, replied, no_memory, keeper_fault}
 use Rattle.history_core.specs.AtRisk.{LeavesAtRisk}
-use Rattle.history_core.specs.Board.{BoardHeld, machine_state}
 use Rattle.history_core.specs.History.{IsLegal, call_limit}
-use Rattle.desk_http.specs.Alone.{AloneAsks, IsAlone, alone_port, numbers_from}
+use Rattle.desk_http.specs.Alone.{AloneAsks, IsAlone, numbers_from, port_over}
 use Rattle.desk_http.specs.Ports.{CountsGiven, RisksGiven, ShowsAsk, is_unkept}
 
 every_one : {E : Type 0} (P : E → Type 0) (xs : List E) → ((x : E) → P x) → Every P xs
@@ -58,13 +57,13 @@ counts_given (replied reply) before after same = omega (arith, same)
 counts_given no_memory before after same = omega (arith, same)
 counts_given keeper_fault before after counts = counts
 
--- an ask of a desk alone gets its turn
-turn : {K : Type 0} (tells : K → KeeperState) (before after : BoardHeld K) (first : ℕ) (ask : Ask) (given : Given)
-    → IsAlone before first → IsLegal before.airport after.history → before.next < call_limit → Gives before.airport before.history before.next ask given after.history
-    → after.next ≡ before.next + 1 → Counts (is_unkept given) (tells before.keeper).faults (tells after.keeper).faults
-    → LeavesAtRisk (standing (machine_state tells before)) before.next ask.what (is_unkept given) (standing (machine_state tells after))
-    → AloneAsks before.airport (alone_port tells (record { board = before; first = first })) ask given (alone_port tells (record { board = after; first = first }))
-turn tells before after first ask given h still last gives next counts risk = (
+-- an ask of a desk that has a machine to itself gets its turn
+pub turn : {Fixed : Type 0} (airport : AirportParts) (before after : MachineState Entry Fixed) (first : ℕ) (ask : Ask) (given : Given)
+    → IsAlone airport before.history before.next first → IsLegal airport after.history → before.next < call_limit → Gives airport before.history before.next ask given after.history
+    → after.next ≡ before.next + 1 → Counts (is_unkept given) before.faults after.faults
+    → LeavesAtRisk (standing before) before.next ask.what (is_unkept given) (standing after)
+    → AloneAsks airport (port_over first before) ask given (port_over first after)
+turn airport before after first ask given h still last gives next counts risk = (
   record {
     history = before.history;
     call = before.next;
@@ -80,8 +79,8 @@ turn tells before after first ask given h still last gives next counts risk = (
     calls = ap (λ n. numbers_from first (n - first)) next ∙ calls_push first before.next h.begun;
     spent = grind (arith, nat_tests);
     stays = λ spent. let all : after.next ≡ call_limit = eqb-true after.next (call_limit) spent in omega arith;
-    faults = counts_given given (tells before.keeper).faults (tells after.keeper).faults counts;
-    at_risk = risks (standing (machine_state tells before)) (standing (machine_state tells after)) before.next ask.what given risk;
+    faults = counts_given given before.faults after.faults counts;
+    at_risk = risks (standing before) (standing after) before.next ask.what given risk;
   },
   refl,
   let begun = h.begun in let size : length (numbers_from first (before.next - first)) ≡ before.next - first = length-numbers_from first (before.next - first) in omega arith,
@@ -90,23 +89,23 @@ turn tells before after first ask given h still last gives next counts risk = (
 )
 
 -- what a desk alone shows of an ask
-pub alone_shows : {K : Type 0} (tells : K → KeeperState) (before after : BoardHeld K) (first : ℕ) (ask : Ask) (acted : Acted)
-    → IsAlone before first → IsLegal before.airport after.history → before.next < call_limit → ActsAs before.airport before.history before.next ask acted after.history
-    → after.next ≡ before.next + 1 → Counts (is_fault acted) (tells before.keeper).faults (tells after.keeper).faults
-    → LeavesAtRisk (standing (machine_state tells before)) before.next ask.what (is_fault acted) (standing (machine_state tells after))
-    → ShowsAsk AloneAsks before.airport (alone_port tells (record { board = before; first = first })) ask acted (alone_port tells (record { board = after; first = first }))
-alone_shows tells before after first ask (Replied bytes) h still last (replied reply, shows, gives) next counts risk =
-    (replied reply, shows, turn tells before after first ask (replied reply) h still last gives next counts risk)
-alone_shows tells before after first ask (Replied bytes) h still last (no_memory, shows, gives) next counts risk = absurd (cc)
-alone_shows tells before after first ask (Replied bytes) h still last (keeper_fault, shows, gives) next counts risk = absurd (cc)
-alone_shows tells before after first ask NoMemory h still last (replied reply, shows, gives) next counts risk = absurd (cc)
-alone_shows tells before after first ask NoMemory h still last (no_memory, shows, gives) next counts risk =
-    (no_memory, shows, turn tells before after first ask no_memory h still last gives next counts risk)
-alone_shows tells before after first ask NoMemory h still last (keeper_fault, shows, gives) next counts risk = absurd (cc)
-alone_shows tells before after first ask Fault h still last (replied reply, shows, gives) next counts risk = absurd (cc)
-alone_shows tells before after first ask Fault h still last (no_memory, shows, gives) next counts risk = absurd (cc)
-alone_shows tells before after first ask Fault h still last (keeper_fault, shows, gives) next counts risk =
-    (keeper_fault, shows, turn tells before after first ask keeper_fault h still last gives next counts risk)
-alone_shows tells before after first ask Spent h still last (replied reply, shows, gives) next counts risk = absurd (cc)
-alone_shows tells before after first ask Spent h still last (no_memory, shows, gives) next counts risk = absurd (cc)
-alone_shows tells before after first ask Spent h still last (keeper_fault, shows, gives) next counts risk = absurd (cc)
+pub alone_shows : {Fixed : Type 0} (airport : AirportParts) (before after : MachineState Entry Fixed) (first : ℕ) (ask : Ask) (acted : Acted)
+    → IsAlone airport before.history before.next first → IsLegal airport after.history → before.next < call_limit → ActsAs airport before.history before.next ask acted after.history
+    → after.next ≡ before.next + 1 → Counts (is_fault acted) before.faults after.faults
+    → LeavesAtRisk (standing before) before.next ask.what (is_fault acted) (standing after)
+    → ShowsAsk AloneAsks airport (port_over first before) ask acted (port_over first after)
+alone_shows airport before after first ask (Replied bytes) h still last (replied reply, shows, gives) next counts risk =
+    (replied reply, shows, turn airport before after first ask (replied reply) h still last gives next counts risk)
+alone_shows airport before after first ask (Replied bytes) h still last (no_memory, shows, gives) next counts risk = absurd (cc)
+alone_shows airport before after first ask (Replied bytes) h still last (keeper_fault, shows, gives) next counts risk = absurd (cc)
+alone_shows airport before after first ask NoMemory h still last (replied reply, shows, gives) next counts risk = absurd (cc)
+alone_shows airport before after first ask NoMemory h still last (no_memory, shows, gives) next counts risk =
+    (no_memory, shows, turn airport before after first ask no_memory h still last gives next counts risk)
+alone_shows airport before after first ask NoMemory h still last (keeper_fault, shows, gives) next counts risk = absurd (cc)
+alone_shows airport before after first ask Fault h still last (replied reply, shows, gives) next counts risk = absurd (cc)
+alone_shows airport before after first ask Fault h still last (no_memory, shows, gives) next counts risk = absurd (cc)
+alone_shows airport before after first ask Fault h still last (keeper_fault, shows, gives) next counts risk =
+    (keeper_fault, shows, turn airport before after first ask keeper_fault h still last gives next counts risk)
+alone_shows airport before after first ask Spent h still last (replied reply, shows, gives) next counts risk = absurd (cc)
+alone_shows airport before after first ask Spent h still last (no_memory, shows, gives) next counts risk = absurd (cc)
+alone_shows airport before after first ask Spent h still last (keeper_fault, shows, gives) next counts risk = absurd (cc)

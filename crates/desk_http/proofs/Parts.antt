@@ -16,8 +16,8 @@ use Rattle.desk_http.specs.declared.answering.PreparedReply.{PreparedReply}
 use Rattle.desk_http.specs.declared.answering.PreparedReply.TheVariants.{Early}
 use Rattle.desk_http.specs.declared.answering.Unanswered.TheVariants.{Exhausted}
 
-same_said : (request : Request) (parts : RequestParts) → ArePartsOf request parts → said_by parts ≡ said_in request
-same_said request parts are = rw (are.method, are.target, are.seen, are.body) refl
+pub same_said : (request : Request) (parts : RequestParts) → ArePartsOf request parts → said_by parts ≡ said_in request
+same_said request parts are = rw (are.method, are.target, are.seen, are.desk, are.body) refl
 
 module _ (asks : AirportParts → PortState → Ask → Given → PortState → Type 0) (airport : AirportParts) (before : PortState)
     (parts : RequestParts) (request : Request) (are : ArePartsOf request parts) where

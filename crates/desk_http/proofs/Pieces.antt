@@ -20,20 +20,20 @@ use Rattle.desk_http.specs.Targets.{number_route, onto_first, pieces, plain_numb
 use Rattle.desk_http.specs.declared.routes.Route.{Route}
 use Rattle.desk_http.specs.declared.routes.Route.TheVariants as route
 use Rattle.desk_http.specs.declared.targets.Pattern.{Pattern}
-use Rattle.desk_http.specs.declared.targets.Pattern.TheVariants.{Visits, Commits, Mvt, Reports, Cancels, Version, Unplaced, Visit, Plan, Chart}
+use Rattle.desk_http.specs.declared.targets.Pattern.TheVariants.{Visits, Commits, Mvt, Reports, Cancels, Version, Unplaced, Airport, Visit, Entry, Plan, Chart, Day}
 use Rattle.desk_http.proofs.Takes.{by, takes, takes_on, takes_on-nil}
 use Rattle.desk_http.proofs.Rows.{IsOn, and-parts}
 
 -- ---- pieces and the target that they are of
 
 -- pieces with a slash between each two
-abbrev joined : List (List ℕ) → List ℕ
+abbrev pub joined : List (List ℕ) → List ℕ
 joined [] = []
 joined (piece ∷ []) = piece
 joined (piece ∷ next ∷ more) = piece ++ 47 ∷ joined (next ∷ more)
 
 -- at least one piece is there
-abbrev IsSome : List (List ℕ) → Type 0
+abbrev pub IsSome : List (List ℕ) → Type 0
 IsSome [] = ⊥
 IsSome (piece ∷ more) = Unit {0}
 
@@ -46,7 +46,7 @@ onto-some : (byte : ℕ) (ps : List (List ℕ)) → IsSome (onto_first byte ps)
 onto-some byte [] = tt
 onto-some byte (piece ∷ more) = tt
 
-pieces-some : (target : List ℕ) → IsSome (pieces target)
+pub pieces-some : (target : List ℕ) → IsSome (pieces target)
 pieces-some [] = tt
 pieces-some (byte ∷ target) = by (λ v. IsSome (cond v ([] ∷ pieces target) (onto_first byte (pieces target)))) (byte == 47) (λ _. tt) (λ _. onto-some byte (pieces target))
 
@@ -59,7 +59,7 @@ joined-onto byte [] h = absurd h
 joined-onto byte (piece ∷ []) h = refl
 joined-onto byte (piece ∷ next ∷ more) h = refl
 
-joined-pieces : (target : List ℕ) → joined (pieces target) ≡ target
+pub joined-pieces : (target : List ℕ) → joined (pieces target) ≡ target
 joined-pieces [] = refl
 joined-pieces (byte ∷ target) =
     by (λ v. joined (cond v ([] ∷ pieces target) (onto_first byte (pieces target))) ≡ byte ∷ target) (byte == 47)
@@ -77,7 +77,7 @@ pieces-cut (byte ∷ target) =
     (λ on. (refl, pieces-cut target)) (λ off. onto-cut byte (pieces target) off (pieces-cut target))
 
 -- a text with no slash is one piece
-one_piece : (text : List ℕ) → has_slash text ≡ false → pieces text ≡ text ∷ []
+pub one_piece : (text : List ℕ) → has_slash text ≡ false → pieces text ≡ text ∷ []
 one_piece [] e = refl
 one_piece (byte ∷ text) e =
     by (λ v. cond v true (has_slash text) ≡ false → cond v ([] ∷ pieces text) (onto_first byte (pieces text)) ≡ (byte ∷ text) ∷ []) (byte == 47)
@@ -156,9 +156,12 @@ route_on path Reports on = worded (codes "/reports") path _ refl refl on
 route_on path Cancels on = worded (codes "/cancels") path _ refl refl on
 route_on path Version on = worded (codes "/version") path _ refl refl on
 route_on path Unplaced on = worded (codes "/unplaced") path _ refl refl on
+route_on path Airport on = worded (codes "/airport") path _ refl refl on
 route_on path Visit on = numbered (codes "/visits/") route.Visit path refl (λ rest e. rw e refl) on
+route_on path Entry on = numbered (codes "/entries/") route.Entry path refl (λ rest e. rw e refl) on
 route_on path Plan on = numbered (codes "/plan/") route.Plan path refl (λ rest e. rw e refl) on
 route_on path Chart on = numbered (codes "/chart/") route.Chart path refl (λ rest e. rw e refl) on
+route_on path Day on = numbered (codes "/day/") route.Day path refl (λ rest e. rw e refl) on
 
 -- ---- a target that names a route
 
@@ -190,7 +193,8 @@ of_word word found e =
     (one_of P word (codes "reports") _ _ found ((Reports, refl), ascii (codes "/reports") refl)
     (one_of P word (codes "cancels") _ _ found ((Cancels, refl), ascii (codes "/cancels") refl)
     (one_of P word (codes "version") _ _ found ((Version, refl), ascii (codes "/version") refl)
-    (one_of P word (codes "unplaced") _ _ found ((Unplaced, refl), ascii (codes "/unplaced") refl) (λ none. absurd (cc)))))))) e
+    (one_of P word (codes "unplaced") _ _ found ((Unplaced, refl), ascii (codes "/unplaced") refl)
+    (one_of P word (codes "airport") _ _ found ((Airport, refl), ascii (codes "/airport") refl) (λ none. absurd (cc))))))))) e
 
 digits-ascii : (text : List ℕ) → list_all is_ascii_digit text ≡ true → IsAscii text
 digits-ascii [] e = IsAscii-nil
@@ -206,14 +210,14 @@ number-digits text n e =
     by (λ v. are_digits text MAX_DIGITS ≡ v → cond v (Some (digits_value 10 text)) None ≡ Some n → list_all is_ascii_digit text ≡ true) (are_digits text MAX_DIGITS)
     (λ _ are e. (and-parts _ (list_all is_ascii_digit text) are).1) (λ _ are e. absurd (cc)) refl e
 
-plain_number-digits : (text : List ℕ) (n : ℕ) → plain_number text ≡ Some n → IsAscii text
+pub plain_number-digits : (text : List ℕ) (n : ℕ) → plain_number text ≡ Some n → list_all is_ascii_digit text ≡ true
 plain_number-digits [] n e = absurd (cc)
 plain_number-digits (digit ∷ digits) n e =
-    by (λ v. cond v None (option_and_then within (number_of (digit ∷ digits) MAX_DIGITS)) ≡ Some n → IsAscii (digit ∷ digits)) (digit == zero_digit)
+    by (λ v. cond v None (option_and_then within (number_of (digit ∷ digits) MAX_DIGITS)) ≡ Some n → list_all is_ascii_digit (digit ∷ digits) ≡ true) (digit == zero_digit)
     (λ _ e. absurd (cc))
-    (λ _ e. elim (number_of (digit ∷ digits) MAX_DIGITS) as (λ o. number_of (digit ∷ digits) MAX_DIGITS ≡ o → option_and_then within o ≡ Some n → IsAscii (digit ∷ digits)) [
+    (λ _ e. elim (number_of (digit ∷ digits) MAX_DIGITS) as (λ o. number_of (digit ∷ digits) MAX_DIGITS ≡ o → option_and_then within o ≡ Some n → list_all is_ascii_digit (digit ∷ digits) ≡ true) [
       | None ↦ λ _ e. absurd (cc)
-      | Some m ↦ λ is e. digits-ascii (digit ∷ digits) (number-digits (digit ∷ digits) m is)
+      | Some m ↦ λ is e. number-digits (digit ∷ digits) m is
     ] refl e) e
 
 -- a parameter takes what writes a number
@@ -228,10 +232,12 @@ of_number : (word number : List ℕ) (n : ℕ) (found : Route) → has_slash num
 of_number word number n found cut digits e =
     let P : List ℕ → Type 0 = λ word. IsTaken (47 ∷ (word ++ 47 ∷ number)) in
     let on : takes (256 ∷ []) number ≡ true = takes-number number n cut digits in
-    let end : IsAscii (47 ∷ number) = IsAscii-cons 47 number (lit< tt) (plain_number-digits number n digits) in
+    let end : IsAscii (47 ∷ number) = IsAscii-cons 47 number (lit< tt) (digits-ascii number (plain_number-digits number n digits)) in
     one_of P word (codes "visits") _ _ found ((Visit, on), IsAscii-append (codes "/visits") (47 ∷ number) (ascii (codes "/visits") refl) end)
+    (one_of P word (codes "entries") _ _ found ((Entry, on), IsAscii-append (codes "/entries") (47 ∷ number) (ascii (codes "/entries") refl) end)
     (one_of P word (codes "plan") _ _ found ((Plan, on), IsAscii-append (codes "/plan") (47 ∷ number) (ascii (codes "/plan") refl) end)
-    (one_of P word (codes "chart") _ _ found ((Chart, on), IsAscii-append (codes "/chart") (47 ∷ number) (ascii (codes "/chart") refl) end) (λ none. absurd (cc)))) e
+    (one_of P word (codes "chart") _ _ found ((Chart, on), IsAscii-append (codes "/chart") (47 ∷ number) (ascii (codes "/chart") refl) end)
+    (one_of P word (codes "day") _ _ found ((Day, on), IsAscii-append (codes "/day") (47 ∷ number) (ascii (codes "/day") refl) end) (λ none. absurd (cc)))))) e
 
 of_pieces : (ps : List (List ℕ)) (found : Route) → AreCut ps → route_of_pieces ps ≡ Some found → IsTaken (joined ps)
 of_pieces [] found cut e = absurd (cc)

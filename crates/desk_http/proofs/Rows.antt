@@ -7,7 +7,7 @@ use Rattle.matchit.specs.Seek.{first}
 use Rattle.matchit.proofs.OnLiterals.{matchit_on_literals}
 use Rattle.desk_http.specs.Table.{Table, table, with_route}
 use Rattle.desk_http.specs.declared.targets.Pattern.{Pattern}
-use Rattle.desk_http.specs.declared.targets.Pattern.TheVariants.{Visits, Commits, Mvt, Reports, Cancels, Version, Unplaced, Visit, Plan, Chart}
+use Rattle.desk_http.specs.declared.targets.Pattern.TheVariants.{Visits, Commits, Mvt, Reports, Cancels, Version, Unplaced, Airport, Visit, Entry, Plan, Chart, Day}
 use Rattle.desk_http.proofs.Takes.{sound, complete, takes, AreBytes, Has, SlashNext, IsPlain, ArePlain}
 
 -- the bytes of a pattern, a parameter as 256
@@ -19,9 +19,12 @@ pattern_of Reports = codes "/reports"
 pattern_of Cancels = codes "/cancels"
 pattern_of Version = codes "/version"
 pattern_of Unplaced = codes "/unplaced"
+pattern_of Airport = codes "/airport"
 pattern_of Visit = codes "/visits/" ++ 256 ∷ []
+pattern_of Entry = codes "/entries/" ++ 256 ∷ []
 pattern_of Plan = codes "/plan/" ++ 256 ∷ []
 pattern_of Chart = codes "/chart/" ++ 256 ∷ []
+pattern_of Day = codes "/day/" ++ 256 ∷ []
 
 -- the target is of the pattern
 abbrev pub IsOn : List ℕ → Pattern → Type 0
@@ -105,9 +108,12 @@ each_there Reports = refl
 each_there Cancels = refl
 each_there Version = refl
 each_there Unplaced = refl
+each_there Airport = refl
 each_there Visit = refl
+each_there Entry = refl
 each_there Plan = refl
 each_there Chart = refl
+each_there Day = refl
 
 pub table_plain : ArePlain table
 table_plain t e i = (good table t e table_good i).0

@@ -79,7 +79,9 @@ module _ (Comes : PortState → Request → Answered → PortState → Type 0) (
   goes_on before middle after rest left count (AtEnd Inside) h t e = absurd (cc)
   goes_on before middle after rest left count SourceFault h t e = absurd (cc)
 
--- a turn at an airport, by its other name
-pub turn_at : (comes : AirportParts → PortState → Request → Answered → PortState → Type 0) (there here : AirportParts) (before after : Moment) (bytes left : List ℕ) (turned : Turned)
-    → there ≡ here → TakesTurn (comes there) there before after bytes left turned → TakesTurn (comes here) here before after bytes left turned
-turn_at comes there here before after bytes left turned same t = subst (λ airport. TakesTurn (comes airport) airport before after bytes left turned) same t
+-- a turn at a place and an airport, by their other names
+pub turn_at : {Place : Type 0} (comes : Place → AirportParts → PortState → Request → Answered → PortState → Type 0) (place at : Place) (there here : AirportParts) (before after : Moment) (bytes left : List ℕ)
+    (turned : Turned) → place ≡ at → there ≡ here → TakesTurn (comes place there) there before after bytes left turned → TakesTurn (comes at here) here before after bytes left turned
+turn_at comes place at there here before after bytes left turned same_place same t =
+    subst (λ airport. TakesTurn (comes at airport) airport before after bytes left turned) same
+    (subst (λ p. TakesTurn (comes p there) there before after bytes left turned) same_place t)

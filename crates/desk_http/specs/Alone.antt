@@ -6,11 +6,11 @@ use Rattle.desk_words.specs.declared.asks.Entry.{Entry}
 use Rattle.apron_base.specs.Counts.{Counts}
 use Rattle.apron_base.specs.Histories.{Rises}
 use Rattle.apron_base.specs.Keeper.{KeeperState}
-use Rattle.apron_base.specs.Machine.{Standing}
+use Rattle.apron_base.specs.Machine.{MachineState, Standing}
 use Rattle.history_core.specs.Answer.{Given}
-use Rattle.history_core.specs.AtRisk.{LeavesAtRisk, entry_at_risk}
+use Rattle.history_core.specs.AtRisk.{LeavesAtRisk}
 use Rattle.history_core.specs.History.{call_limit, call_of, IsLegal}
-use Rattle.history_core.specs.Board.{BoardHeld}
+use Rattle.history_core.specs.Board.{BoardHeld, machine_state}
 use Rattle.desk_http.specs.Ports.{PortState, Turn, is_unkept}
 
 -- a desk alone: its board, and the number that its first call has
@@ -18,28 +18,33 @@ pub record AloneHeld (K : Type 0) : Type 0 where
   pub board : BoardHeld K
   pub first : ℕ
 
--- what is true of every desk alone: its calls come from its first number on, its history is legal and numbered below its next call
-pub record IsAlone {K : Type 0} (board : BoardHeld K) (first : ℕ) : Type 0 where
-  pub begun : first ≤ board.next
-  pub numbers : Rises call_of 1 board.next board.history
-  pub legal : IsLegal board.airport board.history
+-- what is true at a machine that a desk has to itself, by its airport, its history, the least number of its next call and the number of the desk's first one:
+-- the calls come from the first number on, the history is legal and numbered below the next call
+pub record IsAlone (airport : AirportParts) (history : List Entry) (next first : ℕ) : Type 0 where
+  pub begun : first ≤ next
+  pub numbers : Rises call_of 1 next history
+  pub legal : IsLegal airport history
 
 -- so many numbers from the first on, in order
 abbrev pub numbers_from : ℕ → ℕ → List ℕ
 numbers_from first zero = []
 numbers_from first (suc count) = first ∷ numbers_from (first + 1) count
 
--- what a desk alone tells, by what its board's keeper tells: it has seen the board's history, the entry at risk is the keeper's, its calls are the numbers
--- from the first up to the board's next, and its count of faults is the keeper's
-abbrev pub alone_port : {K : Type 0} → (K → KeeperState) → AloneHeld K → PortState
-alone_port tells alone = record {
-  first = alone.first;
-  seen = alone.board.history;
-  at_risk = entry_at_risk alone.board.airport (tells alone.board.keeper);
-  calls = numbers_from alone.first (alone.board.next - alone.first);
-  spent = alone.board.next == call_limit;
-  faults = (tells alone.board.keeper).faults;
+-- what a desk tells that has a machine in this state to itself, and whose first call has this number: it has seen the machine's history, the entry at risk
+-- is the machine's, its calls are the numbers from the first up to the machine's next, and its count of faults is the machine's
+abbrev pub port_over : {Fixed : Type 0} → ℕ → MachineState Entry Fixed → PortState
+port_over first machine = record {
+  first = first;
+  seen = machine.history;
+  at_risk = machine.at_risk;
+  calls = numbers_from first (machine.next - first);
+  spent = machine.next == call_limit;
+  faults = machine.faults;
 }
+
+-- what a desk alone tells over its board, by what the board's keeper tells
+abbrev pub alone_port : {K : Type 0} → (K → KeeperState) → AloneHeld K → PortState
+alone_port tells alone = port_over alone.first (machine_state tells alone.board)
 
 -- how a port stands: what it has seen, and the entry at risk behind it
 abbrev pub standing_of : PortState → Standing Entry

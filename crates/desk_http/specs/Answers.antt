@@ -6,18 +6,21 @@ use Rattle.desk_words.specs.Early.{early_text}
 use Rattle.desk_words.specs.declared.asks.Ask.{Ask}
 use Rattle.desk_words.specs.declared.early.Early.{Early}
 use Rattle.history_core.specs.Answer.{Given, given_text}
+use Rattle.desk_http.specs.FeedPorts.{FeedGiven, feed_given_text}
 use Rattle.desk_http.specs.Ports.{PortState, IsExhausted}
 use Rattle.desk_http.specs.Routes.{ReadsBody, routed, said_in}
 
--- what is sent for a request: a reply that is fixed before the plan is consulted, or what the port gave
+-- what is sent for a request: a reply that is fixed before the plan is consulted, or what the port gave for an ask or a feed
 pub data Sent : Type 0 where
   at_once : Early → Sent
   given : Given → Sent
+  fed : FeedGiven → Sent
 
 -- the bytes of what is sent
 abbrev pub sent_text : AirportParts → Sent → List ℕ
 sent_text airport (at_once reply) = early_text reply
 sent_text airport (given answer) = given_text airport answer
+sent_text airport (fed feed) = feed_given_text feed
 
 -- what comes of a request: this is sent, or it found the port's numbers exhausted, or no memory was there to read it
 pub data Answered : Type 0 where

@@ -10,10 +10,10 @@ use Rattle.http_framing.specs.Requests.{Request}
 use Rattle.http_framing.specs.Streams.{Ending, ended, cut, closed, malformed, IsOpen, Requests}
 use Rattle.desk_words.specs.declared.asks.Ask.{Ask}
 use Rattle.history_core.specs.Answer.{Given}
-use Rattle.desk_http.specs.Answers.{Answers, Sent, sends}
+use Rattle.desk_http.specs.Answers.{Answered, Answers, Sent, sends}
 use Rattle.desk_http.specs.Ports.{PortState}
 use Rattle.desk_http.specs.Runs.{Runs}
-use Rattle.desk_http.specs.Session.{Moment, SessionOf, most_requests, refusal_text, texts_of}
+use Rattle.desk_http.specs.Session.{Moment, SessionKind, SessionOf, most_requests, refusal_text, texts_of}
 
 -- nothing hindered a session: no memory was wanting, its port had a number for each call, and neither its source's count of faults nor its sink's rose,
 -- nor stands at its last value
@@ -33,21 +33,34 @@ ComesToEnd Malformed input requests last = (why : Refusal) × Requests input req
 ComesToEnd Limit input requests last = All IsOpen requests × (length requests ≡ most_requests) × (last ≡ [])
 ComesToEnd outcome input requests last = ⊥
 
--- The requests of the input were answered one after another, each that has fewer than a million before it: by its early reply, or by what the port gave
--- for it at its place. Their replies were written whole.
-pub record AnswersEach (asks : AirportParts → PortState → Ask → Given → PortState → Type 0) (airport : AirportParts) (before after : Moment) (outcome : Outcome) (input : List ℕ) : Type 0 where
-  pub requests : List Request
-  pub sents : List Sent
-  pub last : List ℕ
-  pub each : (listed : List Request) (ending : Ending) → Requests input listed ending → requests ≡ take most_requests listed
-  pub runs : Runs (λ old request sent new. Answers asks airport old request (sends sent) new) before.port requests sents after.port
-  pub ends : ComesToEnd outcome input requests last
-  pub wrote : Wrote false before.sink after.sink (texts_of airport sents ++ last)
+-- `Comes` says what comes of a request and what the port becomes
+module _ (Comes : PortState → Request → Answered → PortState → Type 0) (airport : AirportParts) where
+  -- The requests of the input were answered one after another, each that has fewer than a million before it, by what came of it at its place. Their replies
+  -- were written whole.
+  pub record AnswersEachBy (before after : Moment) (outcome : Outcome) (input : List ℕ) : Type 0 where
+    pub requests : List Request
+    pub sents : List Sent
+    pub last : List ℕ
+    pub each : (listed : List Request) (ending : Ending) → Requests input listed ending → requests ≡ take most_requests listed
+    pub runs : Runs (λ old request sent new. Comes old request (sends sent) new) before.port requests sents after.port
+    pub ends : ComesToEnd outcome input requests last
+    pub wrote : Wrote false before.sink after.sink (texts_of airport sents ++ last)
 
--- each session whose source tells its bytes, and which nothing hindered, answers each request of them
+  -- each session whose source tells its bytes, and which nothing hindered, answers each request of them
+  abbrev pub IsCompleteBy : Moment → Moment → Outcome → Type 0
+  IsCompleteBy before after outcome = (input : List ℕ) → before.source.left ≡ Some input → IsUnhindered before after outcome → AnswersEachBy before after outcome input
+
+-- the same of a session of this kind
+abbrev pub IsCompleteOfKind : SessionKind → Moment → Moment → Outcome → Type 0
+IsCompleteOfKind kind before after outcome = IsCompleteBy kind.comes kind.airport before after outcome
+
+-- each request of the input was answered by its early reply, or by what the port gave for it at its place
+abbrev pub AnswersEach : (AirportParts → PortState → Ask → Given → PortState → Type 0) → AirportParts → Moment → Moment → Outcome → List ℕ → Type 0
+AnswersEach asks airport before after outcome input = AnswersEachBy (Answers asks airport) airport before after outcome input
+
+-- the same of a session over a port: `asks` says what a port of the airport gives for an ask and what it becomes
 abbrev pub IsComplete : (AirportParts → PortState → Ask → Given → PortState → Type 0) → AirportParts → Moment → Moment → Outcome → Type 0
-IsComplete asks airport before after outcome =
-    (input : List ℕ) → before.source.left ≡ Some input → IsUnhindered before after outcome → AnswersEach asks airport before after outcome input
+IsComplete asks airport before after outcome = IsCompleteBy (Answers asks airport) airport before after outcome
 
 -- the same of every session over such ports
 abbrev pub SessionsAreComplete : (AirportParts → PortState → Ask → Given → PortState → Type 0) → Type 0

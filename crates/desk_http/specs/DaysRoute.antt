@@ -1,4 +1,4 @@
--- What GET /plan/DAY and GET /chart/DAY ask.
+-- What GET /plan/DAY, GET /chart/DAY and GET /day/DAY ask.
 use Rattle.std.specs.Prelude.{ℕ, Bool, nat_le, not, ◌&&◌, Result, Ok, Err}
 use Rattle.apron_base.specs.ResultChain.{◌>>=◌, refuse_if}
 use Rattle.apron_rules.specs.declared.parts.AirportParts.{AirportParts}

@@ -4,22 +4,30 @@ use Rattle.desk_bodies.specs.declared.fields.BodyFault.{BodyFault}
 use Rattle.desk_bodies.specs.declared.fields.BodyFault.TheVariants.{Form, Memory as NoMemory}
 use Rattle.desk_words.specs.declared.early.Early.{Early}
 use Rattle.desk_words.specs.declared.early.Early.TheVariants.{NotJson}
+use Rattle.http_framing.specs.Fields.{text_shown}
 use Rattle.http_framing.specs.declared.front.RequestParts.{RequestParts}
+use Rattle.desk_http.specs.Desks.{desk_named}
 use Rattle.desk_http.specs.Routes.{Said, seen_of}
 use Rattle.desk_http.specs.declared.routes.Unasked.{Unasked}
 use Rattle.desk_http.specs.declared.routes.Unasked.TheVariants.{AtOnce, Memory}
 
--- what is to be found, or the reply in its place; where memory is wanting, neither
+-- what is to be found, or the reply in its place; if there is no memory, neither
 abbrev pub Finds : {A : Type 0} → Result A Early → Result A Unasked → Type 0
 Finds asked (Ok value) = asked ≡ Ok value
 Finds asked (Err (AtOnce reply)) = asked ≡ Err reply
 Finds asked (Err Memory) = Unit {0}
 
--- a body that was not read: it is not of its form, or memory is wanting
+-- a body that was not read: it is not of its form, or there is no memory
 abbrev pub of_body_fault : BodyFault → Unasked
 of_body_fault Form = AtOnce NotJson
 of_body_fault NoMemory = Memory
 
 -- what the parts of a request say
 abbrev pub said_by : RequestParts → Said
-said_by parts = record { method = parts.method.now; target = parts.target.now; seen = seen_of parts.seen; body = parts.body.now }
+said_by parts = record {
+  method = parts.method.now;
+  target = parts.target.now;
+  seen = seen_of parts.seen;
+  desk = desk_named (text_shown parts.desk);
+  body = parts.body.now;
+}

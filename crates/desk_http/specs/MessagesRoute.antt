@@ -9,11 +9,11 @@ use Rattle.desk_words.specs.declared.asks.What.TheVariants.{Change}
 use Rattle.desk_words.specs.declared.early.Early.{Early}
 use Rattle.desk_words.specs.declared.early.Early.TheVariants.{NotMvt}
 
--- what is asked with a text that was read as this
-abbrev pub message_of : Result Mvt MvtFault → Result What Early
-message_of (Ok message) = Ok (Change (Message message))
-message_of (Err fault) = Err (NotMvt fault)
+-- what a desk of this name asks with a text that was read as this
+abbrev pub message_of : List ℕ → Result Mvt MvtFault → Result What Early
+message_of desk (Ok message) = Ok (Change (Message desk message))
+message_of desk (Err fault) = Err (NotMvt fault)
 
--- what is asked with this body: a text of at most 4,000 bytes, and no JSON
-abbrev pub message_asked : List ℕ → Result What Early
-message_asked body = message_of (read_mvt_of body)
+-- what a desk of this name asks with this body: a text of at most 4,000 bytes, and no JSON
+abbrev pub message_asked : List ℕ → List ℕ → Result What Early
+message_asked desk body = message_of desk (read_mvt_of body)

@@ -5,11 +5,13 @@ use Rattle.desk_words.specs.Early.{early_text}
 use Rattle.desk_words.specs.declared.asks.Ask.{Ask}
 use Rattle.history_core.specs.Answer.{Given, given_text}
 use Rattle.desk_http.specs.Answers.{Answered, sends, exhausted, unread, Sent, sent_text}
+use Rattle.desk_http.specs.FeedPorts.{FeedGiven, feed_given_text}
 use Rattle.desk_http.specs.Ports.{PortState, IsExhausted}
 use Rattle.desk_http.specs.declared.answering.PreparedReply.{PreparedReply}
 use Rattle.desk_http.specs.declared.answering.PreparedReply.TheVariants.{Told, Early, Fixed}
 use Rattle.desk_http.specs.declared.answering.Unanswered.{Unanswered}
 use Rattle.desk_http.specs.declared.answering.Unanswered.TheVariants.{Exhausted, Unread}
+use Rattle.desk_http.specs.declared.port.FeedAsk.{FeedAsk}
 
 -- the bytes of a reply
 abbrev pub reply_bytes : PreparedReply → List ℕ
@@ -31,3 +33,8 @@ IsAnswer airport came (Err why) after = came (answered_as why) after
 abbrev pub IsReply : (AirportParts → PortState → Ask → Given → PortState → Type 0) → AirportParts → PortState → Ask → Option PreparedReply → PortState → Type 0
 IsReply asks airport before ask (Some reply) after = (given : Given) × asks airport before ask given after × (reply_bytes reply ≡ given_text airport given)
 IsReply asks airport before ask None after = IsExhausted before after
+
+-- the reply is what the port gives for the feed; there is none where its numbers are exhausted
+abbrev pub IsFeedReply : (PortState → FeedAsk → FeedGiven → PortState → Type 0) → PortState → FeedAsk → Option PreparedReply → PortState → Type 0
+IsFeedReply feeds before ask (Some reply) after = (given : FeedGiven) × feeds before ask given after × (reply_bytes reply ≡ feed_given_text given)
+IsFeedReply feeds before ask None after = IsExhausted before after

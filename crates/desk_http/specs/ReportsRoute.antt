@@ -19,12 +19,12 @@ event_named airport (on part text minute) = do
   Ok (On part stand minute)
 event_named airport (off minute) = Ok (Off minute)
 
--- what is asked with the body of a report
-abbrev pub report_asked : AirportParts → List ℕ → Result What Early
-report_asked airport body = do
+-- what a desk of this name asks with the body of a report
+abbrev pub report_asked : AirportParts → List ℕ → List ℕ → Result What Early
+report_asked airport desk body = do
   said ← ok_or (body_report body) NotJson
   event ← event_named airport said.event
-  Ok (Change (Report (record { 0 = said.visit }) event))
+  Ok (Change (Report desk (record { 0 = said.visit }) event))
 
 -- what is asked with the body of a cancel
 abbrev pub cancel_asked : List ℕ → Result What Early

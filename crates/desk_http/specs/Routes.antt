@@ -3,7 +3,7 @@ use Rattle.std.specs.Prelude.{◌≡◌, ℕ, Bool, true, false, not, List, code
 use Rattle.std.specs.Str.{bytes_eq}
 use Rattle.apron_base.specs.ResultChain.{◌>>=◌, refuse_if}
 use Rattle.apron_rules.specs.declared.parts.AirportParts.{AirportParts}
-use Rattle.http_framing.specs.Fields.{number_field, pairs}
+use Rattle.http_framing.specs.Fields.{number_field, pairs, text_field}
 use Rattle.http_framing.specs.Requests.{Request}
 use Rattle.http_framing.specs.declared.fields.FieldNumber.{FieldNumber}
 use Rattle.http_framing.specs.declared.fields.FieldNumber.TheVariants.{Absent, Written, Wrong}
@@ -11,42 +11,49 @@ use Rattle.desk_words.specs.declared.asks.Ask.{Ask}
 use Rattle.desk_words.specs.declared.asks.What.{What}
 use Rattle.desk_words.specs.declared.asks.What.TheVariants as what
 use Rattle.desk_words.specs.declared.early.Early.{Early}
-use Rattle.desk_words.specs.declared.early.Early.TheVariants.{NoRoute, OnlyGet, OnlyPost, BadSeen}
+use Rattle.desk_words.specs.declared.early.Early.TheVariants.{NoRoute, OnlyGet, OnlyPost, BadSeen, BadDesk}
 use Rattle.desk_http.specs.Numbers.{within}
 use Rattle.desk_http.specs.CommitsRoute.{commit_asked}
 use Rattle.desk_http.specs.DaysRoute.{day_asked}
+use Rattle.desk_http.specs.Desks.{desk_named, no_desk}
 use Rattle.desk_http.specs.MessagesRoute.{message_asked}
 use Rattle.desk_http.specs.ReportsRoute.{cancel_asked, report_asked}
 use Rattle.desk_http.specs.VisitsRoute.{visit_added}
 use Rattle.desk_http.specs.Targets.{route_of}
 use Rattle.desk_http.specs.declared.routes.Route.{Route}
-use Rattle.desk_http.specs.declared.routes.Route.TheVariants.{Visits, Commits, Mvt, Reports, Cancels, Version, Unplaced, Visit, Plan, Chart}
+use Rattle.desk_http.specs.declared.routes.Route.TheVariants.{Visits, Commits, Mvt, Reports, Cancels, Version, Unplaced, Airport, Visit, Entry, Plan, Chart, Day}
+
+-- what is done with the body of a request: it is passed over, or read as a text or as JSON
+pub data BodyKind : Type 0 where
+  passed_over : BodyKind
+  text : BodyKind
+  json : BodyKind
+
+-- what is done with the body of the requests of a route
+abbrev pub body_of : Route → BodyKind
+body_of Visits = json
+body_of Commits = json
+body_of Mvt = text
+body_of Reports = json
+body_of Cancels = json
+body_of Version = passed_over
+body_of Unplaced = passed_over
+body_of Airport = passed_over
+body_of (Visit number) = passed_over
+body_of (Entry number) = passed_over
+body_of (Plan day) = passed_over
+body_of (Chart day) = passed_over
+body_of (Day day) = passed_over
+
+-- whether a body is read
+abbrev pub is_read : BodyKind → Bool
+is_read passed_over = false
+is_read text = true
+is_read json = true
 
 -- whether a body comes with the requests of a route
 abbrev pub takes_body : Route → Bool
-takes_body Visits = true
-takes_body Commits = true
-takes_body Mvt = true
-takes_body Reports = true
-takes_body Cancels = true
-takes_body Version = false
-takes_body Unplaced = false
-takes_body (Visit number) = false
-takes_body (Plan day) = false
-takes_body (Chart day) = false
-
--- whether the body of the requests of a route is read as JSON
-abbrev pub reads_json : Route → Bool
-reads_json Visits = true
-reads_json Commits = true
-reads_json Mvt = false
-reads_json Reports = true
-reads_json Cancels = true
-reads_json Version = false
-reads_json Unplaced = false
-reads_json (Visit number) = false
-reads_json (Plan day) = false
-reads_json (Chart day) = false
+takes_body route = is_read (body_of route)
 
 -- the method of a route: POST where a body comes with its requests, and else GET
 abbrev pub method_of : Route → List ℕ
@@ -62,11 +69,18 @@ seen_of Absent = Some 0
 seen_of (Written number) = within number
 seen_of Wrong = None
 
--- what is looked at for what a request asks; a version that was not told as it has to be is none
+-- the desk of a request of this route that told this desk: `-` if the route passes the field over
+abbrev pub desk_for : Route → Option (List ℕ) → Option (List ℕ)
+desk_for Mvt desk = desk
+desk_for Reports desk = desk
+desk_for route desk = Some no_desk
+
+-- what is looked at for what a request asks; a version or a desk that was not told as it has to be is none
 pub record Said : Type 0 where
   pub method : List ℕ
   pub target : List ℕ
   pub seen : Option ℕ
+  pub desk : Option (List ℕ)
   pub body : List ℕ
 
 -- what a request says
@@ -75,6 +89,7 @@ said_in request = record {
   method = request.head.method;
   target = request.head.target;
   seen = seen_of (number_field (codes "x-seen") (pairs request.head));
+  desk = desk_named (text_field (codes "x-desk") (pairs request.head));
   body = request.body;
 }
 
@@ -85,32 +100,38 @@ route_taken method target = do
   taken ← refuse_if (not (bytes_eq method (method_of route))) (only route)
   Ok route
 
--- the body is read as JSON: that of the route is, and the version that was seen is told as it has to be
+-- the body is read as JSON: that of the route is, and the version that was seen and the desk are told as they have to be
 pub record ReadsBody (said : Said) : Type 0 where
   pub route : Route
   pub taken : route_taken said.method said.target ≡ Ok route
-  pub body : reads_json route ≡ true
+  pub body : body_of route ≡ json
   pub seen : IsSome said.seen
+  pub desk : IsSome (desk_for route said.desk)
 
--- what is asked of a route with this body, where a day is looked at and no body
-abbrev pub what_asked : AirportParts → Route → List ℕ → Result What Early
-what_asked airport Visits body = visit_added airport body
-what_asked airport Commits body = commit_asked airport body
-what_asked airport Mvt body = message_asked body
-what_asked airport Reports body = report_asked airport body
-what_asked airport Cancels body = cancel_asked body
-what_asked airport Version body = Ok what.Version
-what_asked airport (Visit number) body = Ok (what.Visit number)
-what_asked airport Unplaced body = Ok what.Unplaced
-what_asked airport (Plan day) body = day_asked airport day (what.Plan day)
-what_asked airport (Chart day) body = day_asked airport day (what.Chart day)
+-- what a desk asks of a route with this body, where a day is looked at and no body
+abbrev pub what_asked : AirportParts → Route → List ℕ → List ℕ → Result What Early
+what_asked airport Visits desk body = visit_added airport body
+what_asked airport Commits desk body = commit_asked airport body
+what_asked airport Mvt desk body = message_asked desk body
+what_asked airport Reports desk body = report_asked airport desk body
+what_asked airport Cancels desk body = cancel_asked body
+what_asked airport Version desk body = Ok what.Version
+what_asked airport Unplaced desk body = Ok what.Unplaced
+what_asked airport Airport desk body = Ok what.Airport
+what_asked airport (Visit number) desk body = Ok (what.Visit number)
+what_asked airport (Entry number) desk body = Ok (what.Entry number)
+what_asked airport (Plan day) desk body = day_asked airport day (what.Plan day)
+what_asked airport (Chart day) desk body = day_asked airport day (what.Chart day)
+what_asked airport (Day day) desk body = day_asked airport day (what.Day day)
 
--- what is asked, or the first reply that is fixed: by the target and the method, then by the version that the desk says it has seen, then by the day or the body
+-- what is asked, or the first reply that is fixed: by the target and the method, then by the version that the desk says it has seen, then by the desk's
+-- name, then by the day or the body
 abbrev pub asked_by : AirportParts → Said → Result Ask Early
 asked_by airport said = do
   route ← route_taken said.method said.target
   version ← ok_or said.seen BadSeen
-  asked ← what_asked airport route said.body
+  desk ← ok_or (desk_for route said.desk) BadDesk
+  asked ← what_asked airport route desk said.body
   Ok (record { seen = version; what = asked })
 
 -- what the request asks

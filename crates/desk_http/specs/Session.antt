@@ -138,3 +138,16 @@ module _ (Comes : PortState → Request → Answered → PortState → Type 0) w
 -- a session over a port: `asks` says what a port of the airport gives for an ask and what it becomes
 abbrev pub SessionOf : (AirportParts → PortState → Ask → Given → PortState → Type 0) → AirportParts → Moment → Moment → Outcome → Type 0
 SessionOf asks airport before after outcome = SessionBy (Answers asks airport) airport before after outcome
+
+-- the sessions of one kind: the airport of their plan, and what comes of a request and what the port becomes
+pub record SessionKind : Type 1 where
+  pub airport : AirportParts
+  pub comes : PortState → Request → Answered → PortState → Type 0
+
+-- a session of this kind
+abbrev pub SessionOfKind : SessionKind → Moment → Moment → Outcome → Type 0
+SessionOfKind kind before after outcome = SessionBy kind.comes kind.airport before after outcome
+
+-- the sessions over a port of the airport: `asks` says what it gives for an ask and what it becomes
+abbrev pub sessions_by : (AirportParts → PortState → Ask → Given → PortState → Type 0) → AirportParts → SessionKind
+sessions_by asks airport = record { airport = airport; comes = Answers asks airport }

@@ -10,7 +10,7 @@ use Rattle.desk_http.specs.Targets.{plain_number}
 use Rattle.desk_http.specs.declared.routes.Route.{Route}
 use Rattle.desk_http.specs.declared.routes.Route.TheVariants as route
 use Rattle.desk_http.specs.declared.targets.Pattern.{Pattern}
-use Rattle.desk_http.specs.declared.targets.Pattern.TheVariants.{Visits, Commits, Mvt, Reports, Cancels, Version, Unplaced, Visit, Plan, Chart}
+use Rattle.desk_http.specs.declared.targets.Pattern.TheVariants.{Visits, Commits, Mvt, Reports, Cancels, Version, Unplaced, Airport, Visit, Entry, Plan, Chart, Day}
 
 -- the rows of the router
 abbrev pub Table : Type 0
@@ -28,16 +28,19 @@ with_route text pattern table = with_read (parse_route text) pattern table
 -- all rows, in the order in which they are added
 unfoldable pub table : Table
 table =
+    with_route (codes "/day/{day}") Day (
     with_route (codes "/chart/{day}") Chart (
     with_route (codes "/plan/{day}") Plan (
+    with_route (codes "/entries/{n}") Entry (
     with_route (codes "/visits/{n}") Visit (
+    with_route (codes "/airport") Airport (
     with_route (codes "/unplaced") Unplaced (
     with_route (codes "/version") Version (
     with_route (codes "/cancels") Cancels (
     with_route (codes "/reports") Reports (
     with_route (codes "/mvt") Mvt (
     with_route (codes "/commits") Commits (
-    with_route (codes "/visits") Visits [])))))))))
+    with_route (codes "/visits") Visits []))))))))))))
 
 -- the number behind the front of a target
 abbrev pub number_behind : List ℕ → List ℕ → Option ℕ
@@ -52,6 +55,9 @@ route_at Reports target = Some route.Reports
 route_at Cancels target = Some route.Cancels
 route_at Version target = Some route.Version
 route_at Unplaced target = Some route.Unplaced
+route_at Airport target = Some route.Airport
 route_at Visit target = option_map route.Visit (number_behind (codes "/visits/") target)
+route_at Entry target = option_map route.Entry (number_behind (codes "/entries/") target)
 route_at Plan target = option_map route.Plan (number_behind (codes "/plan/") target)
 route_at Chart target = option_map route.Chart (number_behind (codes "/chart/") target)
+route_at Day target = option_map route.Day (number_behind (codes "/day/") target)

@@ -6,7 +6,7 @@ use Rattle.apron_base.specs.Digits.{number_of}
 use Rattle.apron_base.specs.declared.digits.TheConstants.{MAX_DIGITS}
 use Rattle.desk_http.specs.Numbers.{within}
 use Rattle.desk_http.specs.declared.routes.Route.{Route}
-use Rattle.desk_http.specs.declared.routes.Route.TheVariants.{Visits, Commits, Mvt, Reports, Cancels, Version, Unplaced, Visit, Plan, Chart}
+use Rattle.desk_http.specs.declared.routes.Route.TheVariants.{Visits, Commits, Mvt, Reports, Cancels, Version, Unplaced, Airport, Visit, Entry, Plan, Chart, Day}
 
 -- the bytes up to the next slash are put before the pieces behind it
 abbrev pub onto_first : ℕ → List (List ℕ) → List (List ℕ)
@@ -40,14 +40,17 @@ word_route word =
     else (if bytes_eq word (codes "reports") then Some Reports
     else (if bytes_eq word (codes "cancels") then Some Cancels
     else (if bytes_eq word (codes "version") then Some Version
-    else (if bytes_eq word (codes "unplaced") then Some Unplaced else None))))))
+    else (if bytes_eq word (codes "unplaced") then Some Unplaced
+    else (if bytes_eq word (codes "airport") then Some Airport else None)))))))
 
 -- the route that a word and a number behind it name
 abbrev pub number_route : List ℕ → ℕ → Option Route
 number_route word number =
     if bytes_eq word (codes "visits") then Some (Visit number)
+    else (if bytes_eq word (codes "entries") then Some (Entry number)
     else (if bytes_eq word (codes "plan") then Some (Plan number)
-    else (if bytes_eq word (codes "chart") then Some (Chart number) else None))
+    else (if bytes_eq word (codes "chart") then Some (Chart number)
+    else (if bytes_eq word (codes "day") then Some (Day number) else None))))
 
 -- the route that the pieces of a target name: a slash and a word, or a slash, a word, a slash and a number
 abbrev pub route_of_pieces : List (List ℕ) → Option Route

@@ -56,8 +56,8 @@ pub(crate) trait Answerer<P: DeskPort> {
     ghost use Rattle.desk_http.specs.Ports.{PortState};
     ghost use Rattle.desk_http.specs.Replies.{IsAnswer};
 
-    /// What comes of a request at the airport, and what the port becomes.
-    ghost comes: { AirportParts → PortState → Request → Answered → PortState → Type 0 };
+    /// What comes of a request at the port's place and the airport, and what the port becomes.
+    ghost comes: { P.Place → AirportParts → PortState → Request → Answered → PortState → Type 0 };
 
     /// Answers the request with these parts.
     fn answer(
@@ -69,13 +69,13 @@ pub(crate) trait Answerer<P: DeskPort> {
         ensures airport { P.airport_of port.new ≡ P.airport_of port.old }
         ensures place { P.place port.new ≡ P.place port.old }
         ensures came { (request : Request) → ArePartsOf request parts.now
-            → IsAnswer (P.airport_of port.old) (comes (P.airport_of port.old) (P.port port.old) request) result (P.port port.new) };
+            → IsAnswer (P.airport_of port.old) (comes (P.place port.old) (P.airport_of port.old) (P.port port.old) request) result (P.port port.new) };
 }
 
 impl<P: DeskPort> Answerer<P> for DeskRoutes {
     ghost use Rattle.desk_http.specs.Answers.{Answers};
 
-    ghost comes = { Answers P.asks };
+    ghost comes = { λ place. Answers P.asks };
 
     fn answer(
         &self,

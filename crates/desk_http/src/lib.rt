@@ -4,6 +4,7 @@
 
 mod alone;
 mod answering;
+mod feeds;
 pub mod laws;
 mod names;
 mod numbers;
@@ -11,9 +12,12 @@ mod port;
 mod reading;
 mod routes;
 mod serving;
+mod sessions;
 mod targets;
 
 pub use alone::Alone;
-pub use port::DeskPort;
+pub use feeds::session_fed;
+pub use port::{DeskPort, Feed, FeedAsk, FeedPort};
 pub use routes::Route;
 pub use serving::session;
+pub use sessions::SessionPort;

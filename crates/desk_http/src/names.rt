@@ -1,9 +1,17 @@
-// The types and stands that bodies name.
+// The names that requests tell, and the types and stands that bodies name.
 ghost use Rattle.std.specs.Prelude.{◌≡◌, ◌<◌, IfSome, length};
+ghost use Rattle.desk_bodies.specs.Commits.{if_name};
 ghost use Rattle.desk_http.specs.Names.{stand_named as stand_named_lem, type_named as type_named_lem};
 
 use apron_base::{Name, StandNo, TypeNo};
 use apron_rules::Airport;
+
+/// The text as a name, if it is one.
+pub(crate) fn name_told(text: &[u8]) -> Option<Name>
+    ensures name { result ≡ if_name text.now }
+{
+    Name::new(text)
+}
 
 /// The stand of this name.
 pub(crate) fn stand_named(airport: &Airport, text: &[u8]) -> Option<StandNo>

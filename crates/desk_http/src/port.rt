@@ -3,7 +3,7 @@ ghost use Rattle.std.specs.Prelude.{◌≡◌};
 ghost use Rattle.history_core.specs.History.{IsAskOf};
 ghost use Rattle.desk_http.specs.Ports.{ShowsAsk, Turn};
 
-use apron_base::Acted;
+use apron_base::{Acted, Name};
 use apron_rules::Airport;
 use desk_words::asks::Ask;
 use std::alloc::Global;
@@ -44,4 +44,50 @@ pub trait DeskPort {
     /// Whatever a port gives, it gives at the whole history as the ask's turn found it.
     ghost takes_turns: { (airport : AirportParts) (before after : PortState) (ask : Ask) (given : Given)
         → asks airport before ask given after → Turn airport before ask given after };
+}
+
+/// A feed: the bumps that a watch picks of those after a version.
+#[derive(Clone, Copy, Debug)]
+pub struct Feed {
+    /// The name of the watch.
+    pub watch: Name,
+    /// The version after which the bumps are.
+    pub after: u32,
+}
+
+/// A feed that is asked for.
+#[derive(Clone, Copy, Debug)]
+pub struct FeedAsk {
+    /// The version that the desk has seen.
+    pub seen: u32,
+    pub feed: Feed,
+}
+
+/// A port that answers feeds too. What their replies are is a meaning of the port, so that a session knows of no watches.
+pub trait FeedPort: DeskPort {
+    ghost use Rattle.std.specs.Prelude.{◌≡◌, ℕ, List};
+    ghost use Rattle.apron_rules.specs.declared.parts.AirportParts.{AirportParts};
+    ghost use Rattle.desk_words.specs.declared.asks.Entry.{Entry};
+    ghost use Rattle.desk_http.specs.Ports.{PortState};
+    ghost use Rattle.desk_http.specs.FeedPorts.{FeedGiven, FeedTurn, ShowsFeed};
+    ghost use Rattle.desk_http.specs.declared.port.FeedAsk.{FeedAsk};
+
+    /// The text of the reply to each feed at each history of the airport.
+    ghost feed_text: { Self.Place → AirportParts → FeedAsk → List Entry → List ℕ };
+
+    /// What it gives for a feed at that place and airport, and what it becomes.
+    ghost feeds: { Self.Place → AirportParts → PortState → FeedAsk → FeedGiven → PortState → Type 0 };
+
+    /// Answers a feed: the bumps that the watch of this name picks, of those after the version `after`, to a desk that has
+    /// seen the version `seen`. It adds no entry, and answers no Fault. Spent comes where the port's call numbers were
+    /// exhausted, and then no call was made.
+    fn feed(&mut self, alloc: Global, seen: u32, watch: &Name, after: u32) -> Acted
+        ensures airport { Self.airport_of self.new ≡ Self.airport_of self.old }
+        ensures place { Self.place self.new ≡ Self.place self.old }
+        ensures shows { ShowsFeed (feeds (Self.place self.old) (Self.airport_of self.old)) (Self.port self.old)
+            (record { seen = seen; feed = record { watch = watch.now; after = after } }) result (Self.port self.new) };
+
+    /// Whatever a port gives for a feed, it gives at the whole history as the feed's turn found it.
+    ghost feeds_take_turns: { (place : Self.Place) (airport : AirportParts) (before after : PortState) (ask : FeedAsk) (given : FeedGiven)
+        → feeds place airport before ask given after → FeedTurn airport (feed_text place airport ask) before given after };
 }

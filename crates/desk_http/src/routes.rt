@@ -1,27 +1,31 @@
 // What a request asks.
-ghost use Rattle.std.specs.Prelude.{◌≡◌, true, Err, IfOk};
+ghost use Rattle.std.specs.Prelude.{◌≡◌, Err, IfOk};
 ghost use Rattle.history_core.specs.History.{IsAskOf, IsWhatOf};
 ghost use Rattle.desk_http.specs.Finding.{Finds, said_by};
-ghost use Rattle.desk_http.specs.Routes.{ReadsBody, asked_by as asked_by_lem, method_of as method_of_lem, only as only_lem, reads_json, route_taken as route_taken_lem, seen_of as seen_of_lem, takes_body as takes_body_lem, what_asked as what_asked_lem};
+ghost use Rattle.http_framing.specs.Fields.{text_shown};
+ghost use Rattle.desk_http.specs.Desks.{desk_named as desk_named_lem};
+ghost use Rattle.desk_http.specs.Routes.{ReadsBody, asked_by as asked_by_lem, body_of, desk_for as desk_for_lem, json, method_of as method_of_lem, only as only_lem, route_taken as route_taken_lem, seen_of as seen_of_lem, takes_body as takes_body_lem, what_asked as what_asked_lem};
 
 use crate::numbers::within;
 use crate::targets::DeskRoutes;
-use apron_base::Memory;
+use apron_base::{Memory, Name};
 use apron_rules::Airport;
 use desk_bodies::BodyFault;
 use desk_words::asks::{Ask, What};
 use desk_words::early::Early;
-use http_framing::{FieldNumber, RequestParts};
+use http_framing::{FieldNumber, FieldText, RequestParts};
 use std::alloc::Global;
 
 mod commits;
 mod days;
+mod desks;
 mod messages;
 mod reports;
 mod visits;
 
 use commits::commit_asked;
 use days::day_asked;
+use desks::{desk_named, no_desk};
 use messages::message_asked;
 use reports::{cancel_asked, report_asked};
 use visits::visit_added;
@@ -36,12 +40,17 @@ pub enum Route {
     Cancels,
     Version,
     Unplaced,
+    Airport,
     /// The visit of this number.
     Visit(u32),
+    /// The entry of this number.
+    Entry(u32),
     /// The plan of this day.
     Plan(u32),
     /// The wall chart of this day.
     Chart(u32),
+    /// The visits of this day.
+    Day(u32),
 }
 
 /// Why nothing is asked of the plan.
@@ -102,7 +111,8 @@ pub(crate) fn asked_by(
 {
     let route = route_taken(routes, request.method, request.target)?;
     let seen = seen_of(request.seen).ok_or(Early::BadSeen)?;
-    let what = what_asked(alloc, airport, route, request.body)?;
+    let desk = desk_for(route, request.desk).ok_or(Early::BadDesk)?;
+    let what = what_asked(alloc, airport, route, desk, request.body)?;
     Ok(Ask { seen, what })
 }
 
@@ -123,8 +133,14 @@ fn takes_body(route: Route) -> bool
 {
     match route {
         Route::Visits | Route::Commits | Route::Mvt | Route::Reports | Route::Cancels => true,
-        Route::Version | Route::Unplaced | Route::Visit(_) | Route::Plan(_) | Route::Chart(_) =>
-            false,
+        Route::Version
+        | Route::Unplaced
+        | Route::Airport
+        | Route::Visit(_)
+        | Route::Entry(_)
+        | Route::Plan(_)
+        | Route::Chart(_)
+        | Route::Day(_) => false,
     }
 }
 
@@ -145,7 +161,8 @@ fn only(route: Route) -> Early
     }
 }
 
-fn seen_of(seen: FieldNumber) -> Option<u32>
+/// The version that a desk says it has seen: 0 where it says none.
+pub(crate) fn seen_of(seen: FieldNumber) -> Option<u32>
     ensures value { result ≡ seen_of_lem seen }
 {
     match seen {
@@ -155,22 +172,41 @@ fn seen_of(seen: FieldNumber) -> Option<u32>
     }
 }
 
-// What is asked of a route with this body. A day is looked at, and no body then.
-fn what_asked(alloc: Global, airport: &Airport, route: Route, body: &[u8]) -> Result<What, Unasked>
-    ensures asked { Finds (what_asked_lem airport.now route body.now) result }
-    ensures memory { result ≡ Err Unasked.Memory → reads_json route ≡ true }
+// The desk for a request of this route, by the field of its name. Most routes pass the field over.
+fn desk_for(route: Route, desk: FieldText<'_>) -> Option<Name>
+    ensures desk { result ≡ desk_for_lem route (desk_named_lem (text_shown desk.entry)) }
+{
+    match route {
+        Route::Mvt | Route::Reports => desk_named(desk),
+        _ => Some(no_desk()),
+    }
+}
+
+// What a desk asks of a route with this body. A day is looked at, and no body then.
+fn what_asked(
+    alloc: Global,
+    airport: &Airport,
+    route: Route,
+    desk: Name,
+    body: &[u8],
+) -> Result<What, Unasked>
+    ensures asked { Finds (what_asked_lem airport.now route desk body.now) result }
+    ensures memory { result ≡ Err Unasked.Memory → body_of route ≡ json }
     ensures valid { IfOk result (IsWhatOf airport.now) }
 {
     match route {
         Route::Visits => visit_added(alloc, airport, body),
         Route::Commits => commit_asked(alloc, airport, body),
-        Route::Mvt => Ok(message_asked(body)?),
-        Route::Reports => report_asked(alloc, airport, body),
+        Route::Mvt => Ok(message_asked(desk, body)?),
+        Route::Reports => report_asked(alloc, airport, desk, body),
         Route::Cancels => cancel_asked(alloc, body),
         Route::Version => Ok(What::Version),
         Route::Visit(number) => Ok(What::Visit(number)),
         Route::Unplaced => Ok(What::Unplaced),
+        Route::Airport => Ok(What::Airport),
+        Route::Entry(number) => Ok(What::Entry(number)),
         Route::Plan(day) => Ok(day_asked(airport, day, What::Plan(day))?),
         Route::Chart(day) => Ok(day_asked(airport, day, What::Chart(day))?),
+        Route::Day(day) => Ok(day_asked(airport, day, What::Day(day))?),
     }
 }

@@ -19,9 +19,12 @@ pub(crate) enum Pattern {
     Cancels,
     Version,
     Unplaced,
+    Airport,
     Visit,
+    Entry,
     Plan,
     Chart,
+    Day,
 }
 
 /// The routes of a desk.
@@ -32,7 +35,7 @@ pub(crate) struct DeskRoutes {
 }
 
 impl DeskRoutes {
-    /// All routes. At `Err` memory is wanting, since no two patterns conflict.
+    /// All routes. `Err` says that there is no memory, since no two patterns conflict.
     pub(crate) fn new(alloc: Global) -> Result<DeskRoutes, Memory> {
         match all_patterns(alloc) {
             Ok(router) => Ok(DeskRoutes { router }),
@@ -65,9 +68,12 @@ fn all_patterns(alloc: Global) -> Result<Router<Pattern>, InsertError>
     add(&mut router, "/cancels", Pattern::Cancels)?;
     add(&mut router, "/version", Pattern::Version)?;
     add(&mut router, "/unplaced", Pattern::Unplaced)?;
+    add(&mut router, "/airport", Pattern::Airport)?;
     add(&mut router, "/visits/{n}", Pattern::Visit)?;
+    add(&mut router, "/entries/{n}", Pattern::Entry)?;
     add(&mut router, "/plan/{day}", Pattern::Plan)?;
     add(&mut router, "/chart/{day}", Pattern::Chart)?;
+    add(&mut router, "/day/{day}", Pattern::Day)?;
     Ok(router)
 }
 
@@ -89,21 +95,24 @@ fn route_at(pattern: Pattern, target: &[u8]) -> Option<Route>
         Pattern::Cancels => Route::Cancels,
         Pattern::Version => Route::Version,
         Pattern::Unplaced => Route::Unplaced,
+        Pattern::Airport => Route::Airport,
         Pattern::Visit => Route::Visit(number_behind(b"/visits/", target)?),
+        Pattern::Entry => Route::Entry(number_behind(b"/entries/", target)?),
         Pattern::Plan => Route::Plan(number_behind(b"/plan/", target)?),
         Pattern::Chart => Route::Chart(number_behind(b"/chart/", target)?),
+        Pattern::Day => Route::Day(number_behind(b"/day/", target)?),
     })
 }
 
-// The number behind the front of a target.
+// The number after the front of a target.
 fn number_behind(front: &[u8], target: &[u8]) -> Option<u32>
     ensures is { result ≡ number_behind_lem front.now target.now }
 {
     plain_number(target.strip_prefix(front)?)
 }
 
-// The number of 32 bits that 1 to 10 digits write, of which the first is no zero.
-fn plain_number(text: &[u8]) -> Option<u32>
+/// The number of 32 bits that 1 to 10 digits write, of which the first is no zero.
+pub(crate) fn plain_number(text: &[u8]) -> Option<u32>
     ensures number { result ≡ plain_number_lem text.now }
 {
     match text {

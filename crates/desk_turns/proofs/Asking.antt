@@ -13,14 +13,15 @@ use Rattle.apron_base.specs.declared.outside.Acted.TheVariants.{Reply as Replied
 use Rattle.apron_rules.specs.declared.parts.AirportParts.{AirportParts}
 use Rattle.desk_words.specs.declared.asks.Ask.{Ask}
 use Rattle.desk_words.specs.declared.asks.Entry.{Entry}
-use Rattle.desk_words.specs.declared.asks.What.TheVariants.{Change}
-use Rattle.history_core.specs.Answer.{ActsLegally, Given, keeper_fault, no_memory, replied, shown}
-use Rattle.history_core.specs.History.{call_of}
+use Rattle.history_core.specs.Answer.{ActsLegally, Given, Gives, keeper_fault, no_memory, replied, shown}
+use Rattle.history_core.specs.History.{IsLegal, call_of}
 use Rattle.turn_board.specs.Board.{GotTurn, SeatState, Sits, TurnBoardState}
 use Rattle.turn_board.specs.declared.view.Call.{Call}
 use Rattle.desk_http.specs.Ports.{CountsGiven, RisksGiven, ShowsAsk, Turn, is_unkept}
+use Rattle.desk_turns.specs.Machines.{Adds, AsksBoard}
 use Rattle.desk_turns.specs.Seats.{is_risen, latest_at_risk, number_of, port_of, put_by}
 use Rattle.desk_turns.proofs.AtRisk.{latest_new, latest_still, put_older, put_own}
+use Rattle.desk_turns.proofs.Plain.{risks_wider}
 
 pub every_map : (P : ℕ → Type 0) (calls : List (Call Entry)) → Every (λ (call : Call Entry). P call.number) calls → Every P (map number_of calls)
 every_map P [] h = tt
@@ -31,19 +32,15 @@ risen_push calls last = let more = sum_by-append (λ (call : Call Entry). cond (
 
 -- the count of a port rises where something was given for a failure, and never falls
 counts : (given : Given) (airport : AirportParts) (answer : Acted) (last : Call Entry) (before : ℕ)
-    → answer ≡ shown airport given → Counts (is_fault answer) last.found last.left
+    → is_fault answer ≡ is_fault (shown airport given) → Counts (is_fault answer) last.found last.left
     → CountsGiven given before (before + cond (is_risen last) 1 0)
 counts (replied reply) airport answer last before shows faults = omega arith
 counts no_memory airport answer last before shows faults = omega arith
 counts keeper_fault airport answer last before shows faults =
-    let rose : Counts true last.found last.left = subst (λ (a : Acted). Counts (is_fault a) last.found last.left) shows faults in
+    let rose : Counts true last.found last.left = subst (λ (failed : Bool). Counts failed last.found last.left) shows faults in
     let risen : is_risen last ≡ true = let more = rose.1 in grind (arith, nat_tests) in
     let one : cond {A = ℕ} (is_risen last) 1 0 ≡ 1 = ap (λ (b : Bool). cond {A = ℕ} b 1 0) risen in
     (omega arith, omega (arith, one))
-
--- an entry of a command, as that is asked
-abbrev Adds : Ask → Entry → Type 0
-Adds ask entry = ask.what ≡ Change entry.command
 
 unkept : (given : Given) (airport : AirportParts) → is_fault (shown airport given) ≡ true → is_unkept given ≡ true
 unkept (replied reply) airport failed = absurd cc
@@ -52,14 +49,14 @@ unkept keeper_fault airport failed = refl
 
 -- what a port tells at risk: what it told, since what the call found there is older than it; or what the call put there, which failed
 risks : (given : Given) (airport : AirportParts) (ask : Ask) (answer : Acted) (calls : List (Call Entry)) (last : Call Entry) (found : Standing Entry) (seen : List Entry)
-    → answer ≡ shown airport given → Every (λ (call : Call Entry). call.number < last.number) calls → IfSome found.at_risk (λ entry. call_of entry < last.number)
+    → is_fault answer ≡ is_fault (shown airport given) → Every (λ (call : Call Entry). call.number < last.number) calls → IfSome found.at_risk (λ entry. call_of entry < last.number)
     → ActsAtRisk (λ entry. (call_of entry ≡ last.number) × Adds ask entry) (is_fault answer) found (record { entries = seen; at_risk = last.at_risk })
     → RisksGiven (latest_at_risk calls) last.number ask.what given (latest_at_risk (calls ++ last ∷ []))
 risks given airport ask answer calls last found seen shows above older (inl none) = inr (inl (latest_still calls last (ap (put_by last.number) none)))
 risks given airport ask answer calls last found seen shows above older (inr (inl (same, entries))) =
     inr (inl (latest_still calls last (ap (put_by last.number) same ∙ put_older last.number found.at_risk older)))
 risks given airport ask answer calls last found seen shows above older (inr (inr (failed, (entry, is, (number, what))))) = inr (inr (
-  unkept given airport (ap is_fault (sym shows) ∙ failed),
+  unkept given airport (sym shows ∙ failed),
   (
     entry,
     latest_new calls last entry (subst (λ (call : ℕ). Every (λ (own : Call Entry). own.number < call) calls) (sym number) above) (put_own last.number last.at_risk entry is number),
@@ -67,62 +64,82 @@ risks given airport ask answer calls last found seen shows above older (inr (inr
   ),
 ))
 
--- what a call that got its turn was given
-turn : {M : Type 0} (state : M → MachineState Entry AirportParts) (board : TurnBoardState AirportParts) (before after : SeatState Entry AirportParts) (ask : Ask) (answer : Acted)
-    → Sits board before → after.exhausted ≡ false → GotTurn state call_of Adds ActsLegally before (record { ask = ask; answer = answer }) after
-    → (given : Given) × (answer ≡ shown board.start.fixed given)
-    × Turn board.start.fixed (port_of (record { board = board; seat = before })) ask given (port_of (record { board = board; seat = after }))
-turn state board before after ask answer sits still got =
-    let history : List Entry = (state got.found).history in
+-- the turn of an ask by a call that found this history, and could add no entry but one of the ask
+pub turn_of : {M Fixed Asks : Type 0} (state : M → MachineState Entry Fixed) (airport : AirportParts) (board : TurnBoardState Fixed) (adds : Asks → Entry → Type 0)
+    (answers : Fixed → List Entry → ℕ → Asks → Acted → List Entry → Type 0) (before after : SeatState Entry Fixed) (own : Asks) (ask : Ask) (answer : Acted) (given : Given)
+    → ((entry : Entry) → adds own entry → Adds ask entry) → after.exhausted ≡ false
+    → (got : GotTurn state call_of adds answers before (record { ask = own; answer = answer }) after)
+    → is_fault answer ≡ is_fault (shown airport given) → IsLegal airport (state got.found).history → IsLegal airport after.seen
+    → Gives airport (state got.found).history got.ticket ask given after.seen
+    → (turn : Turn airport (port_of (record { board = board; seat = before })) ask given (port_of (record { board = board; seat = after })))
+    × (turn.history ≡ (state got.found).history)
+turn_of state airport board adds answers before after own ask answer given added still got shows found left gives =
     let last : Call Entry = record { number = got.ticket; found = (state got.found).faults; left = (state got.left).faults; at_risk = (state got.left).at_risk } in
-    let fixed : (state got.found).fixed ≡ board.start.fixed = (got.start board.start sits.start).0 in
-    let act : ActsLegally board.start.fixed history got.ticket ask answer after.seen =
-    subst (λ (airport : AirportParts). ActsLegally airport history got.ticket ask answer after.seen) fixed
-    (subst (λ (seen : List Entry). ActsLegally (state got.found).fixed history got.ticket ask answer seen) (sym got.seen) got.answered) in
-    let given : Given = act.acts.0 in
     let risen : count_by is_risen after.calls ≡ count_by is_risen before.calls + cond (is_risen last) 1 0 = ap (count_by is_risen) got.calls ∙ risen_push before.calls last in (
-      given,
-      act.acts.1,
       record {
-        history = history;
+        history = (state got.found).history;
         call = got.ticket;
-        from = let few = rises_length call_of 1 got.ticket history got.rises in omega arith;
+        from = let few = rises_length call_of 1 got.ticket (state got.found).history got.rises in omega arith;
         later = record {
           new = got.extends.rest;
           is = got.extends.is;
           above = every_map (λ (call : ℕ). Every (λ (entry : Entry). call < call_of entry) got.extends.rest) before.calls got.extends.later;
         };
-        legal = act.found;
-        still = act.left;
+        legal = found;
+        still = left;
         numbers = got.rises;
         above = every_map (λ (own : ℕ). own < got.ticket) before.calls got.new;
         last = got.end;
-        gives = act.acts.2;
+        gives = gives;
         first = refl;
         calls = ap (map number_of) got.calls ∙ map-append number_of before.calls (last ∷ []);
         spent = got.note;
         stays = λ spent. absurd (cc);
-        faults = subst (CountsGiven given (count_by is_risen before.calls)) (sym risen) (counts given board.start.fixed answer last (count_by is_risen before.calls) act.acts.1 got.acts.faults);
+        faults = subst (CountsGiven given (count_by is_risen before.calls)) (sym risen) (counts given airport answer last (count_by is_risen before.calls) shows got.acts.faults);
         at_risk = subst (RisksGiven (latest_at_risk before.calls) got.ticket ask.what given) (ap latest_at_risk (sym got.calls))
-            (risks given board.start.fixed ask answer before.calls last _ (state got.left).history act.acts.1 got.new got.older got.at_risk);
+            (risks given airport ask answer before.calls last _ (state got.left).history shows got.new got.older
+            (risks_wider (λ entry. (call_of entry ≡ got.ticket) × adds own entry) (λ entry. (call_of entry ≡ got.ticket) × Adds ask entry) _ _ _
+            (λ entry put. (put.0, added entry put.1)) got.at_risk));
       },
+      refl,
     )
 
-not_true : (b : Bool) → (b ≡ true → ⊥) → b ≡ false
+-- what a call that got its turn was given
+turn : {M Fixed : Type 0} (state : M → MachineState Entry Fixed) (airport : Fixed → AirportParts) (board : TurnBoardState Fixed) (before after : SeatState Entry Fixed) (ask : Ask) (answer : Acted)
+    → Sits board before → after.exhausted ≡ false → GotTurn state call_of Adds (λ fixed. ActsLegally (airport fixed)) before (record { ask = ask; answer = answer }) after
+    → (given : Given) × (answer ≡ shown (airport board.start.fixed) given)
+    × Turn (airport board.start.fixed) (port_of (record { board = board; seat = before })) ask given (port_of (record { board = board; seat = after }))
+turn {Fixed} state airport board before after ask answer sits still got =
+    let history : List Entry = (state got.found).history in
+    let fixed : (state got.found).fixed ≡ board.start.fixed = (got.start board.start sits.start).0 in
+    let act : ActsLegally (airport board.start.fixed) history got.ticket ask answer after.seen =
+    subst (λ (at : Fixed). ActsLegally (airport at) history got.ticket ask answer after.seen) fixed
+    (subst (λ (seen : List Entry). ActsLegally (airport (state got.found).fixed) history got.ticket ask answer seen) (sym got.seen) got.answered) in
+    let given : Given = act.acts.0 in (
+      given,
+      act.acts.1,
+      (turn_of state (airport board.start.fixed) board Adds (λ fixed. ActsLegally (airport fixed)) before after ask ask answer given (λ entry added. added) still got
+          (ap is_fault act.acts.1) act.found act.left act.acts.2).0,
+    )
+
+pub not_true : (b : Bool) → (b ≡ true → ⊥) → b ≡ false
 not_true true h = absurd (h refl)
 not_true false h = refl
 
--- what a seat shows of an ask
-pub seat_shows : {M : Type 0} (state : M → MachineState Entry AirportParts) (board : TurnBoardState AirportParts) (before after : SeatState Entry AirportParts) (ask : Ask) (answer : Acted)
-    → Sits board before
-    → (answer ≡ Spent → after ≡ record before { exhausted = true }) → (after.exhausted ≡ true → answer ≡ Spent)
-    → (answer ≢ Spent → GotTurn state call_of Adds ActsLegally before (record { ask = ask; answer = answer }) after)
-    → ShowsAsk Turn board.start.fixed (port_of (record { board = board; seat = before })) ask answer (port_of (record { board = board; seat = after }))
-seat_shows state board before after ask Spent sits unasked still got =
-    ap (λ (seat : SeatState Entry AirportParts). port_of (record { board = board; seat = seat })) (unasked refl)
-seat_shows state board before after ask (Replied bytes) sits unasked still got =
-    let some : Replied bytes ≢ Spent = λ e. cc in turn state board before after ask (Replied bytes) sits (not_true after.exhausted (λ spent. some (still spent))) (got some)
-seat_shows state board before after ask NoMemory sits unasked still got =
-    let some : NoMemory ≢ Spent = λ e. cc in turn state board before after ask NoMemory sits (not_true after.exhausted (λ spent. some (still spent))) (got some)
-seat_shows state board before after ask Fault sits unasked still got =
-    let some : Fault ≢ Spent = λ e. cc in turn state board before after ask Fault sits (not_true after.exhausted (λ spent. some (still spent))) (got some)
+module _ {M Fixed : Type 0} (state : M → MachineState Entry Fixed) (airport : Fixed → AirportParts) where
+  -- a call that was answered otherwise than by `Spent`
+  shows_turn : (board : TurnBoardState Fixed) (before after : SeatState Entry Fixed) (ask : Ask) (answer : Acted) → answer ≢ Spent → Sits board before
+      → AsksBoard state airport before (record { ask = ask; answer = answer }) after
+      → (given : Given) × (answer ≡ shown (airport board.start.fixed) given)
+      × Turn (airport board.start.fixed) (port_of (record { board = board; seat = before })) ask given (port_of (record { board = board; seat = after }))
+  shows_turn board before after ask answer some sits asks =
+      turn state airport board before after ask answer sits (not_true after.exhausted (λ spent. some (asks.spent.1 spent))) (asks.answered some)
+
+  -- what a seat shows of an ask
+  pub seat_shows : (board : TurnBoardState Fixed) (before after : SeatState Entry Fixed) (ask : Ask) (answer : Acted) → Sits board before
+      → AsksBoard state airport before (record { ask = ask; answer = answer }) after
+      → ShowsAsk Turn (airport board.start.fixed) (port_of (record { board = board; seat = before })) ask answer (port_of (record { board = board; seat = after }))
+  seat_shows board before after ask Spent sits asks = ap (λ (seat : SeatState Entry Fixed). port_of (record { board = board; seat = seat })) (asks.unasked refl)
+  seat_shows board before after ask (Replied bytes) sits asks = shows_turn board before after ask (Replied bytes) (λ e. cc) sits asks
+  seat_shows board before after ask NoMemory sits asks = shows_turn board before after ask NoMemory (λ e. cc) sits asks
+  seat_shows board before after ask Fault sits asks = shows_turn board before after ask Fault (λ e. cc) sits asks

@@ -4,15 +4,15 @@ use denote.RattleType.{RattleType}
 use denote.Ref.{NamedLft}
 use Rattle.std.proofs.Crossing.{crosses}
 use Rattle.std.proofs.MapsCrossing as maps
-use Rattle.apron_base.specs.declared.keeper.Keeper as keepers
 use Rattle.apron_base.specs.declared.machine.Machine as machines
 use Rattle.apron_rules.specs.contracts.airport.Airport as Airport
-use Rattle.desk_words.specs.contracts.asks.Ask as Ask
+use Rattle.desk_words.specs.declared.asks.Entry.{Entry}
 use Rattle.turn_board.proofs.Crosses as turns
 use Rattle.turn_board.specs.contracts.board.Seat as Seat
 use Rattle.turn_board.specs.contracts.board.TurnBoard as TurnBoard
-use Rattle.history_core.proofs.Crosses.{board_send}
-use Rattle.desk_turns.specs.contracts.served.Served as Served
+use Rattle.desk_turns.specs.declared.machine.DeskMachine as desks
+use Rattle.desk_turns.specs.declared.turns.Turns as boards
+use Rattle.desk_turns.specs.contracts.served.SeatPort as SeatPort
 
 -- a board may be shared, and a seat may go to another thread, where the machine may
 pub turns_sync : (M A E F : RattleType) (g : machines.Ghosts M.Denot A.Denot E.Denot F.Denot) → IsSend M → IsSync (TurnBoard.the_row M A E F g)
@@ -21,15 +21,10 @@ turns_sync M A E F g machine_send = search (turns.crosses, sendable, crosses) de
 pub seat_send : (M A E F : RattleType) (g : machines.Ghosts M.Denot A.Denot E.Denot F.Denot) → IsSend M → IsSend (Seat.the_row M A E F g)
 seat_send M A E F g machine_send = search (turns.crosses, sendable, crosses) depth 60 fits 20000
 
-pub ask_sync : IsSync Ask.the_row
-ask_sync = search (sendable, crosses) depth 60 fits 20000
-
 pub airport_sync : IsSync Airport.the_row
 airport_sync = search (sendable, crosses, maps.crosses) depth 60 fits 20000
 
 -- so that a worker in a thread can have a port
-pub served_send : (σ κ : NamedLft) (R K : RattleType) (g : keepers.Ghosts K.Denot) → IsSync R → IsSend K → IsSend (Served.the_row σ κ R K g)
-served_send σ κ R K g runtime_sync keeper_send = search (board_send, airport_sync, turns_sync, seat_send, sendable, crosses) depth 60 fits 20000
-
--- what the product's boards, seats, ports and asks need of it
-pub ruleset desks = (board_send, turns_sync, seat_send, served_send, ask_sync, airport_sync)
+pub port_send : (σ : NamedLft) (R M B A F : RattleType) (d : desks.Ghosts M.Denot A.Denot F.Denot) (g : machines.Ghosts M.Denot A.Denot Entry F.Denot)
+    (b : boards.Ghosts B.Denot M.Denot A.Denot Entry F.Denot) → IsSync R → IsSend M → IsSync B → IsSend (SeatPort.the_row σ R M B A F d g b)
+port_send σ R M B A F d g b runtime_sync machine_send board_sync = search (airport_sync, seat_send, sendable, crosses) depth 60 fits 20000

@@ -1,6 +1,9 @@
 mod Any
 mod AtRisk
 mod Asking
+pub mod Crosses
+mod Feeding
+mod Lone
+mod Plain
 mod Together
 mod Working
-pub mod Crosses

@@ -8,14 +8,14 @@ use Rattle.apron_base.specs.Counts.{Rose}
 use Rattle.apron_base.specs.Histories.{Every}
 use Rattle.apron_base.specs.Listener.{ListenerState}
 use Rattle.apron_base.specs.Machine.{MachineState}
-use Rattle.apron_rules.specs.declared.parts.AirportParts.{AirportParts}
 use Rattle.desk_words.specs.declared.asks.Entry.{Entry}
 use Rattle.history_core.specs.History.{IsLegal, call_of}
 use Rattle.turn_board.specs.Board.{Closes, IsPutAtRisk, Meets, Opens, SeatState, TurnBoardState}
 use Rattle.turn_board.specs.Totals.{below, times}
 use Rattle.turn_board.specs.declared.view.Call.{Call}
 use Rattle.turn_board.proofs.Totals.{every_append, every_both, every_front, every_more, every_rest, times_append}
-use Rattle.desk_http.specs.Ports.{IsLater, Turn}
+use Rattle.desk_http.specs.Ports.{IsLater}
+use Rattle.desk_http.specs.Session.{SessionKind}
 use Rattle.desk_turns.specs.declared.worker.WorkEnd.{WorkEnd}
 use Rattle.desk_turns.specs.declared.worker.WorkEnd.TheVariants.{Done, ListenerFault}
 use Rattle.desk_turns.specs.Crew.{HasSeen, IsUnkeptOf, ServesBoard, TellsAtRisk, Worker, WorksAt, calls_of, end_of}
@@ -26,8 +26,8 @@ use Rattle.desk_turns.proofs.Any.{any_append, any_here, any_none, any_there}
 use Rattle.desk_turns.proofs.Asking.{every_map}
 use Rattle.desk_turns.proofs.AtRisk.{latest_is}
 
-abbrev Held : Type 0
-Held = SeatState Entry AirportParts
+abbrev Held : Type 0 → Type 0
+Held Fixed = SeatState Entry Fixed
 
 either_true : (one other : Bool) → other ≡ true → (one || other) ≡ true
 either_true true other h = refl
@@ -56,10 +56,10 @@ ends : (one others : WorkEnd) (more : List WorkEnd) → others ≡ end_of more �
 ends Done others more same = one_end others ∙ same
 ends ListenerFault others more same = refl
 
-module _ {In Out : Type 0} (states : EndStates In Out) (airport : AirportParts) (asked : ℕ) where
+module _ {In Out Fixed : Type 0} (states : EndStates In Out) (kind : SessionKind) (asked : ℕ) where
   -- what holds of a worker at a seat holds when that seat has met another
-  beside : (before less mid other after : Held) → less.seen ≡ before.seen → Meets call_of mid other after → (worker : Worker In Out)
-      → WorksBeside states airport asked less mid worker → WorksBeside states airport asked before after worker
+  beside : (before less mid other after : Held Fixed) → less.seen ≡ before.seen → Meets call_of mid other after → (worker : Worker In Out)
+      → WorksBeside states kind asked less mid worker → WorksBeside states kind asked before after worker
   beside before less mid other after same meets worker work =
       let numbers : map number_of after.calls ≡ map number_of mid.calls ++ map number_of other.calls = ap (map number_of) meets.calls ∙ map-append number_of mid.calls other.calls in
       let risen : count_by is_risen after.calls ≡ count_by is_risen mid.calls + count_by is_risen other.calls = ap (count_by is_risen) meets.calls ∙ risen_append mid.calls other.calls in
@@ -80,21 +80,21 @@ module _ {In Out : Type 0} (states : EndStates In Out) (airport : AirportParts) 
       }
 
   -- a worker whose seat met that of the others
-  itself : (before mid after : Held) (started ended : ServedState) (a b : ListenerState In Out) (one : WorkEnd)
+  itself : (before mid after : Held Fixed) (started ended : ServedState Fixed) (a b : ListenerState In Out) (one : WorkEnd)
       → started.seat ≡ record before { calls = []; exhausted = false; share = 1 }
-      → Works states Turn airport asked (record { listener = a; port = port_of started }) (record { listener = b; port = port_of ended }) one
+      → Works states kind asked (record { listener = a; port = port_of started }) (record { listener = b; port = port_of ended }) one
       → Meets call_of mid ended.seat after
-      → WorksBeside states airport asked before after (record { before = record { listener = a; port = port_of started }; after = record { listener = b; port = port_of ended }; end = one })
+      → WorksBeside states kind asked before after (record { before = record { listener = a; port = port_of started }; after = record { listener = b; port = port_of ended }; end = one })
   itself before mid after started ended a b one mine works meets =
       let own : List (Call Entry) = ended.seat.calls in
       let numbers : map number_of after.calls ≡ map number_of mid.calls ++ map number_of own = ap (map number_of) meets.calls ∙ map-append number_of mid.calls own in
       let risen : count_by is_risen after.calls ≡ count_by is_risen mid.calls + count_by is_risen own = ap (count_by is_risen) meets.calls ∙ risen_append mid.calls own in record {
         fresh = record {
-          seen = ap (λ (seat : Held). seat.seen) mine;
-          calls = ap (λ (seat : Held). map number_of seat.calls) mine;
-          at_risk = ap (λ (seat : Held). latest_at_risk seat.calls) mine;
-          spent = ap (λ (seat : Held). seat.exhausted) mine;
-          faults = ap (λ (seat : Held). count_by is_risen seat.calls) mine;
+          seen = ap (λ (seat : Held Fixed). seat.seen) mine;
+          calls = ap (λ (seat : Held Fixed). map number_of seat.calls) mine;
+          at_risk = ap (λ (seat : Held Fixed). latest_at_risk seat.calls) mine;
+          spent = ap (λ (seat : Held Fixed). seat.exhausted) mine;
+          faults = ap (λ (seat : Held Fixed). count_by is_risen seat.calls) mine;
         };
         works = works;
         seen = record {
@@ -108,7 +108,7 @@ module _ {In Out : Type 0} (states : EndStates In Out) (airport : AirportParts) 
         faults = omega (arith, risen);
       }
 
-  longest_of : (before less mid other after : Held) (worker : Worker In Out) (workers : List (Worker In Out)) → less.seen ≡ before.seen → Meets call_of mid other after
+  longest_of : (before less mid other after : Held Fixed) (worker : Worker In Out) (workers : List (Worker In Out)) → less.seen ≡ before.seen → Meets call_of mid other after
       → other.seen ≡ worker.after.port.seen → (mid.seen ≡ less.seen) ⊎ Any (HasSeen mid.seen) workers → (after.seen ≡ before.seen) ⊎ Any (HasSeen after.seen) (worker ∷ workers)
   longest_of before less mid other after worker workers same meets its longest = ⊎_elim
       (λ (mine : after.seen ≡ mid.seen). ⊎_elim
@@ -119,7 +119,7 @@ module _ {In Out : Type 0} (states : EndStates In Out) (airport : AirportParts) 
       meets.one
 
   -- an entry that a call put at risk is that of a call from before, or the one that the worker or one of the others tells
-  at_risk_of : (before less mid other after : Held) (worker : Worker In Out) (workers : List (Worker In Out)) → less.calls ≡ before.calls → after.calls ≡ mid.calls ++ other.calls
+  at_risk_of : (before less mid other after : Held Fixed) (worker : Worker In Out) (workers : List (Worker In Out)) → less.calls ≡ before.calls → after.calls ≡ mid.calls ++ other.calls
       → worker.after.port.at_risk ≡ latest_at_risk other.calls
       → ((entry : Entry) → HasCallOf entry mid.calls → StaysAtRisk entry mid.calls → HasCallOf entry less.calls ⊎ Any (TellsAtRisk entry) workers)
       → (entry : Entry) → HasCallOf entry after.calls → StaysAtRisk entry after.calls → HasCallOf entry before.calls ⊎ Any (TellsAtRisk entry) (worker ∷ workers)
@@ -134,15 +134,15 @@ module _ {In Out : Type 0} (states : EndStates In Out) (airport : AirportParts) 
       (any_append (λ (call : Call Entry). call.number ≡ call_of entry) mid.calls other.calls (subst (HasCallOf entry) calls has))
 
   -- a worker, and the others beside it
-  one_more : (before less mid after : Held) (started ended : ServedState) (a b : ListenerState In Out) (olds news : List (ListenerState In Out)) (one others : WorkEnd)
+  one_more : (before less mid after : Held Fixed) (started ended : ServedState Fixed) (a b : ListenerState In Out) (olds news : List (ListenerState In Out)) (one others : WorkEnd)
       → less ≡ record before { share = before.share - 1 } → started.seat ≡ record before { calls = []; exhausted = false; share = 1 }
-      → Works states Turn airport asked (record { listener = a; port = port_of started }) (record { listener = b; port = port_of ended }) one
-      → WorkTogether states airport asked (record { listeners = olds; seat = less }) (record { listeners = news; seat = mid }) others
+      → Works states kind asked (record { listener = a; port = port_of started }) (record { listener = b; port = port_of ended }) one
+      → WorkTogether states kind asked (record { listeners = olds; seat = less }) (record { listeners = news; seat = mid }) others
       → Meets call_of mid ended.seat after
-      → WorkTogether states airport asked (record { listeners = a ∷ olds; seat = before }) (record { listeners = b ∷ news; seat = after }) (end_of (one ∷ others ∷ []))
+      → WorkTogether states kind asked (record { listeners = a ∷ olds; seat = before }) (record { listeners = b ∷ news; seat = after }) (end_of (one ∷ others ∷ []))
   one_more before less mid after started ended a b olds news one others less_is mine works rest meets =
       let worker : Worker In Out = record { before = record { listener = a; port = port_of started }; after = record { listener = b; port = port_of ended }; end = one } in
-      let same : less.seen ≡ before.seen = ap (λ (seat : Held). seat.seen) less_is in
+      let same : less.seen ≡ before.seen = ap (λ (seat : Held Fixed). seat.seen) less_is in
       let more : List Entry = meets.mine.rest in record {
         workers = worker ∷ rest.workers;
         begun = ap (λ (listeners : List (ListenerState In Out)). a ∷ listeners) rest.begun;
@@ -150,7 +150,7 @@ module _ {In Out : Type 0} (states : EndStates In Out) (airport : AirportParts) 
         end_is = ends one others (map (λ (w : Worker In Out). w.end) rest.workers) rest.end_is;
         work = (
           itself before mid after started ended a b one mine works meets,
-          every_more (WorksBeside states airport asked less mid) (WorksBeside states airport asked before after) (beside before less mid ended.seat after same meets) rest.workers rest.work,
+          every_more (WorksBeside states kind asked less mid) (WorksBeside states kind asked before after) (beside before less mid ended.seat after same meets) rest.workers rest.work,
         );
         begins = record {
           new = rest.begins.new ++ more;
@@ -162,14 +162,14 @@ module _ {In Out : Type 0} (states : EndStates In Out) (airport : AirportParts) 
             let all = ap (times number) meets.calls ∙ times_append number mid.calls ended.seat.calls in
             let own = times_count number ended.seat.calls in
             let theirs = rest.calls number in
-            let less_calls = ap (λ (seat : Held). times number seat.calls) less_is in
+            let less_calls = ap (λ (seat : Held Fixed). times number seat.calls) less_is in
             let counts = count_append (λ (call : ℕ). number == call) (map number_of ended.seat.calls) (calls_of rest.workers) in
             omega (arith, all, own, theirs, less_calls, counts);
-        at_risk = at_risk_of before less mid ended.seat after worker rest.workers (ap (λ (seat : Held). seat.calls) less_is) meets.calls refl rest.at_risk;
+        at_risk = at_risk_of before less mid ended.seat after worker rest.workers (ap (λ (seat : Held Fixed). seat.calls) less_is) meets.calls refl rest.at_risk;
       }
 
   -- no worker
-  none_works : (seat : Held) → WorkTogether states airport asked (record { listeners = []; seat = seat }) (record { listeners = []; seat = seat }) Done
+  none_works : (seat : Held Fixed) → WorkTogether states kind asked (record { listeners = []; seat = seat }) (record { listeners = []; seat = seat }) Done
   none_works seat = record {
     workers = [];
     begun = refl;
@@ -182,23 +182,23 @@ module _ {In Out : Type 0} (states : EndStates In Out) (airport : AirportParts) 
     at_risk = λ entry has stays. inl has;
   }
 
-  pub of_none : {L : Type 0} (state : L → ListenerState In Out) (listeners : List L) (seat : Held) → length listeners ≡ 0
-      → WorkTogether states airport asked (record { listeners = map state listeners; seat = seat }) (record { listeners = map state listeners; seat = seat }) Done
+  pub of_none : {L : Type 0} (state : L → ListenerState In Out) (listeners : List L) (seat : Held Fixed) → length listeners ≡ 0
+      → WorkTogether states kind asked (record { listeners = map state listeners; seat = seat }) (record { listeners = map state listeners; seat = seat }) Done
   of_none state [] seat none = none_works seat
   of_none state (x ∷ xs) seat none = absurd (omega arith)
 
   -- the worker of the one listener of the front, and those of the others
-  pub of_first : {L : Type 0} (state : L → ListenerState In Out) (before less mid after : Held) (started ended : ServedState) (xs ys us bs : List L) (one others end : WorkEnd)
+  pub of_first : {L : Type 0} (state : L → ListenerState In Out) (before less mid after : Held Fixed) (started ended : ServedState Fixed) (xs ys us bs : List L) (one others end : WorkEnd)
       → length xs ≡ 1
-      → AllZip (λ x y. Works states Turn airport asked (record { listener = state x; port = port_of started }) (record { listener = state y; port = port_of ended }) one) xs ys
+      → AllZip (λ x y. Works states kind asked (record { listener = state x; port = port_of started }) (record { listener = state y; port = port_of ended }) one) xs ys
       → less ≡ record before { share = before.share - 1 } → started.seat ≡ record before { calls = []; exhausted = false; share = 1 }
-      → WorkTogether states airport asked (record { listeners = map state us; seat = less }) (record { listeners = map state bs; seat = mid }) others
+      → WorkTogether states kind asked (record { listeners = map state us; seat = less }) (record { listeners = map state bs; seat = mid }) others
       → Meets call_of mid ended.seat after → end ≡ end_of (one ∷ others ∷ [])
-      → WorkTogether states airport asked (record { listeners = map state (xs ++ us); seat = before }) (record { listeners = map state (ys ++ bs); seat = after }) end
+      → WorkTogether states kind asked (record { listeners = map state (xs ++ us); seat = before }) (record { listeners = map state (ys ++ bs); seat = after }) end
   of_first state before less mid after started ended [] ys us bs one others end single works less_is mine rest meets end_is = absurd (omega arith)
   of_first state before less mid after started ended (x ∷ xs) [] us bs one others end single works less_is mine rest meets end_is = absurd works
   of_first state before less mid after started ended (x ∷ []) (y ∷ []) us bs one others end single works less_is mine rest meets end_is =
-      subst (λ (e : WorkEnd). WorkTogether states airport asked (record { listeners = state x ∷ map state us; seat = before }) (record { listeners = state y ∷ map state bs; seat = after }) e) (sym end_is)
+      subst (λ (e : WorkEnd). WorkTogether states kind asked (record { listeners = state x ∷ map state us; seat = before }) (record { listeners = state y ∷ map state bs; seat = after }) e) (sym end_is)
       (one_more before less mid after started ended (state x) (state y) (map state us) (map state bs) one others less_is mine works.0 rest meets)
   of_first state before less mid after started ended (x ∷ []) (y ∷ (z ∷ ys)) us bs one others end single works less_is mine rest meets end_is = absurd works.1
   of_first state before less mid after started ended (x ∷ (z ∷ xs)) (y ∷ ys) us bs one others end single works less_is mine rest meets end_is = absurd (omega arith)
@@ -222,7 +222,7 @@ rose least now (call ∷ calls) some within = ⊎_elim
 once : (first end number count : ℕ) → first ≤ end → count + below number first ≡ below number end → count ≡ cond (nat_le first number && nat_lt number end) 1 0
 once first end number count order counts = grind (arith, nat_tests)
 
--- an entry at risk behind a board is the one that a worker tells, where no call was made before
+-- an entry at risk after a board's history is the one that a worker tells, if no call was made before
 unkept : {In Out : Type 0} (workers : List (Worker In Out)) (calls : List (Call Entry)) (history : List Entry) (risk : Option Entry)
     → ((entry : Entry) → HasCallOf entry calls → StaysAtRisk entry calls → HasCallOf entry [] ⊎ Any (TellsAtRisk entry) workers)
     → IfSome risk (IsPutAtRisk call_of calls history) → IfSome risk (IsUnkeptOf workers history)
@@ -235,25 +235,26 @@ unkept workers calls history (Some entry) told put = record {
   since = put.since;
 }
 
-module _ {In Out : Type 0} (states : EndStates In Out) (asked : ℕ) where
-  pub serves : (machine left : MachineState Entry AirportParts) (board : TurnBoardState AirportParts) (first last : Held) (olds news : List (ListenerState In Out)) (end : WorkEnd)
+-- `kinds` says of which kind the sessions are, by the fixed part
+module _ {In Out Fixed : Type 0} (states : EndStates In Out) (kinds : Fixed → SessionKind) (asked : ℕ) where
+  pub serves : (machine left : MachineState Entry Fixed) (board : TurnBoardState Fixed) (first last : Held Fixed) (olds news : List (ListenerState In Out)) (end : WorkEnd)
       → Opens machine board first
-      → WorkTogether states board.start.fixed asked (record { listeners = olds; seat = first }) (record { listeners = news; seat = last }) end
-      → Closes call_of board last left → IsLegal left.fixed left.history
-      → ServesBoard states asked (record { listeners = olds; board = machine }) (record { listeners = news; board = left }) end
+      → WorkTogether states (kinds board.start.fixed) asked (record { listeners = olds; seat = first }) (record { listeners = news; seat = last }) end
+      → Closes call_of board last left → IsLegal (kinds left.fixed).airport left.history
+      → ServesBoard states kinds asked (record { listeners = olds; board = machine }) (record { listeners = news; board = left }) end
   serves machine left board first last olds news end opens together closes legal =
       let fixed : board.start.fixed ≡ machine.fixed = ap (λ s. s.fixed) opens.start in
       let next : board.start.first ≡ machine.next = ap (λ s. s.first) opens.start in
       let faults : board.start.faults ≡ machine.faults = ap (λ s. s.faults) opens.start in
-      let seen : first.seen ≡ machine.history = ap (λ (seat : Held). seat.seen) opens.first in
-      let none : (number : ℕ) → times number first.calls ≡ 0 = λ number. ap (λ (seat : Held). times number seat.calls) opens.first in record {
+      let seen : first.seen ≡ machine.history = ap (λ (seat : Held Fixed). seat.seen) opens.first in
+      let none : (number : ℕ) → times number first.calls ≡ 0 = λ number. ap (λ (seat : Held Fixed). times number seat.calls) opens.first in record {
         workers = together.workers;
         begun = together.begun;
         ended = together.ended;
         end_is = together.end_is;
-        work = every_more (WorksBeside states board.start.fixed asked first last) (WorksAt states asked machine left) (λ worker work. record {
+        work = every_more (WorksBeside states (kinds board.start.fixed) asked first last) (WorksAt states kinds asked machine left) (λ worker work. record {
           fresh = record { seen = work.fresh.seen ∙ seen; calls = work.fresh.calls; at_risk = work.fresh.at_risk; spent = work.fresh.spent; faults = work.fresh.faults };
-          works = subst (λ (at : AirportParts). Works states Turn at asked worker.before worker.after worker.end) fixed work.works;
+          works = subst (λ (at : Fixed). Works states (kinds at) asked worker.before worker.after worker.end) fixed work.works;
           seen = subst (λ (history : List Entry). IsLater worker.after.port.seen worker.after.port.calls history) (sym closes.history) work.seen;
           faults = λ some. subst (λ (least : ℕ). Rose least left.faults) faults (rose board.start.faults left.faults last.calls (let few = work.faults in omega arith) closes.faults);
         }) together.workers together.work;
@@ -276,11 +277,11 @@ module _ {In Out : Type 0} (states : EndStates In Out) (asked : ℕ) where
             let start = none number in
             subst (λ (least : ℕ). count_by (λ call. number == call) (calls_of together.workers) ≡ cond (nat_le least number && nat_lt number closes.end) 1 0) next
             (once board.start.first closes.end number (count_by (λ call. number == call) (calls_of together.workers)) closes.order.0 (omega arith));
-        exhausted = every_more (WorksBeside states board.start.fixed asked first last) (λ (worker : Worker In Out). worker.after.port.spent ≡ true → closes.end ≡ _)
+        exhausted = every_more (WorksBeside states (kinds board.start.fixed) asked first last) (λ (worker : Worker In Out). worker.after.port.spent ≡ true → closes.end ≡ _)
             (λ worker work spent. closes.exhausted (work.exhausted spent)) together.workers together.work;
         faults = let least = closes.since in omega arith;
         at_risk = unkept together.workers last.calls left.history left.at_risk
             (subst (λ (calls : List (Call Entry)). (entry : Entry) → HasCallOf entry last.calls → StaysAtRisk entry last.calls → HasCallOf entry calls ⊎ Any (TellsAtRisk entry) together.workers)
-            (ap (λ (seat : Held). seat.calls) opens.first) together.at_risk)
+            (ap (λ (seat : Held Fixed). seat.calls) opens.first) together.at_risk)
             closes.at_risk;
       }

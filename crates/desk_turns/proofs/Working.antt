@@ -1,4 +1,4 @@
--- One connection more, and the failure of a listener behind them.
+-- One connection more, and the failure of a listener after them.
 use Rattle.std.proofs.Common.{◌≡◌, ◌∙◌, ◌+◌, ◌<◌, ℕ, Bool, true, false, append-nil, List, [], ◌∷◌, ◌++◌, length, map, Option, None, Some, refl, sym, ap, subst, append_assoc, arith, length-append}
 use Rattle.std.specs.Option.{option_map}
 use Rattle.std.proofs.lemmas.List.{map-append}
@@ -6,11 +6,8 @@ use Rattle.apron_base.specs.Counts.{Counts, Rose}
 use Rattle.apron_base.specs.Keeper.{with_last}
 use Rattle.apron_base.specs.Listener.{ListenerState, TakesFirst, TakesNone, Finishes as IsFinished}
 use Rattle.apron_base.specs.declared.listener.Finished.{Finished}
-use Rattle.apron_rules.specs.declared.parts.AirportParts.{AirportParts}
-use Rattle.desk_words.specs.declared.asks.Ask.{Ask}
-use Rattle.history_core.specs.Answer.{Given}
 use Rattle.desk_http.specs.Ports.{PortState}
-use Rattle.desk_http.specs.Session.{SessionOf}
+use Rattle.desk_http.specs.Session.{SessionKind, SessionOfKind}
 use Rattle.desk_turns.specs.declared.worker.WorkEnd.{WorkEnd}
 use Rattle.desk_turns.specs.declared.worker.WorkEnd.TheVariants.{Done, ListenerFault}
 use Rattle.desk_turns.specs.Work.{AreServed, Connection, EndStates, Serves, TakesAndFinishes, WorkState, Works, come_of, finished_of}
@@ -76,59 +73,60 @@ module _ {In Out : Type 0} where
     faults = none.faults;
   }
 
-module _ {In Out : Type 0} (states : EndStates In Out) (asks : AirportParts → PortState → Ask → Given → PortState → Type 0) (airport : AirportParts) where
+-- `kinds` says of which kind the sessions are, by what a port has that no session changes
+module _ {In Out : Type 0} (states : EndStates In Out) {Fixed : Type 0} (kinds : Fixed → SessionKind) (fixed : Fixed) where
   -- connections and then others
   served_more : (before between after : PortState) (xs ys : List (Connection In Out))
-      → AreServed states asks airport before xs between → AreServed states asks airport between ys after → AreServed states asks airport before (xs ++ ys) after
-  served_more before between after [] ys first second = subst (λ port. AreServed states asks airport port ys after) first second
+      → AreServed states (kinds fixed) before xs between → AreServed states (kinds fixed) between ys after → AreServed states (kinds fixed) before (xs ++ ys) after
+  served_more before between after [] ys first second = subst (λ port. AreServed states (kinds fixed) port ys after) first second
   served_more before between after (x ∷ xs) ys first second = (first.0, first.1, served_more first.0 between after xs ys first.2 second)
 
   pub serves_more : (failed : Bool) (before between after : WorkState In Out) (xs ys : List (Connection In Out))
-      → Serves states asks airport false before between xs → Serves states asks airport failed between after ys → Serves states asks airport failed before after (xs ++ ys)
+      → Serves states (kinds fixed) false before between xs → Serves states (kinds fixed) failed between after ys → Serves states (kinds fixed) failed before after (xs ++ ys)
   serves_more failed before between after xs ys first second = record {
     served = served_more before.port between.port after.port xs ys first.served second.served;
     finishes = finishes_more failed before.listener between.listener after.listener xs ys first.finishes second.finishes;
   }
 
   -- nothing was served yet
-  none_served : (state : WorkState In Out) → Serves states asks airport false state state []
+  none_served : (state : WorkState In Out) → Serves states (kinds fixed) false state state []
   none_served state = record { served = refl; finishes = none_finished state.listener }
 
-  -- so many connections were served, of those that a worker was asked for
+  -- this many connections were served, of those that a worker was asked for
   abbrev pub SoFar : ℕ → WorkState In Out → WorkState In Out → Type 0
-  SoFar count before now = (connections : List (Connection In Out)) × Serves states asks airport false before now connections × (length connections ≡ count)
+  SoFar count before now = (connections : List (Connection In Out)) × Serves states (kinds fixed) false before now connections × (length connections ≡ count)
 
   pub begins : (state : WorkState In Out) → SoFar 0 state state
   begins state = ([], none_served state, refl)
 
   -- one connection more
-  pub goes_on : (now : AirportParts) (count : ℕ) (before between after : WorkState In Out) → now ≡ airport → SoFar count before between
-      → ((connection : Connection In Out) × Serves states asks now false between after (connection ∷ [])) → SoFar (count + 1) before after
+  pub goes_on : (now : Fixed) (count : ℕ) (before between after : WorkState In Out) → now ≡ fixed → SoFar count before between
+      → ((connection : Connection In Out) × Serves states (kinds now) false between after (connection ∷ [])) → SoFar (count + 1) before after
   goes_on now count before between after same so next =
       let more = length-append so.0 (next.0 ∷ []) in
       let size = so.2 in (
         so.0 ++ next.0 ∷ [],
-        serves_more false before between after so.0 (next.0 ∷ []) so.1 (subst (λ (at : AirportParts). Serves states asks at false between after (next.0 ∷ [])) same next.1),
+        serves_more false before between after so.0 (next.0 ∷ []) so.1 (subst (λ (at : Fixed). Serves states (kinds at) false between after (next.0 ∷ [])) same next.1),
         omega (arith, more),
       )
 
   -- the listener failed before all were served
-  pub stops : (now : AirportParts) (count asked : ℕ) (before between after : WorkState In Out) → now ≡ airport → SoFar count before between → count < asked
-      → Serves states asks now true between after [] → Works states asks airport asked before after ListenerFault
+  pub stops : (now : Fixed) (count asked : ℕ) (before between after : WorkState In Out) → now ≡ fixed → SoFar count before between → count < asked
+      → Serves states (kinds now) true between after [] → Works states (kinds fixed) asked before after ListenerFault
   stops now count asked before between after same so few next =
       let more = length-append so.0 [] in
       let size = so.2 in record {
         connections = so.0 ++ [];
-        serves = serves_more true before between after so.0 [] so.1 (subst (λ (at : AirportParts). Serves states asks at true between after []) same next);
+        serves = serves_more true before between after so.0 [] so.1 (subst (λ (at : Fixed). Serves states (kinds at) true between after []) same next);
         count = omega (arith, more);
       }
 
   -- all were served
-  pub is_done : (count asked : ℕ) (before after : WorkState In Out) → SoFar count before after → count ≡ asked → Works states asks airport asked before after Done
+  pub is_done : (count asked : ℕ) (before after : WorkState In Out) → SoFar count before after → count ≡ asked → Works states (kinds fixed) asked before after Done
   is_done count asked before after so all = record { connections = so.0; serves = so.1; count = so.2 ∙ all }
 
   -- a worker whose listener's count of faults didn't rise served all
-  pub done_unless : (asked : ℕ) (before after : WorkState In Out) (end : WorkEnd) → Works states asks airport asked before after end
+  pub done_unless : (asked : ℕ) (before after : WorkState In Out) (end : WorkEnd) → Works states (kinds fixed) asked before after end
       → ¬ (Rose before.listener.faults after.listener.faults) → end ≡ Done
   done_unless asked before after Done works none = refl
   done_unless asked before after ListenerFault works none = absurd (none works.serves.finishes.faults.1)
@@ -136,10 +134,10 @@ module _ {In Out : Type 0} (states : EndStates In Out) (asks : AirportParts → 
   -- a connection was accepted, had its session and was finished
   pub one_served : (before taken after : ListenerState In Out) (port ported : PortState) (source : In) (sink : Out) (last : Finished In Out)
       → TakesFirst before taken (source, sink)
-      → SessionOf asks airport (record { source = states.source source; sink = states.sink sink; port = port })
+      → SessionOfKind (kinds fixed) (record { source = states.source source; sink = states.sink sink; port = port })
       (record { source = states.source last.source; sink = states.sink last.sink; port = ported }) last.outcome
       → IsFinished taken after last
-      → (connection : Connection In Out) × Serves states asks airport false (record { listener = before; port = port }) (record { listener = after; port = ported }) (connection ∷ [])
+      → (connection : Connection In Out) × Serves states (kinds fixed) false (record { listener = before; port = port }) (record { listener = after; port = ported }) (connection ∷ [])
   one_served before taken after port ported source sink last first session finished = (
     record { source = source; sink = sink; finished = last },
     record {
@@ -156,5 +154,5 @@ module _ {In Out : Type 0} (states : EndStates In Out) (asks : AirportParts → 
 
   -- the listener failed, and the port was not asked
   pub none_taken : (before after : ListenerState In Out) (port : PortState) → TakesNone before after
-      → Serves states asks airport true (record { listener = before; port = port }) (record { listener = after; port = port }) []
+      → Serves states (kinds fixed) true (record { listener = before; port = port }) (record { listener = after; port = port }) []
   none_taken before after port none = record { served = refl; finishes = failed_finishing before after none }

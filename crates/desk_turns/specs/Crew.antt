@@ -5,18 +5,18 @@ use Rattle.apron_base.specs.Counts.{Rose}
 use Rattle.apron_base.specs.Histories.{Every, Rises}
 use Rattle.apron_base.specs.Listener.{ListenerState}
 use Rattle.apron_base.specs.Machine.{MachineState}
-use Rattle.apron_rules.specs.declared.parts.AirportParts.{AirportParts}
 use Rattle.desk_words.specs.declared.asks.Entry.{Entry}
 use Rattle.history_core.specs.History.{IsLegal, call_limit, call_of}
-use Rattle.desk_http.specs.Ports.{IsLater, PortState, Turn}
+use Rattle.desk_http.specs.Ports.{IsLater, PortState}
+use Rattle.desk_http.specs.Session.{SessionKind}
 use Rattle.desk_turns.specs.declared.worker.WorkEnd.{WorkEnd}
 use Rattle.desk_turns.specs.declared.worker.WorkEnd.TheVariants.{Done, ListenerFault}
 use Rattle.desk_turns.specs.Work.{EndStates, WorkState, Works}
 
--- the listeners of the workers in order, and the board
-pub record CrewState (In Out : Type 0) : Type 0 where
+-- the listeners of the workers in order, and the board, with what is around it
+pub record CrewState (In Out Fixed : Type 0) : Type 0 where
   pub listeners : List (ListenerState In Out)
-  pub board : MachineState Entry AirportParts
+  pub board : MachineState Entry Fixed
 
 -- a worker: its listener and its port before and after, and how it ended
 pub record Worker (In Out : Type 0) : Type 0 where
@@ -60,27 +60,28 @@ module _ {In Out : Type 0} where
     pub by : Any (TellsAtRisk entry) workers
     pub since : Rises call_of 1 entry.call history
 
-module _ {In Out : Type 0} (states : EndStates In Out) (asked : ℕ) (before after : MachineState Entry AirportParts) where
+-- `kinds` says of which kind the sessions are, by the fixed part
+module _ {In Out Fixed : Type 0} (states : EndStates In Out) (kinds : Fixed → SessionKind) (asked : ℕ) (before after : MachineState Entry Fixed) where
   -- A worker at the board: its port had seen the board's history, and it served the connections of its listener over it. What it has seen at its end begins
   -- the history at the end, where all else has greater numbers than its calls; and its port counts a fault only where the board's count rose.
   pub record WorksAt (worker : Worker In Out) : Type 0 where
     pub fresh : IsFresh before.history worker.before.port
-    pub works : Works states Turn before.fixed asked worker.before worker.after worker.end
+    pub works : Works states (kinds before.fixed) asked worker.before worker.after worker.end
     pub seen : IsLater worker.after.port.seen worker.after.port.calls after.history
     pub faults : 0 < worker.after.port.faults → Rose before.faults after.faults
 
--- Workers that were asked for so many connections each, one for each listener: how they ended together, and what they left of the board. Its history is legal, begins
+-- Workers that were asked for this many connections each, one for each listener: how they ended together, and what they left of the board. Its history is legal, begins
 -- with the history before, and is the longest that one of them has seen. Their calls together are, without a gap and each once, the numbers from the board's next
 -- one up to an end, which is the end of all numbers where a port found them exhausted. An entry at risk then is one that one of them could not keep, and none was
 -- added since.
-pub record ServesBoard {In Out : Type 0} (states : EndStates In Out) (asked : ℕ) (before after : CrewState In Out) (end : WorkEnd) : Type 0 where
+pub record ServesBoard {In Out Fixed : Type 0} (states : EndStates In Out) (kinds : Fixed → SessionKind) (asked : ℕ) (before after : CrewState In Out Fixed) (end : WorkEnd) : Type 0 where
   pub workers : List (Worker In Out)
   pub begun : before.listeners ≡ map (λ (worker : Worker In Out). worker.before.listener) workers
   pub ended : after.listeners ≡ map (λ (worker : Worker In Out). worker.after.listener) workers
   pub end_is : end ≡ end_of (map (λ (worker : Worker In Out). worker.end) workers)
-  pub work : Every (WorksAt states asked before.board after.board) workers
+  pub work : Every (WorksAt states kinds asked before.board after.board) workers
   pub fixed : after.board.fixed ≡ before.board.fixed
-  pub legal : IsLegal after.board.fixed after.board.history
+  pub legal : IsLegal (kinds after.board.fixed).airport after.board.history
   pub begins : IsLater before.board.history [] after.board.history
   pub longest : (after.board.history ≡ before.board.history) ⊎ Any (HasSeen after.board.history) workers
   pub last : ℕ

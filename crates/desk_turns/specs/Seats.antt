@@ -1,21 +1,25 @@
 -- A seat of a board as a port.
 use Rattle.std.specs.Prelude.{◌==◌, ℕ, Bool, List, [], ◌∷◌, Option, None, Some, map, count_by, nat_le, nat_lt, if◌then◌else◌}
 use Rattle.apron_base.specs.Counts.{one_more}
-use Rattle.apron_rules.specs.declared.parts.AirportParts.{AirportParts}
 use Rattle.desk_words.specs.declared.asks.Entry.{Entry}
 use Rattle.history_core.specs.History.{call_of}
 use Rattle.turn_board.specs.declared.view.Call.{Call}
 use Rattle.turn_board.specs.Board.{SeatState, TurnBoardState}
 use Rattle.desk_http.specs.Ports.{PortState}
 
--- a seat, and the board that it is of
-pub record ServedState : Type 0 where
-  pub board : TurnBoardState AirportParts
-  pub seat : SeatState Entry AirportParts
+-- a seat, and the board that it is of, whose machine has such a fixed part
+pub record ServedState (Fixed : Type 0) : Type 0 where
+  pub board : TurnBoardState Fixed
+  pub seat : SeatState Entry Fixed
 
--- what no call of the seat changes: its board and its share
-abbrev pub place_of : ServedState → TurnBoardState AirportParts × ℕ
-place_of served = (served.board, served.seat.share)
+module _ {Fixed : Type 0} where
+  -- the fixed part of the machine
+  abbrev pub fixed_of : ServedState Fixed → Fixed
+  fixed_of served = served.board.start.fixed
+
+  -- what no call of the seat changes: its board and its share
+  abbrev pub place_of : ServedState Fixed → TurnBoardState Fixed × ℕ
+  place_of served = (served.board, served.seat.share)
 
 -- the number of a call
 abbrev pub number_of : Call Entry → ℕ
@@ -43,7 +47,7 @@ latest_at_risk (call ∷ calls) = later_of (put_by call.number call.at_risk) (la
 
 -- what a seat tells: its calls have numbers from 1 on, its entry at risk is the latest that one of them put there, also where others have added entries since,
 -- and its count of faults is the number of its own calls over which the machine's count rose
-abbrev pub port_of : ServedState → PortState
+abbrev pub port_of : {Fixed : Type 0} → ServedState Fixed → PortState
 port_of served = record {
   first = 1;
   seen = served.seat.seen;

@@ -3,22 +3,22 @@ use Rattle.std.specs.Prelude.{◌≡◌, ◌⊎◌, ◌+◌, ◌<◌, ◌≤◌,
 use Rattle.std.specs.List.{Any, count_by}
 use Rattle.apron_base.specs.Histories.{Every}
 use Rattle.apron_base.specs.Listener.{ListenerState}
-use Rattle.apron_rules.specs.declared.parts.AirportParts.{AirportParts}
 use Rattle.desk_words.specs.declared.asks.Entry.{Entry}
 use Rattle.history_core.specs.History.{call_of}
 use Rattle.turn_board.specs.Board.{SeatState}
 use Rattle.turn_board.specs.Totals.{times}
 use Rattle.turn_board.specs.declared.view.Call.{Call}
-use Rattle.desk_http.specs.Ports.{IsLater, Turn}
+use Rattle.desk_http.specs.Ports.{IsLater}
+use Rattle.desk_http.specs.Session.{SessionKind}
 use Rattle.desk_turns.specs.declared.worker.WorkEnd.{WorkEnd}
 use Rattle.desk_turns.specs.Crew.{HasSeen, IsFresh, TellsAtRisk, Worker, calls_of, end_of}
 use Rattle.desk_turns.specs.Seats.{is_risen, number_of}
 use Rattle.desk_turns.specs.Work.{EndStates, Works}
 
 -- the listeners of the workers in order, and the seat that theirs are cut from
-pub record SeatedState (In Out : Type 0) : Type 0 where
+pub record SeatedState (In Out Fixed : Type 0) : Type 0 where
   pub listeners : List (ListenerState In Out)
-  pub seat : SeatState Entry AirportParts
+  pub seat : SeatState Entry Fixed
 
 -- each of these entries has a greater number than each of these calls
 abbrev pub AreLater : List ℕ → List Entry → Type 0
@@ -34,22 +34,22 @@ StaysAtRisk entry calls = Every (λ (call : Call Entry). call_of entry ≤ call.
 
 -- A worker whose seat was cut from one seat and met it again: what its port has seen at its end begins the history that is seen then, and its calls, its note
 -- of exhausted numbers and its faults are with that seat.
-pub record WorksBeside {In Out : Type 0} (states : EndStates In Out) (airport : AirportParts) (asked : ℕ) (before after : SeatState Entry AirportParts) (worker : Worker In Out) : Type 0 where
+pub record WorksBeside {In Out Fixed : Type 0} (states : EndStates In Out) (kind : SessionKind) (asked : ℕ) (before after : SeatState Entry Fixed) (worker : Worker In Out) : Type 0 where
   pub fresh : IsFresh before.seen worker.before.port
-  pub works : Works states Turn airport asked worker.before worker.after worker.end
+  pub works : Works states kind asked worker.before worker.after worker.end
   pub seen : IsLater worker.after.port.seen worker.after.port.calls after.seen
   pub own : (entries : List Entry) → AreLater (map number_of after.calls) entries → AreLater worker.after.port.calls entries
   pub exhausted : worker.after.port.spent ≡ true → after.exhausted ≡ true
   pub faults : worker.after.port.faults ≤ count_by is_risen after.calls
 
--- workers that were asked for so many connections each, one for each listener: how they ended together, and the seat that has met all of theirs; an entry that
+-- workers that were asked for this many connections each, one for each listener: how they ended together, and the seat that has met all of theirs; an entry that
 -- one of its calls put at risk, and which stayed so, is that of a call from before or the one that a worker tells
-pub record WorkTogether {In Out : Type 0} (states : EndStates In Out) (airport : AirportParts) (asked : ℕ) (before after : SeatedState In Out) (end : WorkEnd) : Type 0 where
+pub record WorkTogether {In Out Fixed : Type 0} (states : EndStates In Out) (kind : SessionKind) (asked : ℕ) (before after : SeatedState In Out Fixed) (end : WorkEnd) : Type 0 where
   pub workers : List (Worker In Out)
   pub begun : before.listeners ≡ map (λ (worker : Worker In Out). worker.before.listener) workers
   pub ended : after.listeners ≡ map (λ (worker : Worker In Out). worker.after.listener) workers
   pub end_is : end ≡ end_of (map (λ (worker : Worker In Out). worker.end) workers)
-  pub work : Every (WorksBeside states airport asked before.seat after.seat) workers
+  pub work : Every (WorksBeside states kind asked before.seat after.seat) workers
   pub begins : IsLater before.seat.seen [] after.seat.seen
   pub longest : (after.seat.seen ≡ before.seat.seen) ⊎ Any (HasSeen after.seat.seen) workers
   pub calls : (number : ℕ) → times number after.seat.calls ≡ times number before.seat.calls + count_by (λ call. number == call) (calls_of workers)

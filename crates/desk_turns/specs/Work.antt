@@ -5,11 +5,8 @@ use Rattle.apron_base.specs.Counts.{Counts}
 use Rattle.apron_base.specs.Ends.{SinkState, SourceState}
 use Rattle.apron_base.specs.Listener.{ListenerState}
 use Rattle.apron_base.specs.declared.listener.Finished.{Finished}
-use Rattle.apron_rules.specs.declared.parts.AirportParts.{AirportParts}
-use Rattle.desk_words.specs.declared.asks.Ask.{Ask}
-use Rattle.history_core.specs.Answer.{Given}
 use Rattle.desk_http.specs.Ports.{PortState}
-use Rattle.desk_http.specs.Session.{SessionOf}
+use Rattle.desk_http.specs.Session.{SessionKind, SessionOfKind}
 use Rattle.desk_turns.specs.declared.worker.WorkEnd.{WorkEnd}
 use Rattle.desk_turns.specs.declared.worker.WorkEnd.TheVariants.{Done, ListenerFault}
 
@@ -56,11 +53,10 @@ module _ {In Out : Type 0} where
     pub ended : after.ended ≡ before.ended + length connections
     pub faults : Counts failed before.faults after.faults
 
--- `asks` says what a port of the airport gives for an ask and what it becomes
-module _ {In Out : Type 0} (states : EndStates In Out) (asks : AirportParts → PortState → Ask → Given → PortState → Type 0) (airport : AirportParts) where
+module _ {In Out : Type 0} (states : EndStates In Out) (kind : SessionKind) where
   -- the connection had a session of its own, and was finished with its outcome
   abbrev pub HasSession : PortState → Connection In Out → PortState → Type 0
-  HasSession before connection after = SessionOf asks airport
+  HasSession before connection after = SessionOfKind kind
       (record { source = states.source connection.source; sink = states.sink connection.sink; port = before })
       (record { source = states.source connection.finished.source; sink = states.sink connection.finished.sink; port = after })
       connection.finished.outcome
@@ -82,7 +78,7 @@ module _ {In Out : Type 0} (states : EndStates In Out) (asks : AirportParts → 
       (λ _. (connection : Connection In Out) × Serves false before after (connection ∷ []))
       (λ _. Serves true before after [])
 
-  -- A worker that was asked for so many connections: it served these, all or fewer, and fewer only where the listener failed.
+  -- A worker that was asked for this many connections: it served these, all or fewer, and fewer only if the listener failed.
   pub record Works (asked : ℕ) (before after : WorkState In Out) (end : WorkEnd) : Type 0 where
     pub connections : List (Connection In Out)
     pub serves : Serves (is_listener_fault end) before after connections

@@ -1,64 +1,79 @@
-// The workers at one board, one for each listener, each in a thread of its own.
+// The workers at one board, one for each listener, each in a thread of its own, and a job beside them.
 ghost use Rattle.std.specs.Prelude.{◌≡◌, ◌<◌, IfErr, IfOk, None, [], ◌∷◌, length, map};
 ghost use Rattle.std.specs.List.{AllZip};
 ghost use Rattle.std.specs.Thread.{IsSync};
-ghost use Rattle.history_core.specs.Board.{machine_state};
-ghost use Rattle.desk_http.specs.Ports.{Turn};
-ghost use Rattle.turn_board.specs.Board.{Sits};
+ghost use Rattle.history_core.specs.History.{IsLegal, call_of};
+ghost use Rattle.turn_board.specs.Board.{Closes, Sits};
 ghost use Rattle.turn_board.specs.Views.{all_shares};
 ghost use Rattle.desk_turns.specs.Crew.{ServesBoard, end_of};
-ghost use Rattle.desk_turns.specs.Seats.{place_of, port_of};
 ghost use Rattle.desk_turns.specs.Together.{WorkTogether};
 ghost use Rattle.desk_turns.specs.Work.{Works};
 
-use crate::served::Served;
+use crate::machine::DeskMachine;
+use crate::served::SeatPort;
+use crate::sessions::SessionMachine;
+use crate::split::SplitPort;
 use crate::worker::{WorkEnd, work};
-use apron_base::{CALL_END, Keeper, Listener, Memory};
+use apron_base::{Listener, Memory};
 use apron_rules::Airport;
-use desk_http::DeskPort;
-use history_core::Board;
+use desk_http::SessionPort;
 use std::alloc::Global;
 use std::sync::Wait;
 use std::thread::{Threads, join_mut};
 use turn_board::{Seat, TurnBoard};
 
-/// Serves so many connections of each listener at a board behind which no entry is at risk: each listener by a worker in
-/// a thread of its own with a seat of its own at the board, and takes all seats in again. It ends as the first worker in
-/// order that stopped before its time, and is done where none did. At `Err` memory is wanting, and nothing was served.
-pub fn serve_board<'a, R: Threads + Wait + Sync, K: Keeper + Send, W: Workplace + Send>(
+/// Serves this many connections of each listener at a board at which no entry is at risk: each listener by a worker in a thread
+/// of its own with a seat of its own at the board. The job runs beside the workers, in this thread, and has to end by itself.
+/// When all have ended, all seats are taken in, and the board comes back with what the job gave. It ends as the first worker
+/// in order that stopped early, and is done if none did. At `Err` there is no memory: nothing was served, and the
+/// job was not run.
+pub fn serve_board<
+    R: Threads + Wait + Sync,
+    M: SessionMachine + Send,
+    W: Workplace + Send,
+    J: FnMut() -> T,
+    T,
+>(
     rt: &R,
     alloc: Global,
-    airport: &'a Airport,
-    board: Board<'a, K>,
+    airport: &Airport,
+    board: M,
     listeners: &mut [W],
     connections: u32,
-) -> (Result<WorkEnd, Memory>, Board<'a, K>)
-    requires airport { airport.now ≡ board.airport }
-    requires at_risk { (machine_state K.state board).at_risk ≡ None }
+    job: &mut J,
+) -> (Result<(WorkEnd, T), Memory>, M)
+    requires airport { airport.now ≡ M.airport (M.state board).fixed }
+    requires at_risk { (M.state board).at_risk ≡ None }
     requires few { length listeners.old < all_shares }
-    ensures serves { IfOk result.0 (ServesBoard W.states connections
-        (record { listeners = map W.state listeners.old; board = machine_state K.state board.entry })
-        (record { listeners = map W.state listeners.new; board = machine_state K.state result.1 })) }
-    ensures refused { IfErr result.0 (λ _. (listeners.new ≡ listeners.old) × (result.1 ≡ board.entry)) }
+    requires job { J.pre job.old }
+    ensures serves { IfOk result.0 (λ ends. ServesBoard W.states (λ fixed. record { airport = M.airport fixed; comes = M.comes fixed }) connections
+        (record { listeners = map W.state listeners.old; board = M.state board })
+        (record { listeners = map W.state listeners.new; board = M.state result.1 }) ends.0) }
+    ensures job { IfOk result.0 (λ ends. J.step job.old ends.1 job.new) }
+    ensures refused { IfErr result.0 (λ _. (listeners.new ≡ listeners.old) × (result.1 ≡ board) × (job.new ≡ job.old)) }
 {
-    prove!(board.next_call() <= CALL_END);
+    board.is_board();
     match TurnBoard::new(alloc, board) {
-        Ok((turns, mut seat)) => {
-            let end = work_all(
-                rt,
-                alloc,
-                &turns,
-                airport,
-                &mut seat,
-                listeners,
-                connections,
-            );
-            let board = turns.close(seat);
-            prove!(board.next_call() <= CALL_END);
-            (Ok(end), board)
+        Ok((turns, seat)) => {
+            let mut port = SeatPort::new(rt, &turns, airport, seat);
+            let ends = work_all(rt, alloc, &mut port, listeners, connections, job);
+            let seat = port.into_seat();
+            (Ok(ends), closed(turns, seat))
         }
         Err(board) => (Err(Memory), board),
     }
+}
+
+// The board, once all seats have met this one.
+fn closed<M: DeskMachine>(turns: TurnBoard<M>, seat: Seat<M>) -> M
+    requires sits { Sits turns seat }
+    requires share { seat.share ≡ all_shares }
+    ensures closes { Closes call_of turns seat (M.state result) }
+    ensures legal { IsLegal (M.airport (M.state result).fixed) (M.state result).history }
+{
+    let board = turns.close(seat);
+    board.is_board();
+    board
 }
 
 /// A listener as its worker sees it. Every listener is one. The ends of its connections have no bound, since what is sent to
@@ -80,15 +95,15 @@ pub trait Workplace {
     /// The state of the listener.
     ghost state: { Self → ListenerState Self.In Self.Out };
 
-    /// Serves so many connections over the port, as `work` does.
-    fn work<P: DeskPort, R: Wait>(
+    /// Serves this many connections over the port, as `work` does.
+    fn work<P: SessionPort, R: Wait>(
         &mut self,
         rt: &R,
         alloc: Global,
         port: &mut P,
         connections: u32,
     ) -> WorkEnd
-        ensures works { Works states P.asks (P.airport_of port.old) connections
+        ensures works { Works states (P.sessions (P.fixed port.old)) connections
             (record { listener = state self.old; port = P.port port.old })
             (record { listener = state self.new; port = P.port port.new }) result }
         ensures place { P.place port.new ≡ P.place port.old };
@@ -103,7 +118,7 @@ impl<L: Listener> Workplace for L {
 
     ghost state = { L.state };
 
-    fn work<P: DeskPort, R: Wait>(
+    fn work<P: SessionPort, R: Wait>(
         &mut self,
         rt: &R,
         alloc: Global,
@@ -115,7 +130,7 @@ impl<L: Listener> Workplace for L {
 }
 
 // The only listener of a list.
-fn work_first<P: DeskPort, W: Workplace, R: Wait>(
+fn work_first<P: SessionPort, W: Workplace, R: Wait>(
     rt: &R,
     alloc: Global,
     port: &mut P,
@@ -123,7 +138,7 @@ fn work_first<P: DeskPort, W: Workplace, R: Wait>(
     connections: u32,
 ) -> WorkEnd
     requires one { length listeners.old ≡ 1 }
-    ensures works { AllZip (λ before after. Works W.states P.asks (P.airport_of port.old) connections
+    ensures works { AllZip (λ before after. Works W.states (P.sessions (P.fixed port.old)) connections
         (record { listener = W.state before; port = P.port port.old })
         (record { listener = W.state after; port = P.port port.new }) result) listeners.old listeners.new }
     ensures place { P.place port.new ≡ P.place port.old }
@@ -133,10 +148,11 @@ fn work_first<P: DeskPort, W: Workplace, R: Wait>(
 
 // The worker of the only listener of a list, in a thread of its own, and another job beside it.
 fn work_beside<
-    P: DeskPort + Send,
+    P: SessionPort + Send,
     W: Workplace + Send,
     R: Threads + Wait + Sync,
-    J: FnMut() -> WorkEnd,
+    J: FnMut() -> T,
+    T,
 >(
     rt: &R,
     alloc: Global,
@@ -144,10 +160,10 @@ fn work_beside<
     listeners: &mut [W],
     connections: u32,
     job: &mut J,
-) -> (WorkEnd, WorkEnd)
+) -> (WorkEnd, T)
     requires one { length listeners.old ≡ 1 }
     requires job { J.pre job.old }
-    ensures works { AllZip (λ before after. Works W.states P.asks (P.airport_of port.old) connections
+    ensures works { AllZip (λ before after. Works W.states (P.sessions (P.fixed port.old)) connections
         (record { listener = W.state before; port = P.port port.old })
         (record { listener = W.state after; port = P.port port.new }) result.0) listeners.old listeners.new }
     ensures place { P.place port.new ≡ P.place port.old }
@@ -157,7 +173,7 @@ fn work_beside<
         rt,
         &mut ||
             requires { length listeners.now ≡ 1 }
-            ensures works { AllZip (λ before after. Works W.states P.asks (P.airport_of port.entry.now) connections
+            ensures works { AllZip (λ before after. Works W.states (P.sessions (P.fixed port.entry.now)) connections
                 (record { listener = W.state before; port = P.port port.entry.now })
                 (record { listener = W.state after; port = P.port port.exit.now }) result) listeners.entry.now listeners.exit.now }
             ensures place { P.place port.exit.now ≡ P.place port.entry.now }
@@ -166,74 +182,48 @@ fn work_beside<
     )
 }
 
-// The same over the port of a seat.
-fn work_seated<
-    's,
-    'a,
-    R: Threads + Wait + Sync,
-    K: Keeper + Send,
-    W: Workplace + Send,
-    J: FnMut() -> WorkEnd,
->(
+// A worker for each listener, each in a thread of its own, and the job in this one. All seats are taken in again.
+fn work_all<P: SplitPort + Send, W: Workplace + Send, R: Threads + Wait + Sync, J: FnMut() -> T, T>(
     rt: &R,
     alloc: Global,
-    port: &mut Served<'s, 'a, R, K>,
+    port: &mut P,
     listeners: &mut [W],
     connections: u32,
     job: &mut J,
-) -> (WorkEnd, WorkEnd)
-    requires one { length listeners.old ≡ 1 }
+) -> (WorkEnd, T)
+    requires share { length listeners.old < (P.served port.old).seat.share }
     requires job { J.pre job.old }
-    ensures works { AllZip (λ before after. Works W.states Turn port.old.board.start.fixed connections
-        (record { listener = W.state before; port = port_of port.old })
-        (record { listener = W.state after; port = port_of port.new }) result.0) listeners.old listeners.new }
-    ensures place { place_of port.new ≡ place_of port.old }
+    ensures board { (P.served port.new).board ≡ (P.served port.old).board }
+    ensures share { (P.served port.new).seat.share ≡ (P.served port.old).seat.share }
+    ensures works { WorkTogether W.states (P.sessions (P.fixed port.old)) connections
+        (record { listeners = map W.state listeners.old; seat = (P.served port.old).seat })
+        (record { listeners = map W.state listeners.new; seat = (P.served port.new).seat }) result.0 }
     ensures job { J.step job.old result.1 job.new }
 {
-    work_beside(rt, alloc, port, listeners, connections, job)
-}
-
-// A worker for each listener, each in a thread of its own. All seats are taken in again.
-fn work_all<'s, 'a, R: Threads + Wait + Sync, K: Keeper + Send, W: Workplace + Send>(
-    rt: &'s R,
-    alloc: Global,
-    board: &'s TurnBoard<Board<'a, K>>,
-    airport: &'a Airport,
-    seat: &mut Seat<Board<'a, K>>,
-    listeners: &mut [W],
-    connections: u32,
-) -> WorkEnd
-    requires sits { Sits board.now seat.old }
-    requires airport { airport.now ≡ board.now.start.fixed }
-    requires share { length listeners.old < seat.old.share }
-    ensures sits { Sits board.now seat.new }
-    ensures share { seat.new.share ≡ seat.old.share }
-    ensures works { WorkTogether W.states board.now.start.fixed connections
-        (record { listeners = map W.state listeners.old; seat = seat.old })
-        (record { listeners = map W.state listeners.new; seat = seat.new }) result }
-{
     if listeners.is_empty() {
-        return WorkEnd::Done;
+        return (WorkEnd::Done, job());
     }
-    let mine = board.split(seat);
-    let mut served = Served::new(rt, board, airport, mine);
+    port.is_seat();
+    let mut mine = port.split();
     let (first, rest) = listeners.split_at_mut(1);
-    let (one, others) = work_seated(
+    let (one, (others, done)) = work_beside(
         rt,
         alloc,
-        &mut served,
+        &mut mine,
         first,
         connections,
         &mut ||
-            requires { IsSync R.row × Sits board.now seat.now × (airport.now ≡ board.now.start.fixed) × (length rest.now < seat.now.share) }
-            ensures sits { Sits board.entry.now seat.exit.now × (seat.exit.now.share ≡ seat.entry.now.share) }
-            ensures works { WorkTogether W.states board.entry.now.start.fixed connections
-                (record { listeners = map W.state rest.entry.now; seat = seat.entry.now })
-                (record { listeners = map W.state rest.exit.now; seat = seat.exit.now }) result }
-        { work_all(rt, alloc, board, airport, seat, rest, connections) },
+            requires { IsSync R.row × (length rest.now < (P.served port.now).seat.share) × J.pre job.now }
+            ensures board { (P.served port.exit.now).board ≡ (P.served port.entry.now).board }
+            ensures share { (P.served port.exit.now).seat.share ≡ (P.served port.entry.now).seat.share }
+            ensures works { WorkTogether W.states (P.sessions (P.fixed port.entry.now)) connections
+                (record { listeners = map W.state rest.entry.now; seat = (P.served port.entry.now).seat })
+                (record { listeners = map W.state rest.exit.now; seat = (P.served port.exit.now).seat }) result.0 }
+            ensures job { J.step job.entry.now result.1 job.exit.now }
+        { work_all(rt, alloc, port, rest, connections, job) },
     );
-    board.meet(seat, served.into_seat());
-    first_end(one, others)
+    port.meet(mine);
+    (first_end(one, others), done)
 }
 
 // Of two the end of the first one that was not done.

@@ -1,53 +1,64 @@
 // One of several desks that take turns at a board.
-ghost use Rattle.std.specs.Prelude.{◌≡◌};
+ghost use Rattle.std.specs.Prelude.{◌≡◌, IfOk, OnErr};
+ghost use Rattle.desk_words.specs.declared.asks.Ask.{Ask};
+ghost use Rattle.history_core.specs.History.{IsAskOf};
 ghost use Rattle.turn_board.specs.Board.{Sits};
+ghost use Rattle.desk_turns.specs.Machines.{AsksAt, AsksBoard, IsCommand, uncopied};
+ghost use Rattle.desk_turns.specs.Seats.{fixed_of};
 
-use apron_base::{Acted, Keeper};
+use crate::machine::DeskMachine;
+use crate::sessions::SessionMachine;
+use crate::split::SplitPort;
+use crate::turns::Turns;
+use apron_base::{Acted, Machine, Memory};
 use apron_rules::Airport;
 use desk_http::DeskPort;
-use desk_words::asks::Ask;
+use desk_words::asks::{Ask, What};
 use history_core::Board;
 use std::alloc::Global;
 use std::marker::Model;
 use std::sync::Wait;
 use turn_board::{Seat, TurnBoard};
 
-/// The port of a desk that has a seat of its own at a board. An ask waits for its turn.
+/// The port of a desk that has a seat of its own at a board with something around it. An ask waits for its turn.
 ///
 /// Contracts see the board and the seat.
-pub struct Served<'s, 'a, R, K: Keeper> {
+pub struct SeatPort<'s, R, M: DeskMachine, B: Turns<M>> {
     rt: &'s R,
-    board: &'s TurnBoard<Board<'a, K>>,
-    airport: &'a Airport,
-    seat: Seat<Board<'a, K>>,
+    board: &'s B,
+    airport: &'s Airport,
+    seat: Seat<M>,
 }
 
-impl<'s, 'a, R, K: Keeper> Model for Served<'s, 'a, R, K> {
+/// The port of a desk that has a seat of its own at a board.
+pub type Served<'s, 'a, R, K> = SeatPort<'s, R, Board<'a, K>, TurnBoard<Board<'a, K>>>;
+
+impl<'s, R, M: DeskMachine, B: Turns<M>> Model for SeatPort<'s, R, M, B> {
     ghost use Rattle.std.specs.Prelude.{◌≡◌};
     ghost use Rattle.turn_board.specs.Board.{Sits};
     ghost use Rattle.desk_turns.specs.Seats.{ServedState};
 
-    ghost Value = { ServedState };
+    ghost Value = { ServedState M.Fixed };
 
-    ghost view = { λ s. record { board = s.board.now; seat = s.seat } };
+    ghost view = { λ s. record { board = B.state s.board.now; seat = s.seat } };
 
-    ghost invariant = { λ s. Sits s.board.now s.seat × (s.airport.now ≡ s.board.now.start.fixed) };
+    ghost invariant = { λ s. Sits (B.state s.board.now) s.seat × (s.airport.now ≡ M.airport (B.state s.board.now).start.fixed) };
 }
 
-impl<'s, 'a, R, K: Keeper> Served<'s, 'a, R, K> {
+impl<'s, R, M: DeskMachine, B: Turns<M>> SeatPort<'s, R, M, B> {
     /// The port of a seat of this board, whose airport this is.
     pub fn new(
         rt: &'s R,
-        board: &'s TurnBoard<Board<'a, K>>,
-        airport: &'a Airport,
-        seat: Seat<Board<'a, K>>,
-    ) -> Served<'s, 'a, R, K>
-        requires sits { Sits board.now seat }
-        requires airport { airport.now ≡ board.now.start.fixed }
-        ensures board { result.board ≡ board.now }
-        ensures seat { result.seat ≡ seat.entry }
+        board: &'s B,
+        airport: &'s Airport,
+        seat: Seat<M>,
+    ) -> SeatPort<'s, R, M, B>
+        requires sits { Sits (B.state board.now) seat }
+        requires airport { airport.now ≡ M.airport (B.state board.now).start.fixed }
+        ensures board { result.board ≡ B.state board.now }
+        ensures seat { result.seat ≡ seat }
     {
-        Served {
+        SeatPort {
             rt,
             board,
             airport,
@@ -56,11 +67,11 @@ impl<'s, 'a, R, K: Keeper> Served<'s, 'a, R, K> {
     }
 
     /// The seat after the desk's calls.
-    pub fn into_seat(self) -> Seat<Board<'a, K>>
+    pub fn into_seat(self) -> Seat<M>
         ensures seat { result ≡ self.entry.seat }
         ensures sits { Sits self.entry.board result }
     {
-        let Served {
+        let SeatPort {
             rt: _,
             board: _,
             airport: _,
@@ -70,13 +81,26 @@ impl<'s, 'a, R, K: Keeper> Served<'s, 'a, R, K> {
     }
 }
 
-impl<'s, 'a, R: Wait, K: Keeper> DeskPort for Served<'s, 'a, R, K> {
+impl<'s, R: Wait, M: DeskMachine, B: Turns<M>> SeatPort<'s, R, M, B> {
+    /// Asks the machine at the seat.
+    pub(crate) fn ask_own(&mut self, alloc: Global, ask: &M::Ask) -> Acted
+        requires valid { M.valid (fixed_of self.old) ask.now }
+        ensures board { self.new.board ≡ self.old.board }
+        ensures share { self.new.seat.share ≡ self.old.seat.share }
+        ensures sits { Sits self.old.board self.old.seat }
+        ensures asks { AsksAt M.state M.number M.adds M.answers self.old.seat (record { ask = ask.now; answer = result }) self.new.seat }
+    {
+        self.board.ask(self.rt, alloc, &mut self.seat, ask)
+    }
+}
+
+impl<'s, R: Wait, M: DeskMachine, B: Turns<M>> DeskPort for SeatPort<'s, R, M, B> {
     ghost use Rattle.desk_http.specs.Ports.{Turn};
-    ghost use Rattle.desk_turns.specs.Seats.{place_of, port_of};
+    ghost use Rattle.desk_turns.specs.Seats.{fixed_of, place_of, port_of};
 
-    type Place = (TurnBoard<Board<'a, K>>, u64);
+    type Place = (TurnBoard<M>, u64);
 
-    ghost airport_of = { λ s. s.board.start.fixed };
+    ghost airport_of = { λ s. M.airport (fixed_of s) };
 
     ghost place = { place_of };
 
@@ -91,6 +115,91 @@ impl<'s, 'a, R: Wait, K: Keeper> DeskPort for Served<'s, 'a, R, K> {
     }
 
     fn ask(&mut self, alloc: Global, ask: &Ask) -> Acted {
-        self.board.ask(self.rt, alloc, &mut self.seat, ask)
+        ask_seat(self.rt, alloc, self.board, &mut self.seat, ask)
+    }
+}
+
+impl<'s, R: Wait, M: SessionMachine> SplitPort for SeatPort<'s, R, M, TurnBoard<M>> {
+    ghost served = { λ port. port };
+
+    fn is_seat(&self) {}
+
+    fn split(&mut self) -> SeatPort<'s, R, M, TurnBoard<M>> {
+        let seat = self.board.split(&mut self.seat);
+        SeatPort::new(self.rt, self.board, self.airport, seat)
+    }
+
+    fn meet(&mut self, other: SeatPort<'s, R, M, TurnBoard<M>>) {
+        self.board.meet(&mut self.seat, other.into_seat());
+    }
+}
+
+// Asks at a seat. An ask that no memory is there to copy is answered so after a call all the same.
+fn ask_seat<R: Wait, M: DeskMachine, B: Turns<M>>(
+    rt: &R,
+    alloc: Global,
+    board: &B,
+    seat: &mut Seat<M>,
+    ask: &Ask,
+) -> Acted
+    requires sits { Sits (B.state board.now) seat.old }
+    requires valid { IsAskOf (M.airport (B.state board.now).start.fixed) ask.now }
+    ensures sits { Sits (B.state board.now) seat.new }
+    ensures share { seat.new.share ≡ seat.old.share }
+    ensures asks { AsksBoard M.state M.airport seat.old (record { ask = ask.now; answer = result }) seat.new }
+{
+    match ask_plainly(rt, alloc, board, seat, ask) {
+        Ok(answer) => answer,
+        Err(Memory) => call_uncopied(rt, alloc, board, seat),
+    }
+}
+
+// Asks the machine at a seat. It is answered as by a board, or at `Err` not asked.
+fn ask_plainly<R: Wait, M: DeskMachine, B: Turns<M>>(
+    rt: &R,
+    alloc: Global,
+    board: &B,
+    seat: &mut Seat<M>,
+    ask: &Ask,
+) -> Result<Acted, Memory>
+    requires sits { Sits (B.state board.now) seat.old }
+    requires valid { IsAskOf (M.airport (B.state board.now).start.fixed) ask.now }
+    ensures sits { Sits (B.state board.now) seat.new }
+    ensures share { seat.new.share ≡ seat.old.share }
+    ensures asks { IfOk result (λ answer. AsksBoard M.state M.airport seat.old (record { ask = ask.now; answer = answer }) seat.new) }
+    ensures uncopied { OnErr result ((seat.new ≡ seat.old) × IsCommand ask.now) }
+{
+    M::ask_at(rt, alloc, board, seat, ask)
+}
+
+// Makes a call that asks for the version, and answers that there is no memory, or `Spent` if the numbers have run out.
+fn call_uncopied<R: Wait, M: DeskMachine, B: Turns<M>>(
+    rt: &R,
+    alloc: Global,
+    board: &B,
+    seat: &mut Seat<M>,
+) -> Acted
+    requires sits { Sits (B.state board.now) seat.old }
+    ensures sits { Sits (B.state board.now) seat.new }
+    ensures share { seat.new.share ≡ seat.old.share }
+    ensures asks { (ask : Ask) → AsksBoard M.state M.airport seat.old (record { ask = ask; answer = result }) seat.new }
+{
+    let version = Ask {
+        seen: 0,
+        what: What::Version,
+    };
+    let Ok(answer) = ask_plainly(rt, alloc, board, seat, &version) else {
+        unreachable!()
+    };
+    uncopied(answer)
+}
+
+/// The answer to an ask that could not be copied, by that to the call that was made in its place.
+pub(crate) fn uncopied(answer: Acted) -> Acted
+    ensures is { result ≡ uncopied answer }
+{
+    match answer {
+        Acted::Spent => Acted::Spent,
+        _ => Acted::Memory,
     }
 }

@@ -4,7 +4,7 @@ ghost use Rattle.apron_base.specs.Counts.{Rose};
 ghost use Rattle.desk_turns.specs.Work.{ServesNext, Works};
 
 use apron_base::{Failed, Listener};
-use desk_http::{DeskPort, session};
+use desk_http::SessionPort;
 use std::alloc::Global;
 use std::sync::Wait;
 
@@ -17,21 +17,21 @@ pub enum WorkEnd {
     ListenerFault,
 }
 
-/// Accepts so many connections one after the other, serves a session on each over the port, and finishes it with the
+/// Accepts this many connections one after the other, serves a session of the port's kind on each, and finishes it with the
 /// session's outcome, whatever that is. It ends before its time only where the listener fails, and its count of faults
 /// rises.
-pub fn work<P: DeskPort, L: Listener, R: Wait>(
+pub fn work<P: SessionPort, L: Listener, R: Wait>(
     rt: &R,
     alloc: Global,
     port: &mut P,
     listener: &mut L,
     connections: u32,
 ) -> WorkEnd
-    ensures works { Works (record { source = L.In.state; sink = L.Out.state }) P.asks (P.airport_of port.old) connections
+    ensures works { Works (record { source = L.In.state; sink = L.Out.state }) (P.sessions (P.fixed port.old)) connections
         (record { listener = L.state listener.old; port = P.port port.old })
         (record { listener = L.state listener.new; port = P.port port.new }) result }
     ensures done { ¬ (Rose (L.state listener.old).faults (L.state listener.new).faults) → result ≡ WorkEnd.Done }
-    ensures airport { P.airport_of port.new ≡ P.airport_of port.old }
+    ensures fixed { P.fixed port.new ≡ P.fixed port.old }
     ensures place { P.place port.new ≡ P.place port.old }
 {
     for _served in 0..connections {
@@ -43,20 +43,20 @@ pub fn work<P: DeskPort, L: Listener, R: Wait>(
 }
 
 // Serves the next connection, and finishes it. At `Err` the listener failed, and none was accepted.
-fn serve_next<P: DeskPort, L: Listener, R: Wait>(
+fn serve_next<P: SessionPort, L: Listener, R: Wait>(
     rt: &R,
     alloc: Global,
     port: &mut P,
     listener: &mut L,
 ) -> Result<(), Failed>
-    ensures serves { ServesNext (record { source = L.In.state; sink = L.Out.state }) P.asks (P.airport_of port.old)
+    ensures serves { ServesNext (record { source = L.In.state; sink = L.Out.state }) (P.sessions (P.fixed port.old))
         (record { listener = L.state listener.old; port = P.port port.old })
         (record { listener = L.state listener.new; port = P.port port.new }) result }
-    ensures airport { P.airport_of port.new ≡ P.airport_of port.old }
+    ensures fixed { P.fixed port.new ≡ P.fixed port.old }
     ensures place { P.place port.new ≡ P.place port.old }
 {
     let (mut source, mut sink) = listener.accept(rt)?;
-    let outcome = session(alloc, port, &mut source, &mut sink);
+    let outcome = port.serve(alloc, &mut source, &mut sink);
     listener.finish(source, sink, outcome);
     Ok(())
 }

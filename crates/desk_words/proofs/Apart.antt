@@ -9,7 +9,7 @@ use Rattle.serde_json.proofs.OnLiterals.{serde_json_on_literals}
 use Rattle.mvt_grammar.specs.declared.message.MvtFault.{MvtFault}
 use Rattle.mvt_grammar.specs.declared.message.MvtFault.TheVariants.{TooLong, NoIdentifier, BadFlightLine, BadElement, Twice}
 use Rattle.desk_words.specs.declared.early.Early.{Early}
-use Rattle.desk_words.specs.declared.early.Early.TheVariants.{NoRoute, OnlyGet, OnlyPost, BadSeen, NoDay, NotJson, NotMvt, BadType, BadStand, NoStand, BadTimes}
+use Rattle.desk_words.specs.declared.early.Early.TheVariants.{NoRoute, OnlyGet, OnlyPost, BadSeen, BadDesk, NoDay, NotJson, NotMvt, BadType, BadStand, NoStand, BadTimes}
 use Rattle.desk_words.specs.Early.{IsEarly, IsMvtFault, early_text}
 use Rattle.desk_words.specs.Fixed.{fixed_texts, no_memory_text, keeper_fault_text, bad_encoding_text, bad_head_text, large_body_text, no_length_text}
 use Rattle.desk_words.proofs.Lines.{behind_three}
@@ -49,7 +49,7 @@ pub fixed_apart : AllPairs (λ a b. a ≢ b) fixed_texts
 unfolding digits serde_json_on_literals no_memory_text keeper_fault_text bad_head_text bad_encoding_text large_body_text no_length_text
 fixed_apart = all_apart fixed_texts refl
 
--- texts that differ behind their three lines
+-- texts that differ after their three lines
 behind_apart : (text behind : List ℕ) (others : List (List ℕ)) → behind_three text ≡ behind → differs behind (map behind_three others) ≡ true
     → All (λ other. text ≢ other) others
 behind_apart text behind [] is e = All-nil (λ other. text ≢ other)
@@ -74,6 +74,7 @@ early_apart NoRoute = differs_apart (early_text NoRoute) fixed_texts refl
 early_apart OnlyGet = differs_apart (early_text OnlyGet) fixed_texts refl
 early_apart OnlyPost = differs_apart (early_text OnlyPost) fixed_texts refl
 early_apart BadSeen = differs_apart (early_text BadSeen) fixed_texts refl
+early_apart BadDesk = differs_apart (early_text BadDesk) fixed_texts refl
 early_apart NoDay = differs_apart (early_text NoDay) fixed_texts refl
 early_apart NotJson = differs_apart (early_text NotJson) fixed_texts refl
 early_apart (NotMvt fault) = mvt_fault_apart fault
@@ -85,28 +86,30 @@ early_apart BadTimes = differs_apart (early_text BadTimes) fixed_texts refl
 -- those that are constants
 abbrev constants : List Early
 constants =
-    NoRoute ∷ OnlyGet ∷ OnlyPost ∷ BadSeen ∷ NoDay ∷ NotJson ∷ NotMvt TooLong ∷ NotMvt NoIdentifier ∷ NotMvt BadFlightLine ∷ BadType ∷ NoStand ∷ BadTimes
-    ∷ []
+    NoRoute ∷ OnlyGet ∷ OnlyPost ∷ BadSeen ∷ BadDesk ∷ NoDay ∷ NotJson ∷ NotMvt TooLong ∷ NotMvt NoIdentifier
+    ∷ NotMvt BadFlightLine ∷ BadType ∷ NoStand ∷ BadTimes ∷ []
 
 -- the one of this text that is a constant
 abbrev constant_of : List ℕ → Early
 constant_of text = unwrap_or (find (λ early. bytes_eq text (early_text early)) constants) NoRoute
 
--- the fault of a body with a place, behind its first bytes, as its third last byte tells: that of `element"}` is a t
+-- the fault of a body with a place, after its first bytes, by its third last byte: that of
+-- `element"}` is a t
 abbrev fault_by : ℕ → List ℕ → MvtFault
 fault_by byte text = if byte == 116 then BadElement (number_in 33 text) else Twice (number_in 31 text)
 
--- the fault of a body with a place, behind its first bytes
+-- the fault of a body with a place, after its first bytes
 abbrev fault_in : List ℕ → MvtFault
 fault_in text = fault_by (slice_index text (length text - 3)) text
 
--- the one of this text, with what stands behind its third line: a body that begins with `{"ed` names an edit, and one with `{"at` a place
+-- the reply of this text, with what comes after its third line: a body that begins with `{"ed`
+-- names an edit, and one with `{"at` a place
 abbrev read_with : List ℕ → List ℕ → Early
 read_with text behind =
     if slice_index behind 5 == 100 then BadStand (number_in 17 (drop 10 behind))
     else if slice_index behind 5 == 116 then NotMvt (fault_in (drop 8 behind)) else constant_of text
 
--- the one of this text
+-- the reply of this text
 abbrev read_early : List ℕ → Early
 read_early text = read_with text (behind_three text)
 
@@ -134,6 +137,7 @@ early_read NoRoute small = refl
 early_read OnlyGet small = refl
 early_read OnlyPost small = refl
 early_read BadSeen small = refl
+early_read BadDesk small = refl
 early_read NoDay small = refl
 early_read NotJson small = refl
 early_read (NotMvt fault) small = mvt_fault_read fault small
@@ -142,6 +146,6 @@ early_read (BadStand edit) small = stand_read edit small
 early_read NoStand small = refl
 early_read BadTimes small = refl
 
--- early replies of one text are one
+-- early replies with the same text are the same
 pub early_one : (early other : Early) → IsEarly early → IsEarly other → early_text early ≡ early_text other → early ≡ other
 early_one early other small small_other same = sym (early_read early small) ∙ (ap read_early same ∙ early_read other small_other)

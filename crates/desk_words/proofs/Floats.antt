@@ -3,11 +3,14 @@ use Rattle.std.proofs.Common.{◌≡◌, ℕ, Bool, true, false, ◌||◌, List,
 use Rattle.std.specs.Prelude.{Option, None, Some, option_map}
 use Rattle.serde_json.specs.Written.{has_float, items_have_float}
 use Rattle.serde_json.specs.View.{items_of}
+use Rattle.serde_json.specs.Data.{Data}
+use Rattle.apron_base.specs.Letter.{letter_for}
 use Rattle.apron_base.specs.declared.numbers.PartId.{PartId}
 use Rattle.apron_base.specs.declared.numbers.StandNo.{StandNo}
 use Rattle.apron_base.specs.declared.numbers.TypeNo.{TypeNo}
 use Rattle.apron_base.specs.declared.numbers.VisitNo.{VisitNo}
 use Rattle.apron_rules.specs.declared.parts.AirportParts.{AirportParts}
+use Rattle.apron_rules.specs.declared.parts.Frontage.{Frontage}
 use Rattle.apron_rules.specs.declared.parts.StandRow.{StandRow}
 use Rattle.apron_rules.specs.declared.parts.TypeRow.{TypeRow}
 use Rattle.apron_rules.specs.Rules.{stand_at, type_at}
@@ -20,11 +23,14 @@ use Rattle.visit_book.specs.declared.visits.Place.TheVariants.{Unplaced, Planned
 use Rattle.visit_book.specs.declared.visits.Visit.{Visit}
 use Rattle.visit_book.specs.declared.edits.EditFault.{EditFault}
 use Rattle.visit_book.specs.declared.edits.EditFault.TheVariants.{UnknownVisit, Overtaken, Gone, NoSuchPart, OnBlock, BadCut, BadJoin, Unfit, Clash, Memory}
+use Rattle.desk_words.specs.declared.asks.EntryKind.{EntryKind}
 use Rattle.desk_words.specs.declared.replies.PartRow.{PartRow}
 use Rattle.desk_words.specs.declared.replies.Told.{Told}
-use Rattle.desk_words.specs.declared.replies.Told.TheVariants.{Added, Committed, Message, Reported, Cancelled, Version, Visit as AVisit, Plan, Unplaced as Waiting, Chart, NoVisit, Ahead, Full, OtherName, Edit, Denied}
-use Rattle.desk_words.specs.PartObjects.{name_data, stand_data, type_data}
-use Rattle.desk_words.specs.VisitObjects.{bump_data, key_data, place_bump_data, place_stand_data, stay_data, visit_data}
+use Rattle.desk_words.specs.declared.replies.Told.TheVariants.{Added, Committed, Message, Reported, Cancelled, Version, Visit as AVisit, Plan, Unplaced as Waiting, Chart, Entry, Airport, Day, NoVisit, NoEntry, Ahead, Full, OtherName, Edit, Denied}
+use Rattle.desk_words.specs.PartObjects.{name_data, part_data, stand_data, type_data, whole}
+use Rattle.desk_words.specs.VisitObjects.{bump_data, day_data, key_data, listed_visit_data, place_bump_data, place_stand_data, stay_data, visit_data}
+use Rattle.desk_words.specs.AirportObjects.{airport_data, frontage_data, letter_text, pair_data, stand_row_data, type_row_data}
+use Rattle.desk_words.specs.EntryObjects.{entry_data}
 use Rattle.desk_words.specs.FaultObjects.{fault_data}
 use Rattle.desk_words.specs.RowObjects.{placed_data, waiting_data}
 use Rattle.desk_words.specs.Replies.{message_data, parts_data, reported_data, told_data, visit_if}
@@ -32,6 +38,11 @@ use Rattle.desk_words.specs.Replies.{message_data, parts_data, reported_data, to
 neither : (a b : Bool) → a ≡ false → b ≡ false → (a || b) ≡ false
 neither true b e h = e
 neither false b e h = h
+
+-- a list of values without fractions has none
+all_have_none : {X : Type 0} (f : X → Data) → ((x : X) → has_float (f x) ≡ false) → (xs : List X) → items_have_float (items_of (map f xs)) ≡ false
+all_have_none f each [] = refl
+all_have_none f each (x ∷ xs) = neither (has_float (f x)) (items_have_float (items_of (map f xs))) (each x) (all_have_none f each xs)
 
 name_has_none : (name : Option (List ℕ)) → has_float (name_data name) ≡ false
 name_has_none None = refl
@@ -63,25 +74,52 @@ stay_has_none airport part =
     (place_bump_has_none airport part.place)
     (neither (has_float (place_stand_data airport part.place)) false (place_stand_has_none airport part.place) refl)
 
-stays_have_none : (airport : AirportParts) (parts : List Part) → items_have_float (items_of (map (stay_data airport) parts)) ≡ false
-stays_have_none airport [] = refl
-stays_have_none airport (part ∷ parts) =
-    neither (has_float (stay_data airport part)) (items_have_float (items_of (map (stay_data airport) parts)))
-    (stay_has_none airport part) (stays_have_none airport parts)
-
 key_has_none : (key : Option Key) → has_float (key_data key) ≡ false
 key_has_none None = refl
 key_has_none (Some key) = refl
 
-visit_has_none : (airport : AirportParts) (visit : Visit) (version : ℕ) → has_float (visit_data airport visit version) ≡ false
-visit_has_none airport visit version =
+listed_visit_has_none : (airport : AirportParts) (visit : Visit) → has_float (listed_visit_data airport visit) ≡ false
+listed_visit_has_none airport visit =
     let kind = has_float (type_data airport visit.kind) || false in
     let parts = items_have_float (items_of (map (stay_data airport) visit.parts)) in
     let dep = has_float (key_data visit.dep) in
     neither (has_float (key_data visit.arr)) (dep || (parts || kind)) (key_has_none visit.arr)
     (neither dep (parts || kind) (key_has_none visit.dep)
-    (neither parts kind (stays_have_none airport visit.parts)
+    (neither parts kind (all_have_none (stay_data airport) (stay_has_none airport) visit.parts)
     (neither (has_float (type_data airport visit.kind)) false (type_has_none airport visit.kind) refl)))
+
+visit_has_none : (airport : AirportParts) (visit : Visit) (version : ℕ) → has_float (visit_data airport visit version) ≡ false
+visit_has_none airport visit version = listed_visit_has_none airport visit
+
+day_has_none : (airport : AirportParts) (visits : List Visit) (version : ℕ) → has_float (day_data airport visits version) ≡ false
+day_has_none airport visits version =
+    neither (items_have_float (items_of (map (listed_visit_data airport) visits))) false
+    (all_have_none (listed_visit_data airport) (listed_visit_has_none airport) visits) refl
+
+frontage_has_none : (frontage : Frontage) → has_float (frontage_data frontage) ≡ false
+frontage_has_none frontage =
+    neither (items_have_float (items_of (map whole frontage.objects))) false (all_have_none whole (λ place. refl) frontage.objects) refl
+
+stand_row_has_none : (stand : StandRow) → has_float (stand_row_data stand) ≡ false
+stand_row_has_none stand = neither (has_float (name_data stand.half_of)) false (name_has_none stand.half_of) refl
+
+type_row_has_none : (kind : TypeRow) → has_float (type_row_data kind) ≡ false
+type_row_has_none kind =
+    let letter = option_map letter_text (letter_for kind.span) in neither (has_float (name_data letter)) false (name_has_none letter) refl
+
+airport_has_none : (airport : AirportParts) (version : ℕ) → has_float (airport_data airport version) ≡ false
+airport_has_none airport version =
+    let frontages = items_have_float (items_of (map frontage_data airport.frontages)) in
+    let pairs = items_have_float (items_of (map pair_data airport.pairs)) in
+    let stands = items_have_float (items_of (map stand_row_data airport.stands)) in
+    let types = items_have_float (items_of (map type_row_data airport.types)) in
+    neither frontages (pairs || (stands || (types || false))) (all_have_none frontage_data frontage_has_none airport.frontages)
+    (neither pairs (stands || (types || false)) (all_have_none pair_data (λ pair. refl) airport.pairs)
+    (neither stands (types || false) (all_have_none stand_row_data stand_row_has_none airport.stands)
+    (neither types false (all_have_none type_row_data type_row_has_none airport.types) refl)))
+
+entry_has_none : (entry call : ℕ) (desk : Option (List ℕ)) (kind : EntryKind) (version : ℕ) → has_float (entry_data entry call desk kind version) ≡ false
+entry_has_none entry call desk kind version = neither (has_float (name_data desk)) false (name_has_none desk) refl
 
 fault_has_none : (fault : EditFault) (version : ℕ) → has_float (fault_data fault version) ≡ false
 fault_has_none (UnknownVisit edit) version = refl
@@ -97,8 +135,7 @@ fault_has_none (Clash clash) version = refl
 fault_has_none Memory version = refl
 
 parts_have_none : (parts : List PartId) → has_float (parts_data parts) ≡ false
-parts_have_none [] = refl
-parts_have_none (part ∷ parts) = parts_have_none parts
+parts_have_none parts = all_have_none part_data (λ part. refl) parts
 
 visit_if_has_none : (visit : Option VisitNo) → has_float (visit_if visit) ≡ false
 visit_if_has_none None = refl
@@ -115,20 +152,8 @@ reported_has_none bumped version = neither (has_float (parts_data bumped)) false
 placed_has_none : (airport : AirportParts) (row : PartRow) → has_float (placed_data airport row) ≡ false
 placed_has_none airport row = neither (has_float (place_stand_data airport row.part.place)) false (place_stand_has_none airport row.part.place) refl
 
-placed_have_none : (airport : AirportParts) (parts : List PartRow) → items_have_float (items_of (map (placed_data airport) parts)) ≡ false
-placed_have_none airport [] = refl
-placed_have_none airport (row ∷ parts) =
-    neither (has_float (placed_data airport row)) (items_have_float (items_of (map (placed_data airport) parts)))
-    (placed_has_none airport row) (placed_have_none airport parts)
-
 waiting_has_none : (airport : AirportParts) (row : PartRow) → has_float (waiting_data airport row) ≡ false
 waiting_has_none airport row = neither (has_float (place_bump_data airport row.part.place)) false (place_bump_has_none airport row.part.place) refl
-
-waiting_have_none : (airport : AirportParts) (parts : List PartRow) → items_have_float (items_of (map (waiting_data airport) parts)) ≡ false
-waiting_have_none airport [] = refl
-waiting_have_none airport (row ∷ parts) =
-    neither (has_float (waiting_data airport row)) (items_have_float (items_of (map (waiting_data airport) parts)))
-    (waiting_has_none airport row) (waiting_have_none airport parts)
 
 pub told_has_none : (airport : AirportParts) (version : ℕ) (told : Told) → has_float (told_data airport version told) ≡ false
 told_has_none airport version (Added entry visit) = refl
@@ -138,10 +163,16 @@ told_has_none airport version (Reported bumped) = reported_has_none bumped versi
 told_has_none airport version Cancelled = refl
 told_has_none airport version Version = refl
 told_has_none airport version (AVisit visit) = visit_has_none airport visit version
-told_has_none airport version (Plan parts) = neither (items_have_float (items_of (map (placed_data airport) parts))) false (placed_have_none airport parts) refl
-told_has_none airport version (Waiting parts) = neither (items_have_float (items_of (map (waiting_data airport) parts))) false (waiting_have_none airport parts) refl
+told_has_none airport version (Plan parts) =
+    neither (items_have_float (items_of (map (placed_data airport) parts))) false (all_have_none (placed_data airport) (placed_has_none airport) parts) refl
+told_has_none airport version (Waiting parts) =
+    neither (items_have_float (items_of (map (waiting_data airport) parts))) false (all_have_none (waiting_data airport) (waiting_has_none airport) parts) refl
 told_has_none airport version (Chart text) = refl
+told_has_none airport version (Entry entry call desk kind) = entry_has_none entry call desk kind version
+told_has_none airport version Airport = airport_has_none airport version
+told_has_none airport version (Day visits) = day_has_none airport visits version
 told_has_none airport version NoVisit = refl
+told_has_none airport version NoEntry = refl
 told_has_none airport version Ahead = refl
 told_has_none airport version Full = refl
 told_has_none airport version (OtherName visit) = refl

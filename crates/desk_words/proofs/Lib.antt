@@ -1,4 +1,6 @@
 pub mod Apart
+pub mod Bodies
+pub mod Dates
 pub mod Floats
 pub mod Flights
 pub mod Heads

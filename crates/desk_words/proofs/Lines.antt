@@ -1,4 +1,4 @@
--- What stands behind the first lines of a text.
+-- What comes after the first lines of a text.
 use Rattle.std.proofs.Common.{◌≡◌, ◌∙◌, ◌==◌, ◌+◌, ◌/◌, ◌%◌, ℕ, Bool, true, false, nat_lt, arith, append_assoc, zero, suc, List, [], ◌∷◌, ◌++◌, codes, decimal, length, refl, ap, sym, true≢false}
 use Rattle.std.specs.Prelude.{if◌then◌else◌}
 use Rattle.std.specs.List.{flat_map}
@@ -11,18 +11,18 @@ abbrev pub is_one_line : List ℕ → Bool
 is_one_line [] = true
 is_one_line (byte ∷ line) = if byte == 10 then false else is_one_line line
 
--- what stands behind the first three lines
+-- what comes after the first three lines
 abbrev pub behind_three : List ℕ → List ℕ
 behind_three text = after_line (after_line (after_line text))
 
--- the byte that is the test's goes on
+-- the byte that is tested does not end the line
 line_past : (byte : Bool) (line more : List ℕ) → (if byte then false else is_one_line line) ≡ true
     → (is_one_line line ≡ true → after_line ((line ++ codes "\r\n") ++ more) ≡ more)
     → (if byte then (line ++ codes "\r\n") ++ more else after_line ((line ++ codes "\r\n") ++ more)) ≡ more
 line_past true line more one rest = absurd (true≢false (sym one))
 line_past false line more one rest = rest one
 
--- what stands after a line is the rest
+-- what comes after a line is the rest
 after_line-ended : (line more : List ℕ) → is_one_line line ≡ true → after_line (ended line ++ more) ≡ more
 after_line-ended [] more one = refl
 after_line-ended (byte ∷ line) more one = line_past (byte == 10) line more one (after_line-ended line more)
@@ -50,7 +50,7 @@ decimal_one_line : (n : ℕ) → is_one_line (decimal n) ≡ true
 unfolding digits
 decimal_one_line n = digits_one_line 64 n [] refl
 
--- what stands after three lines is the rest
+-- what comes after three lines is the rest
 after_three : (a b c more : List ℕ) → is_one_line a ≡ true → is_one_line b ≡ true → is_one_line c ≡ true
     → behind_three (ended a ++ (ended b ++ (ended c ++ more))) ≡ more
 after_three a b c more one two three =
@@ -59,7 +59,7 @@ after_three a b c more one two three =
 grouped : (a b c d e f : List ℕ) → ((a ++ (b ++ (c ++ d))) ++ e) ++ f ≡ a ++ (b ++ (c ++ (d ++ (e ++ f))))
 grouped a b c d e f = simp append_assoc
 
--- behind the three lines of each reply stand the extra ones, the empty one and the body
+-- after the three lines of each reply come the extra lines, the empty one and the body
 pub behind_lines_of : (code : ℕ) (media : List ℕ) (extra : List (List ℕ)) (body : List ℕ) → is_one_line (codes "HTTP/1.1 " ++ status_text code) ≡ true
     → is_one_line (codes "Content-Type: " ++ media) ≡ true
     → behind_three (text_of code media extra body) ≡ flat_map ended extra ++ (codes "\r\n" ++ body)
@@ -70,7 +70,7 @@ behind_lines_of code media extra body one two =
     ap behind_three (grouped (ended first) (ended second) (ended third) (flat_map ended extra) (codes "\r\n") body)
     ∙ after_three first second third (flat_map ended extra ++ (codes "\r\n" ++ body)) one two (decimal_one_line (length body))
 
--- the same where the body is JSON
+-- the same if the body is JSON
 pub behind_lines : (code : ℕ) (extra : List (List ℕ)) (body : List ℕ) → is_one_line (codes "HTTP/1.1 " ++ status_text code) ≡ true
     → behind_three (text_of code json_media extra body) ≡ flat_map ended extra ++ (codes "\r\n" ++ body)
 behind_lines code extra body one = behind_lines_of code json_media extra body one refl

@@ -1,4 +1,4 @@
--- Names of numbers that are out of the lists.
+-- Names of numbers that are not in the lists.
 use Rattle.std.proofs.Common.{◌≡◌, ◌∙◌, ◌≤◌, ℕ, List, length, refl, ap, sym}
 use Rattle.std.specs.Prelude.{option_map, slice_get}
 use Rattle.std.proofs.lemmas.Option.{slice_get_past}

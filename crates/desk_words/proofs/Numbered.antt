@@ -16,7 +16,7 @@ use Rattle.desk_words.specs.Texts.{json_media, text_of}
 use Rattle.desk_words.proofs.Heads.{bare_head}
 use Rattle.desk_words.proofs.Lines.{behind_lines, behind_three, is_one_line}
 
--- a body that names an edit, behind the digits
+-- a body that names an edit, after the digits
 abbrev pub stand_end : List ℕ
 stand_end = codes ",\"error\":\"stand\"}"
 
@@ -24,11 +24,11 @@ stand_end = codes ",\"error\":\"stand\"}"
 abbrev pub stand_body : ℕ → List ℕ
 stand_body edit = codes "{\"edit\":" ++ (decimal edit ++ stand_end)
 
--- a body with the place of an element of another form, behind the digits
+-- a body with the place of an element of another form, after the digits
 abbrev pub element_end : List ℕ
 element_end = codes ",\"error\":\"mvt\",\"fault\":\"element\"}"
 
--- a body with the place of an element that was read before, behind the digits
+-- a body with the place of an element that was read before, after the digits
 abbrev pub twice_end : List ℕ
 twice_end = codes ",\"error\":\"mvt\",\"fault\":\"twice\"}"
 
@@ -73,7 +73,7 @@ grouped : (a s t m u d e x n z : List ℕ)
     → ((((((a ++ s) ++ (t ++ (m ++ u))) ++ d) ++ e) ++ x) ++ n) ++ z ≡ (a ++ (s ++ (t ++ (m ++ (u ++ (d ++ e)))))) ++ (x ++ (n ++ z))
 grouped a s t m u d e x n z = simp append_assoc
 
--- the pieces, one behind the other, are the whole text
+-- the pieces, one after the other, are the whole text
 pub pieces_are_text : (code : ℕ) (status start number end bytes one two three four five six seven eight : List ℕ) → status_text code ≡ status
     → bytes ≡ decimal (length start + length number + length end) → one ≡ codes "HTTP/1.1 " → two ≡ one ++ status
     → three ≡ two ++ codes "\r\nContent-Type: application/json\r\nContent-Length: " → four ≡ three ++ bytes → five ≡ four ++ codes "\r\n\r\n"
@@ -94,7 +94,7 @@ bad_request_one_line : is_one_line (codes "HTTP/1.1 " ++ status_text 400) ≡ tr
 unfolding digits
 bad_request_one_line = refl
 
--- behind their three lines stand the empty one and the body
+-- after their three lines come the empty one and the body
 pub stand_behind : (edit : ℕ) → behind_three (early_text (BadStand edit)) ≡ codes "\r\n" ++ stand_body edit
 stand_behind edit = ap behind_three (sym (stand_text edit)) ∙ behind_lines 422 [] (stand_body edit) unprocessable_one_line
 
@@ -104,7 +104,7 @@ element_behind place = ap behind_three (sym (element_text place)) ∙ behind_lin
 pub twice_behind : (place : ℕ) → behind_three (early_text (NotMvt (Twice place))) ≡ codes "\r\n" ++ place_body place twice_end
 twice_behind place = ap behind_three (sym (twice_text place)) ∙ behind_lines 400 [] (place_body place twice_end) bad_request_one_line
 
--- the number that is written in front of the last bytes of a text, so many of them
+-- the number that is written before the last bytes of a text, this many of them
 abbrev pub number_in : ℕ → List ℕ → ℕ
 number_in last text = digits_value 10 (take (length text - last) text)
 
@@ -115,7 +115,7 @@ number_in-text number end small =
     ∙ ap (digits_value 10) (take-append_seam (decimal number) end)
     ∙ (decimal_is_IsNumeral number (omega arith)).1
 
--- a byte that is counted from the end of a text is one of its end
+-- a byte counted from the end of a text is one of its end
 pub byte_of_end : (text end : List ℕ) (i last : ℕ) → i + last ≡ length end → slice_index (text ++ end) (length (text ++ end) - last) ≡ slice_index end i
 byte_of_end text end i last fits =
     let place : length (text ++ end) - last ≡ length text + i = omega (arith, length-append text end) in

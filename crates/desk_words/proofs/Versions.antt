@@ -12,10 +12,10 @@ use Rattle.mvt_grammar.specs.declared.message.MvtFault.TheVariants.{TooLong, NoI
 use Rattle.visit_book.specs.declared.edits.EditFault.{EditFault}
 use Rattle.visit_book.specs.declared.edits.EditFault.TheVariants.{UnknownVisit, Overtaken, Gone, NoSuchPart, OnBlock, BadCut, BadJoin, Unfit, Clash, Memory}
 use Rattle.desk_words.specs.declared.early.Early.{Early}
-use Rattle.desk_words.specs.declared.early.Early.TheVariants.{NoRoute, OnlyGet, OnlyPost, BadSeen, NoDay, NotJson, NotMvt, BadType, BadStand, NoStand, BadTimes}
+use Rattle.desk_words.specs.declared.early.Early.TheVariants.{NoRoute, OnlyGet, OnlyPost, BadSeen, BadDesk, NoDay, NotJson, NotMvt, BadType, BadStand, NoStand, BadTimes}
 use Rattle.desk_words.specs.declared.replies.Reply.{Reply}
 use Rattle.desk_words.specs.declared.replies.Told.{Told}
-use Rattle.desk_words.specs.declared.replies.Told.TheVariants.{Added, Committed, Message, Reported, Cancelled, Version, Visit as AVisit, Plan, Unplaced, Chart, NoVisit, Ahead, Full, OtherName, Edit, Denied}
+use Rattle.desk_words.specs.declared.replies.Told.TheVariants.{Added, Committed, Message, Reported, Cancelled, Version, Visit as AVisit, Plan, Unplaced, Chart, Entry, Airport, Day, NoVisit, NoEntry, Ahead, Full, OtherName, Edit, Denied}
 use Rattle.desk_words.specs.Early.{early_text}
 use Rattle.desk_words.specs.Fixed.{fixed_texts, no_memory_text, keeper_fault_text, bad_encoding_text, bad_head_text, large_body_text, no_length_text}
 use Rattle.desk_words.specs.Replies.{body_text, code_of, fault_code, media_of, reply_text}
@@ -49,7 +49,11 @@ code_one_line (AVisit visit) = refl
 code_one_line (Plan parts) = refl
 code_one_line (Unplaced parts) = refl
 code_one_line (Chart text) = refl
+code_one_line (Entry entry call desk kind) = refl
+code_one_line Airport = refl
+code_one_line (Day visits) = refl
 code_one_line NoVisit = refl
+code_one_line NoEntry = refl
 code_one_line Ahead = refl
 code_one_line Full = refl
 code_one_line (OtherName visit) = refl
@@ -73,7 +77,11 @@ media_one_line (AVisit visit) = refl
 media_one_line (Plan parts) = refl
 media_one_line (Unplaced parts) = refl
 media_one_line (Chart text) = refl
+media_one_line (Entry entry call desk kind) = refl
+media_one_line Airport = refl
+media_one_line (Day visits) = refl
 media_one_line NoVisit = refl
+media_one_line NoEntry = refl
 media_one_line Ahead = refl
 media_one_line Full = refl
 media_one_line (OtherName visit) = refl
@@ -98,6 +106,7 @@ early_shows_none NoRoute = refl
 early_shows_none OnlyGet = refl
 early_shows_none OnlyPost = refl
 early_shows_none BadSeen = refl
+early_shows_none BadDesk = refl
 early_shows_none NoDay = refl
 early_shows_none NotJson = refl
 early_shows_none (NotMvt fault) = mvt_fault_shows_none fault
@@ -121,7 +130,7 @@ pub fixed_show_none : All (λ text. shows_version text ≡ false) fixed_texts
 unfolding digits serde_json_on_literals no_memory_text keeper_fault_text bad_head_text bad_encoding_text large_body_text no_length_text
 fixed_show_none = each_shows_none fixed_texts refl
 
--- a text that shows a version is none that shows none
+-- a text that shows a version is none of those that show none
 told_apart : (text other : List ℕ) → shows_version text ≡ true → shows_version other ≡ false → text ≢ other
 told_apart text other shown hidden same = true≢false (sym shown ∙ (ap shows_version same ∙ hidden))
 

@@ -5,12 +5,12 @@ use Rattle.serde_json.specs.Written.{compact_text}
 use Rattle.mvt_grammar.specs.declared.message.MvtFault.{MvtFault}
 use Rattle.mvt_grammar.specs.declared.message.MvtFault.TheVariants.{TooLong, NoIdentifier, BadFlightLine, BadElement, Twice}
 use Rattle.desk_words.specs.declared.early.Early.{Early}
-use Rattle.desk_words.specs.declared.early.Early.TheVariants.{NoRoute, OnlyGet, OnlyPost, BadSeen, NoDay, NotJson, NotMvt, BadType, BadStand, NoStand, BadTimes}
+use Rattle.desk_words.specs.declared.early.Early.TheVariants.{NoRoute, OnlyGet, OnlyPost, BadSeen, BadDesk, NoDay, NotJson, NotMvt, BadType, BadStand, NoStand, BadTimes}
 use Rattle.desk_words.specs.Fixed.{error_data, plain_text}
 use Rattle.desk_words.specs.PartObjects.{whole}
 use Rattle.desk_words.specs.Texts.{json_media, text_of}
 
--- the method is not the route's, which takes this one alone
+-- the method is not the route's, which takes only this one
 abbrev pub method_text : List ℕ → List ℕ
 method_text allow = text_of 405 json_media (allow ∷ []) (compact_text (error_data (codes "method")))
 
@@ -29,7 +29,7 @@ mvt_error_data_at place fault =
     (member (codes "error") (string (codes "mvt"))
     (member (codes "fault") (string fault) no_members)))
 
--- why a text is no message, with the place of the fault where that is a word's
+-- why a text is not a message, with the place of the fault if it is a word's
 abbrev pub mvt_fault_data : MvtFault → Data
 mvt_fault_data TooLong = mvt_error_data (codes "long")
 mvt_fault_data NoIdentifier = mvt_error_data (codes "identifier")
@@ -37,13 +37,13 @@ mvt_fault_data BadFlightLine = mvt_error_data (codes "flight")
 mvt_fault_data (BadElement place) = mvt_error_data_at place (codes "element")
 mvt_fault_data (Twice place) = mvt_error_data_at place (codes "twice")
 
--- the place of the fault, if it tells one, is one of 32 bits
+-- the place of the fault, if it has one, fits 32 bits
 abbrev pub IsMvtFault : MvtFault → Type 0
 IsMvtFault (BadElement place) = place < 2 ^ 32
 IsMvtFault (Twice place) = place < 2 ^ 32
 IsMvtFault _ = ⊤
 
--- the number of its edit, if it tells one, is one of 8 bits, and the place of the fault in a message one of 32
+-- the number of its edit, if it has one, fits 8 bits, and the place of the fault in a message 32
 abbrev pub IsEarly : Early → Type 0
 IsEarly (BadStand edit) = edit < 2 ^ 8
 IsEarly (NotMvt fault) = IsMvtFault fault
@@ -55,6 +55,7 @@ early_text NoRoute = plain_text 404 (error_data (codes "route"))
 early_text OnlyGet = method_text (codes "Allow: GET")
 early_text OnlyPost = method_text (codes "Allow: POST")
 early_text BadSeen = plain_text 400 (error_data (codes "seen"))
+early_text BadDesk = plain_text 400 (error_data (codes "desk"))
 early_text NoDay = plain_text 404 (error_data (codes "day"))
 early_text NotJson = plain_text 400 (error_data (codes "json"))
 early_text (NotMvt fault) = plain_text 400 (mvt_fault_data fault)

@@ -1,4 +1,4 @@
--- Why a command is refused, as replies tell it.
+-- Why a command is refused, as replies give it.
 use Rattle.std.specs.Prelude.{ℕ, List, codes}
 use Rattle.serde_json.specs.Data.{Data, null, string, object, member, no_members}
 use Rattle.apron_base.specs.declared.numbers.VisitNo.{VisitNo}
@@ -61,7 +61,7 @@ clash_data clash version =
     (member (codes "rule") (string (rule_word clash.rule))
     (member (codes "version") (whole version) no_members))))))
 
--- why a commit was refused; want of memory isn't said here
+-- why a commit was refused; a lack of memory isn't said here
 abbrev pub fault_data : EditFault → ℕ → Data
 fault_data (UnknownVisit edit) version = edit_data edit (codes "unknown") version
 fault_data (Overtaken edit visit edited) version = overtaken_data edit visit edited version

@@ -12,11 +12,11 @@ error_data error = object (member (codes "error") (string error) no_members)
 abbrev pub plain_text : ℕ → Data → List ℕ
 plain_text code body = text_of code json_media [] (compact_text body)
 
--- memory is wanting
+-- there is no memory
 unfoldable pub no_memory_text : List ℕ
 no_memory_text = plain_text 507 (error_data (codes "memory"))
 
--- a command could be accepted, and could not be kept
+-- a command could have been accepted, but could not be kept
 unfoldable pub keeper_fault_text : List ℕ
 keeper_fault_text = plain_text 503 (error_data (codes "keeper"))
 
@@ -24,19 +24,19 @@ keeper_fault_text = plain_text 503 (error_data (codes "keeper"))
 abbrev pub closing_text : ℕ → List ℕ → List ℕ
 closing_text code error = text_of code json_media (codes "Connection: close" ∷ []) (compact_text (error_data error))
 
--- the head is malformed, beyond its limits, or tells no length as it has to
+-- the head is malformed, exceeds its limits, or doesn't give a length as it has to
 unfoldable pub bad_head_text : List ℕ
 bad_head_text = closing_text 400 (codes "head")
 
--- the body would come in another way than as bytes of a told length
+-- the body would come in another way than as bytes of a stated length
 unfoldable pub bad_encoding_text : List ℕ
 bad_encoding_text = closing_text 501 (codes "encoding")
 
--- the body would be longer than one may be
+-- the body would be longer than a body may be
 unfoldable pub large_body_text : List ℕ
 large_body_text = closing_text 413 (codes "large")
 
--- the length of the body isn't told
+-- the length of the body isn't stated
 unfoldable pub no_length_text : List ℕ
 no_length_text = closing_text 411 (codes "length")
 

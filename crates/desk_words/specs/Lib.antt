@@ -6,5 +6,7 @@ pub mod PartObjects
 pub mod VisitObjects
 pub mod FaultObjects
 pub mod RowObjects
+pub mod EntryObjects
+pub mod AirportObjects
 pub mod Replies
 pub mod Spelt

@@ -1,4 +1,4 @@
--- Parts of visits and rules, as replies tell them.
+-- Parts of visits and rules, as replies give them.
 use Rattle.std.specs.Prelude.{ℕ, List, Option, None, Some, option_map, codes}
 use Rattle.serde_json.specs.Data.{Data, null, number, unsigned, string, object, member, no_members}
 use Rattle.apron_base.specs.declared.numbers.PartId.{PartId}
@@ -24,7 +24,7 @@ rule_word Split = codes "split"
 rule_word Clearance = codes "clearance"
 rule_word Pair = codes "pair"
 
--- a name, or null where there is none
+-- a name, or null if there is none
 abbrev pub name_data : Option (List ℕ) → Data
 name_data None = null
 name_data (Some name) = string name

@@ -1,4 +1,4 @@
--- The replies that the plan gave the cause of.
+-- The replies whose cause the plan gave.
 use Rattle.std.specs.Prelude.{◌≡◌, ◌≢◌, All, IsSome, ℕ, List, [], ◌∷◌, Option, None, Some, codes, map, ⊤}
 use Rattle.serde_json.specs.Data.{Data, array, null, object, member, no_members}
 use Rattle.serde_json.specs.View.{items_of}
@@ -12,9 +12,11 @@ use Rattle.visit_book.specs.declared.edits.EditFault.{EditFault}
 use Rattle.visit_book.specs.declared.edits.EditFault.TheVariants.{Overtaken, Memory}
 use Rattle.desk_words.specs.declared.replies.Reply.{Reply}
 use Rattle.desk_words.specs.declared.replies.Told.{Told}
-use Rattle.desk_words.specs.declared.replies.Told.TheVariants.{Added, Committed, Message, Reported, Cancelled, Version, Visit, Plan, Unplaced, Chart, NoVisit, Ahead, Full, OtherName, Edit, Denied}
+use Rattle.desk_words.specs.declared.replies.Told.TheVariants.{Added, Committed, Message, Reported, Cancelled, Version, Visit, Plan, Unplaced, Chart, Entry, Airport, Day, NoVisit, NoEntry, Ahead, Full, OtherName, Edit, Denied}
 use Rattle.desk_words.specs.PartObjects.{part_data, whole}
-use Rattle.desk_words.specs.VisitObjects.{visit_data}
+use Rattle.desk_words.specs.AirportObjects.{airport_data}
+use Rattle.desk_words.specs.EntryObjects.{entry_data}
+use Rattle.desk_words.specs.VisitObjects.{day_data, visit_data}
 use Rattle.desk_words.specs.FaultObjects.{denial_word, fault_data, other_name_data, refused_data}
 use Rattle.desk_words.specs.RowObjects.{plan_data, unplaced_data}
 use Rattle.desk_words.specs.Texts.{json_media, plain_media, text_of, version_line}
@@ -49,7 +51,7 @@ reported_data bumped version =
     object (member (codes "bumped") (parts_data bumped)
     (member (codes "version") (whole version) no_members))
 
--- the JSON of what is told, in a reply that shows this version; a chart is a text of its own
+-- the JSON of what a reply says, if it shows this version; a chart is a text of its own
 abbrev pub told_data : AirportParts → ℕ → Told → Data
 told_data airport version (Added entry visit) = added_data entry visit
 told_data airport version (Committed entry) = version_data entry
@@ -61,19 +63,23 @@ told_data airport version (Visit visit) = visit_data airport visit version
 told_data airport version (Plan parts) = plan_data airport parts version
 told_data airport version (Unplaced parts) = unplaced_data airport parts version
 told_data airport version (Chart text) = null
+told_data airport version (Entry entry call desk kind) = entry_data entry call desk kind version
+told_data airport version Airport = airport_data airport version
+told_data airport version (Day visits) = day_data airport visits version
 told_data airport version NoVisit = refused_data (codes "visit") version
+told_data airport version NoEntry = refused_data (codes "entry") version
 told_data airport version Ahead = refused_data (codes "ahead") version
 told_data airport version Full = refused_data (codes "full") version
 told_data airport version (OtherName visit) = other_name_data visit version
 told_data airport version (Edit fault) = fault_data fault version
 told_data airport version (Denied why) = refused_data (denial_word why) version
 
--- the code for why a commit was refused: a conflict where another commit came first
+-- the code for why a commit was refused: a conflict if another commit came first
 abbrev pub fault_code : EditFault → ℕ
 fault_code (Overtaken edit visit edited) = 409
 fault_code _ = 422
 
--- the code for what is told
+-- the code for what a reply says
 abbrev pub code_of : Told → ℕ
 code_of (Added entry visit) = 200
 code_of (Committed entry) = 200
@@ -85,23 +91,28 @@ code_of (Visit visit) = 200
 code_of (Plan parts) = 200
 code_of (Unplaced parts) = 200
 code_of (Chart text) = 200
+code_of (Entry entry call desk kind) = 200
+code_of Airport = 200
+code_of (Day visits) = 200
 code_of NoVisit = 404
+code_of NoEntry = 404
 code_of Ahead = 409
 code_of Full = 409
 code_of (OtherName visit) = 409
 code_of (Edit fault) = fault_code fault
 code_of (Denied why) = 422
 
--- what is told has a text: it is not want of memory, of a visit it is what can be said at any airport, and the parts of a plan are on stands, as those
--- that wait are not
+-- what a reply says has a text: it is no lack of memory; its visits are valid at any airport; the
+-- parts of a plan are on stands; and none of the waiting parts is
 abbrev pub IsTellable : Told → Type 0
 IsTellable (Visit visit) = IsNewVisit (new_of visit)
+IsTellable (Day visits) = All (λ visit. IsNewVisit (new_of visit)) visits
 IsTellable (Edit fault) = fault ≢ Memory
 IsTellable (Plan parts) = All (λ row. IsSome (stand_of row.part.place)) parts
 IsTellable (Unplaced parts) = All (λ row. stand_of row.part.place ≡ None) parts
 IsTellable _ = ⊤
 
--- the media type of what is told
+-- the media type of what a reply says
 abbrev pub media_of : Told → List ℕ
 media_of (Chart text) = plain_media
 media_of _ = json_media

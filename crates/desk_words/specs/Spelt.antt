@@ -58,7 +58,8 @@ example_arrival = record { airline = codes "LH"; number = 27; suffix = None }
 abbrev pub example_departure : Flight
 example_departure = record { airline = codes "LH"; number = 1400; suffix = Some 65 }
 
--- a visit of the type with that part and those flights, last edited by the commit that made version 2
+-- a visit of the type with that part and those flights, last edited by the commit that made version
+-- 2
 abbrev pub example_visit : Visit
 example_visit = record {
   number = record { 0 = 1 };
@@ -82,14 +83,14 @@ VisitIsSpelt =
     reply_text example_airport (record { version = 3; told = AVisit example_visit })
     ≡ codes "HTTP/1.1 200 OK\r\nContent-Type: application/json\r\nContent-Length: 247\r\nX-Version: 3\r\n\r\n{\"arr\":{\"day\":0,\"flight\":\"LH27\"},\"class\":3,\"dep\":{\"day\":1,\"flight\":\"LH1400A\"},\"edited\":2,\"name\":\"V1\",\"off\":660,\"on\":600,\"parts\":[{\"actual\":false,\"bump\":null,\"from\":600,\"stand\":\"N1\",\"to\":660}],\"state\":\"expected\",\"type\":\"A320\",\"version\":3,\"visit\":1}"
 
--- part 1 of visit 2 from 600 to 660 on the stand in fact
+-- part 1 of visit 2 from 600 to 660, on the stand in fact
 abbrev pub example_placed : PartRow
 example_placed = record {
   id = record { visit = record { 0 = 2 }; part = 1 };
   part = record { from = 600; to = 660; place = Actual (record { 0 = 0 }) };
 }
 
--- that part alone holds a stand of that airport on a day, at version 4
+-- only that part holds a stand of that airport on a day, at version 4
 abbrev pub PlanIsSpelt : Type 0
 PlanIsSpelt =
     reply_text example_airport (record { version = 4; told = Plan (example_placed ∷ []) })
@@ -99,7 +100,7 @@ PlanIsSpelt =
 abbrev pub example_bump : Bump
 example_bump = record { stand = record { 0 = 0 }; entry = 5; blocker = record { visit = record { 0 = 1 }; part = 1 }; minute = 680; rule = Same }
 
--- part 1 of visit 2, which lost its stand so
+-- part 1 of visit 2, which lost its stand that way
 abbrev pub example_bumped : PartRow
 example_bumped = record {
   id = record { visit = record { 0 = 2 }; part = 1 };
@@ -119,13 +120,14 @@ UnplacedIsSpelt =
     reply_text example_airport (record { version = 5; told = Unplaced (example_bumped ∷ example_waiting ∷ []) })
     ≡ codes "HTTP/1.1 200 OK\r\nContent-Type: application/json\r\nContent-Length: 205\r\nX-Version: 5\r\n\r\n{\"parts\":[{\"bump\":{\"blocker\":{\"part\":1,\"visit\":1},\"entry\":5,\"minute\":680,\"rule\":\"same\",\"stand\":\"N1\"},\"from\":680,\"part\":1,\"to\":740,\"visit\":2},{\"bump\":null,\"from\":10,\"part\":3,\"to\":20,\"visit\":1}],\"version\":5}"
 
--- a chart is told as its text
+-- a chart is sent as its text
 abbrev pub ChartIsSpelt : Type 0
 ChartIsSpelt =
     (airport : AirportParts) → reply_text airport (record { version = 7; told = Chart (codes "END\n") })
     ≡ codes "HTTP/1.1 200 OK\r\nContent-Type: text/plain\r\nContent-Length: 4\r\nX-Version: 7\r\n\r\nEND\n"
 
--- edit 2 is refused at version 10, as its type would come too near to object 3 of the stand's frontage
+-- edit 2 is refused at version 10, since its type would come too near to object 3 of the stand's
+-- frontage
 abbrev pub UnfitIsSpelt : Type 0
 UnfitIsSpelt =
     (airport : AirportParts) → reply_text airport (record { version = 10; told = Edit (Unfit 2 (Object 3)) })

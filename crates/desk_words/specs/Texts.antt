@@ -15,7 +15,8 @@ plain_media = codes "text/plain"
 abbrev pub ended : List ℕ → List ℕ
 ended line = line ++ codes "\r\n"
 
--- the lines before the empty one: the code with its phrase, the media type and length of the body, and the extra ones
+-- the lines before the empty one: the code with its phrase, the media type and length of the body,
+-- and the extra lines
 abbrev pub head_lines : ℕ → List ℕ → List (List ℕ) → ℕ → List (List ℕ)
 head_lines code media extra length_of_body =
     (codes "HTTP/1.1 " ++ status_text code) ∷ (codes "Content-Type: " ++ media) ∷ (codes "Content-Length: " ++ decimal length_of_body) ∷ extra
@@ -32,11 +33,11 @@ text_of code media extra body = head_of code media extra (length body) ++ body
 abbrev pub version_line : ℕ → List ℕ
 version_line version = codes "X-Version: " ++ decimal version
 
--- what stands after the first line of a text
+-- what comes after the first line of a text
 abbrev pub after_line : List ℕ → List ℕ
 after_line [] = []
 after_line (byte ∷ text) = if byte == 10 then text else after_line text
 
--- whether the first of the extra lines of a text tells a version
+-- whether the first of the extra lines of a text gives a version
 abbrev pub shows_version : List ℕ → Bool
 shows_version text = starts_with nat_eq (after_line (after_line (after_line text))) (codes "X-Version: ")

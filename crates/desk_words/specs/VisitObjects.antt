@@ -1,6 +1,6 @@
--- A visit, as replies tell it.
+-- A visit, as replies give it.
 use Rattle.std.specs.Prelude.{ℕ, Bool, List, Option, None, Some, codes, map, if◌then◌else◌}
-use Rattle.serde_json.specs.Data.{Data, null, boolean, string, array, object, member, no_members}
+use Rattle.serde_json.specs.Data.{Data, Members, null, boolean, string, array, object, member, no_members}
 use Rattle.serde_json.specs.View.{items_of}
 use Rattle.mvt_grammar.specs.Canonical.{flight_text}
 use Rattle.apron_rules.specs.declared.parts.AirportParts.{AirportParts}
@@ -24,14 +24,14 @@ bump_data airport bump =
     (member (codes "rule") (string (rule_word bump.rule))
     (member (codes "stand") (stand_data airport bump.stand) no_members)))))
 
--- what took the stand of a part that stands nowhere, or null
+-- what took the stand of a part that is on no stand, or null
 abbrev pub place_bump_data : AirportParts → Place → Data
 place_bump_data airport (Unplaced None) = null
 place_bump_data airport (Unplaced (Some bump)) = bump_data airport bump
 place_bump_data airport (Planned stand) = null
 place_bump_data airport (Actual stand) = null
 
--- the stand of a part, or null where it stands nowhere
+-- the stand of a part, or null if it is on none
 abbrev pub place_stand_data : AirportParts → Place → Data
 place_stand_data airport (Unplaced bump) = null
 place_stand_data airport (Planned stand) = stand_data airport stand
@@ -46,7 +46,7 @@ stay_data airport part =
     (member (codes "stand") (place_stand_data airport part.place)
     (member (codes "to") (whole part.to) no_members)))))
 
--- how far a visit is: cancelled, gone, on block, or expected
+-- the state of a visit: cancelled, gone, on block, or expected
 abbrev pub state_word : End → Bool → List ℕ
 state_word Cancelled on_block = codes "cancelled"
 state_word Gone on_block = codes "gone"
@@ -57,10 +57,10 @@ abbrev pub key_data : Option Key → Data
 key_data None = null
 key_data (Some key) = object (member (codes "day") (whole key.day) (member (codes "flight") (string (flight_text key.flight)) no_members))
 
--- a visit with its parts
-abbrev pub visit_data : AirportParts → Visit → ℕ → Data
-visit_data airport visit version =
-    object (member (codes "arr") (key_data visit.arr)
+-- what replies say of a visit with its parts: the members in order, with these after its type
+abbrev pub visit_members : AirportParts → Visit → Members → Members
+visit_members airport visit more =
+    member (codes "arr") (key_data visit.arr)
     (member (codes "class") (whole visit.class)
     (member (codes "dep") (key_data visit.dep)
     (member (codes "edited") (whole visit.edited)
@@ -69,6 +69,27 @@ visit_data airport visit version =
     (member (codes "on") (whole visit.on)
     (member (codes "parts") (array (items_of (map (stay_data airport) visit.parts)))
     (member (codes "state") (string (state_word visit.end visit.on_block))
-    (member (codes "type") (type_data airport visit.kind)
-    (member (codes "version") (whole version)
-    (member (codes "visit") (whole visit.number.0) no_members))))))))))))
+    (member (codes "type") (type_data airport visit.kind) more)))))))))
+
+-- the number of a visit, as the last member
+abbrev pub number_member : Visit → Members
+number_member visit = member (codes "visit") (whole visit.number.0) no_members
+
+-- the members of a visit among others
+abbrev pub listed_visit_members : AirportParts → Visit → Members
+listed_visit_members airport visit = visit_members airport visit (number_member visit)
+
+-- a visit alone: its object has the plan's version
+abbrev pub visit_data : AirportParts → Visit → ℕ → Data
+visit_data airport visit version =
+    object (visit_members airport visit (member (codes "version") (whole version) (number_member visit)))
+
+-- a visit among others
+abbrev pub listed_visit_data : AirportParts → Visit → Data
+listed_visit_data airport visit = object (listed_visit_members airport visit)
+
+-- {"version":N,"visits":[VISIT, ..]}
+abbrev pub day_data : AirportParts → List Visit → ℕ → Data
+day_data airport visits version =
+    object (member (codes "version") (whole version)
+    (member (codes "visits") (array (items_of (map (listed_visit_data airport) visits))) no_members))

@@ -1,6 +1,10 @@
 // What may be asked of the keeper of the plan.
-use apron_base::{Listed, Name, VisitNo};
+ghost use Rattle.std.specs.Prelude.{◌≡◌, IfOk};
+ghost use Rattle.desk_words.specs.Commands.{desk_of, kind_of};
+
+use apron_base::{Listed, Memory, Name, VisitNo};
 use mvt_grammar::Mvt;
+use std::alloc::Global;
 use visit_book::{Edit, Event, NewVisit};
 
 /// What may change the plan.
@@ -8,29 +12,104 @@ use visit_book::{Edit, Event, NewVisit};
 pub enum Command {
     /// A visit is added, or one of its name and the same data is there already.
     AddVisit(NewVisit),
-    /// The 1 to 64 edits of a desk's draft, in order. The desk made the draft over the plan's version `base`.
+    /// The 1 to 64 edits of a desk's draft, in order. The desk made the draft over the plan's
+    /// version `base`.
     Commit {
         desk: Name,
         draft: u32,
         base: u32,
         edits: Listed<Edit>,
     },
-    /// A movement message came. It says what happened, and is never refused for a conflict.
+    /// A desk passed on a movement message. It says what happened, and is never refused for a
+    /// conflict.
     Message {
+        desk: Name,
         message: Mvt,
     },
-    /// A visit came on block or went off block in fact.
+    /// A desk reports that a visit came on block or went off block in fact.
     Report {
+        desk: Name,
         visit: VisitNo,
         event: Event,
     },
-    /// A visit that is not on block does not come.
+    /// A visit that is not on block is cancelled.
     Cancel {
         visit: VisitNo,
     },
 }
 
-/// An accepted command as the history keeps it, with the number of the call that brought it: at least 1 and below 2^62, and greater than that of each entry before.
+/// What kind of command an entry has.
+#[derive(Clone, Copy, Debug, PartialEq, Eq)]
+pub enum EntryKind {
+    Visit,
+    Commit,
+    Message,
+    Report,
+    Cancel,
+}
+
+impl Command {
+    /// What kind of command this is.
+    pub fn kind(&self) -> EntryKind
+        ensures is { result ≡ kind_of self.now }
+    {
+        match self {
+            Command::AddVisit(_) => EntryKind::Visit,
+            Command::Commit { .. } => EntryKind::Commit,
+            Command::Message { .. } => EntryKind::Message,
+            Command::Report { .. } => EntryKind::Report,
+            Command::Cancel { .. } => EntryKind::Cancel,
+        }
+    }
+
+    /// The desk that a commit, a message or a report names.
+    pub fn desk(&self) -> Option<Name>
+        ensures is { result ≡ desk_of self.now }
+    {
+        match self {
+            Command::Commit { desk, .. }
+            | Command::Message { desk, .. }
+            | Command::Report { desk, .. } => Some(*desk),
+            Command::AddVisit(_) | Command::Cancel { .. } => None,
+        }
+    }
+
+    /// The same command. `Err` if there is no memory for it.
+    pub fn copy(&self, alloc: Global) -> Result<Command, Memory>
+        ensures same { IfOk result (λ made. made ≡ self.now) }
+    {
+        match self {
+            Command::AddVisit(new) => Ok(Command::AddVisit(*new)),
+            Command::Commit {
+                desk,
+                draft,
+                base,
+                edits,
+            } => {
+                let edits = Vec::from_slice(alloc, edits.as_slice())?;
+                Ok(Command::Commit {
+                    desk: *desk,
+                    draft: *draft,
+                    base: *base,
+                    edits: Listed::from_vec(edits),
+                })
+            }
+            Command::Message { desk, message } => Ok(Command::Message {
+                desk: *desk,
+                message: *message,
+            }),
+            Command::Report { desk, visit, event } => Ok(Command::Report {
+                desk: *desk,
+                visit: *visit,
+                event: *event,
+            }),
+            Command::Cancel { visit } => Ok(Command::Cancel { visit: *visit }),
+        }
+    }
+}
+
+/// An accepted command as the history keeps it, with the number of the call that brought it: at
+/// least 1 and below 2^62, and greater than that of each entry before.
 #[derive(Debug, Drop)]
 pub struct Entry {
     pub call: u64,
@@ -51,12 +130,18 @@ pub enum What {
     Unplaced,
     /// The wall chart of this day, counted from 1.
     Chart(u32),
+    /// What the entry of this number is, counted from 1.
+    Entry(u32),
+    /// The airport.
+    Airport,
+    /// The visits that hold a stand or wait for one on this day, counted from 1.
+    Day(u32),
 }
 
 /// What a desk asks with one request.
 #[derive(Debug, Drop)]
 pub struct Ask {
-    /// The greatest version of the plan that the desk has seen, as it says: 0 where it says none.
+    /// The greatest version of the plan that the desk says it has seen; 0 if it says none.
     pub seen: u32,
     pub what: What,
 }

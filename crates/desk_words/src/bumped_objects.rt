@@ -1,4 +1,4 @@
-// What came of a message or a report, as replies tell it.
+// What came of a message or a report, as replies give it.
 ghost use Rattle.std.specs.Prelude.{◌≡◌, map, IfOk};
 ghost use Rattle.serde_json.specs.View.{view};
 ghost use Rattle.desk_words.specs.PartObjects.{part_data};
@@ -33,7 +33,7 @@ pub(crate) fn reported_value(
     json!(in alloc; {"bumped": bumped, "version": version})
 }
 
-// A visit's number, or null where there is none.
+// A visit's number, or null if there is none.
 fn visit_if(alloc: Global, visit: Option<VisitNo>) -> Result<Value, AllocError>
     ensures is { IfOk result (λ v. view v ≡ visit_if visit) }
 {

@@ -13,17 +13,20 @@ use mvt_grammar::MvtFault;
 pub enum Early {
     /// No route has this target.
     NoRoute,
-    /// The route takes GET alone.
+    /// The route takes only GET.
     OnlyGet,
-    /// The route takes POST alone.
+    /// The route takes only POST.
     OnlyPost,
-    /// The version that the desk has seen is told twice, or by no number of 1 to 10 digits and 32 bits.
+    /// The version that the desk has seen is given twice, or is not a number of 1 to 10 digits and
+    /// 32 bits.
     BadSeen,
+    /// The desk's name is in two fields, or is not 1 to 12 capitals, digits and dashes.
+    BadDesk,
     /// The plan has no such day.
     NoDay,
-    /// The body is not of the form of its route.
+    /// The body does not have the form of its route.
     NotJson,
-    /// The text is no movement message, for this fault.
+    /// The text is not a movement message, for this fault.
     NotMvt(MvtFault),
     /// The airport has no type of this name.
     BadType,
@@ -31,8 +34,9 @@ pub enum Early {
     BadStand { edit: u8 },
     /// The airport has no stand of the name in a report.
     NoStand,
-    /// The visit is not on block before the plan ends, off block later than then, or less than the least minutes of its
-    /// type on block; or a flight is of a day that is none of the plan and not the one before it.
+    /// The visit comes on block not before the plan ends, or goes off block after that, or is on
+    /// block for less than the least minutes of its type; or a flight's day is neither a day of the
+    /// plan nor the day before it.
     BadTimes,
 }
 
@@ -52,6 +56,9 @@ pub fn early_bytes(early: Early) -> ShortText
         ),
         Early::BadSeen => ShortText::of(
             b"HTTP/1.1 400 Bad Request\r\nContent-Type: application/json\r\nContent-Length: 16\r\n\r\n{\"error\":\"seen\"}",
+        ),
+        Early::BadDesk => ShortText::of(
+            b"HTTP/1.1 400 Bad Request\r\nContent-Type: application/json\r\nContent-Length: 16\r\n\r\n{\"error\":\"desk\"}",
         ),
         Early::NoDay => ShortText::of(
             b"HTTP/1.1 404 Not Found\r\nContent-Type: application/json\r\nContent-Length: 15\r\n\r\n{\"error\":\"day\"}",
@@ -73,7 +80,7 @@ pub fn early_bytes(early: Early) -> ShortText
     }
 }
 
-// The reply to a text that is no movement message.
+// The reply to a text that is not a movement message.
 fn not_mvt(fault: MvtFault) -> ShortText
     ensures text { result ≡ early_text (Early.NotMvt fault) }
 {

@@ -1,4 +1,4 @@
-// Why a command is refused, as replies tell it.
+// Why a command is refused, as replies give it.
 ghost use Rattle.std.specs.Prelude.{◌≡◌, ◌≢◌, IfOk};
 ghost use Rattle.serde_json.specs.View.{view};
 ghost use Rattle.desk_words.specs.FaultObjects.{by_data, clash_data, denial_word, edit_data, fault_data, other_name_data, refused_data};
@@ -17,7 +17,7 @@ pub(crate) fn refused_value(alloc: Global, error: &str, version: u32) -> Result<
     json!(in alloc; {"error": error, "version": version})
 }
 
-// A visit of this number has the name, and other data.
+// A visit of this number has the name, and was added with other data.
 pub(crate) fn other_name_value(
     alloc: Global,
     visit: VisitNo,

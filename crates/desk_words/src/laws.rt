@@ -1,4 +1,5 @@
-// Laws of the texts: the replies of a plan are told from the others, and no two fixed ones are alike.
+// Laws of the texts: the replies of a plan are distinguishable from the others, and no two fixed
+// ones are alike.
 ghost use Rattle.std.specs.Prelude.{◌≡◌, ◌≢◌, true, false, All, AllPairs};
 ghost use Rattle.apron_rules.specs.declared.parts.AirportParts.{AirportParts};
 ghost use Rattle.desk_words.specs.declared.early.Early.{Early};
@@ -9,27 +10,28 @@ ghost use Rattle.desk_words.specs.Replies.{reply_text};
 ghost use Rattle.desk_words.specs.Spelt.{CommittedIsSpelt, VisitIsSpelt, PlanIsSpelt, UnplacedIsSpelt, ChartIsSpelt, UnfitIsSpelt, ClashIsSpelt};
 ghost use Rattle.desk_words.specs.Texts.{shows_version};
 
-/// Each reply that the plan gave the cause of shows a version, and no other one does.
+/// Each reply whose cause the plan gave shows a version, and no other one does.
 pub fn replies_of_plans_show_a_version()
     ensures replies { (airport : AirportParts) (reply : Reply) → shows_version (reply_text airport reply) ≡ true }
     ensures early { (early : Early) → shows_version (early_text early) ≡ false }
     ensures fixed { All (λ text. shows_version text ≡ false) fixed_texts }
 {}
 
-/// So no reply that the plan gave the cause of has the text of another one.
+/// So no reply whose cause the plan gave has the text of an early or a fixed reply.
 pub fn no_reply_is_early_or_fixed()
     ensures early { (airport : AirportParts) (reply : Reply) (early : Early) → reply_text airport reply ≢ early_text early }
     ensures fixed { (airport : AirportParts) (reply : Reply) → All (λ text. reply_text airport reply ≢ text) fixed_texts }
 {}
 
-/// No two of the fixed texts are the same, and none is that of an early reply, which tells which one it is.
+/// No two of the fixed texts are the same, and none is that of an early reply. The text of an early
+/// reply says which one it is.
 pub fn fixed_texts_differ()
     ensures fixed { AllPairs (λ text other. text ≢ other) fixed_texts }
     ensures early { (early : Early) → All (λ text. early_text early ≢ text) fixed_texts }
     ensures one { (early other : Early) → IsEarly early → IsEarly other → early_text early ≡ early_text other → early ≡ other }
 {}
 
-/// Some replies are spelt so.
+/// Some replies, spelt out.
 pub fn replies_are_spelt()
     ensures committed { CommittedIsSpelt }
     ensures visit { VisitIsSpelt }

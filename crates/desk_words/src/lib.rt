@@ -1,9 +1,12 @@
-//! What desks may ask, and the replies that they get back, byte for byte.
+//! What desks may ask, and the replies that they get back, byte for byte. It doesn't know how an
+//! answer is found.
 #![tactic(auto)]
 
+mod airport_objects;
 pub mod asks;
 mod bumped_objects;
 pub mod early;
+mod entry_objects;
 mod fault_objects;
 pub mod fixed;
 pub mod laws;

@@ -1,9 +1,9 @@
-// Parts of visits, stands, types and rules, as replies tell them.
+// Parts of visits, stands, types and rules, as replies give them.
 ghost use Rattle.std.specs.Prelude.{◌≡◌, IfOk};
 ghost use Rattle.serde_json.specs.View.{view};
-ghost use Rattle.desk_words.specs.PartObjects.{part_data, rule_word, stand_data, type_data};
+ghost use Rattle.desk_words.specs.PartObjects.{name_data, part_data, rule_word, stand_data, type_data};
 
-use apron_base::{PartId, StandNo, TypeNo};
+use apron_base::{Name, PartId, StandNo, TypeNo};
 use apron_rules::{AirportParts, Rule};
 use serde_json::{Value, json};
 use std::alloc::{AllocError, Global};
@@ -14,7 +14,17 @@ pub(crate) fn part_value(alloc: Global, part: PartId) -> Result<Value, AllocErro
     json!(in alloc; {"part": part.part, "visit": part.visit.0})
 }
 
-// The name of a stand, or null where the airport has none of this number.
+// A name, or null if there is none.
+pub(crate) fn name_value(alloc: Global, name: &Option<Name>) -> Result<Value, AllocError>
+    ensures is { IfOk result (λ v. view v ≡ name_data name.now) }
+{
+    match name {
+        Some(name) => json!(in alloc; name.text()),
+        None => Ok(Value::Null),
+    }
+}
+
+// The name of a stand, or null if the airport has none of this number.
 pub(crate) fn stand_value(
     alloc: Global,
     airport: &AirportParts,
@@ -28,7 +38,7 @@ pub(crate) fn stand_value(
     }
 }
 
-// The name of a type, or null where the airport has none of this number.
+// The name of a type, or null if the airport has none of this number.
 pub(crate) fn type_value(
     alloc: Global,
     airport: &AirportParts,

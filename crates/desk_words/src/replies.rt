@@ -1,14 +1,18 @@
-// Replies that the plan gave the cause of, and their bytes.
+// Replies whose cause the plan gave, and their bytes.
 ghost use Rattle.std.specs.Prelude.{◌≡◌, ◌∷◌, [], length, string_bytes, IfOk};
 ghost use Rattle.serde_json.specs.View.{view};
+ghost use Rattle.apron_dates.specs.Dates.{IsFirstDay};
 ghost use Rattle.desk_words.specs.Texts.{head_of, text_of, version_line};
 ghost use Rattle.desk_words.specs.Replies.{IsTellable, body_text, code_of, fault_code, media_of, reply_text, told_data};
 
+use crate::airport_objects::airport_value;
+use crate::asks::EntryKind;
 use crate::bumped_objects::{message_value, reported_value};
+use crate::entry_objects::entry_value;
 use crate::fault_objects::{denial_word, fault_value, other_name_value, refused_value};
 use crate::row_objects::{plan_value, unplaced_value};
-use crate::visit_objects::visit_value;
-use apron_base::{Listed, Memory, PartId, VisitNo};
+use crate::visit_objects::{day_value, visit_value};
+use apron_base::{Listed, Memory, Name, PartId, VisitNo};
 use apron_rules::{Airport, AirportParts};
 use http::StatusCode;
 use serde_json::{Value, json};
@@ -40,8 +44,8 @@ pub enum Told {
     Committed {
         entry: u32,
     },
-    /// The message is an entry. These parts lost their stands by it, in order of visit and part, and this is the visit that it
-    /// changed: none where it has no effect.
+    /// The message is an entry. These parts lost their stands by it, in order of visit and part,
+    /// and this is the visit that it changed: none if it has no effect.
     Message {
         bumped: Listed<PartId>,
         visit: Option<VisitNo>,
@@ -60,7 +64,7 @@ pub enum Told {
     Plan {
         parts: Listed<PartRow>,
     },
-    /// The parts of live visits that stand nowhere, by rank.
+    /// The parts of live visits that are on no stand, by rank.
     Unplaced {
         parts: Listed<PartRow>,
     },
@@ -68,13 +72,29 @@ pub enum Told {
     Chart {
         text: Listed<u8>,
     },
+    /// The entry of this number, counted from 1: the number of the call that brought it, the desk
+    /// that its command names, and the kind of the command.
+    Entry {
+        entry: u32,
+        call: u64,
+        desk: Option<Name>,
+        kind: EntryKind,
+    },
+    /// The airport.
+    Airport,
+    /// The visits that hold a stand or wait for one on a day, in order of number.
+    Day {
+        visits: Listed<Visit>,
+    },
     /// There is no visit of this number.
     NoVisit,
-    /// The ask is of a greater version than the plan's.
+    /// There is no entry of this number.
+    NoEntry,
+    /// The desk has seen a version greater than the plan's.
     Ahead,
     /// The history takes no more entries.
     Full,
-    /// The visit of this number has the name, and other data.
+    /// The visit of this number has the name, and was added with other data.
     OtherName {
         visit: VisitNo,
     },
@@ -84,7 +104,7 @@ pub enum Told {
     Denied(Denial),
 }
 
-/// Why a report or a cancel is refused: the first that holds, in this order.
+/// Why a report or a cancel is refused: the first of these that holds, in this order.
 #[derive(Clone, Copy, Debug, PartialEq, Eq)]
 pub enum Denial {
     /// There is no visit of this number.
@@ -93,7 +113,7 @@ pub enum Denial {
     Gone,
     /// A report: the visit has no part of this number.
     NoSuchPart,
-    /// A report: the minute is behind the plan, or too early for the visit.
+    /// A report: the minute is after the plan's end, or too early for the visit.
     Time,
     /// A cancel: the visit is on block.
     OnBlock,
@@ -106,8 +126,8 @@ pub struct Reply {
     pub told: Told,
 }
 
-/// The reply's whole text, head and body, for a plan of this airport. For want of memory, also as the
-/// fault of an edit, there is a fixed text in its place.
+/// The reply's whole text, head and body, for a plan of this airport. A lack of memory, also as the
+/// fault of an edit, gives a fixed text instead.
 pub fn reply_bytes(alloc: Global, airport: &Airport, reply: &Reply) -> Result<Listed<u8>, Memory>
     requires tellable { IsTellable reply.now.told }
     ensures text { IfOk result (λ bytes. bytes ≡ reply_text airport.now reply.now) }
@@ -135,8 +155,11 @@ fn code(told: &Told) -> StatusCode
         | Told::Visit(_)
         | Told::Plan { .. }
         | Told::Unplaced { .. }
-        | Told::Chart { .. } => StatusCode::OK,
-        Told::NoVisit => StatusCode::NOT_FOUND,
+        | Told::Chart { .. }
+        | Told::Entry { .. }
+        | Told::Airport
+        | Told::Day { .. } => StatusCode::OK,
+        Told::NoVisit | Told::NoEntry => StatusCode::NOT_FOUND,
         Told::Ahead | Told::Full | Told::OtherName { .. } => StatusCode::CONFLICT,
         Told::Edit(fault) => fault_code(*fault),
         Told::Denied(_) => StatusCode::UNPROCESSABLE_ENTITY,
@@ -161,7 +184,7 @@ fn media(told: &Told) -> &'static str
     }
 }
 
-// The text of a reply with this body, that shows this version.
+// The text of a reply with this body, which shows this version.
 fn text(
     alloc: Global,
     code: StatusCode,
@@ -190,13 +213,13 @@ fn head(
     )
 }
 
-#[tactic(auto, using(crate::proofs::Floats::told_has_none))]
 fn told_body(
     alloc: Global,
     airport: &AirportParts,
     version: u32,
     told: &Told,
 ) -> Result<Vec<u8>, AllocError>
+    requires first { IsFirstDay airport.now.first }
     requires tellable { IsTellable told.now }
     ensures text { IfOk result (λ v. v.items ≡ body_text airport.now version told.now) }
 {
@@ -212,6 +235,7 @@ fn told_value(
     version: u32,
     told: &Told,
 ) -> Result<Value, AllocError>
+    requires first { IsFirstDay airport.now.first }
     requires tellable { IsTellable told.now }
     ensures is { IfOk result (λ v. view v ≡ told_data airport.now version told.now) }
 {
@@ -227,7 +251,16 @@ fn told_value(
         Told::Plan { parts } => plan_value(alloc, airport, parts.as_slice(), version),
         Told::Unplaced { parts } => unplaced_value(alloc, airport, parts.as_slice(), version),
         Told::Chart { .. } => Ok(Value::Null),
+        Told::Entry {
+            entry,
+            call,
+            desk,
+            kind,
+        } => entry_value(alloc, *entry, *call, desk, *kind, version),
+        Told::Airport => airport_value(alloc, airport, version),
+        Told::Day { visits } => day_value(alloc, airport, visits.as_slice(), version),
         Told::NoVisit => refused_value(alloc, "visit", version),
+        Told::NoEntry => refused_value(alloc, "entry", version),
         Told::Ahead => refused_value(alloc, "ahead", version),
         Told::Full => refused_value(alloc, "full", version),
         Told::OtherName { visit } => other_name_value(alloc, *visit, version),

@@ -77,7 +77,7 @@ fn waiting_values(
     Ok(values)
 }
 
-// A part that stands nowhere.
+// A part that is on no stand.
 fn waiting_value(alloc: Global, airport: &AirportParts, row: &PartRow) -> Result<Value, AllocError>
     ensures is { IfOk result (λ v. view v ≡ waiting_data airport.now row.now) }
 {

@@ -1,20 +1,62 @@
-// A visit, as replies tell it.
-ghost use Rattle.std.specs.Prelude.{◌≡◌, map, string_bytes, IfOk, IfSome};
+// A visit, as replies give it.
+ghost use Rattle.std.specs.Prelude.{◌≡◌, map, string_bytes, All, IfOk, IfSome};
 ghost use Rattle.std.specs.Str.{IsAscii};
-ghost use Rattle.serde_json.specs.View.{view};
+ghost use Rattle.serde_json.specs.View.{members_view, view};
 ghost use Rattle.mvt_grammar.specs.Canonical.{flight_text};
 ghost use Rattle.mvt_grammar.specs.Readable.{IsFlight};
 ghost use Rattle.visit_book.specs.NewVisits.{HasFlight, IsNewVisit, new_of};
-ghost use Rattle.desk_words.specs.VisitObjects.{bump_data, key_data, place_bump_data, place_stand_data, stay_data, state_word, visit_data};
+ghost use Rattle.desk_words.specs.VisitObjects.{bump_data, day_data, key_data, listed_visit_data, listed_visit_members, place_bump_data, place_stand_data, stay_data, state_word, visit_data};
 
 use crate::part_objects::{part_value, rule_word, stand_value, type_value};
 use apron_base::Memory;
 use apron_rules::AirportParts;
 use mvt_grammar::{Flight, push_flight};
-use serde_json::{Value, json};
+use serde_json::{Map, Value, json, put};
 use std::alloc::{AllocError, Global};
 use visit_book::{Bump, End, Key, Part, Place, Visit};
 
+/// The visits of a day of a plan of this version.
+pub(crate) fn day_value(
+    alloc: Global,
+    airport: &AirportParts,
+    visits: &[Visit],
+    version: u32,
+) -> Result<Value, AllocError>
+    requires new { All (λ visit. IsNewVisit (new_of visit)) visits.now }
+    ensures is { IfOk result (λ v. view v ≡ day_data airport.now visits.now version) }
+{
+    let visits = visit_values(alloc, airport, visits)?;
+    json!(in alloc; {"version": version, "visits": visits})
+}
+
+fn visit_values(
+    alloc: Global,
+    airport: &AirportParts,
+    visits: &[Visit],
+) -> Result<Vec<Value>, AllocError>
+    requires new { All (λ visit. IsNewVisit (new_of visit)) visits.now }
+    ensures are { IfOk result (λ values. map view values.items ≡ map (listed_visit_data airport.now) visits.now) }
+{
+    let mut values = Vec::new(alloc);
+    for visit in visits {
+        values.push(listed_visit_value(alloc, airport, visit)?)?;
+    }
+    Ok(values)
+}
+
+// A visit among others.
+fn listed_visit_value(
+    alloc: Global,
+    airport: &AirportParts,
+    visit: &Visit,
+) -> Result<Value, AllocError>
+    requires new { IsNewVisit (new_of visit.now) }
+    ensures is { IfOk result (λ v. view v ≡ listed_visit_data airport.now visit.now) }
+{
+    Ok(Value::Object(listed_visit_members(alloc, airport, visit)?))
+}
+
+/// A visit alone, with the plan's version among its members.
 pub(crate) fn visit_value(
     alloc: Global,
     airport: &AirportParts,
@@ -24,27 +66,41 @@ pub(crate) fn visit_value(
     requires new { IsNewVisit (new_of visit.now) }
     ensures is { IfOk result (λ v. view v ≡ visit_data airport.now visit.now version) }
 {
-    let arr = key_value(alloc, &visit.arr)?;
-    let dep = key_value(alloc, &visit.dep)?;
-    let parts = stay_values(alloc, airport, visit.parts.as_slice())?;
-    let kind = type_value(alloc, airport, visit.kind)?;
-    json!(in alloc; {
-        "arr": arr,
-        "class": visit.class,
-        "dep": dep,
-        "edited": visit.edited,
-        "name": visit.name.text(),
-        "off": visit.off,
-        "on": visit.on,
-        "parts": parts,
-        "state": state_word(visit),
-        "type": kind,
-        "version": version,
-        "visit": visit.number.0
-    })
+    let mut members = listed_visit_members(alloc, airport, visit)?;
+    put(&mut members, alloc, "version", Value::from(version))?;
+    Ok(Value::Object(members))
 }
 
-// A flight and its day, or null where there is none.
+fn listed_visit_members(
+    alloc: Global,
+    airport: &AirportParts,
+    visit: &Visit,
+) -> Result<Map<String, Value>, AllocError>
+    requires new { IsNewVisit (new_of visit.now) }
+    ensures are { IfOk result (λ members. members_view members.entries ≡ listed_visit_members airport.now visit.now) }
+{
+    let arr = key_value(alloc, &visit.arr)?;
+    let dep = key_value(alloc, &visit.dep)?;
+    let name = Value::try_from_str(alloc, visit.name.text())?;
+    let parts = stay_values(alloc, airport, visit.parts.as_slice())?;
+    let state = Value::try_from_str(alloc, state_word(visit))?;
+    let kind = type_value(alloc, airport, visit.kind)?;
+    let mut members = Map::new(alloc);
+    put(&mut members, alloc, "arr", arr)?;
+    put(&mut members, alloc, "class", Value::from(visit.class))?;
+    put(&mut members, alloc, "dep", dep)?;
+    put(&mut members, alloc, "edited", Value::from(visit.edited))?;
+    put(&mut members, alloc, "name", name)?;
+    put(&mut members, alloc, "off", Value::from(visit.off))?;
+    put(&mut members, alloc, "on", Value::from(visit.on))?;
+    put(&mut members, alloc, "parts", Value::from(parts))?;
+    put(&mut members, alloc, "state", state)?;
+    put(&mut members, alloc, "type", kind)?;
+    put(&mut members, alloc, "visit", Value::from(visit.number.0))?;
+    Ok(members)
+}
+
+// A flight and its day, or null if there is none.
 fn key_value(alloc: Global, key: &Option<Key>) -> Result<Value, AllocError>
     requires flight { IfSome key.now HasFlight }
     ensures is { IfOk result (λ v. view v ≡ key_data key.now) }

@@ -1,8 +1,8 @@
-// Entries, read and written again, and the first fault of what is none.
+// Entries, read and written again, and the first fault of bytes that are none.
 use apron_base::{Name, StandNo, TypeNo, VisitNo};
 use apron_rules::Airport;
 use desk_words::asks::Command;
-use entry_bytes::{EntryFault, decode_entry, encode_entry};
+use entry_bytes::{EntryFault, decode_entry, encode_entry, lift_entry};
 use mvt_grammar::{Clock, Flight, Mvt};
 use small_airports::{on_one_frontage, stand_on_n, type_of_40};
 use std::alloc::Global;
@@ -38,10 +38,11 @@ fn airport(alloc: Global) -> Result<Airport, Fail> {
 // V1 is an aircraft of the first type, of class 3, from 600 to 660.
 const ADDED: &[u8] = b"\x01\0\0\0\0\0\0\0\x01\x02V1\0\0\x03\x58\x02\0\0\x94\x02\0\0\0\0";
 
-// The draft 1 of the desk D puts it on the first stand.
+// Draft 1 of the desk D puts it on the first stand.
 const PUT: &[u8] = b"\x02\0\0\0\0\0\0\0\x02\x01D\x01\0\0\0\x01\0\0\0\x01\x01\x01\0\0\0\x01\0\0";
 
-// V2 is one of the fourth type, of class 5, from 700 to 760. It comes by LH123 of day 1, and leaves by LH124A of day 2.
+// V2 is an aircraft of the fourth type, of class 5, from 700 to 760. It comes by LH123 of day 1,
+// and leaves by LH124A of day 2.
 const KEYED: &[u8] =
     b"\x03\0\0\0\0\0\0\0\x01\x02V2\x03\0\x05\xBC\x02\0\0\xF8\x02\0\0\x01\x02LH\x7B\0\0\x01\x01\x02LH\x7C\0A\x02";
 
@@ -49,14 +50,24 @@ const KEYED: &[u8] =
 const EDITED: &[u8] =
     b"\xFF\xFF\xFF\xFF\xFF\xFF\xFF\x3F\x02\x01D\x02\0\0\0\x09\0\0\0\x04\x01\x01\0\0\0\x02\x05\0\x02\x02\x01\0\0\x01\x03\x01\0\0\0\x01\x76\x02\0\0\x04\x01\0\0\0\x01";
 
-// An estimate for LH123 of the 27th, of 34 bytes.
-const MESSAGE: &[u8] = b"\x04\0\0\0\0\0\0\0\x03\x22MVT\nLH123/27.DABCD.MUC\nEA0620 APR\n";
+// The desk OPS passed on an estimate for LH123 of the 27th, of 34 bytes.
+const MESSAGE: &[u8] = b"\x04\0\0\0\0\0\0\0\x06\x03OPS\x22MVT\nLH123/27.DABCD.MUC\nEA0620 APR\n";
 
-// Part 1 of visit 2 came on block on the last stand at 610.
-const CAME: &[u8] = b"\x05\0\0\0\0\0\0\0\x04\x02\0\0\0\x01\x01\x05\0\x62\x02\0\0";
+// The same estimate, of no desk.
+const NO_DESKS_MESSAGE: &[u8] =
+    b"\x04\0\0\0\0\0\0\0\x06\x01-\x22MVT\nLH123/27.DABCD.MUC\nEA0620 APR\n";
 
-// Visit 2 went off block at 660.
-const WENT: &[u8] = b"\x06\0\0\0\0\0\0\0\x04\x02\0\0\0\x02\x94\x02\0\0";
+// The desk OPS reports that part 1 of visit 2 came on block on the last stand at 610.
+const CAME: &[u8] = b"\x05\0\0\0\0\0\0\0\x07\x03OPS\x02\0\0\0\x01\x01\x05\0\x62\x02\0\0";
+
+// The same, of no desk.
+const NO_DESK_CAME: &[u8] = b"\x05\0\0\0\0\0\0\0\x07\x01-\x02\0\0\0\x01\x01\x05\0\x62\x02\0\0";
+
+// The desk OPS reports that visit 2 went off block at 660.
+const WENT: &[u8] = b"\x06\0\0\0\0\0\0\0\x07\x03OPS\x02\0\0\0\x02\x94\x02\0\0";
+
+// The same, of no desk.
+const NO_DESK_WENT: &[u8] = b"\x06\0\0\0\0\0\0\0\x07\x01-\x02\0\0\0\x02\x94\x02\0\0";
 
 // Visit 258 is cancelled.
 const CANCELLED: &[u8] = b"\x07\0\0\0\0\0\0\0\x05\x02\x01\0\0";
@@ -79,7 +90,20 @@ fn is_same(alloc: Global, airport: &Airport, bytes: &[u8]) -> bool {
 #[test]
 fn entries_are_read_and_written_again(rt: HostRuntime) -> Result<(), Fail> {
     let airport = airport(rt.alloc())?;
-    for bytes in [ADDED, PUT, KEYED, EDITED, MESSAGE, CAME, WENT, CANCELLED] {
+    let entries = [
+        ADDED,
+        PUT,
+        KEYED,
+        EDITED,
+        MESSAGE,
+        NO_DESKS_MESSAGE,
+        CAME,
+        NO_DESK_CAME,
+        WENT,
+        NO_DESK_WENT,
+        CANCELLED,
+    ];
+    for bytes in entries {
         assert!(rt; is_same(rt.alloc(), &airport, bytes), "of {bytes:?}");
     }
     Ok(())
@@ -165,10 +189,7 @@ fn a_commit_is_read_with_its_edits(rt: HostRuntime) -> Result<(), Fail> {
 }
 
 #[test]
-fn a_message_is_read_with_its_estimate(rt: HostRuntime) -> Result<(), Fail> {
-    let Command::Message { message } = command_of(rt.alloc(), MESSAGE, 4)? else {
-        return Err(Fail::new("a message"));
-    };
+fn a_message_is_read_with_its_desk_and_its_estimate(rt: HostRuntime) -> Result<(), Fail> {
     let at_0620 = Clock {
         day: None,
         minute: 380,
@@ -183,22 +204,41 @@ fn a_message_is_read_with_its_estimate(rt: HostRuntime) -> Result<(), Fail> {
         ea: Some((at_0620, Name::literal(b"APR"))),
         ed: None,
     };
-    assert!(rt; message == wanted);
+    let messages = [
+        (MESSAGE, Name::literal(b"OPS")),
+        (NO_DESKS_MESSAGE, Name::literal(b"-")),
+    ];
+    for (bytes, name) in messages {
+        let Command::Message { desk, message } = command_of(rt.alloc(), bytes, 4)? else {
+            return Err(Fail::new("a message"));
+        };
+        assert!(rt; desk == name);
+        assert!(rt; message == wanted);
+    }
     Ok(())
 }
 
 #[test]
-fn reports_and_cancels_are_read_with_their_visits(rt: HostRuntime) -> Result<(), Fail> {
+fn reports_are_read_with_their_desks_and_cancels_with_their_visits(
+    rt: HostRuntime,
+) -> Result<(), Fail> {
     let on = Event::On {
         part: 1,
         stand: StandNo(5),
         minute: 610,
     };
     let off = Event::Off { minute: 660 };
-    for (bytes, call, wanted) in [(CAME, 5, on), (WENT, 6, off)] {
-        let Command::Report { visit, event } = command_of(rt.alloc(), bytes, call)? else {
+    let reports = [
+        (CAME, 5, Name::literal(b"OPS"), on),
+        (NO_DESK_CAME, 5, Name::literal(b"-"), on),
+        (WENT, 6, Name::literal(b"OPS"), off),
+        (NO_DESK_WENT, 6, Name::literal(b"-"), off),
+    ];
+    for (bytes, call, name, wanted) in reports {
+        let Command::Report { desk, visit, event } = command_of(rt.alloc(), bytes, call)? else {
             return Err(Fail::new("a report"));
         };
+        assert!(rt; desk == name);
         assert_eq!(rt; visit, VisitNo(2));
         assert_eq!(rt; event, wanted);
     }
@@ -209,13 +249,13 @@ fn reports_and_cancels_are_read_with_their_visits(rt: HostRuntime) -> Result<(),
     Ok(())
 }
 
-const FAULTS: [(&[u8], EntryFault); 60] = [
+const FAULTS: [(&[u8], EntryFault); 70] = [
     (b"", EntryFault::BadField(0)),
     (b"\x01\0\0\0\0\0\0", EntryFault::BadField(0)),
     (b"\0\0\0\0\0\0\0\x40\x09", EntryFault::BadField(0)),
     (b"\x01\0\0\0\0\0\0\0", EntryFault::BadField(8)),
     (b"\x01\0\0\0\0\0\0\0\0", EntryFault::BadKind),
-    (b"\x01\0\0\0\0\0\0\0\x06", EntryFault::BadKind),
+    (b"\x01\0\0\0\0\0\0\0\x08", EntryFault::BadKind),
     (b"\x01\0\0\0\0\0\0\0\x01", EntryFault::BadField(9)),
     (b"\x01\0\0\0\0\0\0\0\x01\0", EntryFault::BadField(9)),
     (b"\x01\0\0\0\0\0\0\0\x01\x02V", EntryFault::BadField(9)),
@@ -342,60 +382,94 @@ const FAULTS: [(&[u8], EntryFault); 60] = [
         b"\x02\0\0\0\0\0\0\0\x02\x01D\x01\0\0\0\x01\0\0\0\x01\x02\x01\0\0\0\x01\0",
         EntryFault::TrailingBytes(26),
     ),
-    (b"\x04\0\0\0\0\0\0\0\x03", EntryFault::BadField(9)),
+    (b"\x04\0\0\0\0\0\0\0\x06", EntryFault::BadField(9)),
     (
-        b"\x04\0\0\0\0\0\0\0\x03\x11MVT\nLH0/01.A.APR",
-        EntryFault::BadField(9),
-    ),
-    (b"\x04\0\0\0\0\0\0\0\x03\x04MVT\n", EntryFault::BadField(9)),
-    (
-        b"\x04\0\0\0\0\0\0\0\x03\x12MVT\nLH00/01.A.APR\n",
+        b"\x04\0\0\0\0\0\0\0\x06\0\x11MVT\nLH0/01.A.APR\n",
         EntryFault::BadField(9),
     ),
     (
-        b"\x04\0\0\0\0\0\0\0\x03\x10MVT\nLH0/01.A.APR",
+        b"\x04\0\0\0\0\0\0\0\x06\x0DABCDEFGHIJKLM\x11MVT\nLH0/01.A.APR\n",
         EntryFault::BadField(9),
     ),
     (
-        b"\x04\0\0\0\0\0\0\0\x03\x11MVT\nLH0/01.A.APR\n\0",
-        EntryFault::TrailingBytes(27),
+        b"\x04\0\0\0\0\0\0\0\x06\x03ops\x11MVT\nLH0/01.A.APR\n",
+        EntryFault::BadField(9),
     ),
-    (b"\x04\0\0\0\0\0\0\0\x04\x02\0\0", EntryFault::BadField(9)),
+    (b"\x04\0\0\0\0\0\0\0\x06\x03OP", EntryFault::BadField(9)),
+    (b"\x04\0\0\0\0\0\0\0\x06\x03OPS", EntryFault::BadField(13)),
     (
-        b"\x04\0\0\0\0\0\0\0\x04\x02\0\0\0",
+        b"\x04\0\0\0\0\0\0\0\x06\x03OPS\x11MVT\nLH0/01.A.APR",
         EntryFault::BadField(13),
     ),
     (
-        b"\x04\0\0\0\0\0\0\0\x04\x02\0\0\0\0",
+        b"\x04\0\0\0\0\0\0\0\x06\x03OPS\x04MVT\n",
         EntryFault::BadField(13),
     ),
     (
-        b"\x04\0\0\0\0\0\0\0\x04\x02\0\0\0\x03",
+        b"\x04\0\0\0\0\0\0\0\x06\x03OPS\x12MVT\nLH00/01.A.APR\n",
         EntryFault::BadField(13),
     ),
     (
-        b"\x04\0\0\0\0\0\0\0\x04\x02\0\0\0\x01",
-        EntryFault::BadField(14),
+        b"\x04\0\0\0\0\0\0\0\x06\x03OPS\x10MVT\nLH0/01.A.APR",
+        EntryFault::BadField(13),
     ),
     (
-        b"\x04\0\0\0\0\0\0\0\x04\x02\0\0\0\x01\x01\x05",
-        EntryFault::BadField(15),
+        b"\x04\0\0\0\0\0\0\0\x06\x03OPS\x11MVT\nLH0/01.A.APR\n\0",
+        EntryFault::TrailingBytes(31),
+    ),
+    (b"\x04\0\0\0\0\0\0\0\x07", EntryFault::BadField(9)),
+    (
+        b"\x04\0\0\0\0\0\0\0\x07\0\x02\0\0\0\x02\x94\x02\0\0",
+        EntryFault::BadField(9),
     ),
     (
-        b"\x04\0\0\0\0\0\0\0\x04\x02\0\0\0\x01\x01\x06\0",
-        EntryFault::BadField(15),
+        b"\x04\0\0\0\0\0\0\0\x07\x0DABCDEFGHIJKLM\x02\0\0\0\x02\x94\x02\0\0",
+        EntryFault::BadField(9),
     ),
     (
-        b"\x04\0\0\0\0\0\0\0\x04\x02\0\0\0\x01\x01\x05\0\x62\x02\0",
+        b"\x04\0\0\0\0\0\0\0\x07\x03ops\x02\0\0\0\x02\x94\x02\0\0",
+        EntryFault::BadField(9),
+    ),
+    (b"\x04\0\0\0\0\0\0\0\x07\x03OP", EntryFault::BadField(9)),
+    (
+        b"\x04\0\0\0\0\0\0\0\x07\x03OPS\x02\0\0",
+        EntryFault::BadField(13),
+    ),
+    (
+        b"\x04\0\0\0\0\0\0\0\x07\x03OPS\x02\0\0\0",
         EntryFault::BadField(17),
     ),
     (
-        b"\x04\0\0\0\0\0\0\0\x04\x02\0\0\0\x02\x94\x02\0",
-        EntryFault::BadField(14),
+        b"\x04\0\0\0\0\0\0\0\x07\x03OPS\x02\0\0\0\0",
+        EntryFault::BadField(17),
     ),
     (
-        b"\x04\0\0\0\0\0\0\0\x04\x02\0\0\0\x02\x94\x02\0\0\0",
-        EntryFault::TrailingBytes(18),
+        b"\x04\0\0\0\0\0\0\0\x07\x03OPS\x02\0\0\0\x03",
+        EntryFault::BadField(17),
+    ),
+    (
+        b"\x04\0\0\0\0\0\0\0\x07\x03OPS\x02\0\0\0\x01",
+        EntryFault::BadField(18),
+    ),
+    (
+        b"\x04\0\0\0\0\0\0\0\x07\x03OPS\x02\0\0\0\x01\x01\x05",
+        EntryFault::BadField(19),
+    ),
+    (
+        b"\x04\0\0\0\0\0\0\0\x07\x03OPS\x02\0\0\0\x01\x01\x06\0",
+        EntryFault::BadField(19),
+    ),
+    (
+        b"\x04\0\0\0\0\0\0\0\x07\x03OPS\x02\0\0\0\x01\x01\x05\0\x62\x02\0",
+        EntryFault::BadField(21),
+    ),
+    (
+        b"\x04\0\0\0\0\0\0\0\x07\x03OPS\x02\0\0\0\x02\x94\x02\0",
+        EntryFault::BadField(18),
+    ),
+    (
+        b"\x04\0\0\0\0\0\0\0\x07\x03OPS\x02\0\0\0\x02\x94\x02\0\0\0",
+        EntryFault::TrailingBytes(22),
     ),
     (b"\x04\0\0\0\0\0\0\0\x05\x02\x01\0", EntryFault::BadField(9)),
     (
@@ -404,12 +478,86 @@ const FAULTS: [(&[u8], EntryFault); 60] = [
     ),
 ];
 
+// Entries that named no desk for a message or a report: the estimate, part 1 of visit 2 on block,
+// and visit 2 off block.
+const FORMER_MESSAGE: &[u8] = b"\x04\0\0\0\0\0\0\0\x03\x22MVT\nLH123/27.DABCD.MUC\nEA0620 APR\n";
+
+const FORMER_CAME: &[u8] = b"\x05\0\0\0\0\0\0\0\x04\x02\0\0\0\x01\x01\x05\0\x62\x02\0\0";
+
+const FORMER_WENT: &[u8] = b"\x06\0\0\0\0\0\0\0\x04\x02\0\0\0\x02\x94\x02\0\0";
+
 #[test]
 fn the_first_fault_is_found_at_its_place(rt: HostRuntime) -> Result<(), Fail> {
     let airport = airport(rt.alloc())?;
     for (bytes, fault) in &FAULTS {
         let found = decode_entry(rt.alloc(), &airport, bytes).err();
         assert_eq!(rt; found, Some(*fault), "of {bytes:?}");
+    }
+    Ok(())
+}
+
+#[test]
+fn messages_and_reports_that_name_no_desk_are_no_entries(rt: HostRuntime) -> Result<(), Fail> {
+    let airport = airport(rt.alloc())?;
+    for bytes in [FORMER_MESSAGE, FORMER_CAME, FORMER_WENT] {
+        let found = decode_entry(rt.alloc(), &airport, bytes).err();
+        assert_eq!(rt; found, Some(EntryFault::BadKind), "of {bytes:?}");
+    }
+    Ok(())
+}
+
+#[test]
+fn former_entries_are_lifted_to_those_of_no_desk(rt: HostRuntime) -> Result<(), Fail> {
+    let airport = airport(rt.alloc())?;
+    let entries = [
+        (ADDED, ADDED),
+        (PUT, PUT),
+        (KEYED, KEYED),
+        (EDITED, EDITED),
+        (FORMER_MESSAGE, NO_DESKS_MESSAGE),
+        (FORMER_CAME, NO_DESK_CAME),
+        (FORMER_WENT, NO_DESK_WENT),
+        (CANCELLED, CANCELLED),
+    ];
+    for (former, wanted) in entries {
+        let Ok(lifted) = lift_entry(rt.alloc(), &airport, former) else {
+            return Err(Fail::new("an entry is lifted"));
+        };
+        assert!(rt; lifted.as_slice() == wanted, "of {former:?}");
+    }
+    Ok(())
+}
+
+#[test]
+fn what_was_no_entry_is_not_lifted(rt: HostRuntime) -> Result<(), Fail> {
+    let airport = airport(rt.alloc())?;
+    let faults: [(&[u8], EntryFault); 13] = [
+        (b"", EntryFault::BadField(0)),
+        (b"\0\0\0\0\0\0\0\x40\x09", EntryFault::BadField(0)),
+        (b"\x01\0\0\0\0\0\0\0", EntryFault::BadField(8)),
+        (b"\x01\0\0\0\0\0\0\0\0", EntryFault::BadKind),
+        (b"\x01\0\0\0\0\0\0\0\x08", EntryFault::BadKind),
+        (MESSAGE, EntryFault::BadKind),
+        (NO_DESKS_MESSAGE, EntryFault::BadKind),
+        (CAME, EntryFault::BadKind),
+        (NO_DESK_WENT, EntryFault::BadKind),
+        (b"\x04\0\0\0\0\0\0\0\x03", EntryFault::BadField(9)),
+        (
+            b"\x04\0\0\0\0\0\0\0\x03\x11MVT\nLH0/01.A.APR\n\0",
+            EntryFault::TrailingBytes(27),
+        ),
+        (
+            b"\x04\0\0\0\0\0\0\0\x04\x02\0\0\0\x01\x01\x06\0",
+            EntryFault::BadField(15),
+        ),
+        (
+            b"\x04\0\0\0\0\0\0\0\x04\x02\0\0\0\x02\x94\x02\0\0\0",
+            EntryFault::TrailingBytes(18),
+        ),
+    ];
+    for (bytes, fault) in faults {
+        let found = lift_entry(rt.alloc(), &airport, bytes).err();
+        assert_eq!(rt; found, Some(fault), "of {bytes:?}");
     }
     Ok(())
 }

@@ -1,4 +1,4 @@
--- Commits are read just as they are spelt.
+-- Commits are read exactly as they are spelt.
 use Rattle.std.proofs.Common.{◌≡◌, ℕ, zero, suc, cond, subst, ◌*◌, ◌^◌, ◌<◌, ◌≤◌, true, List, [], ◌∷◌, ◌++◌, length, Option, Some, None, refl, sym, ap, ◌∙◌, append_assoc, arith}
 use Rattle.std.specs.List.{flat_map, AllByRecursion}
 use Rattle.std.specs.Prelude.{◌&&◌, ◌==◌, All, IsSome, nat_le}
@@ -239,7 +239,7 @@ to_recursion : {A : Type 0} (P : A → Type 0) (xs : List A) → All P xs → Al
 to_recursion P [] h = tt
 to_recursion P (x ∷ xs) h = (All-head P x xs h, to_recursion P xs (All-tail P x xs h))
 
--- some edits but not too many, each one at the airport
+-- some edits, but not too many, each one at the airport
 pub record AreEditsSpelt (airport : AirportParts) (edits : List Edit) : Type 0 where
   pub count : IsCount (length edits)
   pub each : AllByRecursion (IsEditSpelt airport) edits
@@ -288,7 +288,7 @@ abbrev pub commit_back : Command → List ℕ
 commit_back (Commit desk draft base edits) = commit_text desk draft base edits
 commit_back command = []
 
--- what a command is made of that is a commit
+-- what a command that is a commit is made of
 pub record Committed (airport : AirportParts) (command : Command) : Type 0 where
   pub desk : List ℕ
   pub draft : ℕ
@@ -300,8 +300,8 @@ pub record Committed (airport : AirportParts) (command : Command) : Type 0 where
 pub is_commit : (airport : AirportParts) (command : Command) → IsCommitOf airport command → Committed airport command
 is_commit airport (AddVisit new) h = absurd h
 is_commit airport (Commit d n b e) h = record { desk = d; draft = n; base = b; edits = e; spelt = h; made = refl }
-is_commit airport (Message message) h = absurd h
-is_commit airport (Report visit event) h = absurd h
+is_commit airport (Message desk message) h = absurd h
+is_commit airport (Report desk visit event) h = absurd h
 is_commit airport (Cancel visit) h = absurd h
 
 abbrev OfDesk : AirportParts → List ℕ → Command → Type 0

@@ -1,4 +1,4 @@
--- What happened to a visit is read just as it is spelt.
+-- What happened to a visit is read exactly as it is spelt.
 use Rattle.std.proofs.Common.{◌≡◌, ℕ, cond, subst, ◌^◌, ◌<◌, List, [], ◌∷◌, ◌++◌, length, Some, None, refl, sym, ap, ◌∙◌, arith}
 use Rattle.std.specs.Prelude.{◌==◌, IsSome}
 use Rattle.std.specs.Int.{w16, w32, to_le_bytes}

@@ -1,4 +1,4 @@
--- The fields that entries are made of: each reads just what it spells.
+-- The fields that entries are made of: each reads exactly what it spells.
 use Rattle.std.proofs.Common.{◌≡◌, ℕ, suc, ◌+◌, ◌^◌, ◌<◌, ◌≤◌, Bool, true, false, cond, ltb, List, [], ◌∷◌, ◌++◌, length, take, drop, Ok, Err, refl, sym, ap, subst, ◌∙◌, arith, inl, inr, length-append}
 use Rattle.std.specs.Option.{SomeIff}
 use Rattle.std.specs.Prelude.{MatchOption, Option, Some, None}
@@ -207,7 +207,7 @@ pub name-spells : Spells name sized_text IsName 13
 name-spells = Spells-such is_name text sized_text (λ bytes. length bytes < 256) IsName 256 13 text-spells text-front
     (λ bytes h test. (name_decides bytes).0 test) name-short (λ bytes h. (name_decides bytes).1 h) (λ bytes h. let few = h.few in omega arith)
 
--- a text that was read is read as a name where it is one
+-- a text that was read is read as a name if it is one
 pub named : (left after : Left) (bytes : List ℕ) (found : Option (List ℕ)) → text left ≡ Ok (bytes, after) → SomeIff found (IsName bytes) bytes
     → MatchOption found (name left ≡ Err (BadField left.at)) (λ value. name left ≡ Ok (value, after))
 named left after bytes None e h =

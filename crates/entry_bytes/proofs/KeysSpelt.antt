@@ -1,4 +1,4 @@
--- Keys are read just as they are spelt.
+-- Keys are read exactly as they are spelt.
 use Rattle.std.proofs.Common.{◌≡◌, ℕ, ◌^◌, ◌<◌, ◌≤◌, Bool, true, false, cond, List, [], ◌∷◌, ◌++◌, length, Option, Some, None, refl, sym, ap, subst, ◌∙◌, append_assoc, inl, inr, arith}
 use Rattle.std.specs.List.{list_all, list_any}
 use Rattle.std.specs.Prelude.{◌==◌, ◌&&◌, ◌||◌, IsTrue, IfSome, IsSome, nat_lt, nat_le}
@@ -46,7 +46,7 @@ day-spells : (days : ℕ) → Spells (such_that (λ day. nat_le day days) byte) 
 day-spells days = Spells-such (λ day. nat_le day days) byte (λ b. b ∷ []) (λ b. Unit {0}) (λ day. day ≤ days) 1 1 byte-spells byte-front
     (λ day h test. leb-true day days test) (λ day h. tt) (λ day h. le-leb day days h) (λ day h. omega arith)
 
--- a suffix is a byte in its form, and is told by it
+-- a suffix is a byte in its form, and is read back from it
 suffix-is : (suffix : Option ℕ) → IfSome suffix (λ b. IsTrue (is_capital b)) → is_suffix_byte (suffix_byte suffix) ≡ true
 suffix-is None h = refl
 suffix-is (Some b) h = or_right (b == 0) (is_capital b) h
@@ -95,7 +95,7 @@ key-spells airport = Spells-as key_text (IsKeyOf airport) 8
     (λ key h. h.flight.airline))
     (λ key h. h) (λ key h. h) (λ key h. append_assoc (sized_text key.flight.airline) (to_le_bytes w16 key.flight.number) (suffix_byte key.flight.suffix ∷ key.day ∷ [])) (omega arith)
 
--- ---- keys that may be wanting
+-- ---- optional keys
 
 abbrev tag_of : Option Key → ℕ
 tag_of None = 0

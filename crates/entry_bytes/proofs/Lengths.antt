@@ -19,7 +19,8 @@ use Rattle.entry_bytes.specs.Commits.{commit_text, edit_text}
 use Rattle.entry_bytes.specs.Entries.{command_text, entry_text}
 use Rattle.entry_bytes.specs.Keys.{key_text, optional_key_text, suffix_byte, sized_text}
 use Rattle.entry_bytes.specs.NewVisits.{new_visit_text}
-use Rattle.entry_bytes.specs.Reports.{event_text}
+use Rattle.entry_bytes.specs.Messages.{message_text}
+use Rattle.entry_bytes.specs.Reports.{event_text, report_text}
 use Rattle.entry_bytes.proofs.KeysSpelt.{length-airline}
 use Rattle.entry_bytes.proofs.MessagesSpelt.{length-message}
 
@@ -64,8 +65,8 @@ length-event (Off minute) = omega arith
 length-command : (command : Command) → Fits command → IsCommand command → length (command_text command) ≤ 663
 length-command (AddVisit new) f h = let one = length-new_visit new f h in omega arith
 length-command (Commit desk draft base edits) f h = let one = length-commit desk draft base edits f.desk.few h.1 in omega arith
-length-command (Message message) f h = let one = length-message message h in omega arith
-length-command (Report visit event) f h = let one = length-event event in omega arith
+length-command (Message desk message) f h = omega (arith, length-append desk (message_text message), length-message message h, f.few)
+length-command (Report desk visit event) f h = omega (arith, length-append desk (report_text visit event), length-event event, f.0.few)
 length-command (Cancel visit) f h = omega arith
 
 -- an entry has at most 671 bytes

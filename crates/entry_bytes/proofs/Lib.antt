@@ -9,3 +9,4 @@ pub mod EntriesSpelt
 pub mod Loops
 pub mod Lengths
 pub mod CommandsOf
+pub mod FormerSpelt

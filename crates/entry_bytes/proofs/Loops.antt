@@ -1,4 +1,4 @@
--- So many edits, one after the other, as a loop reads and writes them.
+-- This many edits, one after the other, as a loop reads and writes them.
 use Rattle.std.proofs.Common.{◌≡◌, ℕ, suc, ◌-◌, ◌+◌, ◌≤◌, ◌<◌, List, [], ◌∷◌, ◌++◌, length, get_or, take, All, subst, Result, Ok, Err, refl, sym, ap, ◌∙◌, append_assoc, arith}
 use Rattle.std.specs.List.{flat_map}
 use Rattle.std.proofs.lemmas.List.{append-nil, take_more}
@@ -56,7 +56,7 @@ is_done field front count i left total le so_far =
     let k : count - i ≡ 0 = omega arith in
     sym so_far ∙ ap (λ n. with_front front (repeated n field left)) k ∙ ap (λ xs. Ok (xs, left)) (append-nil front)
 
--- one more edit is written behind those before it
+-- one more edit is written after those before it
 pub written_more : (edits : List Edit) (i : ℕ) (d : Edit) (start out new : List ℕ) → i < length edits → out ≡ start ++ flat_map edit_text (take i edits) → new ≡ out ++ edit_text (get_or edits i d)
     → new ≡ start ++ flat_map edit_text (take (i + 1) edits)
 written_more edits i d start out new lt so_far e =

@@ -1,4 +1,4 @@
--- Messages are read just as they are spelt.
+-- Messages are read exactly as they are spelt.
 use Rattle.std.proofs.Common.{◌≡◌, ℕ, ◌<◌, ◌≤◌, Bool, true, false, cond, List, length, Some, None, Result, Ok, Err, bytes_eq, refl, ap, ◌∙◌, arith}
 use Rattle.std.specs.Cmp.Lexicographic.{bytes_decides}
 use Rattle.mvt_grammar.specs.Canonical.{canonical}
@@ -28,11 +28,11 @@ if_told bytes (Ok found) message e =
     (ap Ok t.1, (bytes_decides bytes (canonical found)).0 t.0 ∙ ap canonical t.1)
 if_told bytes (Err fault) message e = absurd cc
 
--- a text that tells a message is its canonical one
+-- a text that has a message is its canonical text
 told_by : (bytes : List ℕ) (message : Mvt) → message_of bytes ≡ Some message → (bytes ≡ canonical message) × IsReadable message
 told_by bytes message e = let t = if_told bytes (read_mvt_of bytes) message e in (t.1, read_mvt_of-readable bytes message t.0)
 
--- the canonical text of a message tells it
+-- the canonical text of a message has that message
 tells : (message : Mvt) → IsReadable message → message_of (canonical message) ≡ Some message
 tells message h =
     ap (if_canonical (canonical message)) (read_mvt_of-canonical message h)

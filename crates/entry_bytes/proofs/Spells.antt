@@ -1,4 +1,4 @@
--- Readings that read just what is spelt, made of one another.
+-- Readings that read exactly what is spelt, made of one another.
 use Rattle.std.proofs.Common.{◌≡◌, ℕ, zero, suc, ◌+◌, ◌≤◌, Bool, true, false, cond, List, [], ◌∷◌, ◌++◌, length, Option, Some, None, Result, Ok, Err, refl, sym, ap, subst, ◌∙◌, append_assoc, length-append, inl, inr, arith}
 use Rattle.std.specs.Prelude.{◌⊎◌, MatchOption, IsSome}
 use Rattle.std.specs.List.{flat_map, AllByRecursion}
@@ -33,7 +33,8 @@ IsWithin-wider low high (BadField at) le h = omega arith
 IsWithin-wider low high (TrailingBytes at) le h = omega arith
 IsWithin-wider low high Memory le h = tt
 
--- a reading that reads just the spelling of each value of a kind, which has at most so many bytes, and whose faults lie among these
+-- a reading that reads exactly the spelling of each value of a kind, which has at most this many
+-- bytes, and whose faults are among these
 pub record Spells {A : Type 0} (field : Reading A) (spelt : A → List ℕ) (P : A → Type 0) (most : ℕ) : Type 0 where
   pub takes : (left : Left) (read : A × Left) → AreBytes left.bytes → field left ≡ Ok read → Takes left (spelt read.0) read.1 × P read.0
   pub again : (x : A) (at : ℕ) (more : List ℕ) → P x → field (left_at at (spelt x ++ more)) ≡ Ok (x, left_at (at + length (spelt x)) more)
@@ -129,7 +130,7 @@ Spells-made {A} {B} {field} {spelt} {P} {most} made back Q s there from same = r
   ];
 }
 
--- the same reading of values of the same kind, said otherwise
+-- the same reading of values of the same kind, in other words
 pub Spells-as : {A : Type 0} {field : Reading A} {spelt : A → List ℕ} {P : A → Type 0} {most : ℕ} (told : A → List ℕ) (Q : A → Type 0) (more : ℕ)
     → Spells field spelt P most → ((x : A) → P x → Q x) → ((x : A) → Q x → P x) → ((x : A) → Q x → told x ≡ spelt x) → most ≤ more → Spells field told Q more
 Spells-as {A} {field} {spelt} {P} {most} told Q more s there back same le = record {
@@ -176,7 +177,7 @@ Spells-such test field spelt P Q most few s front there back tested shorter = re
   ];
 }
 
--- ---- fields that tell something
+-- ---- fields that mean something
 
 given_ok : {A : Type 0} (value : Option A) (at : ℕ) (left : Left) (read : A × Left) → given at value left ≡ Ok read → (value ≡ Some read.0) × (left ≡ read.1)
 given_ok None at left read e = absurd cc
@@ -211,7 +212,7 @@ Spells-told told field spelt P text_of Q most few s front there back tells short
 
 -- ---- tags
 
--- what a tag announces, where it announces something, reads just the rest of what has this tag
+-- what a tag announces, if anything, reads exactly the rest of what has this tag
 abbrev pub Announces : {A : Type 0} → Option (Reading A) → (A → List ℕ) → (A → Type 0) → ℕ → Type 0
 Announces field back P most = MatchOption field (Unit {0}) (λ reading. Spells reading back P most)
 
@@ -271,7 +272,7 @@ Spells-tagged fault_at field_of tag_of back Q most b front placed all some = rec
 
 -- ---- lists
 
--- so many times as much
+-- this many times as much
 abbrev pub summed : ℕ → ℕ → ℕ
 summed most zero = 0
 summed most (suc count) = most + summed most count

@@ -1,4 +1,4 @@
--- What a visit is added with is read just as it is spelt.
+-- What a visit is added with is read exactly as it is spelt.
 use Rattle.std.proofs.Common.{◌≡◌, ℕ, ◌+◌, ◌^◌, ◌<◌, ◌≤◌, Bool, true, List, [], ◌∷◌, ◌++◌, length, Option, Some, None, refl, sym, ap, ◌∙◌, append_assoc, arith}
 use Rattle.std.specs.List.{list_all}
 use Rattle.std.specs.Prelude.{◌&&◌, IfSome, nat_lt, nat_le, option_to_list}
@@ -148,7 +148,7 @@ Ended airport name kind class on off new = (new.off ≡ off) × Begun airport na
 abbrev Arrived : AirportParts → List ℕ → ℕ → ℕ → ℕ → ℕ → Option Key → NewVisit → Type 0
 Arrived airport name kind class on off arr new = (new.arr ≡ arr) × Ended airport name kind class on off new
 
--- the test of the minute off block, where type and minute on block are those of the visit
+-- the test of the minute off block, if type and minute on block are those of the visit
 off_tested : (airport : AirportParts) (name : List ℕ) (kind class on : ℕ) (new : NewVisit) → Begun airport name kind class on new → IsTested (2 ^ 32) (is_off_of airport kind on) new.off
 off_tested airport name kind class on new h =
     let all = h.1.1.1.1 in

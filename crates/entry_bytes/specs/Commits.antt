@@ -1,4 +1,5 @@
--- A commit as bytes: the desk's name, the draft's number, its base, how many edits there are, and the edits.
+-- A commit as bytes: the desk's name, the draft's number, its base, how many edits there are, and
+-- the edits.
 use Rattle.std.specs.Prelude.{ℕ, ◌==◌, ◌&&◌, nat_le, nat_lt, List, [], ◌∷◌, ◌++◌, length, Option, Some, None, if◌then◌else◌}
 use Rattle.std.specs.Int.{w16, w32, to_le_bytes}
 use Rattle.std.specs.List.{flat_map}
@@ -13,7 +14,7 @@ use Rattle.entry_bytes.specs.declared.faults.EntryFault.TheVariants.{BadField}
 use Rattle.entry_bytes.specs.Readings.{Reading, ◌>>=◌, byte, give, name, number, repeated, such_that, tagged}
 use Rattle.entry_bytes.specs.Keys.{sized_text}
 
--- the visit and the part that an edit is of
+-- the visit and the part that an edit changes
 abbrev pub part_text : VisitNo → ℕ → List ℕ
 part_text visit part = to_le_bytes w32 visit.0 ++ part ∷ []
 
@@ -28,7 +29,7 @@ edit_text (Join visit part) = 4 ∷ part_text visit part
 abbrev pub commit_text : List ℕ → ℕ → ℕ → List Edit → List ℕ
 commit_text desk draft base edits = sized_text desk ++ to_le_bytes w32 draft ++ to_le_bytes w32 base ++ length edits ∷ [] ++ flat_map edit_text edits
 
--- what stands behind the tag of a put, which is on a stand of the airport
+-- what comes after the tag of a put, on a stand of the airport
 unfoldable pub put_at : AirportParts → Reading Edit
 put_at airport = do
   visit ← number w32
@@ -36,14 +37,14 @@ put_at airport = do
   stand ← such_that (λ stand. nat_lt stand (length airport.stands)) (number w16)
   give (Put (record { 0 = visit }) part (record { 0 = stand }))
 
--- what stands behind the tag of a lift
+-- what comes after the tag of a lift
 unfoldable pub lift_at : Reading Edit
 lift_at = do
   visit ← number w32
   part ← byte
   give (Lift (record { 0 = visit }) part)
 
--- what stands behind the tag of a cut
+-- what comes after the tag of a cut
 unfoldable pub cut_at : Reading Edit
 cut_at = do
   visit ← number w32
@@ -51,7 +52,7 @@ cut_at = do
   at ← number w32
   give (Cut (record { 0 = visit }) part at)
 
--- what stands behind the tag of a join
+-- what comes after the tag of a join
 unfoldable pub join_at : Reading Edit
 join_at = do
   visit ← number w32

@@ -8,7 +8,8 @@ use Rattle.desk_words.specs.declared.asks.Command.TheVariants.{AddVisit, Commit,
 use Rattle.desk_words.specs.declared.asks.Entry.{Entry}
 use Rattle.entry_bytes.specs.declared.faults.EntryFault.{EntryFault}
 use Rattle.entry_bytes.specs.declared.faults.EntryFault.TheVariants.{BadKind, TrailingBytes}
-use Rattle.entry_bytes.specs.Readings.{Left, Reading, ◌>>=◌, give, number, such_that, tagged}
+use Rattle.entry_bytes.specs.Readings.{Left, Reading, ◌>>=◌, give, name, number, such_that, tagged}
+use Rattle.entry_bytes.specs.Keys.{sized_text}
 use Rattle.entry_bytes.specs.NewVisits.{new_visit_at, new_visit_text}
 use Rattle.entry_bytes.specs.Commits.{commit_at, commit_text}
 use Rattle.entry_bytes.specs.Messages.{message_at, message_text}
@@ -18,33 +19,54 @@ use Rattle.entry_bytes.specs.Reports.{cancel_at, report_at, report_text}
 abbrev pub command_text : Command → List ℕ
 command_text (AddVisit new) = 1 ∷ new_visit_text new
 command_text (Commit desk draft base edits) = 2 ∷ commit_text desk draft base edits
-command_text (Message message) = 3 ∷ message_text message
-command_text (Report visit event) = 4 ∷ report_text visit event
 command_text (Cancel visit) = 5 ∷ to_le_bytes w32 visit.0
+command_text (Message desk message) = 6 ∷ (sized_text desk ++ message_text message)
+command_text (Report desk visit event) = 7 ∷ (sized_text desk ++ report_text visit event)
 
 -- the one spelling of an entry
 abbrev pub entry_text : Entry → List ℕ
 entry_text entry = to_le_bytes w64 entry.call ++ command_text entry.command
+
+-- a message that a desk passed on
+unfoldable pub desk_message_at : Reading Command
+desk_message_at = do
+  desk ← name
+  message ← message_at
+  give (Message desk message)
+
+-- a report of a desk at the airport
+unfoldable pub desk_report_at : AirportParts → Reading Command
+desk_report_at airport = do
+  desk ← name
+  report_at airport desk
 
 -- the fields of a kind
 abbrev pub fields_of : AirportParts → ℕ → Option (Reading Command)
 fields_of airport kind =
     if kind == 1 then Some (new_visit_at airport >>= λ new. give (AddVisit new))
     else (if kind == 2 then Some (commit_at airport)
-    else (if kind == 3 then Some (message_at >>= λ message. give (Message message))
-    else (if kind == 4 then Some (report_at airport)
     else (if kind == 5 then Some cancel_at
+    else (if kind == 6 then Some desk_message_at
+    else (if kind == 7 then Some (desk_report_at airport)
     else None))))
 
--- the command of a kind that there is
-unfoldable pub command_at : AirportParts → Reading Command
-command_at airport = tagged (λ at. BadKind) (fields_of airport)
+-- what each kind of command is read by, if there is such a kind
+abbrev pub Kinds : Type 0
+Kinds = ℕ → Option (Reading Command)
 
--- an entry, whose call number is below 2^62
-unfoldable pub entry_at : AirportParts → Reading Entry
-entry_at airport = do
-  call ← such_that (λ call. nat_lt call CALL_END) (number w64)
-  command ← command_at airport
+-- the command of a kind that exists
+unfoldable pub command_at : Kinds → Reading Command
+command_at kinds = tagged (λ at. BadKind) kinds
+
+-- a call number, which is below 2^62
+abbrev pub call_at : Reading ℕ
+call_at = such_that (λ call. nat_lt call CALL_END) (number w64)
+
+-- an entry with a command of one of these kinds
+unfoldable pub entry_at : Kinds → Reading Entry
+entry_at kinds = do
+  call ← call_at
+  command ← command_at kinds
   give (record { call = call; command = command })
 
 -- nothing may be left over
@@ -52,9 +74,15 @@ abbrev pub with_none_left : Result (Entry × Left) EntryFault → Result Entry E
 with_none_left (Ok read) = if length read.1.bytes == 0 then Ok read.0 else Err (TrailingBytes read.1.at)
 with_none_left (Err fault) = Err fault
 
--- the entry that the bytes spell for an airport, or the first fault from left to right, at the field in which it lies: so a call number from 2^62 on is
--- a fault before a kind that there is not. On block not before the plan's end is a fault of that minute, and a minute off block after the plan's end, or
--- sooner than the least minutes of the type, is one of this. A flight or a day is a fault of that part of the key which is not in its form. A message whose
--- text is not the canonical one is a fault of the whole text.
+-- the entry that all of the bytes together spell, with these kinds of commands
+abbrev pub read_with : Kinds → List ℕ → Result Entry EntryFault
+read_with kinds bytes = with_none_left (entry_at kinds (record { at = 0; bytes = bytes }))
+
+-- The entry that the bytes spell for an airport, or the first fault from left to right, at its
+-- field. So a call number from 2^62 on is a fault that comes before an unknown kind. If on block is
+-- not before the plan's end, the fault is at that minute. If off block is after the plan's end, or
+-- sooner than the least minutes of the type, the fault is at that minute. A fault in a flight or a
+-- day is at the part of the key that does not have its form. If the text of a message is not the
+-- canonical one, the fault is at the whole text.
 unfoldable pub decoded : AirportParts → List ℕ → Result Entry EntryFault
-decoded airport bytes = with_none_left (entry_at airport (record { at = 0; bytes = bytes }))
+decoded airport bytes = read_with (fields_of airport) bytes

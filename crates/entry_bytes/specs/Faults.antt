@@ -5,7 +5,7 @@ use Rattle.entry_bytes.specs.declared.faults.EntryFault.TheVariants.{BadKind, Ba
 use Rattle.entry_bytes.specs.declared.faults.ReadFault.{ReadFault}
 use Rattle.entry_bytes.specs.declared.faults.ReadFault.TheVariants as faults
 
--- the place of the fault, if it tells one, is at most this one
+-- the place of the fault, if it has one, is at most this one
 abbrev pub IsWithin : ℕ → EntryFault → Type 0
 IsWithin most BadKind = Unit {0}
 IsWithin most (BadField at) = at ≤ most

@@ -6,14 +6,14 @@ use Rattle.entry_bytes.specs.declared.faults.ReadFault.TheVariants.{BadKind, Bad
 use Rattle.entry_bytes.specs.declared.faults.EntryFault.TheVariants as entry
 use Rattle.entry_bytes.specs.Readings.{Left}
 
--- the fault is that of the reading, unless memory was wanting
+-- the fault is that of the reading, unless memory ran out
 abbrev pub Fails : {A : Type 0} → ReadFault → Result A EntryFault → Type 0
 Fails BadKind read = read ≡ Err entry.BadKind
 Fails (BadField at) read = read ≡ Err (entry.BadField at)
 Fails (TrailingBytes at) read = read ≡ Err (entry.TrailingBytes at)
 Fails Memory read = Unit {0}
 
--- the result is that of the reading, unless memory was wanting
+-- the result is that of the reading, unless memory ran out
 abbrev pub Answers : {A : Type 0} → Result A ReadFault → Result A EntryFault → Type 0
 Answers (Ok value) read = read ≡ Ok value
 Answers (Err fault) read = Fails fault read

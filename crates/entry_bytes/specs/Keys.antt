@@ -1,4 +1,5 @@
--- Keys of visits as bytes: the airline as a text, the number of the flight, the byte of its suffix, and the day.
+-- Keys of visits as bytes: the airline as a text, the number of the flight, the byte of its suffix,
+-- and the day.
 use Rattle.std.specs.Prelude.{ℕ, ◌==◌, ◌||◌, nat_le, nat_lt, Bool, List, [], ◌∷◌, ◌++◌, length, Option, Some, None, if◌then◌else◌}
 use Rattle.std.specs.Int.{w16, to_le_bytes}
 use Rattle.mvt_grammar.specs.Bytes.{is_capital}
@@ -8,7 +9,7 @@ use Rattle.visit_book.specs.declared.visits.Key.{Key}
 use Rattle.entry_bytes.specs.declared.faults.EntryFault.TheVariants.{BadField}
 use Rattle.entry_bytes.specs.Readings.{Reading, ◌>>=◌, byte, give, number, such_that, tagged, text}
 
--- a text: a byte that tells how many bytes it has, and these
+-- a text: a byte that says how many bytes it has, and these bytes
 abbrev pub sized_text : List ℕ → List ℕ
 sized_text text = length text ∷ text
 

@@ -12,7 +12,7 @@ use Rattle.entry_bytes.specs.Entries.{decoded, entry_text}
 abbrev pub most_bytes : ℕ
 most_bytes = 671
 
--- each number is that of a byte
+-- each number fits a byte
 abbrev pub AreBytes : List ℕ → Type 0
 AreBytes bytes = (place : ℕ) → slice_index bytes place < 256
 
@@ -20,7 +20,7 @@ AreBytes bytes = (place : ℕ) → slice_index bytes place < 256
 abbrev pub EntryIsReadBack : Type 0
 EntryIsReadBack = (airport : AirportParts) (entry : Entry) → IsEntryOf airport entry → decoded airport (entry_text entry) ≡ Ok entry
 
--- bytes that are read as an entry are the bytes of it, and it is one of the airport
+-- bytes that are read as an entry are the bytes of that entry, and it is one of the airport
 abbrev pub EntryIsSpelt : Type 0
 EntryIsSpelt = (airport : AirportParts) (bytes : List ℕ) (entry : Entry) → AreBytes bytes → decoded airport bytes ≡ Ok entry
     → (bytes ≡ entry_text entry) × IsEntryOf airport entry
@@ -29,6 +29,6 @@ EntryIsSpelt = (airport : AirportParts) (bytes : List ℕ) (entry : Entry) → A
 abbrev pub EntryIsShort : Type 0
 EntryIsShort = (entry : Entry) → Fits entry.command → IsCommand entry.command → length (entry_text entry) ≤ most_bytes
 
--- a fault lies in the first bytes, as many as an entry can have, or right behind them
+-- a fault is among as many first bytes as an entry can have, or right after them
 abbrev pub FaultIsNear : Type 0
 FaultIsNear = (airport : AirportParts) (bytes : List ℕ) (fault : EntryFault) → AreBytes bytes → decoded airport bytes ≡ Err fault → IsWithin most_bytes fault

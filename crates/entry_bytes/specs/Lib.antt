@@ -9,3 +9,4 @@ pub mod Widths
 pub mod Faults
 pub mod Gives
 pub mod Laws
+pub mod Former

@@ -11,7 +11,7 @@ use Rattle.entry_bytes.specs.Readings.{Reading, telling, text}
 abbrev pub message_text : Mvt → List ℕ
 message_text message = sized_text (canonical message)
 
--- the message that a text is read as, where the text is the canonical one of it
+-- the message that a text is read as, if the text is its canonical one
 abbrev pub if_canonical : List ℕ → Result Mvt MvtFault → Option Mvt
 if_canonical bytes (Ok message) = if bytes_eq bytes (canonical message) then Some message else None
 if_canonical bytes (Err fault) = None

@@ -1,4 +1,5 @@
--- What a visit is added with, as bytes: name, type, class, minutes on and off block, and the keys that it comes by and leaves by.
+-- What a visit is added with, as bytes: name, type, class, minutes on and off block, and the keys
+-- of the flights that it comes and leaves by.
 use Rattle.std.specs.Prelude.{ℕ, ◌+◌, ◌&&◌, nat_le, nat_lt, Bool, List, [], ◌∷◌, ◌++◌, length}
 use Rattle.std.specs.Int.{w16, w32, to_le_bytes}
 use Rattle.apron_rules.specs.declared.parts.AirportParts.{AirportParts}
@@ -14,7 +15,8 @@ new_visit_text new =
     sized_text new.name ++ to_le_bytes w16 new.kind.0 ++ new.class ∷ [] ++ to_le_bytes w32 new.on ++ to_le_bytes w32 new.off
     ++ optional_key_text new.arr ++ optional_key_text new.dep
 
--- the minute off block of a visit of this type that is on block from this minute: not after the plan's end, and not sooner than the least minutes of the type
+-- the minute off block of a visit of this type that comes on block at this minute: not after the
+-- plan's end, and not sooner than the least minutes of the type
 abbrev pub is_off_of : AirportParts → ℕ → ℕ → ℕ → Bool
 is_off_of airport kind on off = nat_le off (plan_end airport) && nat_le (on + least_of airport (record { 0 = kind })) off
 

@@ -5,16 +5,16 @@ use Rattle.apron_base.specs.Name.{is_name}
 use Rattle.entry_bytes.specs.declared.faults.EntryFault.{EntryFault}
 use Rattle.entry_bytes.specs.declared.faults.EntryFault.TheVariants.{BadField}
 
--- the bytes that are left, and the place of the first of them, which counts from 0
+-- the bytes that are left, and the place of the first of them, counted from 0
 pub record Left : Type 0 where
   pub at : ℕ
   pub bytes : List ℕ
 
--- what stands at the front of what is left, and what is left behind it; or the first fault
+-- what is at the front of what is left, and what is left after it; or the first fault
 abbrev pub Reading : Type 0 → Type 0
 Reading A = Left → Result (A × Left) EntryFault
 
--- where there was no fault it goes on behind what was read
+-- if there was no fault, reading goes on after what was read
 abbrev pub going_on : {A B : Type 0} → Result (A × Left) EntryFault → (A → Reading B) → Result (B × Left) EntryFault
 going_on (Ok read) next = next read.0 read.1
 going_on (Err fault) next = Err fault
@@ -41,11 +41,11 @@ abbrev pub given : {A : Type 0} → ℕ → Option A → Reading A
 given at None = bad_at at
 given at (Some value) = give value
 
--- what a field tells, where it tells something
+-- what a field means, if it means something
 abbrev pub telling : {A B : Type 0} → (A → Option B) → Reading A → Reading B
 telling told field = λ left. going_on (field left) (λ value. given left.at (told value))
 
--- so many bytes of the field that begins at this place
+-- this many bytes of the field that begins at this place
 unfoldable pub bytes_of : ℕ → ℕ → Reading (List ℕ)
 bytes_of at count = λ left. if nat_lt (length left.bytes) count then Err (BadField at) else Ok (take count left.bytes, record { at = left.at + count; bytes = drop count left.bytes })
 
@@ -62,7 +62,7 @@ byte = λ left. first_byte left.at left.bytes
 unfoldable pub number : Width → Reading ℕ
 number width = λ left. going_on (bytes_of left.at (byte_len width) left) (λ bytes. give (from_le_bytes width bytes))
 
--- a text: a byte that tells how many bytes it has, and these
+-- a text: a byte that says how many bytes it has, and these bytes
 unfoldable pub text : Reading (List ℕ)
 text = λ left. going_on (byte left) (bytes_of left.at)
 
@@ -75,11 +75,11 @@ abbrev pub announced : {A : Type 0} → EntryFault → Option (Reading A) → Re
 announced fault None = λ left. Err fault
 announced fault (Some field) = field
 
--- a byte that announces what stands behind it, or at whose place is a fault
+-- a byte that announces what comes after it, or has a fault at its place
 abbrev pub tagged : {A : Type 0} → (ℕ → EntryFault) → (ℕ → Option (Reading A)) → Reading A
 tagged fault_at field_of = λ left. going_on (byte left) (λ tag. announced (fault_at left.at) (field_of tag))
 
--- so many of them
+-- this many of them
 unfoldable pub repeated : {A : Type 0} → ℕ → Reading A → Reading (List A)
 repeated zero field = give []
 repeated (suc count) field = field >>= λ first. repeated count field >>= λ others. give (first ∷ others)

@@ -19,7 +19,7 @@ event_text (Off minute) = 2 ∷ to_le_bytes w32 minute
 abbrev pub report_text : VisitNo → Event → List ℕ
 report_text visit event = to_le_bytes w32 visit.0 ++ event_text event
 
--- what stands behind the tag of a part that came on block, on a stand of the airport
+-- what comes after the tag of a part that came on block, on a stand of the airport
 unfoldable pub on_at : AirportParts → Reading Event
 on_at airport = do
   part ← byte
@@ -27,7 +27,7 @@ on_at airport = do
   minute ← number w32
   give (On part (record { 0 = stand }) minute)
 
--- what stands behind the tag of a visit that went off block
+-- what comes after the tag of a visit that went off block
 unfoldable pub off_at : Reading Event
 off_at = do
   minute ← number w32
@@ -44,14 +44,14 @@ event_of airport tag =
 unfoldable pub event_at : AirportParts → Reading Event
 event_at airport = tagged BadField (event_of airport)
 
--- a report at the airport
-unfoldable pub report_at : AirportParts → Reading Command
-report_at airport = do
+-- a report of this desk at the airport
+unfoldable pub report_at : AirportParts → List ℕ → Reading Command
+report_at airport desk = do
   visit ← number w32
   event ← event_at airport
-  give (Report (record { 0 = visit }) event)
+  give (Report desk (record { 0 = visit }) event)
 
--- a cancel, which is of any visit
+-- a cancel, of any visit
 unfoldable pub cancel_at : Reading Command
 cancel_at = do
   visit ← number w32

@@ -39,12 +39,13 @@ abbrev pub EventFits : Event → Type 0
 EventFits (On part stand minute) = (stand.0 < 2 ^ 16) × (minute < 2 ^ 32)
 EventFits (Off minute) = minute < 2 ^ 32
 
--- the numbers and names of a command are of their types: what a definition has to name, since numbers and texts range over all of them there
+-- the numbers and names of a command are of their types; a definition has to say so, since here
+-- numbers and texts range over all of them
 abbrev pub Fits : Command → Type 0
 Fits (AddVisit new) = VisitFits new
 Fits (Commit desk draft base edits) = CommitFits desk draft base edits
-Fits (Message message) = Unit {0}
-Fits (Report visit event) = (visit.0 < 2 ^ 32) × EventFits event
+Fits (Message desk message) = IsName desk
+Fits (Report desk visit event) = IsName desk × (visit.0 < 2 ^ 32) × EventFits event
 Fits (Cancel visit) = visit.0 < 2 ^ 32
 
 -- an entry that has bytes, and can be read at the airport

@@ -132,7 +132,7 @@ fn edit_at(reader: &mut Reader<'_>, airport: &Airport) -> Result<Edit, ReadFault
     }
 }
 
-// So many edits.
+// Reads this many edits.
 fn repeated(
     alloc: Global,
     count: u8,

@@ -4,7 +4,7 @@ ghost use Rattle.apron_base.specs.declared.machine.TheConstants.{CALL_END};
 ghost use Rattle.apron_rules.specs.declared.parts.AirportParts.{AirportParts};
 ghost use Rattle.desk_words.specs.Commands.{IsCommand, IsCommandOf};
 ghost use Rattle.entry_bytes.specs.Widths.{Fits, IsEntryOf};
-ghost use Rattle.entry_bytes.specs.Entries.{command_at, command_text, decoded, entry_at, entry_text, with_none_left};
+ghost use Rattle.entry_bytes.specs.Entries.{command_at, command_text, call_at, decoded, desk_message_at, desk_report_at, entry_at, entry_text, fields_of, with_none_left};
 ghost use Rattle.entry_bytes.specs.Gives.{Answers, Fails, Gives};
 ghost use Rattle.entry_bytes.specs.Faults.{IsWithin, fault_of};
 ghost use Rattle.entry_bytes.specs.Laws.{most_bytes};
@@ -15,6 +15,7 @@ use crate::messages::{message_at, push_message};
 use crate::new_visits::{new_visit_at, push_new_visit};
 use crate::reader::{Reader, in_form};
 use crate::reports::{cancel_at, push_cancel, push_report, report_at};
+use crate::writing::push_name;
 use apron_base::{CALL_END, Listed, Memory};
 use apron_rules::Airport;
 use desk_words::asks::{Command, Entry};
@@ -39,23 +40,25 @@ fn push_command(alloc: Global, out: &mut Vec<u8>, command: &Command) -> Result<(
             out.push(2)?;
             push_commit(out, desk, *draft, *base, edits.as_slice())
         }
-        Command::Message { message } => {
-            out.push(3)?;
-            push_message(alloc, out, message)
-        }
-        Command::Report { visit, event } => {
-            out.push(4)?;
-            push_report(out, *visit, event)
-        }
         Command::Cancel { visit } => {
             out.push(5)?;
             push_cancel(out, *visit)
         }
+        Command::Message { desk, message } => {
+            out.push(6)?;
+            push_name(out, desk)?;
+            push_message(alloc, out, message)
+        }
+        Command::Report { desk, visit, event } => {
+            out.push(7)?;
+            push_name(out, desk)?;
+            push_report(out, *visit, event)
+        }
     }
 }
 
-/// The bytes of an entry: its one spelling, which has 1 to 671 bytes and is read back at each airport that the command
-/// is of. At `Err` memory is wanting.
+/// The bytes of an entry: its one spelling, which has 1 to 671 bytes and is read back at each
+/// airport that the command belongs to. `Err` if there is no memory for them.
 pub fn encode_entry(alloc: Global, entry: &Entry) -> Result<Listed<u8>, Memory>
     requires call { entry.now.call < CALL_END }
     requires command { IsCommand entry.now.command }
@@ -70,51 +73,70 @@ pub fn encode_entry(alloc: Global, entry: &Entry) -> Result<Listed<u8>, Memory>
     Ok(Listed::from_vec(out))
 }
 
+#[tactic(auto, unfolding(crate::specs::Entries::desk_message_at))]
+fn desk_message_at(alloc: Global, reader: &mut Reader<'_>) -> Result<Command, ReadFault>
+    ensures is { Gives result reader.new (desk_message_at reader.old) }
+{
+    let desk = reader.name()?;
+    let message = message_at(alloc, reader)?;
+    Ok(Command::Message { desk, message })
+}
+
+#[tactic(auto, unfolding(crate::specs::Entries::desk_report_at))]
+fn desk_report_at(reader: &mut Reader<'_>, airport: &Airport) -> Result<Command, ReadFault>
+    ensures is { Gives result reader.new (desk_report_at airport.now reader.old) }
+{
+    let desk = reader.name()?;
+    report_at(reader, airport, desk)
+}
+
 #[tactic(auto, unfolding(crate::specs::Entries::command_at))]
 fn command_at(
     alloc: Global,
     reader: &mut Reader<'_>,
     airport: &Airport,
 ) -> Result<Command, ReadFault>
-    ensures is { Gives result reader.new (command_at airport.now reader.old) }
+    ensures is { Gives result reader.new (command_at (fields_of airport.now) reader.old) }
 {
     match reader.byte()? {
         1 => Ok(Command::AddVisit(new_visit_at(reader, airport)?)),
         2 => commit_at(alloc, reader, airport),
-        3 => {
-            let message = message_at(alloc, reader)?;
-            Ok(Command::Message { message })
-        }
-        4 => report_at(reader, airport),
         5 => cancel_at(reader),
+        6 => desk_message_at(alloc, reader),
+        7 => desk_report_at(reader, airport),
         _ => Err(ReadFault::BadKind),
     }
 }
 
-#[tactic(auto, unfolding(crate::specs::Entries::entry_at))]
-fn entry_at(alloc: Global, reader: &mut Reader<'_>, airport: &Airport) -> Result<Entry, ReadFault>
-    ensures is { Gives result reader.new (entry_at airport.now reader.old) }
+pub(crate) fn call_at(reader: &mut Reader<'_>) -> Result<u64, ReadFault>
+    ensures is { Gives result reader.new (call_at reader.old) }
 {
     let at = reader.at();
     let call = reader.u64()?;
     in_form(at, call < CALL_END)?;
-    let command = command_at(alloc, reader, airport)?;
-    Ok(Entry { call, command })
+    Ok(call)
 }
 
-#[tactic(auto, unfolding(crate::specs::Entries::decoded))]
-fn read_entry(alloc: Global, airport: &Airport, bytes: &[u8]) -> Result<Entry, ReadFault>
-    ensures is { Answers result (decoded airport.now bytes.now) }
+pub(crate) fn with_none_left(reader: &Reader<'_>, entry: Entry) -> Result<Entry, ReadFault>
+    ensures is { Answers result (with_none_left (Ok (entry, reader.now))) }
 {
-    let mut reader = Reader::new(bytes);
-    let entry = entry_at(alloc, &mut reader, airport)?;
     if !reader.is_empty() {
         return Err(ReadFault::TrailingBytes(reader.at()));
     }
     Ok(entry)
 }
 
-fn fault_of(fault: ReadFault) -> EntryFault
+#[tactic(auto, unfolding(crate::specs::Entries::decoded, crate::specs::Entries::entry_at))]
+fn read_entry(alloc: Global, airport: &Airport, bytes: &[u8]) -> Result<Entry, ReadFault>
+    ensures is { Answers result (decoded airport.now bytes.now) }
+{
+    let mut reader = Reader::new(bytes);
+    let call = call_at(&mut reader)?;
+    let command = command_at(alloc, &mut reader, airport)?;
+    with_none_left(&reader, Entry { call, command })
+}
+
+pub(crate) fn fault_of(fault: ReadFault) -> EntryFault
     requires near { IsWithin most_bytes (fault_of fault) }
     ensures is { result ≡ fault_of fault }
 {
@@ -126,8 +148,8 @@ fn fault_of(fault: ReadFault) -> EntryFault
     }
 }
 
-/// The entry that the bytes spell for an airport, all of the bytes. At `Err` they spell none, for the first fault from
-/// left to right, or memory is wanting.
+/// The entry that all of the bytes together spell for an airport. `Err` gives the first fault from
+/// left to right if they spell none, or says that there is no memory.
 pub fn decode_entry(alloc: Global, airport: &Airport, bytes: &[u8]) -> Result<Entry, EntryFault>
     ensures is { result ≢ Err EntryFault.Memory → result ≡ decoded airport.now bytes.now }
     ensures spelt { IfOk result (λ entry. bytes.now ≡ entry_text entry) }

@@ -1,16 +1,17 @@
 // Why bytes are no entry.
 use apron_base::Memory;
 
-/// Why bytes are no entry for an airport: the first fault from left to right. Places count bytes from 0.
+/// Why bytes are no entry for an airport: the first fault from left to right. Places count bytes
+/// from 0.
 #[derive(Clone, Copy, Debug, PartialEq, Eq)]
 pub enum EntryFault {
     /// The ninth byte is no kind of command.
     BadKind,
-    /// The field that begins at this place is cut short, or is not in its form.
+    /// The field that begins at this place is cut short, or does not have its form.
     BadField(u32),
-    /// The entry ends before this place, and the bytes don't.
+    /// The entry ends before this place, but the bytes go on.
     TrailingBytes(u32),
-    /// Memory is wanting.
+    /// There is no memory.
     Memory,
 }
 

@@ -46,7 +46,7 @@ fn suffix_byte(suffix: Option<u8>) -> u8
     }
 }
 
-// A flight of the airline is tested, since its other parts are in their forms.
+// The airline is tested as an airline only: the other parts of a flight have their forms already.
 fn is_airline(airline: Name) -> bool
     ensures is { result ≡ is_airline airline }
 {

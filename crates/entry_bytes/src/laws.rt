@@ -1,4 +1,5 @@
-// What holds between entries and their bytes, for all of them. Each law is the contract of a function that does nothing.
+// What holds between entries and their bytes, for all of them. Each law is the contract of a
+// function that does nothing.
 ghost use Rattle.entry_bytes.specs.Laws.{EntryIsReadBack, EntryIsShort, EntryIsSpelt, FaultIsNear};
 
 /// Each entry of an airport is read back from its bytes.
@@ -6,7 +7,8 @@ pub fn entries_are_read_back()
     ensures read_back { EntryIsReadBack }
 {}
 
-/// Bytes that are read as an entry are the bytes of it, and no others, and it is an entry of the airport.
+/// Bytes that are read as an entry are the bytes of that entry, and no others, and it is an entry
+/// of the airport.
 pub fn entries_are_spelt()
     ensures spelt { EntryIsSpelt }
 {}
@@ -16,7 +18,7 @@ pub fn entries_are_short()
     ensures short { EntryIsShort }
 {}
 
-/// A fault lies at one of the first 672 places.
+/// A fault is at one of the first 672 places.
 pub fn faults_are_near()
     ensures near { FaultIsNear }
 {}

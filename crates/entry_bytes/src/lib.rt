@@ -1,10 +1,11 @@
-//! The entries of a history as bytes, both ways. It doesn't know where the bytes are kept, and which entries are legal
-//! at which place of a history.
+//! The entries of a history as bytes, both ways. It doesn't know where the bytes are kept, nor
+//! which entries are legal at which place of a history.
 #![tactic(auto)]
 
 mod commits;
 mod entries;
 mod faults;
+mod former;
 mod keys;
 mod laws;
 mod messages;
@@ -15,4 +16,7 @@ mod writing;
 
 pub use entries::{decode_entry, encode_entry};
 pub use faults::EntryFault;
+pub use former::{
+    former_entries_are_read_back, former_entries_are_spelt, former_faults_are_near, lift_entry,
+};
 pub use laws::{entries_are_read_back, entries_are_short, entries_are_spelt, faults_are_near};

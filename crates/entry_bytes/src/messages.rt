@@ -32,7 +32,7 @@ pub(crate) fn message_at(alloc: Global, reader: &mut Reader<'_>) -> Result<Mvt, 
     }
 }
 
-// The message that the text is read as, where the text is the canonical one of it.
+// The message that the text is read as, if the text is its canonical one.
 fn message_of(alloc: Global, text: &[u8]) -> Result<Option<Mvt>, Memory>
     ensures is { IfOk result (λ message. message ≡ message_of text.now) }
 {

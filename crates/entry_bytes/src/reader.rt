@@ -8,7 +8,7 @@ use crate::faults::ReadFault;
 use apron_base::Name;
 use std::marker::Model;
 
-// The bytes that are left, and the place of the first of them. After a fault it is not used again.
+// The bytes that are left, and the place of the first of them. It is not used again after a fault.
 #[derive(Drop)]
 pub(crate) struct Reader<'a> {
     at: usize,
@@ -46,7 +46,7 @@ impl<'a> Reader<'a> {
         self.bytes.is_empty()
     }
 
-    // So many bytes of the field that begins at this place.
+    // This many bytes of the field that begins at this place.
     #[tactic(auto, unfolding(crate::specs::Readings::bytes_of))]
     fn bytes_of(&mut self, at: usize, count: usize) -> Result<&'a [u8], ReadFault>
         ensures is { GivesAs (λ bytes. bytes.now) result self.new (bytes_of at count self.old) }
@@ -101,7 +101,7 @@ impl<'a> Reader<'a> {
         ]))
     }
 
-    // A byte that tells how many bytes the text has, and these.
+    // A byte that says how many bytes the text has, and these bytes.
     #[tactic(auto, unfolding(crate::specs::Readings::text))]
     pub fn text(&mut self) -> Result<&'a [u8], ReadFault>
         ensures is { GivesAs (λ bytes. bytes.now) result self.new (text self.old) }
@@ -123,7 +123,7 @@ impl<'a> Reader<'a> {
     }
 }
 
-// The field that begins at this place is in its form where the test says so.
+// The field that begins at this place has its form if the test is true.
 pub(crate) fn in_form(at: usize, test: bool) -> Result<(), ReadFault>
     ensures is { result ≡ if test then Ok tt else Err (ReadFault.BadField at) }
 {

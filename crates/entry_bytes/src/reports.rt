@@ -8,7 +8,7 @@ ghost use Rattle.entry_bytes.specs.Widths.{EventFits};
 use crate::faults::ReadFault;
 use crate::reader::{Reader, in_form};
 use crate::writing::{push_u16, push_u32};
-use apron_base::{Memory, StandNo, VisitNo};
+use apron_base::{Memory, Name, StandNo, VisitNo};
 use apron_rules::Airport;
 use desk_words::asks::Command;
 use visit_book::Event;
@@ -89,12 +89,16 @@ fn event_at(reader: &mut Reader<'_>, airport: &Airport) -> Result<Event, ReadFau
 }
 
 #[tactic(auto, unfolding(crate::specs::Reports::report_at))]
-pub(crate) fn report_at(reader: &mut Reader<'_>, airport: &Airport) -> Result<Command, ReadFault>
-    ensures is { Gives result reader.new (report_at airport.now reader.old) }
+pub(crate) fn report_at(
+    reader: &mut Reader<'_>,
+    airport: &Airport,
+    desk: Name,
+) -> Result<Command, ReadFault>
+    ensures is { Gives result reader.new (report_at airport.now desk reader.old) }
 {
     let visit = VisitNo(reader.u32()?);
     let event = event_at(reader, airport)?;
-    Ok(Command::Report { visit, event })
+    Ok(Command::Report { desk, visit, event })
 }
 
 #[tactic(auto, unfolding(crate::specs::Reports::cancel_at))]

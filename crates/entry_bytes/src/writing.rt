@@ -22,7 +22,7 @@ pub(crate) fn push_u32(out: &mut Vec<u8>, number: u32) -> Result<(), Memory>
     Ok(())
 }
 
-// A byte that tells how many bytes the name has, and these.
+// A byte that says how many bytes the name has, and these bytes.
 pub(crate) fn push_name(out: &mut Vec<u8>, name: &Name) -> Result<(), Memory>
     ensures text { OnOk result (out.new.items ≡ out.old.items ++ sized_text name.now) }
     ensures name { IsName name.now }

@@ -1,5 +1,5 @@
 // What the framing makes of bytes that come from outside.
-use http_framing::{End, FieldNumber, Front, Incoming, MAX_PIECE, Refusal};
+use http_framing::{End, FieldNumber, FieldText, Front, Incoming, MAX_PIECE, Refusal};
 use std::alloc::{AllocError, Global};
 
 // What is at the front of some bytes; a whole request by its length.
@@ -168,7 +168,7 @@ fn of_two_reasons_the_first_counts(rt: HostRuntime) {
     assert_eq!(rt; first_other(rt.alloc(), &TWO_REASONS), None);
 }
 
-// Whether the session ends after a request, where it is whole.
+// Whether the session ends after a request, if the request is whole.
 fn closes(alloc: Global, text: &str) -> Option<bool> {
     let incoming = incoming_of(alloc, text.as_bytes()).ok()?;
     match incoming.front() {
@@ -204,7 +204,7 @@ fn after_which_request_the_session_ends(rt: HostRuntime) {
     }
 }
 
-// The number that the fields `X-Seen` of a request write, where it is whole.
+// The number that the fields `X-Seen` of a request write, if the request is whole.
 fn seen(alloc: Global, text: &str) -> Option<FieldNumber> {
     let incoming = incoming_of(alloc, text.as_bytes()).ok()?;
     match incoming.front() {
@@ -255,6 +255,48 @@ fn numbers_that_fields_write(rt: HostRuntime) {
     }
 }
 
+// Whether the fields `X-Desk` of a whole request say this.
+fn is_desk(alloc: Global, text: &str, want: FieldText<'_>) -> bool {
+    match incoming_of(alloc, text.as_bytes()) {
+        Ok(incoming) => match incoming.front() {
+            Front::Whole(request) => request.desk == want,
+            _ => false,
+        },
+        Err(_) => false,
+    }
+}
+
+const DESKS: [(&str, FieldText<'static>); 9] = [
+    ("GET / HTTP/1.1\n\n", FieldText::Absent),
+    ("GET / HTTP/1.1\nX-Disk: A\n\n", FieldText::Absent),
+    (
+        "GET / HTTP/1.1\nX-Desk: A-1\n\n",
+        FieldText::Written(b"A-1"),
+    ),
+    (
+        "GET / HTTP/1.1\nx-dESK: \t NORTH \t\n\n",
+        FieldText::Written(b"NORTH"),
+    ),
+    ("GET / HTTP/1.1\nX-DESK:a b\n\n", FieldText::Written(b"a b")),
+    ("GET / HTTP/1.1\nX-Desk:\n\n", FieldText::Written(b"")),
+    (
+        "GET / HTTP/1.1\nX-Seen: 7\nX-Desk: A\nHost: B\n\n",
+        FieldText::Written(b"A"),
+    ),
+    ("GET / HTTP/1.1\nX-Desk: A\nX-Desk: A\n\n", FieldText::Twice),
+    (
+        "GET / HTTP/1.1\nX-Desk: A\nHost: B\nx-desk:\nX-DESK: C\n\n",
+        FieldText::Twice,
+    ),
+];
+
+#[test]
+fn desks_that_fields_name(rt: HostRuntime) {
+    for (text, want) in &DESKS {
+        assert!(rt; is_desk(rt.alloc(), text, *want), "of {text}");
+    }
+}
+
 #[test]
 fn parts_of_a_request(rt: HostRuntime) {
     let text = b"\r\nPOST /visits?a HTTP/1.1\r\nHost: x\r\nContent-Length: 2\r\n\r\n{}GET";
@@ -271,7 +313,7 @@ fn parts_of_a_request(rt: HostRuntime) {
     assert!(rt; are_read);
 }
 
-// What is at the front of a head of as many fields and then the end.
+// What is at the front of a head of this many fields and then the end.
 fn kind_of_fields(alloc: Global, count: usize, end: &[u8]) -> Result<Kind, AllocError> {
     let mut text = b"GET / HTTP/1.1\n".to_vec(alloc)?;
     for _ in 0..count {
@@ -296,7 +338,8 @@ fn sixty_four_fields_are_taken(rt: HostRuntime) {
     }
 }
 
-// What is at the front of a head with a field whose value has as many bytes, which is 20 bytes longer.
+// What is at the front of a head with a field whose value has this many bytes. The head is 20 bytes
+// longer.
 fn kind_of_value(alloc: Global, length: usize) -> Result<Kind, AllocError> {
     let mut text = b"GET / HTTP/1.1\nx: ".to_vec(alloc)?;
     for _ in 0..length {
@@ -320,7 +363,7 @@ fn heads_of_8192_bytes_are_taken(rt: HostRuntime) {
     }
 }
 
-// How a stream of these bytes ends, where they are neither refused nor a whole request.
+// How a stream of these bytes ends, if they are neither refused nor a whole request.
 fn end_of(alloc: Global, text: &str) -> Option<End> {
     let incoming = incoming_of(alloc, text.as_bytes()).ok()?;
     match incoming.front() {

@@ -1,4 +1,4 @@
--- How many parts a message's reply tells of as bumped.
+-- How many parts a message's reply names as bumped.
 use Rattle.std.proofs.Common.{◌≡◌, ℕ, ◌+◌, true, false, List, [], ◌∷◌, ◌++◌, length, refl, ap, ◌∙◌, arith}
 use Rattle.std.specs.Prelude.{nat_lt}
 use Rattle.std.proofs.lemmas.Bool.{le-ltb, ltb-true, ltb-false}
@@ -29,10 +29,10 @@ has_grown before after entry same none =
     let more : length after ≡ length before + 1 = ap length same ∙ length_push before entry in
     omega (arith, fewer, more)
 
--- the same of a message that a plan replies to in this way
-module _ (before after : List Entry) (call : ℕ) (message : Mvt) (reply : Reply) where
-  accepted_by : (stepped : Stepped) → Steps (replay day_airport before) (length before) (Message message) stepped → reply ≡ stepped_reply (replay day_airport before) (Message message) stepped
-      → after ≡ before ++ added call (Message message) stepped → nat_lt (length before) (length after) ≡ true
+-- the same for a message that a plan replies to in this way
+module _ (before after : List Entry) (call : ℕ) (desk : List ℕ) (message : Mvt) (reply : Reply) where
+  accepted_by : (stepped : Stepped) → Steps (replay day_airport before) (length before) (Message desk message) stepped → reply ≡ stepped_reply (replay day_airport before) (Message desk message) stepped
+      → after ≡ before ++ added call (Message desk message) stepped → nat_lt (length before) (length after) ≡ true
       → count_bumped reply.told ≡ length (bumped_by (replay day_airport after).version (replay day_airport after).visits)
   accepted_by ahead s r e grown = absurd s
   accepted_by (repeated entry) s r e grown = absurd s
@@ -41,10 +41,10 @@ module _ (before after : List Entry) (call : ℕ) (message : Mvt) (reply : Reply
   accepted_by (refused (denied why)) s r e grown = absurd s
   accepted_by full s r e grown = absurd (not_grown before after e grown)
   accepted_by accepted s r e grown =
-      rw (r, e, after-push (empty_plan day_airport) before (record { call = call; command = Message message }), command_version (replay day_airport before) (Message message) tt) refl
+      rw (r, e, after-push (empty_plan day_airport) before (record { call = call; command = Message desk message }), command_version (replay day_airport before) (Message desk message) tt) refl
 
-  refused_by : (stepped : Stepped) → Steps (replay day_airport before) (length before) (Message message) stepped → reply ≡ stepped_reply (replay day_airport before) (Message message) stepped
-      → after ≡ before ++ added call (Message message) stepped → nat_lt (length before) (length after) ≡ false → count_bumped reply.told ≡ 0
+  refused_by : (stepped : Stepped) → Steps (replay day_airport before) (length before) (Message desk message) stepped → reply ≡ stepped_reply (replay day_airport before) (Message desk message) stepped
+      → after ≡ before ++ added call (Message desk message) stepped → nat_lt (length before) (length after) ≡ false → count_bumped reply.told ≡ 0
   refused_by ahead s r e none = absurd s
   refused_by (repeated entry) s r e none = absurd s
   refused_by (refused (name number)) s r e none = absurd s
@@ -53,18 +53,18 @@ module _ (before after : List Entry) (call : ℕ) (message : Mvt) (reply : Reply
   refused_by full s r e none = rw r refl
   refused_by accepted s r e none = absurd (has_grown before after _ e none)
 
-  accepted_count : Replies (replay day_airport before) before call (changes (Message message)) reply after → nat_lt (length before) (length after) ≡ true
+  accepted_count : Replies (replay day_airport before) before call (changes (Message desk message)) reply after → nat_lt (length before) (length after) ≡ true
       → count_bumped reply.told ≡ length (bumped_by (replay day_airport after).version (replay day_airport after).visits)
   accepted_count h grown = accepted_by h.0 h.1 h.2 h.3 grown
 
-  refused_count : Replies (replay day_airport before) before call (changes (Message message)) reply after → nat_lt (length before) (length after) ≡ false → count_bumped reply.told ≡ 0
+  refused_count : Replies (replay day_airport before) before call (changes (Message desk message)) reply after → nat_lt (length before) (length after) ≡ false → count_bumped reply.told ≡ 0
   refused_count h none = refused_by h.0 h.1 h.2 h.3 none
 
-pub message_counts : (day asked : Day) (message : Mvt) (reply : Reply) → IsAsked (Message message) day reply asked → is_accepted day asked ≡ true
+pub message_counts : (day asked : Day) (desk : List ℕ) (message : Mvt) (reply : Reply) → IsAsked (Message desk message) day reply asked → is_accepted day asked ≡ true
     → count_bumped reply.told ≡ length (bumped_by (plan_of asked).version (plan_of asked).visits)
-message_counts day asked message reply h grown =
-    accepted_count day.history asked.history day.next message reply (rw (le-ltb (plan_of day).version 0 (omega arith)) at h.0) grown
+message_counts day asked desk message reply h grown =
+    accepted_count day.history asked.history day.next desk message reply (rw (le-ltb (plan_of day).version 0 (omega arith)) at h.0) grown
 
-pub message_counts_none : (day asked : Day) (message : Mvt) (reply : Reply) → IsAsked (Message message) day reply asked → is_accepted day asked ≡ false → count_bumped reply.told ≡ 0
-message_counts_none day asked message reply h same =
-    refused_count day.history asked.history day.next message reply (rw (le-ltb (plan_of day).version 0 (omega arith)) at h.0) same
+pub message_counts_none : (day asked : Day) (desk : List ℕ) (message : Mvt) (reply : Reply) → IsAsked (Message desk message) day reply asked → is_accepted day asked ≡ false → count_bumped reply.told ≡ 0
+message_counts_none day asked desk message reply h same =
+    refused_count day.history asked.history day.next desk message reply (rw (le-ltb (plan_of day).version 0 (omega arith)) at h.0) same

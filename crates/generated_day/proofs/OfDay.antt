@@ -64,19 +64,19 @@ first_is : IsFirstDay day_airport.first
 unfolding day_airport
 first_is = record { low = lit≤ tt; high = lit≤ tt; date = refl }
 
--- what the airport of the day is made of can be one
+-- what the airport of the day is made of makes an airport
 pub station_of_day : (parts : AirportParts) → parts ≡ day_airport → IsTrue (is_station parts.station)
 station_of_day parts same = rw same station_is
 
 pub first_of_day : (parts : AirportParts) → parts ≡ day_airport → IsFirstDay parts.first
 first_of_day parts same = rw same first_is
 
--- nothing speaks against the airport of the day
+-- the airport of the day has no fault
 faultless : fault_of day_airport ≡ None
 unfolding day_airport fault_of later_fault_of repeated_after
 faultless = refl
 
--- so its making can fail for want of memory alone
+-- so only a lack of memory can make it fail
 pub only_memory : (parts : AirportParts) (fault : AirportFault) → parts ≡ day_airport → (fault ≡ refused.Memory) ⊎ (fault_of parts ≡ Some fault) → fault ≡ refused.Memory
 only_memory parts fault same (inl memory) = memory
 only_memory parts fault same (inr why) = let never : ◌≡◌ {A = Option AirportFault} None (Some fault) = sym faultless ∙ (rw same at why) in absurd (cc)

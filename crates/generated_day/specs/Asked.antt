@@ -11,7 +11,7 @@ use Rattle.desk_words.specs.declared.asks.Command.{Command}
 use Rattle.desk_words.specs.declared.asks.Command.TheVariants.{Commit}
 use Rattle.generated_day.specs.Draws.{drawn, seed_after}
 
--- the flight by which the visit of this number comes
+-- the flight that the visit of this number comes by
 abbrev pub day_flight : ℕ → Flight
 day_flight number = record { airline = codes "MK"; number = number; suffix = None }
 
@@ -19,7 +19,8 @@ day_flight number = record { airline = codes "MK"; number = number; suffix = Non
 abbrev pub drawn_on : ℕ → ℕ
 drawn_on seed = 30 + drawn 1300 (seed_after 3 seed)
 
--- the visit of this number, by four draws: of its type, its class, its minute on block, and how long it stays beyond 90 minutes
+-- the visit of this number, by four draws: of its type, its class, its minute on block, and how
+-- long it stays beyond 90 minutes
 unfoldable pub drawn_visit : ℕ → ℕ → NewVisit
 drawn_visit number seed = record {
   name = 77 ∷ decimal number;
@@ -39,7 +40,8 @@ put_first draft version number stand = Commit (codes "MAKE") draft version (Put 
 abbrev pub scheduled_on : List Visit → ℕ → ℕ
 scheduled_on visits number = option_map_or (λ visit. visit.on) (visit_at visits (record { 0 = number })) 0
 
--- a message that the visit of this number is estimated on the ground so many minutes after this one, told as a clock's time
+-- a message that the visit of this number is estimated on the ground this many minutes after this
+-- one, as a clock time
 unfoldable pub estimate : ℕ → ℕ → ℕ → Mvt
 estimate number on delay = record {
   flight = day_flight number;

@@ -1,5 +1,5 @@
 -- How a day is made: visit by visit, over a history that grows.
-use Rattle.std.specs.Prelude.{◌≡◌, ◌+◌, ◌/◌, ◌%◌, ◌==◌, ℕ, zero, suc, nat_lt, Bool, List, [], length, count_by, not}
+use Rattle.std.specs.Prelude.{◌≡◌, ◌+◌, ◌/◌, ◌%◌, ◌==◌, ℕ, zero, suc, nat_lt, Bool, List, [], length, codes, count_by, not}
 use Rattle.std.specs.Bool.{MatchBool}
 use Rattle.std.specs.List.{flat_map}
 use Rattle.visit_book.specs.Places.{stand_of}
@@ -22,8 +22,9 @@ use Rattle.generated_day.specs.Draws.{drawn, seed_after}
 use Rattle.generated_day.specs.declared.airport.TheConstants.{STANDS}
 use Rattle.generated_day.specs.declared.summary.Summary.{Summary}
 
--- a day in the making: its history, the number of the next call, the generator's number, the number of the next draft, and how many commits were refused
--- and how many parts were told of as bumped so far
+-- a day in the making: its history, the number of the next call, the generator's number, the number
+-- of the next draft, and how many commits were refused and how many parts were reported as bumped
+-- so far
 pub record Day : Type 0 where
   pub history : List Entry
   pub next : ℕ
@@ -32,7 +33,7 @@ pub record Day : Type 0 where
   pub refused : ℕ
   pub bumped : ℕ
 
--- nothing was asked and drawn yet
+-- nothing was asked or drawn yet
 abbrev pub first_day : Day
 first_day = record { history = []; next = 1; seed = 1; draft = 1; refused = 0; bumped = 0 }
 
@@ -40,7 +41,7 @@ first_day = record { history = []; next = 1; seed = 1; draft = 1; refused = 0; b
 abbrev pub plan_of : Day → PlanState
 plan_of day = replay day_airport day.history
 
--- this was asked with the next call, and this is the plan's reply to it
+-- this was asked with the next call number, and this is the plan's reply to it
 abbrev pub IsAsked : Command → Day → Reply → Day → Type 0
 IsAsked command day reply after =
     Gives day_airport day.history day.next (record { seen = 0; what = Change command }) (replied reply) after.history
@@ -57,7 +58,7 @@ pub record IsAdded (number : ℕ) (day after : Day) : Type 0 where
   pub is : IsAsked (AddVisit (drawn_visit number day.seed)) day reply asked
   pub after_is : after ≡ record asked { seed = seed_after 4 day.seed }
 
--- the next draft was asked to put the visit on the stand
+-- the next draft asked to put the visit on the stand
 pub record IsPut (number stand : ℕ) (day after : Day) : Type 0 where
   pub asked : Day
   pub reply : Reply
@@ -68,30 +69,33 @@ pub record IsPut (number stand : ℕ) (day after : Day) : Type 0 where
 abbrev pub with_refusal : Day → Day
 with_refusal day = record day { refused = day.refused + 1 }
 
--- the visit was asked to be put on so many stands in a row, from the t-th behind the first on, up to the first that is accepted
+-- the visit was tried on at most this many consecutive stands, from the t-th after the first on,
+-- until one accepted
 abbrev pub IsTried : ℕ → ℕ → ℕ → ℕ → Day → Day → Type 0
 IsTried zero number first t day after = after ≡ day
 IsTried (suc turns) number first t day after =
     (put : Day) × IsPut number ((first + t) % STANDS) day put
     × MatchBool (is_accepted day put) (after ≡ put) (IsTried turns number first (t + 1) (with_refusal put) after)
 
--- a stand was drawn, and it and the seven behind it were tried
+-- a stand was drawn, and it and the seven after it were tried
 abbrev pub IsPlaced : ℕ → Day → Day → Type 0
 IsPlaced number day after = IsTried 8 number (drawn STANDS (seed_after 1 day.seed)) 0 (record day { seed = seed_after 1 day.seed }) after
 
--- how many parts a message's reply tells of as bumped
+-- how many parts a message's reply names as bumped
 abbrev pub count_bumped : Told → ℕ
 count_bumped (MessageTaken parts visit) = length parts
 count_bumped told = 0
 
--- a delay was drawn, and the visit of this number was told to be later by it and 20 minutes
+-- a delay was drawn, and a message said that the visit of this number is late by this delay and 20
+-- minutes
 pub record IsDelayed (number : ℕ) (day after : Day) : Type 0 where
   pub asked : Day
   pub reply : Reply
-  pub is : IsAsked (Message (estimate number (scheduled_on (plan_of day).visits number) (20 + drawn 60 (seed_after 1 day.seed)))) day reply asked
+  pub is : IsAsked (Message (codes "MAKE") (estimate number (scheduled_on (plan_of day).visits number) (20 + drawn 60 (seed_after 1 day.seed)))) day reply asked
   pub after_is : after ≡ record asked { seed = seed_after 1 day.seed; bumped = day.bumped + count_bumped reply.told }
 
--- what is made with the visit of this number: it is added and placed, and with each fourth one the visit of half its number is delayed
+-- what is made with the visit of this number: it is added and placed, and with each fourth visit
+-- the visit of half its number is delayed
 pub record IsMade (number : ℕ) (day after : Day) : Type 0 where
   pub added : Day
   pub placed : Day
@@ -99,7 +103,7 @@ pub record IsMade (number : ℕ) (day after : Day) : Type 0 where
   pub places : IsPlaced number added placed
   pub delays : MatchBool (number % 4 == 0) (IsDelayed (number / 2) placed after) (after ≡ placed)
 
--- the day of so many visits
+-- the day of this many visits
 abbrev pub IsDayOf : ℕ → Day → Type 0
 IsDayOf zero after = after ≡ first_day
 IsDayOf (suc visits) after = (day : Day) × IsDayOf visits day × IsMade (visits + 1) day after
@@ -112,11 +116,11 @@ parts_of visits = flat_map (λ visit. visit.parts) visits
 abbrev pub is_placed : Part → Bool
 is_placed part = is_some (stand_of part.place)
 
--- the part is on none
+-- the part is on no stand
 abbrev pub is_unplaced : Part → Bool
 is_unplaced part = not (is_placed part)
 
--- what there is in the end
+-- what there is at the end
 abbrev pub summary_of : Day → Summary
 summary_of day = let plan = plan_of day in record {
   visits = length plan.visits;

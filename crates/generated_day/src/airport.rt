@@ -19,7 +19,7 @@ pub(crate) fn day_airport(alloc: Global) -> Result<Airport, Memory>
     }
 }
 
-// What the making of this airport can fail for.
+// Why making this airport can fail.
 fn memory_of(fault: AirportFault) -> Memory
     requires memory { fault ≡ AirportFault.Memory }
 {
@@ -60,7 +60,7 @@ fn day_stands(alloc: Global) -> Result<Listed<StandRow>, Memory>
     let mut stands = Listed::new(alloc);
     for place in 0..STANDS {
         let stand = day_stand(place + 1);
-        // This names the type of a field of what is pushed, which the proof of the push has to be told.
+        // This names the type of a field of what is pushed; the proof of the push needs it.
         let _named: Option<Name> = stand.half_of;
         stands.push(stand)?;
     }

@@ -38,7 +38,7 @@ fn day_name(alloc: Global, number: u32) -> Result<Name, Memory>
     }
 }
 
-/// The visit of this number, by the four draws behind this number of the generator.
+/// The visit of this number, by the four draws after this number of the generator.
 #[tactic(auto, unfolding(crate::specs::Asked::drawn_visit))]
 pub(crate) fn drawn_visit(alloc: Global, number: u32, seed: u32) -> Result<NewVisit, Memory>
     requires few { number ≤ most_made }
@@ -90,7 +90,7 @@ pub(crate) fn put_first(
     })
 }
 
-/// A message that the visit of this number is estimated so many minutes after this one.
+/// A message that the visit of this number is estimated this many minutes after this one.
 #[tactic(auto, unfolding(crate::specs::Asked::estimate))]
 pub(crate) fn estimate(number: u32, on: u32, delay: u32) -> Mvt
     requires few { number ≤ most_made }

@@ -3,8 +3,8 @@ ghost use Rattle.std.specs.Prelude.{◌≡◌, ◌+◌, IfOk};
 
 use apron_base::Memory;
 
-/// A count that grows. A day has far too little for a count that 32 bits don't hold: it would be answered as want of
-/// memory, so that nothing has to be shown of how much there can be.
+/// A count that grows. A day has far too little to overflow a count of 32 bits. Overflow is
+/// answered as a lack of memory, so that nothing has to be proved about how much there can be.
 pub(crate) fn more(count: u32, by: usize) -> Result<u32, Memory>
     ensures sum { IfOk result (λ sum. sum ≡ count + by) }
 {

@@ -1,4 +1,4 @@
-// The generator: a number that goes on with each draw.
+// The generator: a number that changes with each draw.
 ghost use Rattle.std.specs.Prelude.{◌≡◌, ◌<◌, ◌^◌};
 ghost use Rattle.generated_day.specs.Draws.{drawn, next_seed};
 
@@ -11,7 +11,7 @@ pub(crate) fn next_seed(seed: u32) -> u32
     ((u64::from(seed) * 1_103_515_245 + 12_345) % MODULUS) as u32
 }
 
-/// What a draw below `k` gives that makes this the generator's number.
+/// What a draw below `k` gives if the generator's number after it is this one.
 pub(crate) fn drawn(k: u32, seed: u32) -> u32
     requires some { 0 < k }
     ensures value { result ≡ drawn k seed }

@@ -1,4 +1,5 @@
-// What holds of the limits of a generated day. The law is the contract of a function that does nothing.
+// What holds of the limits of a generated day. The law is the contract of a function that does
+// nothing.
 ghost use Rattle.std.specs.Prelude.{◌≡◌};
 ghost use Rattle.generated_day.specs.Days.{most_made};
 

@@ -15,7 +15,7 @@ pub(crate) struct Making<'a> {
     pub(crate) draft: u32,
     /// How many commits were refused.
     pub(crate) refused: u32,
-    /// How many parts were told of as bumped.
+    /// How many parts were reported as bumped.
     pub(crate) bumped: u32,
     ghost of_day: { board.airport ≡ day_airport },
 }

@@ -12,7 +12,7 @@ use crate::asks::{drawn_visit, estimate, put_first};
 use crate::counts::more;
 use crate::draws::{drawn, next_seed};
 use crate::making::Making;
-use apron_base::{Acted, CALL_END, Memory, SteadyKeeper, VisitNo};
+use apron_base::{Acted, CALL_END, Memory, Name, SteadyKeeper, VisitNo};
 use apron_rules::Airport;
 use bump_core::bumped_by;
 use desk_words::asks::{Ask, Command, What};
@@ -20,7 +20,7 @@ use history_core::{Board, OpenFault};
 use std::alloc::Global;
 
 impl<'a> Making<'a> {
-    /// A day of which nothing was made yet.
+    /// A day for which nothing was made yet.
     pub(crate) fn new(alloc: Global, airport: &'a Airport) -> Result<Making<'a>, Memory>
         requires airport { airport.now ≡ day_airport }
         ensures first { IfOk result (λ making. day_of making ≡ first_day) }
@@ -38,13 +38,13 @@ impl<'a> Making<'a> {
         }
     }
 
-    // Asks this with the next call.
+    // Asks this with the next call number.
     fn ask(&mut self, alloc: Global, command: Command) -> Result<(), Memory>
         requires valid { IsCommandOf day_airport command }
         ensures asked { OnOk result ((reply : Reply) × IsAsked command (day_of self.old) reply (day_of self.new)) }
     {
         let call = self.board.next_call();
-        // No day makes so many calls; the numbers that there are need not be counted for that.
+        // No day makes this many calls. The test spares a proof that counts them.
         if call >= CALL_END {
             return Err(Memory);
         }
@@ -70,7 +70,7 @@ impl<'a> Making<'a> {
         Ok(())
     }
 
-    /// Asks to put the visit on the stand with the next draft, and tells whether that was accepted.
+    /// Asks to put the visit on the stand with the next draft, and says whether that was accepted.
     pub(crate) fn put(&mut self, alloc: Global, number: u32, stand: u32) -> Result<bool, Memory>
         requires stand { stand < STANDS }
         ensures put { IfOk result (λ accepted. IsPut number stand (day_of self.old) (day_of self.new)) }
@@ -84,7 +84,8 @@ impl<'a> Making<'a> {
         Ok(before < self.board.history().len())
     }
 
-    /// Draws a delay, and sends the message that the visit of this number is later by it and 20 minutes.
+    /// Draws a delay, and sends the message that the visit of this number is late by this delay and
+    /// 20 minutes.
     pub(crate) fn delay(&mut self, alloc: Global, number: u32) -> Result<(), Memory>
         requires few { number ≤ most_made }
         ensures delayed { OnOk result (IsDelayed number (day_of self.old) (day_of self.new)) }
@@ -93,7 +94,13 @@ impl<'a> Making<'a> {
         let on = self.scheduled_on(number);
         let message = estimate(number, on, 20 + drawn(60, seed));
         let before = self.board.history().len();
-        self.ask(alloc, Command::Message { message })?;
+        self.ask(
+            alloc,
+            Command::Message {
+                desk: Name::literal(b"MAKE"),
+                message,
+            },
+        )?;
         self.seed = seed;
         if before < self.board.history().len() {
             let plan = self.board.plan();
@@ -114,7 +121,7 @@ impl<'a> Making<'a> {
     }
 }
 
-// What the opening of a board without entries can fail for.
+// Why opening a board without entries can fail.
 fn memory_of(fault: OpenFault) -> Memory
     requires memory { fault ≡ OpenFault.Memory }
 {

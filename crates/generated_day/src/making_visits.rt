@@ -33,7 +33,7 @@ pub fn make_day(alloc: Global, visits: u32) -> Result<Summary, Memory>
     summary(&making)
 }
 
-// Makes what is made with the visit of this number.
+// Makes everything that comes with the visit of this number.
 fn make(alloc: Global, making: &mut Making, number: u32) -> Result<(), Memory>
     requires few { number ≤ most_made }
     ensures made { OnOk result (IsMade number (day_of making.old) (day_of making.new)) }
@@ -46,7 +46,7 @@ fn make(alloc: Global, making: &mut Making, number: u32) -> Result<(), Memory>
     Ok(())
 }
 
-// Draws a stand, and tries it and those behind it.
+// Draws a stand, and tries it and those after it.
 fn place(alloc: Global, making: &mut Making, number: u32) -> Result<(), Memory>
     ensures placed { OnOk result (IsPlaced number (day_of making.old) (day_of making.new)) }
 {
@@ -89,7 +89,7 @@ fn count_parts(visits: &[Visit]) -> Result<(u32, u32), Memory>
     Ok(counts)
 }
 
-// The same of these parts besides what was counted before.
+// The same for these parts, added to what was counted before.
 fn count_more(counts: (u32, u32), parts: &[Part]) -> Result<(u32, u32), Memory>
     ensures placed { IfOk result (λ after. after.0 ≡ counts.0 + count_by is_placed parts.now) }
     ensures unplaced { IfOk result (λ after. after.1 ≡ counts.1 + count_by is_unplaced parts.now) }

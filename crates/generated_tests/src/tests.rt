@@ -1,8 +1,9 @@
-// Days of some sizes. The numbers are those of a slow program in another language, which looks at every minute and every
-// two parts.
+// Days of some sizes. The expected numbers come from a slow program in another language, which
+// looks at every minute and every two parts.
 use generated_day::{Summary, make_day};
 
-// Each visit whose part is nowhere, and each that was moved by a message, is one of the parts that there are.
+// Each visit whose part is on no stand, and each that was moved by a message, is one of the parts
+// that there are.
 #[test]
 fn days_end_with_these_numbers(rt: HostRuntime) {
     let days = [

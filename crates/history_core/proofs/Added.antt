@@ -57,10 +57,10 @@ module _ (whole : List Entry) where
       let made = commits plan desk draft base edits taken in
       let left = edits_leave IsAdded (λ visit parts added. added) plan.airport base 1 edits plan.visits made.new made.apply all in
       subst (λ (p : PlanState). Every IsAdded p.visits) (sym made.makes) (stamped_added (plan.version + 1) edits made.new left)
-  command_added plan before entry after (Message message) is here counted taken numbered all =
-      all_kept IsAdded kept_one plan.visits (after_command plan (Message message)).visits (message_keeps plan message numbered) all
-  command_added plan before entry after (Report number event) is here counted taken numbered all =
-      all_kept IsAdded kept_one plan.visits (after_command plan (Report number event)).visits (report_keeps plan number event) all
+  command_added plan before entry after (Message desk message) is here counted taken numbered all =
+      all_kept IsAdded kept_one plan.visits (after_command plan (Message desk message)).visits (message_keeps plan message numbered) all
+  command_added plan before entry after (Report desk number event) is here counted taken numbered all =
+      all_kept IsAdded kept_one plan.visits (after_command plan (Report desk number event)).visits (report_keeps plan number event) all
   command_added plan before entry after (Cancel number) is here counted taken numbered all =
       all_kept IsAdded kept_one plan.visits (after_command plan (Cancel number)).visits (cancel_keeps plan number numbered) all
 
@@ -77,7 +77,7 @@ module _ (whole : List Entry) where
 history_added : (airport : AirportParts) (history : List Entry) → IsLegal airport history → Every (IsAdded history) (replay airport history).visits
 history_added airport history legal = all_added history (empty_plan airport) 0 [] history refl refl legal.taken tt tt
 
--- a visit was added with what can be said at the airport
+-- a visit was added with data that are valid at the airport
 pub added_new : (airport : AirportParts) (history : List Entry) (number : VisitNo) (visit : Visit) → IsLegal airport history
     → visit_at (replay airport history).visits number ≡ Some visit → IsNewVisitOf airport (new_of visit)
 added_new airport history number visit legal found =
@@ -95,7 +95,7 @@ module _ (version : ℕ) (added : NewVisit) where
   abbrev Finds : List Visit → Type 0
   Finds visits = HasVisit visits version added
 
-  -- the first has the name, or it is found behind it
+  -- the first has the name, or a visit after it has
   parted_if : (first visit : Visit) (visits : List Visit) (here : Bool) → (if here then Some first else visit_named visits added.name) ≡ Some visit → IsThis visit
       → ((here ≡ true) × IsThis first) ⊎ ((here ≡ false) × Finds visits)
   parted_if first visit visits true found is = let same : visit ≡ first = cc in inl (refl, subst IsThis same is)
@@ -170,10 +170,10 @@ module _ (version : ℕ) (added : NewVisit) where
       let follows = edits_follow plan.airport base 1 edits plan.visits made.new numbered made.apply in
       subst (λ (p : PlanState). Finds p.visits) (sym made.makes)
       (stamped_finds (plan.version + 1) edits made.new (follows_finds (is_edited edits) 0 plan.visits made.new follows finds))
-  command_finds plan (Message message) taken numbered finds =
-      kept_finds plan.visits (after_command plan (Message message)).visits (message_keeps plan message numbered) finds
-  command_finds plan (Report number event) taken numbered finds =
-      kept_finds plan.visits (after_command plan (Report number event)).visits (report_keeps plan number event) finds
+  command_finds plan (Message desk message) taken numbered finds =
+      kept_finds plan.visits (after_command plan (Message desk message)).visits (message_keeps plan message numbered) finds
+  command_finds plan (Report desk number event) taken numbered finds =
+      kept_finds plan.visits (after_command plan (Report desk number event)).visits (report_keeps plan number event) finds
   command_finds plan (Cancel number) taken numbered finds =
       kept_finds plan.visits (after_command plan (Cancel number)).visits (cancel_keeps plan number numbered) finds
 

@@ -1,4 +1,4 @@
--- What is known of a legal history's plan, and of a board after an ask.
+-- What is known of the plan of a legal history, and of a board after an ask.
 use Rattle.std.proofs.Common.{◌≡◌, ◌∙◌, ◌<◌, ◌≤◌, ◌+◌, ◌∷◌, ◌++◌, [], ℕ, List, Ok, length, ap, sym, subst, arith}
 use Rattle.apron_base.proofs.Rising.{rises_more, rises_push}
 use Rattle.apron_base.specs.Histories.{Rises}
@@ -29,7 +29,8 @@ module _ (airport : AirportParts) (history : List Entry) (plan : PlanState) (is 
   pub plan_numbered : IsLegal airport history → IsNumbered plan.visits
   plan_numbered legal = subst (λ (p : PlanState). IsNumbered p.visits) (sym is) (taken_numbered (empty_plan airport) 0 history legal.taken tt)
 
--- a legal history with one more entry, whose command is accepted and whose call comes after the others
+-- a legal history with one more entry, whose command is accepted and whose call comes after the
+-- others
 pub legal_pushed : (airport : AirportParts) (history : List Entry) (next : ℕ) (entry : Entry) → IsLegal airport history → Rises call_of 1 next history
     → IsCommandOf airport entry.command → Steps (replay airport history) (length history) entry.command accepted → next ≤ entry.call → entry.call < call_limit
     → IsLegal airport (history ++ entry ∷ [])
@@ -57,7 +58,7 @@ pub record IsNext {K : Type 0} (board : BoardHeld K) (entry : Entry) : Type 0 wh
   pub up : board.next ≤ entry.call
   pub last : entry.call < call_limit
 
--- a board after one more entry, by this call, which its keeper has got
+-- a board after one more entry, by this call, which its keeper has
 pub board_pushed : {K : Type 0} (plan new : PlanState) (first before after : KeeperState) (board : BoardHeld K) (keeper : K) (history : List Entry) (entry : Entry)
     → IsBoard plan first board → IsNext board entry → decoded board.airport (entry_text entry) ≡ Ok entry → before ≡ record first { room = before.room }
     → AddsEntry before after (entry_text entry)

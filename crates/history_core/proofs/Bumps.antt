@@ -39,11 +39,11 @@ use Rattle.history_core.proofs.Replay.{command_numbered, command_version, commit
 abbrev pub IsOf : ℕ → Bump → Type 0
 IsOf version bump = (1 ≤ bump.entry) × (bump.entry ≤ version)
 
--- each record of the parts is
+-- each record of the parts is one of those
 abbrev pub AreOf : ℕ → List Part → Type 0
 AreOf version parts = (bump : Bump) → HasBump parts bump → IsOf version bump
 
--- the record of the place, if it has one, is
+-- the record of the place, if it has one, is one of those
 abbrev PlaceIsOf : ℕ → Place → Type 0
 PlaceIsOf version (Unplaced None) = Unit {0}
 PlaceIsOf version (Unplaced (Some bump)) = IsOf version bump
@@ -78,7 +78,7 @@ of_each version (part ∷ parts) of = (
       of bump (record { part = has.part; among = (suc among.0, omega (arith, among.1), among.2); place = has.place })),
 )
 
--- what settling makes of a place: the record of its own entry, or what there was
+-- what settling makes of a place: a record of its own entry, or what was there
 after_of : (entry : ℕ) (stand : StandNo) (found : Option Blocking) → 1 ≤ entry → PlaceIsOf entry (place_after entry stand found)
 after_of entry stand None some = tt
 after_of entry stand (Some found) some = (some, omega arith)
@@ -114,7 +114,7 @@ settled_of airport version kept [] all = tt
 settled_of airport version kept (visit ∷ visits) all =
     (settled_visit_of airport version kept visit all.0, settled_of airport version kept visits all.1)
 
--- parts that were lifted, and a part that never stood, have no record
+-- parts that were lifted, and a part that was on no stand yet, have no record
 lifted_all : (version : ℕ) (parts : List Part) → AllByRecursion (PartIsOf version) (map lifted parts)
 lifted_all version [] = tt
 lifted_all version (part ∷ parts) = (tt, lifted_all version parts)
@@ -142,12 +142,12 @@ stamped_of version made edits [] all = tt
 stamped_of version made edits (visit ∷ visits) all =
     (stamped_one version made visit (is_edited edits visit.number.0) all.0, stamped_of version made edits visits all.1)
 
--- no edit takes one
+-- no edit takes a stand
 edit_of : (version : ℕ) (airport : AirportParts) (base number : ℕ) (edit : Edit) (visit after : Visit) → edit_visit airport base number edit visit ≡ Ok after
     → VisitIsOf version visit → VisitIsOf version after
 edit_of version airport base number edit visit after is of bump has = of bump (visit_bumps airport base number edit visit after is bump has)
 
--- the visits, with one changed
+-- the visits, after one was changed
 changed_of : (version : ℕ) (visits : List Visit) (changed : Option Visit) → MayChange visits changed → Every (VisitIsOf version) visits
     → Every (VisitIsOf version) (with_changed visits changed)
 changed_of version visits None may all = all
@@ -177,8 +177,8 @@ command_of plan (Commit desk draft base edits) taken numbered all =
     let kept = edits_keep (VisitIsOf plan.version) (edit_of plan.version) plan.airport base 1 edits plan.visits made.new made.apply all in
     subst (λ (p : PlanState). Every (VisitIsOf (plan.version + 1)) p.visits) (sym made.makes)
     (stamped_of (plan.version + 1) (plan.version + 1) edits made.new (all_later plan.version made.new kept))
-command_of plan (Message message) taken numbered all = happened_of plan (changed_by plan message) (message_changes plan message numbered) all
-command_of plan (Report number event) taken numbered all = happened_of plan (result_ok (reported plan number event)) (report_changes plan number event) all
+command_of plan (Message desk message) taken numbered all = happened_of plan (changed_by plan message) (message_changes plan message numbered) all
+command_of plan (Report desk number event) taken numbered all = happened_of plan (result_ok (reported plan number event)) (report_changes plan number event) all
 command_of plan (Cancel number) taken numbered all = cancelled_of plan (cancellable plan number) (all_later plan.version plan.visits all)
 
 all_of : (plan : PlanState) (count : ℕ) (history : List Entry) → AreTakenFrom plan count history → IsNumbered plan.visits

@@ -1,4 +1,4 @@
--- A plan with a visit cancelled has no slot that it had not before, so it stays sound.
+-- A plan with a visit cancelled has no new slot, so it stays sound.
 use Rattle.std.proofs.Common.{◌≡◌, ◌∙◌, ◌+◌, ◌-◌, ◌++◌, ◌∷◌, [], ℕ, zero, suc, Bool, true, false, List, length, map, nat_le, append-nil, refl, ap, subst, inl, inr, if◌then◌else◌}
 use Rattle.std.specs.Prelude.{Contains, slice_set}
 use Rattle.std.proofs.lemmas.List.Elements.{Contains-append_cases, Contains-append_left, Contains-append_right}

@@ -84,11 +84,12 @@ module _ (desk : List ℕ) (number : ℕ) where
   does_to_this plan (Commit of_desk draft base edits) taken =
       commit_does plan of_desk draft base edits (commits plan of_desk draft base edits taken)
       (is_draft desk number (id_of (draft_of of_desk draft base edits))) refl
-  does_to_this plan (Message message) taken = inr (record { other = λ same. same; same = refl })
-  does_to_this plan (Report visit event) taken = inr (record { other = λ same. same; same = refl })
+  does_to_this plan (Message desk message) taken = inr (record { other = λ same. same; same = refl })
+  does_to_this plan (Report desk visit event) taken = inr (record { other = λ same. same; same = refl })
   does_to_this plan (Cancel visit) taken = inr (record { other = λ same. same; same = cancelled_leaves plan (cancellable plan visit) })
 
-  -- this draft made the version, by the entry of this number among these, before which there were so many
+  -- this draft made the version, by the entry of this number among these; this many entries came
+  -- before them
   record Made (count : ℕ) (history : List Entry) (version : ℕ) : Type 0 where
     place : ℕ
     is : version ≡ count + place
@@ -193,7 +194,7 @@ module _ (desk : List ℕ) (number : ℕ) where
       let place : made.place ≡ version = let is : version ≡ 0 + made.place = made.is in omega arith in
       subst (λ (n : ℕ). HasCommit history n desk number) place made.commit
 
--- a draft made a version exactly where the entry of that number is its commit
+-- a draft made a version exactly if the entry of that number is its commit
 pub drafts_made : (airport : AirportParts) (history : List Entry) (desk : List ℕ) (number version : ℕ) → IsLegal airport history
     → (draft_version (replay airport history).drafts desk number ≡ Some version → HasCommit history version desk number)
     × (HasCommit history version desk number → draft_version (replay airport history).drafts desk number ≡ Some version)

@@ -39,7 +39,7 @@ numbered_up_to number count (visit ∷ visits) numbered few =
     let first : visit.number.0 ≡ number + 1 = numbered.0 in
     (omega (arith, first, few), numbered_up_to (number + 1) count visits numbered.1 (omega (arith, few)))
 
--- visits that edits apply to are there
+-- visits that edits apply to exist
 edited_up_to : (airport : AirportParts) (base number : ℕ) (edits : List Edit) (visits new : List Visit) (count named : ℕ)
     → after_edits airport base number edits visits ≡ Ok new → Every (IsUpTo count) visits → is_edited edits named ≡ true → named ≤ count
 edited_up_to airport base number [] visits new count named is all edited = absurd (cc)
@@ -57,7 +57,8 @@ edited_up_to airport base number (edit ∷ edits) visits new count named is all 
           (edit_leaves (IsUpTo count) (λ visit parts few. few) airport base number edit visits made.0 made.1 all) later
     ]
 
--- each visit was edited last by what `last` has for its number, and `last` has 0 for the numbers of no visit
+-- the last edit of each visit is what `last` has for its number, and `last` has 0 for numbers
+-- without a visit
 record AreEditedBy (last : ℕ → ℕ) (visits : List Visit) : Type 0 where
   edited : Every (λ (visit : Visit). visit.edited ≡ last visit.number.0) visits
   none : (number : ℕ) → length visits < number → last number ≡ 0
@@ -130,10 +131,10 @@ command_edited last plan (Commit desk draft base edits) taken numbered all =
           (within number made.apply (numbered_up_to 0 (length plan.visits) plan.visits numbered (omega arith)))
           (omega (arith, above, size)) (all.none number (omega (arith, above, size)));
     })
-command_edited last plan (Message message) taken numbered all =
-    kept_edited last plan.visits (after_command plan (Message message)).visits (message_keeps plan message numbered) all
-command_edited last plan (Report number event) taken numbered all =
-    kept_edited last plan.visits (after_command plan (Report number event)).visits (report_keeps plan number event) all
+command_edited last plan (Message desk message) taken numbered all =
+    kept_edited last plan.visits (after_command plan (Message desk message)).visits (message_keeps plan message numbered) all
+command_edited last plan (Report desk number event) taken numbered all =
+    kept_edited last plan.visits (after_command plan (Report desk number event)).visits (report_keeps plan number event) all
 command_edited last plan (Cancel number) taken numbered all =
     kept_edited last plan.visits (after_command plan (Cancel number)).visits (cancel_keeps plan number numbered) all
 

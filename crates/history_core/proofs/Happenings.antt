@@ -1,4 +1,5 @@
--- What a message, a report and a cancel leave of each visit of a plan: all but its parts and what has become of it.
+-- What a message, a report and a cancel leave as it is in each visit of a plan: all but its parts
+-- and what has become of it.
 use Rattle.std.proofs.Common.{◌≡◌, ◌∙◌, ◌+◌, ◌∷◌, [], ℕ, Bool, true, false, ◌&&◌, List, map, not, if◌then◌else◌, Option, None, Some, Result, Ok, Err, ok_or, ◌≤◌, arith, refl, sym, ap, subst}
 use Rattle.std.specs.List.{AllByRecursion}
 use Rattle.std.specs.Prelude.{IfSome, find}
@@ -46,14 +47,14 @@ settled_kept airport entry kept [] = tt
 settled_kept airport entry kept (visit ∷ visits) =
     (record { number = refl; same = record { new = refl; added = refl }; edited = refl }, settled_kept airport entry kept visits)
 
--- a visit is one of these, changed, and no stand was taken from it
+-- the visit is one of these, but changed, and no stand was taken from it
 pub record Changes (visits : List Visit) (new : Visit) : Type 0 where
   pub before : Visit
   pub at : visit_at visits new.number ≡ Some before
   pub kept : IsKept before new
   pub bumps : (bump : Bump) → HasBump new.parts bump → HasBump before.parts bump
 
--- and so is a changed one, if there is one
+-- and so is the changed one, if there is one
 abbrev pub MayChange : List Visit → Option Visit → Type 0
 MayChange visits changed = (new : Visit) → changed ≡ Some new → Changes visits new
 
@@ -77,7 +78,7 @@ one_bumps before new one bump has =
     let was : IsBumpOf before.parts bump = one.bumps bump (record { part = has.part; among = has.among; place = has.place }) in
     record { part = was.part; among = was.among; place = was.place }
 
--- a message does what it does to the first live visit of its flight
+-- a message acts on the first live visit of its flight
 some_effect : (plan : PlanState) (message : Mvt) (movement : Movement) (visit : Visit) → movement_meant plan.airport message ≡ Some movement
     → live_of plan.visits movement ≡ Some visit → changed_by plan message ≡ effect_of plan.airport (visit ∷ []) message
 some_effect plan message movement visit is found = effect_of_one plan.airport plan.visits message ∙ rw (is, found) refl
@@ -153,7 +154,7 @@ is_live_test : (live : Bool) → not live ≡ false → live ≡ true
 is_live_test true is = refl
 is_live_test false is = absurd (cc)
 
--- a visit that is cancelled can be
+-- a visit that is cancelled can be cancelled
 pub cancellable_is : (plan : PlanState) (number : VisitNo) (visit : Visit) → cancellable plan number ≡ Ok visit → IsCancellable plan visit
 cancellable_is plan number visit is =
     let found = then_ok (ok_or (visit_at plan.visits number) denial.Unknown)
@@ -177,10 +178,10 @@ cancelled_kept plan (Ok visit) is numbered =
 cancelled_kept plan (Err why) is numbered = all_themselves plan.visits
 
 -- each of these three keeps each visit
-pub message_keeps : (plan : PlanState) (message : Mvt) → IsNumbered plan.visits → AreKept plan.visits (after_command plan (Message message)).visits
+pub message_keeps : (plan : PlanState) (message : Mvt) → IsNumbered plan.visits → AreKept plan.visits (with_settled plan (changed_by plan message)).visits
 message_keeps plan message numbered = happened_kept plan (changed_by plan message) (message_changes plan message numbered)
 
-pub report_keeps : (plan : PlanState) (number : VisitNo) (event : Event) → AreKept plan.visits (after_command plan (Report number event)).visits
+pub report_keeps : (plan : PlanState) (number : VisitNo) (event : Event) → AreKept plan.visits (with_settled plan (result_ok (reported plan number event))).visits
 report_keeps plan number event = happened_kept plan (result_ok (reported plan number event)) (report_changes plan number event)
 
 pub cancel_keeps : (plan : PlanState) (number : VisitNo) → IsNumbered plan.visits → AreKept plan.visits (after_command plan (Cancel number)).visits

@@ -11,7 +11,7 @@ use Rattle.entry_bytes.specs.Entries.{decoded, entry_text}
 use Rattle.history_core.specs.Board.{IsKept, IsNextText, Spells, entry_texts}
 use Rattle.history_core.specs.History.{IsLegal}
 
--- the texts of entries with one more
+-- the texts of the entries and one more
 pub texts_push : (history : List Entry) (entry : Entry) → entry_texts (with_last entry history) ≡ with_last (entry_text entry) (entry_texts history)
 texts_push history entry = map-append entry_text history (entry ∷ [])
 
@@ -59,7 +59,7 @@ at_risk airport history before after entry read legal risk = ⊎_elim
     (λ (this : after ≡ Some (entry_text entry)).
     subst (λ o. IfSome o (IsNextText airport history)) (sym this) (record { entry = entry; is = refl; read = read; legal = legal })))
 
--- after an append that failed it keeps the history as it was, and the entry may be at risk
+-- after an append that failed the keeper keeps the history as it was, and the entry may be at risk
 pub kept_failed : (airport : AirportParts) (history : List Entry) (before after : KeeperState) (entry : Entry) → IsKept airport history before
     → decoded airport (entry_text entry) ≡ Ok entry → IsLegal airport (with_last entry history) → FailsToAdd before after (entry_text entry) → IsKept airport history after
 kept_failed airport history before after entry kept read legal fails = record {
@@ -70,12 +70,12 @@ kept_failed airport history before after entry kept read legal fails = record {
   safe = λ none. let counts : Counts true before.faults after.faults = fails.faults in absurd (omega (arith, counts.1));
 }
 
--- after it made room, whether that succeeded or not
+-- after making room, whether that succeeded or not
 pub kept_ready : (airport : AirportParts) (history : List Entry) (before after : KeeperState) → IsKept airport history before
     → after ≡ record before { room = after.room } → IsKept airport history after
 kept_ready airport history before after kept is = subst (IsKept airport history) (sym is) (record { entries = kept.entries; spells = kept.spells; number = kept.number; at_risk = kept.at_risk; safe = kept.safe })
 
--- a keeper that has the texts of a history and none at risk keeps it
+-- a keeper that has the texts of a history, and none at risk, keeps it
 opened_told : (texts : List (List ℕ)) (history : List Entry) (kept : Option (List (List ℕ))) → IfSome kept (λ es. es ≡ texts) → texts ≡ entry_texts history
     → IfSome kept (λ es. es ≡ entry_texts history)
 opened_told texts history None same is = tt

@@ -1,4 +1,4 @@
--- What edits leave of each visit: all but its parts.
+-- What edits leave as it is in each visit: all but its parts.
 use Rattle.std.proofs.Common.{◌≡◌, ◌+◌, ◌∷◌, ◌++◌, [], ℕ, zero, suc, nat_le, length, ◌-◌, Bool, true, false, List, Some, Ok, subst, if◌then◌else◌}
 use Rattle.std.specs.Prelude.{find, slice_set}
 use Rattle.apron_base.specs.Histories.{Every}

@@ -1,4 +1,4 @@
--- Visits that are the same as others but for their parts and what has become of them.
+-- Visits that equal others except for their parts and what has become of them.
 use Rattle.std.proofs.Common.{◌≡◌, ◌∙◌, ◌<◌, ◌≤◌, ◌+◌, ◌-◌, ◌∷◌, [], ℕ, zero, suc, Bool, true, false, List, length, nat_le, Some, refl, sym, ap, subst, arith, inl, inr, if◌then◌else◌}
 use Rattle.std.specs.Prelude.{slice_get, slice_set}
 use Rattle.std.proofs.lemmas.Bool.{cases_lt}
@@ -10,7 +10,7 @@ use Rattle.visit_book.specs.Numbers.{IsNumbered, IsNumberedAbove, has_number, vi
 use Rattle.visit_book.proofs.ByPlace.{visit_at-below, visit_at-outside, visit_at-place}
 use Rattle.plan_core.specs.PlanState.{IsSameVisit, put_one}
 
--- a visit after another: the same but for its parts and what has become of it
+-- a visit after another: the same except for its parts and what has become of it
 pub record IsKept (old new : Visit) : Type 0 where
   pub number : new.number ≡ old.number
   pub same : IsSameVisit new old
@@ -62,7 +62,7 @@ kept_numbered number (old ∷ olds) (new ∷ news) kept numbered =
 kept_numbered number [] (new ∷ news) kept numbered = absurd kept
 kept_numbered number (old ∷ olds) [] kept numbered = absurd kept
 
--- what a visit that is kept keeps, all keep
+-- what a kept visit keeps, all keep
 module _ (P : Visit → Type 0) (keeps : (old new : Visit) → IsKept old new → P old → P new) where
   pub all_kept : (olds news : List Visit) → AreKept olds news → Every P olds → Every P news
   all_kept [] [] kept all = tt
@@ -70,7 +70,7 @@ module _ (P : Visit → Type 0) (keeps : (old new : Visit) → IsKept old new �
   all_kept [] (new ∷ news) kept all = absurd kept
   all_kept (old ∷ olds) [] kept all = absurd kept
 
--- a visit in the place of the one that it was
+-- a visit in the place of its earlier self
 kept_first : (first before new : Visit) (visits : List Visit) (here : Bool) → has_number new.number first ≡ here
     → (if here then Some first else visit_at visits new.number) ≡ Some before → IsKept before new
     → (visit_at visits new.number ≡ Some before → AreKept visits (with_visit visits new))
@@ -90,7 +90,7 @@ kept_set zero (first ∷ visits) before new found kept =
     let same : before ≡ first = cc in (subst (λ (v : Visit). IsKept v new) same kept, all_themselves visits)
 kept_set (suc place) (first ∷ visits) before new found kept = (kept_itself first, kept_set place visits before new found kept)
 
--- a visit that is found has a number from 1 to how many there are
+-- a visit that is found has a number from 1 to the number of visits
 found_within : (visits : List Visit) (number : VisitNo) (visit : Visit) → IsNumbered visits → visit_at visits number ≡ Some visit
     → (0 < number.0) × (number.0 ≤ length visits)
 found_within visits number visit numbered found = elim (cases_lt 0 number.0) [

@@ -36,8 +36,8 @@ command_sound plan (AddVisit new) taken sound =
 command_sound plan (Commit desk draft base edits) (new, (visits, rebases)) sound =
     subst (λ (r : Result (List Visit) EditFault). IsSoundPlan (committed_if plan (draft_of desk draft base edits) r)) (sym rebases.apply)
     (subst (λ slots. IsSound plan.airport slots) (sym (stamped_slots plan.airport (plan.version + 1) edits visits)) rebases.sound)
-command_sound plan (Message message) taken sound = settled_sound plan.airport (plan.version + 1) (with_changed plan.visits (changed_by plan message))
-command_sound plan (Report number event) taken sound =
+command_sound plan (Message desk message) taken sound = settled_sound plan.airport (plan.version + 1) (with_changed plan.visits (changed_by plan message))
+command_sound plan (Report desk number event) taken sound =
     settled_sound plan.airport (plan.version + 1) (with_changed plan.visits (result_ok (reported plan number event)))
 command_sound plan (Cancel number) taken sound = cancelled_if_sound plan (cancellable plan number) sound
 
@@ -76,7 +76,7 @@ front_legal airport front back h = record {
 pub legal_counted : (airport : AirportParts) (history : List Entry) → IsLegal airport history → (replay airport history).version ≡ length history
 legal_counted airport history legal = let counted = versions_count (empty_plan airport) 0 history legal.taken in omega arith
 
--- the entry of a number, behind so many others
+-- the entry of a number, after this many others
 entry_at : (history : List Entry) (count : ℕ) → count < length history → (entry : Entry) × HasEntry history (count + 1) entry
 entry_at [] count below = absurd (omega arith)
 entry_at (e ∷ history) zero below = (e, record { before = []; after = history; is = refl; counted = refl })

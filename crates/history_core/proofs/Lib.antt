@@ -16,3 +16,4 @@ pub mod Boards
 pub mod Openings
 pub mod Texts
 pub mod Crosses
+pub mod Desks

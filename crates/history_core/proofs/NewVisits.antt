@@ -1,4 +1,4 @@
--- Whether visits are added with the same.
+-- Whether visits are added with the same data.
 use Rattle.std.proofs.Common.{◌≡◌, ◌≢◌, ◌∙◌, ◌⊎◌, ◌&&◌, ◌==◌, ℕ, Bool, true, false, nat_eq, List, Option, None, Some, refl, ap, inl, inr}
 use Rattle.std.specs.Bool.{Decides}
 use Rattle.std.specs.Cmp.{unsigned_Decides}
@@ -15,7 +15,7 @@ both_decide : {P Q : Type 0} (s t : Bool) → Decides s P → Decides t Q → De
 both_decide true t first second = (λ is. (first.0 refl, second.0 is), λ both. second.1 both.1)
 both_decide false t first second = (λ is. absurd (cc), λ both. first.1 both.0)
 
--- a test decides what follows from its fact and implies it
+-- a test decides each fact that is equivalent to its own
 decides_too : {P Q : Type 0} (s : Bool) → Decides s P → (P → Q) → (Q → P) → Decides s Q
 decides_too s decides forth back = (λ is. forth (decides.0 is), λ fact. decides.1 (back fact))
 
@@ -26,7 +26,7 @@ option_decides test decides None (Some other) = (λ is. absurd (cc), λ same. ab
 option_decides test decides (Some one) None = (λ is. absurd (cc), λ same. absurd (cc))
 option_decides test decides (Some one) (Some other) = (λ is. ap Some ((decides one other).0 is), λ same. (decides one other).1 (cc))
 
--- the flights are one
+-- the flights are the same
 abbrev is_same_flight : Flight → Flight → Bool
 is_same_flight one other =
     bytes_eq one.airline other.airline && ((one.number == other.number) && option_eq nat_eq one.suffix other.suffix)
@@ -45,7 +45,7 @@ flight_decides one other =
     (λ parts. flight_is one.airline other.airline one.number other.number one.suffix other.suffix parts.0 parts.1.0 parts.1.1)
     (λ same. (ap (λ (f : Flight). f.airline) same, (ap (λ (f : Flight). f.number) same, ap (λ (f : Flight). f.suffix) same)))
 
--- the keys are one
+-- the keys are the same
 abbrev is_same_key : Key → Key → Bool
 is_same_key one other = is_same_flight one.flight other.flight && (one.day == other.day)
 
@@ -59,15 +59,15 @@ key_decides one other =
     (λ parts. key_is one.flight other.flight one.day other.day parts.0 parts.1)
     (λ same. (ap (λ (k : Key). k.flight) same, ap (λ (k : Key). k.day) same))
 
--- both keys of visits are one
+-- both keys of the visits are the same
 abbrev are_same_keys : NewVisit → NewVisit → Bool
 are_same_keys one other = option_eq is_same_key one.arr other.arr && option_eq is_same_key one.dep other.dep
 
--- the times of visits are one
+-- the times of the visits are the same
 abbrev are_same_later : NewVisit → NewVisit → Bool
 are_same_later one other = (one.on == other.on) && ((one.off == other.off) && are_same_keys one other)
 
--- visits are added with the same
+-- the visits are added with the same data
 abbrev is_same_new : NewVisit → NewVisit → Bool
 is_same_new one other =
     bytes_eq one.name other.name && ((one.kind.0 == other.kind.0) && ((one.class == other.class) && are_same_later one other))
@@ -99,7 +99,7 @@ later_is text kind class one other (on, (off, (arr, dep))) = rw (on, off, arr, d
 first_is : (a b : List ℕ) (m n : ℕ) (c d : ℕ) (new : NewVisit) → a ≡ b → m ≡ n → c ≡ d → with_later a (record { 0 = m }) c new ≡ with_later b (record { 0 = n }) d new
 first_is a b m n c d new text kind class = cc
 
--- the test tells whether visits are added with the same
+-- the test decides whether visits are added with the same data
 pub new_decides : (one other : NewVisit) → Decides (is_same_new one other) (one ≡ other)
 new_decides one other =
     decides_too (is_same_new one other)
@@ -120,7 +120,7 @@ new_decides one other =
       ),
     ))
 
--- both are one, or they are not
+-- both are the same, or they are not
 abbrev pub AreDecided : NewVisit → NewVisit → Type 0
 AreDecided one other = (one ≡ other) ⊎ (one ≢ other)
 

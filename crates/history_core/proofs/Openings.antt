@@ -28,7 +28,7 @@ next_push : (low : ℕ) (history : List Entry) (entry : Entry) → next_from low
 next_push low [] entry = refl
 next_push low (e ∷ history) entry = next_push (e.call + 1) history entry
 
--- the numbers of a history are below that of the next call, which has a greater one than the last
+-- the numbers of a history are below that of the next call, which is greater than the last
 pub next_rises : (low high : ℕ) (history : List Entry) → Rises call_of low high history → Rises call_of low (next_from low history) history
 next_rises low high [] rises = omega arith
 next_rises low high (e ∷ history) rises = (rises.0, next_rises (e.call + 1) high history rises.1)
@@ -55,7 +55,7 @@ pub called_too_early : (airport : AirportParts) (history : List Entry) (entry : 
 called_too_early airport history entry early legal =
     let above : next_from 1 history ≤ entry.call = next_above 1 call_limit history entry legal.numbers in omega arith
 
--- a command that is answered otherwise is not the next of the history
+-- a command that is not accepted is not the next of the history
 pub answered_is_not_next : (airport : AirportParts) (plan : PlanState) (history : List Entry) (next : ℕ) (entry : Entry) (reply : Reply)
     → IsPast airport plan history next → IsAnswered plan (length history) entry.command reply → ¬ (IsLegal airport (with_last entry history))
 answered_is_not_next airport plan history next entry reply past answered legal =
@@ -80,7 +80,7 @@ past_pushed airport plan new history next entry past valid steps up last is = re
   next_is = sym (next_push 1 history entry);
 }
 
--- texts and readings of so many entries and one more
+-- texts and readings of this many entries and one more
 pub texts_read_on : (airport : AirportParts) (front : List (List ℕ)) (before after : List Entry) (bytes : List ℕ) → front ≡ entry_texts before
     → IsReadOn airport before after bytes → front ++ bytes ∷ [] ≡ entry_texts after
 texts_read_on airport front before after bytes is read =
@@ -122,7 +122,7 @@ stops_at airport entries front bytes back before (WrongEntry number) is spells l
     record { front = front; bytes = bytes; back = back; is = is; before = before; spells = spells; legal = legal; why = why }
 stops_at airport entries front bytes back before Memory is spells legal why = tt
 
--- the bytes at a place, with those before and behind them
+-- the bytes at a place, with those before and after them
 pub parted_at : (entries : List (List ℕ)) (place : ℕ) (bytes : List ℕ) → place < length entries → bytes ≡ get_or entries place bytes
     → entries ≡ take place entries ++ bytes ∷ drop (suc place) entries
 parted_at entries place bytes within is =

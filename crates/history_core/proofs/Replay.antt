@@ -41,8 +41,8 @@ command_airport : (plan : PlanState) (command : Command) → (after_command plan
 command_airport plan (AddVisit new) = refl
 command_airport plan (Commit desk draft base edits) =
     committed_airport plan (draft_of desk draft base edits) (after_all_edits plan.airport base edits plan.visits)
-command_airport plan (Message message) = refl
-command_airport plan (Report number event) = refl
+command_airport plan (Message desk message) = refl
+command_airport plan (Report desk number event) = refl
 command_airport plan (Cancel number) = cancelled_airport plan (cancellable plan number)
 
 after-airport : (plan : PlanState) (history : List Entry) → (after_entries plan history).airport ≡ plan.airport
@@ -96,8 +96,8 @@ pub command_version : (plan : PlanState) (command : Command) → IsTaken plan co
 command_version plan (AddVisit new) taken = refl
 command_version plan (Commit desk draft base edits) taken =
     let made = commits plan desk draft base edits taken in ap (λ (p : PlanState). p.version) made.makes
-command_version plan (Message message) taken = refl
-command_version plan (Report number event) taken = refl
+command_version plan (Message desk message) taken = refl
+command_version plan (Report desk number event) taken = refl
 command_version plan (Cancel number) taken = cancelled_version plan (cancellable plan number) taken
 
 -- each entry makes the next version
@@ -126,10 +126,10 @@ command_numbered plan (Commit desk draft base edits) taken h =
     let follows = edits_follow plan.airport base 1 edits plan.visits made.new h made.apply in
     subst (λ (p : PlanState). IsNumbered p.visits) (sym made.makes)
     (stamped_numbered 0 (plan.version + 1) edits made.new (follows_numbered (is_edited edits) 0 plan.visits made.new follows))
-command_numbered plan (Message message) taken h =
-    kept_numbered 0 plan.visits (after_command plan (Message message)).visits (message_keeps plan message h) h
-command_numbered plan (Report number event) taken h =
-    kept_numbered 0 plan.visits (after_command plan (Report number event)).visits (report_keeps plan number event) h
+command_numbered plan (Message desk message) taken h =
+    kept_numbered 0 plan.visits (after_command plan (Message desk message)).visits (message_keeps plan message h) h
+command_numbered plan (Report desk number event) taken h =
+    kept_numbered 0 plan.visits (after_command plan (Report desk number event)).visits (report_keeps plan number event) h
 command_numbered plan (Cancel number) taken h =
     kept_numbered 0 plan.visits (after_command plan (Cancel number)).visits (cancel_keeps plan number h) h
 

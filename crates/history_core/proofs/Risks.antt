@@ -1,4 +1,4 @@
--- What is at risk behind a board's history after a call of its keeper.
+-- What is at risk after a board's history, after a call of its keeper.
 use Rattle.std.proofs.Common.{◌≡◌, ◌∙◌, ◌⊎◌, ℕ, Bool, true, List, Option, None, Some, Result, Ok, Err, inl, inr, ⊎_elim, refl, ap, subst}
 use Rattle.std.specs.Prelude.{option_and_then}
 use Rattle.std.specs.Result.{IsErrAnd, result_ok}
@@ -37,7 +37,7 @@ module _ (airport : AirportParts) where
   abbrev entry_read : Option (List ℕ) → Option Entry
   entry_read risk = option_and_then (λ bytes. result_ok (decoded airport bytes)) risk
 
-  -- how a history stands over a keeper
+  -- a history and the entry at risk over a keeper
   abbrev over : KeeperState → List Entry → Standing Entry
   over keeper history = record { entries = history; at_risk = entry_at_risk airport keeper }
 

@@ -58,17 +58,17 @@ visit_placed entries count (inl entry) (inr many) = inr (λ has. absurd (let few
 abbrev placed : (plan : PlanState) (entries : ℕ) (command : Command) → IsPlaced plan entries command
 placed plan entries (AddVisit new) = visit_placed entries (length plan.visits) (entry_placed entries) (cases_lt (length plan.visits) most_visits)
 placed plan entries (Commit desk draft base edits) = entry_placed entries
-placed plan entries (Message message) = entry_placed entries
-placed plan entries (Report number event) = entry_placed entries
+placed plan entries (Message desk message) = entry_placed entries
+placed plan entries (Report desk number event) = entry_placed entries
 placed plan entries (Cancel number) = entry_placed entries
 
--- a taken command is accepted where there is place, and full where there is none
+-- a taken command is accepted if there is a place for it, and full if there is none
 abbrev placed_step : (plan : PlanState) (entries : ℕ) (command : Command) → IsTaken plan command → IsPlaced plan entries command
     → (stepped : Stepped) × Steps plan entries command stepped
 placed_step plan entries command taken (inl has) = (accepted, (taken, has))
 placed_step plan entries command taken (inr none) = (full, (taken, none))
 
--- a visit has a new name, or there is one of it
+-- a visit has a new name, or a visit has it already
 abbrev named_step : (plan : PlanState) (entries : ℕ) (new : NewVisit) (visit : Visit) → visit_named plan.visits new.name ≡ Some visit
     → AreDecided (new_of visit) new → (stepped : Stepped) × Steps plan entries (AddVisit new) stepped
 named_step plan entries new visit is (inl same) = (repeated visit.added, (visit, (is, same), refl))
@@ -102,11 +102,11 @@ based_step plan entries desk draft base edits (inr over) =
     drafted_step plan entries desk draft base edits (draft_version plan.drafts desk draft) refl over
 
 -- a report can have happened, or it is refused
-abbrev report_step : (plan : PlanState) (entries : ℕ) (number : VisitNo) (event : Event) (found : Result Visit Denial) → reported plan number event ≡ found
-    → (stepped : Stepped) × Steps plan entries (Report number event) stepped
-report_step plan entries number event (Ok visit) is =
-    placed_step plan entries (Report number event) (ap is_ok is) (placed plan entries (Report number event))
-report_step plan entries number event (Err why) is = (refused (denied why), is)
+abbrev report_step : (plan : PlanState) (entries : ℕ) (desk : List ℕ) (number : VisitNo) (event : Event) (found : Result Visit Denial) → reported plan number event ≡ found
+    → (stepped : Stepped) × Steps plan entries (Report desk number event) stepped
+report_step plan entries desk number event (Ok visit) is =
+    placed_step plan entries (Report desk number event) (ap is_ok is) (placed plan entries (Report desk number event))
+report_step plan entries desk number event (Err why) is = (refused (denied why), is)
 
 -- a visit can be cancelled, or that is refused
 abbrev cancel_step : (plan : PlanState) (entries : ℕ) (number : VisitNo) (found : Result Visit Denial) → cancellable plan number ≡ found
@@ -118,11 +118,11 @@ cancel_step plan entries number (Err why) is = (refused (denied why), is)
 abbrev pub some_step : (plan : PlanState) (entries : ℕ) (command : Command) → (stepped : Stepped) × Steps plan entries command stepped
 some_step plan entries (AddVisit new) = visit_step plan entries new (visit_named plan.visits new.name) refl
 some_step plan entries (Commit desk draft base edits) = based_step plan entries desk draft base edits (cases_lt plan.version base)
-some_step plan entries (Message message) = placed_step plan entries (Message message) tt (placed plan entries (Message message))
-some_step plan entries (Report number event) = report_step plan entries number event (reported plan number event) refl
+some_step plan entries (Message desk message) = placed_step plan entries (Message desk message) tt (placed plan entries (Message desk message))
+some_step plan entries (Report desk number event) = report_step plan entries desk number event (reported plan number event) refl
 some_step plan entries (Cancel number) = cancel_step plan entries number (cancellable plan number) refl
 
--- which is the only one
+-- and only one
 only_full : (plan : PlanState) (entries : ℕ) (command : Command) (taken : IsTaken plan command) (place : IsPlaced plan entries command)
     → ¬ (HasPlace plan entries command) → full ≡ (placed_step plan entries command taken place).0
 only_full plan entries command taken (inl has) none = absurd (none has)
@@ -229,17 +229,17 @@ module _ (plan : PlanState) (entries : ℕ) (desk : List ℕ) (draft base : ℕ)
   only_based stepped (inr over) numbered steps = only_drafted stepped (draft_version plan.drafts desk draft) refl over numbered steps
 
 -- a message is accepted, or there is no place for it
-only_message : (plan : PlanState) (entries : ℕ) (message : Mvt) (stepped : Stepped) → Steps plan entries (Message message) stepped
-    → stepped ≡ (some_step plan entries (Message message)).0
-only_message plan entries message ahead steps = absurd steps
-only_message plan entries message (repeated entry) steps = absurd steps
-only_message plan entries message (refused (name number)) steps = absurd steps
-only_message plan entries message (refused (edit fault)) steps = absurd steps
-only_message plan entries message (refused (denied why)) steps = absurd steps
-only_message plan entries message full steps = only_full plan entries (Message message) tt (placed plan entries (Message message)) steps.1
-only_message plan entries message accepted steps = only_accepted plan entries (Message message) tt (placed plan entries (Message message)) steps.1
+only_message : (plan : PlanState) (entries : ℕ) (desk : List ℕ) (message : Mvt) (stepped : Stepped) → Steps plan entries (Message desk message) stepped
+    → stepped ≡ (some_step plan entries (Message desk message)).0
+only_message plan entries desk message ahead steps = absurd steps
+only_message plan entries desk message (repeated entry) steps = absurd steps
+only_message plan entries desk message (refused (name number)) steps = absurd steps
+only_message plan entries desk message (refused (edit fault)) steps = absurd steps
+only_message plan entries desk message (refused (denied why)) steps = absurd steps
+only_message plan entries desk message full steps = only_full plan entries (Message desk message) tt (placed plan entries (Message desk message)) steps.1
+only_message plan entries desk message accepted steps = only_accepted plan entries (Message desk message) tt (placed plan entries (Message desk message)) steps.1
 
--- what a report or a cancel finds tells its step
+-- what a report or a cancel finds decides its step
 module _ (found : Result Visit Denial) where
   same_denial : (why other : Denial) → found ≡ Err other → found ≡ Err why → why ≡ other
   same_denial why other is also = cc
@@ -250,12 +250,12 @@ module _ (found : Result Visit Denial) where
   not_taken : {A : Type 0} (why : Denial) → found ≡ Err why → IsOk found → A
   not_taken why is some = absurd (let none = ap is_ok is in cc)
 
-module _ (plan : PlanState) (entries : ℕ) (number : VisitNo) (event : Event) where
+module _ (plan : PlanState) (entries : ℕ) (desk : List ℕ) (number : VisitNo) (event : Event) where
   abbrev at_number : Result Visit Denial
   at_number = reported plan number event
 
-  only_report : (stepped : Stepped) (found : Result Visit Denial) (is : at_number ≡ found) → Steps plan entries (Report number event) stepped
-      → stepped ≡ (report_step plan entries number event found is).0
+  only_report : (stepped : Stepped) (found : Result Visit Denial) (is : at_number ≡ found) → Steps plan entries (Report desk number event) stepped
+      → stepped ≡ (report_step plan entries desk number event found is).0
   only_report ahead found is steps = absurd steps
   only_report (repeated entry) found is steps = absurd steps
   only_report (refused (name other)) found is steps = absurd steps
@@ -263,10 +263,10 @@ module _ (plan : PlanState) (entries : ℕ) (number : VisitNo) (event : Event) w
   only_report (refused (denied why)) (Ok visit) is steps = not_denied at_number why visit is steps
   only_report (refused (denied why)) (Err other) is steps = ap (λ (d : Denial). refused (denied d)) (same_denial at_number why other is steps)
   only_report full (Ok visit) is steps =
-      only_full plan entries (Report number event) (ap is_ok is) (placed plan entries (Report number event)) steps.1
+      only_full plan entries (Report desk number event) (ap is_ok is) (placed plan entries (Report desk number event)) steps.1
   only_report full (Err why) is steps = not_taken at_number why is steps.0
   only_report accepted (Ok visit) is steps =
-      only_accepted plan entries (Report number event) (ap is_ok is) (placed plan entries (Report number event)) steps.1
+      only_accepted plan entries (Report desk number event) (ap is_ok is) (placed plan entries (Report desk number event)) steps.1
   only_report accepted (Err why) is steps = not_taken at_number why is steps.0
 
 module _ (plan : PlanState) (entries : ℕ) (number : VisitNo) where
@@ -289,12 +289,12 @@ the_step : (plan : PlanState) (entries : ℕ) (command : Command) (stepped : Ste
 the_step plan entries (AddVisit new) stepped numbered steps = only_visit plan entries new stepped (visit_named plan.visits new.name) refl steps
 the_step plan entries (Commit desk draft base edits) stepped numbered steps =
     only_based plan entries desk draft base edits stepped (cases_lt plan.version base) numbered steps
-the_step plan entries (Message message) stepped numbered steps = only_message plan entries message stepped steps
-the_step plan entries (Report number event) stepped numbered steps =
-    only_report plan entries number event stepped (reported plan number event) refl steps
+the_step plan entries (Message desk message) stepped numbered steps = only_message plan entries desk message stepped steps
+the_step plan entries (Report desk number event) stepped numbered steps =
+    only_report plan entries desk number event stepped (reported plan number event) refl steps
 the_step plan entries (Cancel number) stepped numbered steps = only_cancel plan entries number stepped (cancellable plan number) refl steps
 
--- each command has one step at most
+-- each command has at most one step
 pub one_step : (plan : PlanState) (entries : ℕ) (command : Command) (stepped other : Stepped) → IsNumbered plan.visits
     → Steps plan entries command stepped → Steps plan entries command other → stepped ≡ other
 one_step plan entries command stepped other numbered steps also =
@@ -322,19 +322,19 @@ refused_answered plan entries desk draft base edits fault version over unused re
 }
 
 -- a report and a cancel that are refused, and a report for which there is no place
-pub report_denied : (plan : PlanState) (entries : ℕ) (number : VisitNo) (event : Event) (why : Denial) → reported plan number event ≡ Err why
-    → IsAnswered plan entries (Report number event) (reply_at plan.version (Denied why))
-report_denied plan entries number event why is = record { stepped = refused (denied why); steps = is; other = λ same. absurd (cc); is = refl }
+pub report_denied : (plan : PlanState) (entries : ℕ) (desk : List ℕ) (number : VisitNo) (event : Event) (why : Denial) → reported plan number event ≡ Err why
+    → IsAnswered plan entries (Report desk number event) (reply_at plan.version (Denied why))
+report_denied plan entries desk number event why is = record { stepped = refused (denied why); steps = is; other = λ same. absurd (cc); is = refl }
 
 pub cancel_denied : (plan : PlanState) (entries : ℕ) (number : VisitNo) (why : Denial) → cancellable plan number ≡ Err why
     → IsAnswered plan entries (Cancel number) (reply_at plan.version (Denied why))
 cancel_denied plan entries number why is = record { stepped = refused (denied why); steps = is; other = λ same. absurd (cc); is = refl }
 
-pub report_full : (plan : PlanState) (entries : ℕ) (number : VisitNo) (event : Event) (visit : Visit) → reported plan number event ≡ Ok visit
-    → ¬ (TakesEntry entries) → IsAnswered plan entries (Report number event) (reply_at plan.version Full)
-report_full plan entries number event visit is none = record { stepped = full; steps = (ap is_ok is, none); other = λ same. absurd (cc); is = refl }
+pub report_full : (plan : PlanState) (entries : ℕ) (desk : List ℕ) (number : VisitNo) (event : Event) (visit : Visit) → reported plan number event ≡ Ok visit
+    → ¬ (TakesEntry entries) → IsAnswered plan entries (Report desk number event) (reply_at plan.version Full)
+report_full plan entries desk number event visit is none = record { stepped = full; steps = (ap is_ok is, none); other = λ same. absurd (cc); is = refl }
 
--- the answer where a visit has the name of one to be added
+-- the answer if a visit has the name of the one to be added
 same_answered : (plan : PlanState) (entries : ℕ) (new : NewVisit) (visit : Visit) (version : ℕ) → visit_named plan.visits new.name ≡ Some visit → new_of visit ≡ new
     → version ≡ plan.version → IsAnswered plan entries (AddVisit new) (record { version = version; told = Added visit.added visit.number })
 same_answered plan entries new visit version named same is = record {
@@ -368,7 +368,7 @@ pub named_answered : (plan : PlanState) (entries : ℕ) (new : NewVisit) (visit 
     → (new_of visit ≢ new → told ≡ OtherName visit.number) → IsAnswered plan entries (AddVisit new) (record { version = version; told = told })
 named_answered plan entries new visit version told = decided_answered plan entries new visit version told (new_decided (new_of visit) new)
 
--- what comes of a draft that is rebased, where the history takes one more entry
+-- what a rebased draft comes to, if the history takes one more entry
 pub committed_finds : (plan : PlanState) (entries : ℕ) (desk : List ℕ) (draft base : ℕ) (edits : List Edit) (change : ChangeState) → IsNumbered plan.visits
     → plan.version ≡ entries → base ≤ plan.version → draft_version plan.drafts desk draft ≡ None → TakesEntry entries
     → IsRebased plan (draft_of desk draft base edits) change → (plan.version + 1 < version_limit → IsInstallable plan change)

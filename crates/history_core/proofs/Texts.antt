@@ -24,12 +24,12 @@ use Rattle.history_core.proofs.Added.{added_new}
 use Rattle.history_core.proofs.Legal.{front_legal}
 use Rattle.history_core.proofs.Replay.{replay-airport}
 
--- texts of one airport, version and news
+-- texts at one airport and version, with the same news
 same_text : (airport other : AirportParts) (version later : ℕ) (news : Told) → airport ≡ other → version ≡ later
     → reply_text airport (record { version = version; told = news }) ≡ reply_text other (reply_at later news)
 same_text airport other version later news e f = rw (e, f) refl
 
--- what is told of a plan as it is
+-- what a reply says of a plan as it is
 pub told_text : (airport : AirportParts) (history : List Entry) (plan : PlanState) (version : ℕ) (news : Told) → plan ≡ replay airport history
     → version ≡ plan.version → reply_text airport (record { version = version; told = news })
     ≡ reply_text (replay airport history).airport (reply_at (replay airport history).version news)
@@ -37,7 +37,7 @@ told_text airport history plan version news plan_is is =
     same_text airport (replay airport history).airport version (replay airport history).version news
     (sym (replay-airport airport history)) (is ∙ ap (λ (p : PlanState). p.version) plan_is)
 
--- a visit of the plan can be told
+-- a reply can hold the visit that was found, if there is one
 found_tellable : (found : Option Visit) → ((visit : Visit) → found ≡ Some visit → IsNewVisit (new_of visit)) → IsTellable (visit_told found)
 found_tellable None new = tt
 found_tellable (Some visit) new = new visit refl
@@ -62,7 +62,7 @@ added_none call command (refused why) other = refl
 added_none call command full other = refl
 added_none call command accepted other = absurd (other refl)
 
--- the bytes of what is told of the plan as it is
+-- the bytes of what a reply says of the plan as it is
 pub told_gives : (airport : AirportParts) (history : List Entry) (plan : PlanState) (version call : ℕ) (news : Told) (bytes : List ℕ)
     → plan ≡ replay airport history → version ≡ plan.version → bytes ≡ reply_text airport (record { version = version; told = news })
     → TextOf (replay airport history) history call (told news) bytes history
@@ -80,7 +80,7 @@ answered_text airport history plan call command reply bytes plan_is answered tex
     let same : history ≡ history ++ added call command at_replay.stepped = sym (ap (λ (es : List Entry). history ++ es) none ∙ append-nil history) in
     (reply, replayed_text airport history reply bytes text, (at_replay.stepped, at_replay.steps, at_replay.is, same))
 
--- the bytes of an accepted command, which is the last entry then
+-- the bytes of the reply to an accepted command, which is then the last entry
 pub accepted_text : (airport : AirportParts) (history after : List Entry) (call : ℕ) (command : Command) (reply : Reply) (bytes : List ℕ)
     → Steps (replay airport history) (length history) command accepted → reply ≡ stepped_reply (replay airport history) command accepted
     → bytes ≡ reply_text airport reply → after ≡ history ++ added call command accepted
@@ -99,7 +99,7 @@ found_legal airport plan before call asked (Err unanswered.Fault) after (accepts
 
 -- an act shows what is given
 pub text_acts : (airport : AirportParts) (before : List Entry) (call : ℕ) (ask : Ask) (result : Result (List ℕ) Unanswered) (after : List Entry)
-    → GivesText (replay airport before) before call (sought (replay airport before) ask) result after → ActsAs airport before call ask (acted_of result) after
+    → GivesText (replay airport before) before call (sought (replay airport before) before ask) result after → ActsAs airport before call ask (acted_of result) after
 text_acts airport before call ask (Ok bytes) after (reply, text, replies) =
     (replied reply, ap Replied (text ∙ ap (λ (a : AirportParts). reply_text a reply) (replay-airport airport before)), replies)
 text_acts airport before call ask (Err unanswered.Memory) after same = (no_memory, refl, same)

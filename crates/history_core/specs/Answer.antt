@@ -6,25 +6,28 @@ use Rattle.apron_rules.specs.declared.parts.AirportParts.{AirportParts}
 use Rattle.visit_book.specs.declared.visits.Visit.{Visit}
 use Rattle.visit_book.specs.Numbers.{visit_at}
 use Rattle.plan_core.specs.PlanState.{PlanState}
+use Rattle.desk_words.specs.Commands.{desk_of, kind_of}
 use Rattle.desk_words.specs.declared.asks.Command.{Command}
 use Rattle.desk_words.specs.declared.asks.Entry.{Entry}
 use Rattle.desk_words.specs.declared.asks.What.{What}
-use Rattle.desk_words.specs.declared.asks.What.TheVariants.{Change, Version as AskVersion, Visit as AskVisit, Plan as AskPlan, Unplaced as AskUnplaced, Chart as AskChart}
+use Rattle.desk_words.specs.declared.asks.What.TheVariants.{Change, Version as AskVersion, Visit as AskVisit, Plan as AskPlan, Unplaced as AskUnplaced, Chart as AskChart, Entry as AskEntry, Airport as AskAirport, Day as AskDay}
 use Rattle.desk_words.specs.declared.asks.Ask.{Ask}
 use Rattle.desk_words.specs.declared.replies.Reply.{Reply}
 use Rattle.desk_words.specs.declared.replies.Told.{Told}
-use Rattle.desk_words.specs.declared.replies.Told.TheVariants.{Version as ToldVersion, Visit as ToldVisit, Plan as ToldPlan, Unplaced as ToldUnplaced, Chart as ToldChart, NoVisit, Ahead}
+use Rattle.desk_words.specs.declared.replies.Told.TheVariants.{Version as ToldVersion, Visit as ToldVisit, Plan as ToldPlan, Unplaced as ToldUnplaced, Chart as ToldChart, Entry as ToldEntry, Airport as ToldAirport, Day as ToldDay, NoVisit, NoEntry, Ahead}
 use Rattle.desk_words.specs.Fixed.{no_memory_text, keeper_fault_text}
 use Rattle.desk_words.specs.Replies.{reply_text}
 use Rattle.plan_lists.specs.Held.{held_on}
+use Rattle.plan_lists.specs.OfDay.{visits_on}
 use Rattle.plan_lists.specs.Unplaced.{unplaced}
 use Rattle.wall_chart.specs.Chart.{chart_text}
 use Rattle.history_core.specs.declared.unanswered.Unanswered.{Unanswered}
 use Rattle.history_core.specs.declared.unanswered.Unanswered.TheVariants as unanswered
 use Rattle.history_core.specs.Steps.{Stepped, Steps, accepted, reply_at, stepped_reply}
-use Rattle.history_core.specs.History.{IsLegal, replay}
+use Rattle.history_core.specs.History.{IsLegal, entry_at, replay}
 
--- what an ask comes to at a plan: a command that may change it, or what is told of it as it is
+-- what an ask comes to at a plan: a command that may change it, or what a reply says of the plan as
+-- it is
 pub data Sought : Type 0 where
   changes : Command → Sought
   told : Told → Sought
@@ -34,37 +37,48 @@ abbrev pub visit_told : Option Visit → Told
 visit_told None = NoVisit
 visit_told (Some visit) = ToldVisit visit
 
--- what is sought of a plan, a line for each question
-abbrev pub sought_of : PlanState → What → Sought
-sought_of plan (Change command) = changes command
-sought_of plan AskVersion = told ToldVersion
-sought_of plan (AskVisit number) = told (visit_told (visit_at plan.visits (record { 0 = number })))
-sought_of plan (AskPlan day) = told (ToldPlan (held_on plan day))
-sought_of plan AskUnplaced = told (ToldUnplaced (unplaced plan))
-sought_of plan (AskChart day) = told (ToldChart (chart_text plan.airport plan day))
+-- the entry of this number, or that there is none
+abbrev pub entry_told : ℕ → Option Entry → Told
+entry_told number None = NoEntry
+entry_told number (Some entry) = ToldEntry number entry.call (desk_of entry.command) (kind_of entry.command)
 
--- what an ask comes to: one that has seen a later version than the plan's is ahead, whatever it asks
-abbrev pub sought : PlanState → Ask → Sought
-sought plan ask = if nat_lt plan.version ask.seen then told Ahead else sought_of plan ask.what
+-- what is sought of a history and the plan that it makes, a line for each question
+abbrev pub sought_of : PlanState → List Entry → What → Sought
+sought_of plan history (Change command) = changes command
+sought_of plan history AskVersion = told ToldVersion
+sought_of plan history (AskVisit number) = told (visit_told (visit_at plan.visits (record { 0 = number })))
+sought_of plan history (AskPlan day) = told (ToldPlan (held_on plan day))
+sought_of plan history AskUnplaced = told (ToldUnplaced (unplaced plan))
+sought_of plan history (AskChart day) = told (ToldChart (chart_text plan.airport plan day))
+sought_of plan history (AskEntry number) = told (entry_told number (entry_at history number))
+sought_of plan history AskAirport = told ToldAirport
+sought_of plan history (AskDay day) = told (ToldDay (visits_on plan day))
 
--- the entries that a command adds: one where it is accepted
+-- what an ask comes to: one that has seen a version later than the plan's is ahead, whatever it
+-- asks
+abbrev pub sought : PlanState → List Entry → Ask → Sought
+sought plan history ask = if nat_lt plan.version ask.seen then told Ahead else sought_of plan history ask.what
+
+-- the entries that a command adds: one if it is accepted
 abbrev pub added : ℕ → Command → Stepped → List Entry
 added call command accepted = record { call = call; command = command } ∷ []
 added call command _ = []
 
--- the reply of a plan to what is sought with this call number, and the history before and after it: a question changes nothing
+-- the reply of a plan to what is sought with this call number, and the history before and after it:
+-- a question changes nothing
 abbrev pub Replies : PlanState → List Entry → ℕ → Sought → Reply → List Entry → Type 0
 Replies plan before call (told what) reply after = (reply ≡ reply_at plan.version what) × (after ≡ before)
 Replies plan before call (changes command) reply after =
     (stepped : Stepped) × Steps plan (length before) command stepped × (reply ≡ stepped_reply plan command stepped)
     × (after ≡ before ++ added call command stepped)
 
--- a command is sought that a plan, whose history has so many entries, accepts
+-- a command is sought that the plan accepts, if its history has this many entries
 abbrev pub IsAccepted : PlanState → ℕ → Sought → Type 0
 IsAccepted plan entries (changes command) = Steps plan entries command accepted
 IsAccepted plan entries _ = ⊥
 
--- what an ask is given: the plan's reply, or one that stands outside the history, for want of memory or where the append of an accepted command failed
+-- what an ask is given: the plan's reply, or one of two answers outside the history: that there is
+-- no memory, or that the append of an accepted command failed
 pub data Given : Type 0 where
   replied : Reply → Given
   no_memory : Given
@@ -76,7 +90,8 @@ given_text airport (replied reply) = reply_text airport reply
 given_text airport no_memory = no_memory_text
 given_text airport keeper_fault = keeper_fault_text
 
--- what is given at a plan for what is sought with this call number, and the history before and after it
+-- what is given at a plan for what is sought with this call number, and the history before and
+-- after it
 abbrev pub GivesAt : PlanState → List Entry → ℕ → Sought → Given → List Entry → Type 0
 GivesAt plan before call asked (replied reply) after = Replies plan before call asked reply after
 GivesAt plan before call asked no_memory after = after ≡ before
@@ -84,7 +99,7 @@ GivesAt plan before call asked keeper_fault after = IsAccepted plan (length befo
 
 -- what an ask with this call number is given at the history before it, and the history after it
 abbrev pub Gives : AirportParts → List Entry → ℕ → Ask → Given → List Entry → Type 0
-Gives airport before call ask given after = GivesAt (replay airport before) before call (sought (replay airport before) ask) given after
+Gives airport before call ask given after = GivesAt (replay airport before) before call (sought (replay airport before) before ask) given after
 
 -- how an act shows what is given
 abbrev pub shown : AirportParts → Given → Acted
@@ -92,22 +107,24 @@ shown airport (replied reply) = Replied (reply_text airport reply)
 shown airport no_memory = NoMemory
 shown airport keeper_fault = Fault
 
--- an act that got its turn: it shows what the ask is given
+-- an act that got its turn shows what the ask is given
 abbrev pub ActsAs : AirportParts → List Entry → ℕ → Ask → Acted → List Entry → Type 0
 ActsAs airport before call ask acted after = (given : Given) × (acted ≡ shown airport given) × Gives airport before call ask given after
 
--- the same, of an act that found a legal history and left one
+-- the same for an act that found a legal history and left one
 pub record ActsLegally (airport : AirportParts) (before : List Entry) (call : ℕ) (ask : Ask) (acted : Acted) (after : List Entry) : Type 0 where
   pub found : IsLegal airport before
   pub acts : ActsAs airport before call ask acted after
   pub left : IsLegal airport after
 
--- the bytes are those of the plan's reply to what is sought with this call number, and these are the history before and after it
+-- the bytes are those of the plan's reply to what is sought with this call number, with the history
+-- before and after it
 abbrev pub TextOf : PlanState → List Entry → ℕ → Sought → List ℕ → List Entry → Type 0
 TextOf plan before call asked bytes after = (reply : Reply) × (bytes ≡ reply_text plan.airport reply) × Replies plan before call asked reply after
 
--- what comes of what is sought with this call number, and the history before and after it: the bytes of the plan's reply; or none for want of memory, or
--- where the append of an accepted command failed
+-- what comes of what is sought with this call number, with the history before and after it: the
+-- bytes of the plan's reply, or none if there is no memory or the append of an accepted command
+-- failed
 abbrev pub GivesText : PlanState → List Entry → ℕ → Sought → Result (List ℕ) Unanswered → List Entry → Type 0
 GivesText plan before call asked (Ok bytes) after = TextOf plan before call asked bytes after
 GivesText plan before call asked (Err unanswered.Memory) after = after ≡ before

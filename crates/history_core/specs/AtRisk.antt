@@ -1,4 +1,5 @@
--- The entry at risk: one that was asked for and not acknowledged, and may be found behind the history when its keeper is read again.
+-- The entry at risk: one that was asked for but not acknowledged, and may be found after the
+-- history when its keeper is read again.
 use Rattle.std.specs.Prelude.{◌≡◌, ℕ, Bool, Option, option_and_then}
 use Rattle.std.specs.Result.{result_ok}
 use Rattle.apron_base.specs.Keeper.{KeeperState}
@@ -9,15 +10,15 @@ use Rattle.desk_words.specs.declared.asks.What.{What}
 use Rattle.desk_words.specs.declared.asks.What.TheVariants.{Change}
 use Rattle.entry_bytes.specs.Entries.{decoded}
 
--- the entry at risk behind those of a keeper: what its bytes are read as
+-- the entry at risk after those of a keeper: what its bytes are read as
 abbrev pub entry_at_risk : AirportParts → KeeperState → Option Entry
 entry_at_risk airport keeper = option_and_then (λ bytes. result_ok (decoded airport bytes)) keeper.at_risk
 
--- what is asked with this call number is a command, and this is its entry
+-- what is asked with this call number is a command, and its entry is this one
 abbrev pub IsAskedFor : ℕ → What → Entry → Type 0
 IsAskedFor call what entry = (entry.call ≡ call) × (what ≡ Change entry.command)
 
--- what is at risk once this was asked with this call number: no entry; or the one that was, where none was added; or, where an append failed, the one that
--- was asked for
+-- what is at risk once this was asked with this call number: no entry; or the one that was before,
+-- if none was added; or, if an append failed, the one that was asked for
 abbrev pub LeavesAtRisk : Standing Entry → ℕ → What → Bool → Standing Entry → Type 0
 LeavesAtRisk before call what failed after = ActsAtRisk (IsAskedFor call what) failed before after

@@ -1,4 +1,4 @@
--- A board as contracts see it, and what its keeper tells.
+-- A board as contracts see it, and what its keeper exposes.
 use Rattle.std.specs.Prelude.{◌≡◌, ◌≤◌, ℕ, List, map, length, IfSome, None, Ok}
 use Rattle.apron_base.specs.Histories.{Rises}
 use Rattle.apron_base.specs.Keeper.{KeeperState, with_last}
@@ -32,8 +32,9 @@ pub record IsNextText (airport : AirportParts) (history : List Entry) (bytes : L
   pub read : decoded airport bytes ≡ Ok entry
   pub legal : IsLegal airport (with_last entry history)
 
--- a keeper of the history: its entries, where it tells them, are the bytes of the history's, which are read as it, and it counts as many; an entry at risk
--- can stand next, and there is none as long as no call has failed
+-- a keeper of the history: its entries, if it exposes them, are the bytes of the history's entries,
+-- which are read as it; it counts as many; an entry at risk can come next; and there is none at
+-- risk as long as no call has failed
 pub record IsKept (airport : AirportParts) (history : List Entry) (keeper : KeeperState) : Type 0 where
   pub entries : IfSome keeper.entries (λ entries. entries ≡ entry_texts history)
   pub spells : Spells airport (entry_texts history) history
@@ -41,8 +42,9 @@ pub record IsKept (airport : AirportParts) (history : List Entry) (keeper : Keep
   pub at_risk : IfSome keeper.at_risk (IsNextText airport history)
   pub safe : keeper.faults ≡ 0 → keeper.at_risk ≡ None
 
--- what is true of every board, with the plan that it has and what its keeper tells: its history is legal, the plan is what the history makes, the entries
--- are of calls before the next one, and the keeper keeps them
+-- what holds of every board, with its plan and what its keeper exposes: its history is legal, the
+-- plan is what the history makes, the entries are of calls before the next one, and the keeper
+-- keeps them
 pub record IsBoard {K : Type 0} (plan : PlanState) (keeper : KeeperState) (board : BoardHeld K) : Type 0 where
   pub legal : IsLegal board.airport board.history
   pub plan_is : plan ≡ replay board.airport board.history
@@ -50,7 +52,8 @@ pub record IsBoard {K : Type 0} (plan : PlanState) (keeper : KeeperState) (board
   pub calls : board.next ≤ call_limit
   pub kept : IsKept board.airport board.history keeper
 
--- a board as a machine, by what its keeper tells: no call changes its airport, the entry at risk is the keeper's, and it fails where the keeper does
+-- a board as a machine, by what its keeper exposes: no call changes its airport, the entry at risk
+-- is the keeper's, and it fails if the keeper does
 abbrev pub machine_state : {K : Type 0} → (K → KeeperState) → BoardHeld K → MachineState Entry AirportParts
 machine_state tells board = record {
   fixed = board.airport;

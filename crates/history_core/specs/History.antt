@@ -1,5 +1,5 @@
 -- The plan that a history of commands makes, and which histories are legal.
-use Rattle.std.specs.Prelude.{◌≤◌, ◌+◌, ℕ, List, [], ◌∷◌}
+use Rattle.std.specs.Prelude.{◌≤◌, ◌+◌, ℕ, zero, suc, List, [], ◌∷◌, Option, None, slice_get}
 use Rattle.apron_base.specs.Histories.{Rises}
 use Rattle.apron_base.specs.declared.machine.TheConstants.{CALL_END}
 use Rattle.apron_rules.specs.declared.parts.AirportParts.{AirportParts}
@@ -9,7 +9,7 @@ use Rattle.plan_core.specs.PlanState.{PlanState, empty_plan}
 use Rattle.desk_words.specs.Commands.{IsCommandOf}
 use Rattle.desk_words.specs.declared.asks.Entry.{Entry}
 use Rattle.desk_words.specs.declared.asks.What.{What}
-use Rattle.desk_words.specs.declared.asks.What.TheVariants.{Change, Plan as AskPlan, Chart as AskChart}
+use Rattle.desk_words.specs.declared.asks.What.TheVariants.{Change, Plan as AskPlan, Chart as AskChart, Day as AskDay}
 use Rattle.desk_words.specs.declared.asks.Ask.{Ask}
 use Rattle.history_core.specs.Steps.{Steps, accepted, after_command}
 
@@ -17,11 +17,18 @@ use Rattle.history_core.specs.Steps.{Steps, accepted, after_command}
 abbrev pub call_of : Entry → ℕ
 call_of entry = entry.call
 
--- what is asked is of the airport: each question is, if the plan has the day that it is of
+-- the entry of this number, counted from 1, if the history has it
+abbrev pub entry_at : List Entry → ℕ → Option Entry
+entry_at history zero = None
+entry_at history (suc place) = slice_get history place
+
+-- what is asked is of the airport: a command that is; a question, if the plan has the day that it
+-- asks about
 abbrev pub IsWhatOf : AirportParts → What → Type 0
 IsWhatOf airport (Change command) = IsCommandOf airport command
 IsWhatOf airport (AskPlan day) = (1 ≤ day) × (day ≤ airport.days)
 IsWhatOf airport (AskChart day) = (1 ≤ day) × (day ≤ airport.days)
+IsWhatOf airport (AskDay day) = (1 ≤ day) × (day ≤ airport.days)
 IsWhatOf airport _ = Unit {0}
 
 -- the ask is of the airport
@@ -33,12 +40,12 @@ abbrev pub after_entries : PlanState → List Entry → PlanState
 after_entries plan [] = plan
 after_entries plan (entry ∷ entries) = after_entries (after_command plan entry.command) entries
 
--- the plan of an airport after a history, which begins with no visit
+-- the plan of an airport after a history, beginning without visits
 abbrev pub replay : AirportParts → List Entry → PlanState
 replay airport history = after_entries (empty_plan airport) history
 
--- each command is of the airport, is taken by the plan that this one and the entries before it make, and has a place there, where so many entries came
--- before them all
+-- each command is of the airport, is taken by the plan that this one and the entries before it
+-- make, and has a place there; this many entries came before all of these
 abbrev pub AreTakenFrom : PlanState → ℕ → List Entry → Type 0
 AreTakenFrom plan count [] = Unit {0}
 AreTakenFrom plan count (entry ∷ entries) =
@@ -48,11 +55,12 @@ AreTakenFrom plan count (entry ∷ entries) =
 abbrev pub AreTaken : AirportParts → List Entry → Type 0
 AreTaken airport history = AreTakenFrom (empty_plan airport) 0 history
 
--- each number of a call is below this one
+-- each call number is below this one
 abbrev pub call_limit : ℕ
 call_limit = CALL_END
 
--- a history that desks can have made: each command is accepted at the entries before it, and the call numbers rise strictly from at least 1
+-- a history that desks can have made: each command is accepted after the entries before it, and the
+-- call numbers rise strictly from at least 1
 pub record IsLegal (airport : AirportParts) (history : List Entry) : Type 0 where
   pub taken : AreTaken airport history
   pub numbers : Rises call_of 1 call_limit history

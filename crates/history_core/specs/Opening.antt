@@ -12,16 +12,18 @@ use Rattle.history_core.specs.declared.opening.OpenFault.TheVariants.{BadEntry, 
 use Rattle.history_core.specs.Board.{BoardHeld, Spells, entry_texts}
 use Rattle.history_core.specs.History.{IsLegal, replay}
 
--- the least number of a call after these entries, where it was this one before them: one above the last one's
+-- the least number of a call after these entries: one above the last one's, or this number if there
+-- are none
 abbrev pub next_from : ℕ → List Entry → ℕ
 next_from next [] = next
 next_from next (entry ∷ entries) = next_from (entry.call + 1) entries
 
--- the least number of a call after this history: 1 where there is no entry
+-- the least number of a call after this history: 1 if it has no entry
 abbrev pub next_after : List Entry → ℕ
 next_after history = next_from 1 history
 
--- a board was opened over the keeper with these bytes: the history is what they are read as, and is legal
+-- a board was opened over the keeper of these bytes: the history is what they are read as, and is
+-- legal
 pub record Opens {K : Type 0} (airport : AirportParts) (kept : K) (entries : List (List ℕ)) (board : BoardHeld K) : Type 0 where
   pub keeper : board.keeper ≡ kept
   pub airport_is : board.airport ≡ airport
@@ -30,20 +32,21 @@ pub record Opens {K : Type 0} (airport : AirportParts) (kept : K) (entries : Lis
   pub legal : IsLegal airport board.history
   pub next : board.next ≡ next_after board.history
 
--- why these bytes are not the next entry of a history, and the number that it would have: they are read as no entry, or as one with which the history is
--- not legal; or memory is wanting
+-- why these bytes are not the next entry of a history, with the number that it would have: they are
+-- read as no entry, or as one with which the history is not legal; or there is no memory
 abbrev pub IsNotNext : AirportParts → List Entry → List ℕ → OpenFault → Type 0
 IsNotNext airport before bytes (BadEntry number) = (number ≡ length before + 1) × ((fault : EntryFault) × (decoded airport bytes ≡ Err fault))
 IsNotNext airport before bytes (WrongEntry number) =
     (number ≡ length before + 1) × ((entry : Entry) × (decoded airport bytes ≡ Ok entry) × ¬ (IsLegal airport (with_last entry before)))
 IsNotNext airport before bytes Memory = Unit {0}
 
--- why an entry of this number cannot stand that is not read for this fault
+-- why an entry of this number is refused, if reading it gives this fault
 abbrev pub not_read : ℕ → EntryFault → OpenFault
 not_read number unread.Memory = Memory
 not_read number fault = BadEntry number
 
--- the first bytes of these that are not the next entry: those before them are read as a legal history
+-- the first of these bytes that are not the next entry: those before them are read as a legal
+-- history
 pub record StopsAt (airport : AirportParts) (entries : List (List ℕ)) (fault : OpenFault) : Type 0 where
   pub front : List (List ℕ)
   pub bytes : List ℕ
@@ -54,18 +57,20 @@ pub record StopsAt (airport : AirportParts) (entries : List (List ℕ)) (fault :
   pub legal : IsLegal airport before
   pub why : IsNotNext airport before bytes fault
 
--- why no board is opened over these bytes: for the first of them that are not the next entry, or memory is wanting
+-- why no board is opened over these bytes: the first of them that are not the next entry, or there
+-- is no memory
 abbrev pub CannotOpen : AirportParts → List (List ℕ) → OpenFault → Type 0
 CannotOpen airport entries Memory = Unit {0}
 CannotOpen airport entries fault = StopsAt airport entries fault
 
--- a history that was read so far: it is legal, this plan is what it makes, and this is the least number of the next call
+-- a history read so far: it is legal, this plan is what it makes, and this is the least number of
+-- the next call
 pub record IsPast (airport : AirportParts) (plan : PlanState) (history : List Entry) (next : ℕ) : Type 0 where
   pub legal : IsLegal airport history
   pub plan_is : plan ≡ replay airport history
   pub next_is : next ≡ next_after history
 
--- a history was read on by these bytes, which spell its last entry
+-- one more entry was read: these bytes are read as the last entry of the history
 pub record IsReadOn (airport : AirportParts) (before after : List Entry) (bytes : List ℕ) : Type 0 where
   pub entry : Entry
   pub is : decoded airport bytes ≡ Ok entry

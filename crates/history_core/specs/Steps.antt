@@ -38,38 +38,39 @@ use Rattle.desk_words.specs.declared.replies.Told.TheVariants.{Added, Committed,
 abbrev pub most_entries : ℕ
 most_entries = MAX_ENTRIES
 
--- a history of so many entries takes one more
+-- a history of this many entries takes one more
 abbrev pub TakesEntry : ℕ → Type 0
 TakesEntry entries = entries < most_entries
 
--- a plan, whose history has so many entries, has a place for the command: there are not too many entries, and for a visit not too many visits
+-- a plan whose history has this many entries has a place for the command: there are not too many
+-- entries and, for a visit, not too many visits
 abbrev pub HasPlace : PlanState → ℕ → Command → Type 0
 HasPlace plan entries (AddVisit new) = TakesEntry entries × (length plan.visits < most_visits)
 HasPlace plan entries command = TakesEntry entries
 
--- why a command is refused for its own sake
+-- why a command is refused by its own rules
 pub data Refusal : Type 0 where
   name : VisitNo → Refusal
   edit : EditFault → Refusal
   denied : Denial → Refusal
 
--- why a report is refused, as a reply tells it
+-- why a report is refused, as a reply says it
 abbrev pub denial_of : ReportFault → Denial
 denial_of report.Gone = denial.Gone
 denial_of report.NoSuchPart = denial.NoSuchPart
 denial_of report.Time = denial.Time
 
--- the plan's visit as the message changes it, or none where it does nothing
+-- the plan's visit as the message changes it, or none if it does nothing
 abbrev pub changed_by : PlanState → Mvt → Option Visit
 changed_by plan message = effect_of plan.airport plan.visits message
 
--- what an event makes of the plan's visit of this number, or why the report of it is refused
+-- what an event makes of the plan's visit of this number, or why its report is refused
 abbrev pub reported : PlanState → VisitNo → Event → Result Visit Denial
 reported plan number event = do
   visit ← ok_or (visit_at plan.visits number) denial.Unknown
   result_map_both (λ visit. visit) denial_of (report_of plan.airport event visit)
 
--- the plan's visit of this number, which can be cancelled, or why not
+-- the plan's visit of this number if it can be cancelled, or why not
 abbrev pub cancellable : PlanState → VisitNo → Result Visit Denial
 cancellable plan number = do
   visit ← ok_or (visit_at plan.visits number) denial.Unknown
@@ -85,17 +86,18 @@ pub data Stepped : Type 0 where
   full : Stepped
   accepted : Stepped
 
--- a draft whose edits are looked at: it was not made over a later version than the plan's, and no commit is of it
+-- a draft whose edits are looked at: it was not made over a version later than the plan's, and it
+-- was not committed before
 pub record IsNew (plan : PlanState) (draft : Draft) : Type 0 where
   pub made_over : draft.base ≤ plan.version
   pub unused : draft_version plan.drafts draft.desk draft.number ≡ None
 
--- the command was made over a later version than the plan's
+-- the command was made over a version later than the plan's
 abbrev pub IsAhead : PlanState → Command → Type 0
 IsAhead plan (Commit desk draft base edits) = plan.version < base
 IsAhead plan command = ⊥
 
--- a visit of the plan has the name, and was added with the same
+-- a visit of the plan has the name, and was added with the same data
 abbrev pub IsSameName : PlanState → NewVisit → Visit → Type 0
 IsSameName plan new visit = (visit_named plan.visits new.name ≡ Some visit) × (new_of visit ≡ new)
 
@@ -109,26 +111,27 @@ IsRepeated plan (AddVisit new) entry = (visit : Visit) × IsSameName plan new vi
 IsRepeated plan (Commit desk draft base edits) entry = (base ≤ plan.version) × (draft_version plan.drafts desk draft ≡ Some entry)
 IsRepeated plan command entry = ⊥
 
--- the command is refused so; want of memory is no cause
+-- the command is refused for this cause; a lack of memory is no cause
 abbrev pub IsRefused : PlanState → Command → Refusal → Type 0
 IsRefused plan (AddVisit new) (name number) = (visit : Visit) × IsOtherName plan new visit × (number ≡ visit.number)
 IsRefused plan (Commit desk draft base edits) (edit fault) =
     IsNew plan (draft_of desk draft base edits) × Refuses plan (draft_of desk draft base edits) fault × (fault ≢ Memory)
-IsRefused plan (Report visit event) (denied why) = reported plan visit event ≡ Err why
+IsRefused plan (Report desk visit event) (denied why) = reported plan visit event ≡ Err why
 IsRefused plan (Cancel visit) (denied why) = cancellable plan visit ≡ Err why
 IsRefused plan command why = ⊥
 
--- the command is neither ahead nor repeated, and it applies: a visit has a new name; the edits of a commit leave some visits, which are sound; a message
--- always does; a report can have happened to its visit; and a visit that is cancelled can be
+-- the command is neither ahead nor repeated, and it applies: a visit has a new name; the edits of a
+-- commit leave some visits, which are sound; a message always applies; a report can have happened
+-- to its visit; and a visit that is cancelled can be cancelled
 abbrev pub IsTaken : PlanState → Command → Type 0
 IsTaken plan (AddVisit new) = visit_named plan.visits new.name ≡ None
 IsTaken plan (Commit desk draft base edits) =
     IsNew plan (draft_of desk draft base edits) × ((new : List Visit) × Rebases plan (draft_of desk draft base edits) new)
-IsTaken plan (Message message) = Unit {0}
-IsTaken plan (Report visit event) = IsOk (reported plan visit event)
+IsTaken plan (Message desk message) = Unit {0}
+IsTaken plan (Report desk visit event) = IsOk (reported plan visit event)
 IsTaken plan (Cancel visit) = IsOk (cancellable plan visit)
 
--- how a plan, whose history has so many entries, takes a command: a line for each cause, in order
+-- how a plan, whose history has this many entries, takes a command: a line for each cause, in order
 abbrev pub Steps : PlanState → ℕ → Command → Stepped → Type 0
 Steps plan entries command ahead = IsAhead plan command
 Steps plan entries command (repeated entry) = IsRepeated plan command entry
@@ -136,30 +139,32 @@ Steps plan entries command (refused why) = IsRefused plan command why
 Steps plan entries command full = IsTaken plan command × ¬ (HasPlace plan entries command)
 Steps plan entries command accepted = IsTaken plan command × HasPlace plan entries command
 
--- what is told at a version of the plan
+-- the reply with this news, at a version of the plan
 abbrev pub reply_at : ℕ → Told → Reply
 reply_at version told = record { version = version; told = told }
 
--- the number of the visit of this name, or the next number where there is none
+-- the number of the visit of this name, or the next number if there is none
 abbrev pub number_for : List Visit → List ℕ → VisitNo
 number_for visits text = unwrap_or (option_map (λ visit. visit.number) (visit_named visits text)) (record { 0 = length visits + 1 })
 
--- what is told of a command whose entry made this version, now or before, by the plan before it is taken
+-- what the reply says of a command whose entry made this version, now or before, by the plan before
+-- it is taken
 abbrev pub made_told : PlanState → ℕ → Command → Told
 made_told plan entry (AddVisit new) = Added entry (number_for plan.visits new.name)
 made_told plan entry (Commit desk draft base edits) = Committed entry
-made_told plan entry (Message message) =
+made_told plan entry (Message desk message) =
     MessageTaken (bumped_by entry (with_settled plan (changed_by plan message)).visits) (option_map (λ visit. visit.number) (changed_by plan message))
-made_told plan entry (Report visit event) = Reported (bumped_by entry (with_settled plan (result_ok (reported plan visit event))).visits)
+made_told plan entry (Report desk visit event) = Reported (bumped_by entry (with_settled plan (result_ok (reported plan visit event))).visits)
 made_told plan entry (Cancel visit) = Cancelled
 
--- what is told of a refusal
+-- what the reply says of a refusal
 abbrev pub refusal_told : Refusal → Told
 refusal_told (name number) = OtherName number
 refusal_told (edit fault) = Refused fault
 refusal_told (denied why) = Denied why
 
--- the reply to a command: an accepted one makes the next version, and after any other the plan is as it was
+-- the reply to a command: an accepted one makes the next version, and after any other the plan is
+-- as it was
 abbrev pub stepped_reply : PlanState → Command → Stepped → Reply
 stepped_reply plan command ahead = reply_at plan.version Ahead
 stepped_reply plan command (repeated entry) = reply_at plan.version (made_told plan entry command)
@@ -181,6 +186,6 @@ cancelled_if plan (Err why) = plan
 abbrev pub after_command : PlanState → Command → PlanState
 after_command plan (AddVisit new) = with_added plan new
 after_command plan (Commit desk draft base edits) = committed_if plan (draft_of desk draft base edits) (after_all_edits plan.airport base edits plan.visits)
-after_command plan (Message message) = with_settled plan (changed_by plan message)
-after_command plan (Report visit event) = with_settled plan (result_ok (reported plan visit event))
+after_command plan (Message desk message) = with_settled plan (changed_by plan message)
+after_command plan (Report desk visit event) = with_settled plan (result_ok (reported plan visit event))
 after_command plan (Cancel visit) = cancelled_if plan (cancellable plan visit)

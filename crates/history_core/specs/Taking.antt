@@ -1,4 +1,4 @@
--- What comes of a command.
+-- What a command comes to.
 use Rattle.std.specs.Prelude.{◌≡◌, ◌≢◌, ℕ}
 use Rattle.plan_core.specs.Drafts.{Draft, draft_of}
 use Rattle.plan_core.specs.PlanState.{ChangeState, IsInstallable, PlanState, installed}
@@ -23,14 +23,14 @@ pub record IsChangeOf (plan : PlanState) (command : Command) (change : ChangeSta
   pub installable : IsInstallable plan change
   pub makes : installed plan change ≡ after_command plan command
 
--- the reply is that to a command which a plan, whose history has so many entries, does not accept
+-- the reply to a command that the plan does not accept
 pub record IsAnswered (plan : PlanState) (entries : ℕ) (command : Command) (reply : Reply) : Type 0 where
   pub stepped : Stepped
   pub steps : Steps plan entries command stepped
   pub other : stepped ≢ accepted
   pub is : reply ≡ stepped_reply plan command stepped
 
--- what comes of a command at a plan whose history has so many entries
+-- what a command comes to at a plan whose history has this many entries
 abbrev pub Finds : PlanState → ℕ → Command → Taken → Type 0
 Finds plan entries command (Accepted change reply) =
     Steps plan entries command accepted × IsChangeOf plan command change × (reply ≡ stepped_reply plan command accepted)

@@ -16,7 +16,7 @@ ghost use Rattle.history_core.specs.Taking.{IsChangeOf};
 
 use crate::OpenFault;
 use crate::opening::{Past, past_of};
-use crate::questions::{chart_told, plan_told, unplaced_told};
+use crate::questions::{chart_told, day_told, entry_told, plan_told, unplaced_told};
 use crate::room::make_room;
 use crate::taking::{Taken, take};
 use crate::unanswered::Unanswered;
@@ -30,10 +30,11 @@ use std::alloc::Global;
 use std::marker::Model;
 use visit_book::Visit;
 
-/// The plan of one airport with the history of accepted commands that made it, from no visit on, over a keeper of its
-/// entries. The keeper has each entry before the plan shows it.
+/// The plan of one airport, with the history of accepted commands that made it from a plan without
+/// visits, over a keeper of its entries. The keeper has each entry before the plan shows it.
 ///
-/// Contracts see the keeper, the airport, the history, and the least number that the next call may have.
+/// Contracts see the keeper, the airport, the history, and the least number that the next call may
+/// have.
 #[derive(Drop)]
 pub struct Board<'a, K: Keeper> {
     airport: &'a Airport,
@@ -55,9 +56,10 @@ impl<'a, K: Keeper> Model for Board<'a, K> {
 }
 
 impl<'a, K: Keeper> Board<'a, K> {
-    /// A board over a keeper that has these entries and none at risk: its history is what they spell, and its first call
-    /// may have the number above the last one's, or 1 where there is none. At `Err` the first entry that cannot stand is
-    /// named, or memory is wanting. Either way the keeper is as it was.
+    /// A board over a keeper that has these entries and none at risk. Its history is what they are
+    /// read as. Its first call may have a number above the last entry's, or any from 1 on if there
+    /// is no entry. `Err` names the first entry that is refused, or says that there is no memory.
+    /// Either way the keeper is as it was.
     pub fn open(
         alloc: Global,
         airport: &'a Airport,
@@ -89,7 +91,7 @@ impl<'a, K: Keeper> Board<'a, K> {
         }
     }
 
-    /// The keeper as it is: it keeps the board's history.
+    /// The keeper as it is, which keeps the board's history.
     pub fn into_keeper(self) -> K
         ensures keeper { result ≡ self.entry.keeper }
         ensures kept { IsKept self.entry.airport self.entry.history (K.state result) }
@@ -120,7 +122,7 @@ impl<'a, K: Keeper> Board<'a, K> {
         self.history.as_slice()
     }
 
-    /// The least number that the next call may have. The entries have lower ones.
+    /// The least number that the next call may have. The entries' numbers are lower.
     pub fn next_call(&self) -> u64
         ensures value { result ≡ self.now.next }
         ensures few { result ≤ call_limit }
@@ -130,9 +132,10 @@ impl<'a, K: Keeper> Board<'a, K> {
         self.next
     }
 
-    /// Answers an ask with this call number. All memory is taken before the keeper is given an entry, and the plan changes
-    /// once the keeper has it, so that an ask that is refused or fails adds nothing. It answers a reply, want of memory,
-    /// or `Fault`, exactly where the append of an accepted command failed.
+    /// Answers an ask with this call number. All memory is taken before the keeper gets an entry,
+    /// and the plan changes only after the keeper has it. So an ask that is refused or fails adds
+    /// nothing. The answer is a reply, or that there is no memory, or `Fault` exactly if the append
+    /// of an accepted command failed.
     pub fn ask(&mut self, alloc: Global, call: u64, ask: &Ask) -> Acted
         requires valid { IsAskOf self.old.airport ask.now }
         requires next { self.old.next ≤ call }
@@ -159,7 +162,7 @@ impl<'a, K: Keeper> Board<'a, K> {
         ensures airport { self.new.airport ≡ self.old.airport }
         ensures next { self.new.next ≤ call + 1 }
         ensures gives { let plan = replay self.old.airport self.old.history in
-            GivesText plan self.old.history call (sought plan ask.now) result self.new.history }
+            GivesText plan self.old.history call (sought plan self.old.history ask.now) result self.new.history }
         ensures faults { Counts (is_keeper_fault result) (K.state self.old.keeper).faults (K.state self.new.keeper).faults }
         ensures at_risk { LeavesAtRisk (standing (machine_state K.state self.old)) call ask.now.what (is_keeper_fault result) (standing (machine_state K.state self.new)) }
     {
@@ -175,10 +178,13 @@ impl<'a, K: Keeper> Board<'a, K> {
             What::Chart(day) => {
                 self.tell(alloc, chart_told(alloc, self.airport, &self.plan, *day)?)
             }
+            What::Entry(number) => self.tell(alloc, entry_told(self.history.as_slice(), *number)),
+            What::Airport => self.tell(alloc, Told::Airport),
+            What::Day(day) => self.tell(alloc, day_told(alloc, self.airport, &self.plan, *day)?),
         }
     }
 
-    // Tells this of the plan as it is.
+    // A reply with this news, at the plan as it is.
     fn tell(&self, alloc: Global, news: Told) -> Result<Listed<u8>, Unanswered>
         requires tellable { IsTellable news }
         ensures gives { (call : ℕ) → let plan = replay self.now.airport self.now.history in
@@ -215,8 +221,8 @@ impl<'a, K: Keeper> Board<'a, K> {
         }
     }
 
-    // Makes the entry with its bytes and those of the reply, takes all room, and gives the entry to the keeper. Only then
-    // does it change the history and the plan.
+    // Makes the entry with its bytes and those of the reply, takes all room, and gives the entry to
+    // the keeper. Only then it changes the history and the plan.
     fn accept(
         &mut self,
         alloc: Global,
@@ -240,7 +246,7 @@ impl<'a, K: Keeper> Board<'a, K> {
     {
         let entry = Entry {
             call,
-            command: copy(alloc, command)?,
+            command: command.copy(alloc)?,
         };
         let text = encode_entry(alloc, &entry)?;
         let bytes = reply_bytes(alloc, self.airport, reply)?;
@@ -271,33 +277,5 @@ fn visit_told(visit: Option<&Visit>) -> Told
     match visit {
         Some(visit) => Told::Visit(*visit),
         None => Told::NoVisit,
-    }
-}
-
-fn copy(alloc: Global, command: &Command) -> Result<Command, Memory>
-    ensures same { IfOk result (λ made. made ≡ command.now) }
-{
-    match command {
-        Command::AddVisit(new) => Ok(Command::AddVisit(*new)),
-        Command::Commit {
-            desk,
-            draft,
-            base,
-            edits,
-        } => {
-            let edits = Vec::from_slice(alloc, edits.as_slice())?;
-            Ok(Command::Commit {
-                desk: *desk,
-                draft: *draft,
-                base: *base,
-                edits: Listed::from_vec(edits),
-            })
-        }
-        Command::Message { message } => Ok(Command::Message { message: *message }),
-        Command::Report { visit, event } => Ok(Command::Report {
-            visit: *visit,
-            event: *event,
-        }),
-        Command::Cancel { visit } => Ok(Command::Cancel { visit: *visit }),
     }
 }

@@ -1,4 +1,5 @@
-//! The board: a plan with the history that made it, and what asks are answered.
+//! The board: a plan with the history that made it, and what asks are answered. It knows nothing of
+//! requests, sessions and other desks.
 #![tactic(auto)]
 
 mod board;
@@ -12,8 +13,8 @@ mod unanswered;
 
 pub use board::Board;
 pub use laws::{
-    bumps_are_of_entries, commands_have_one_step, drafts_are_of_entries,
-    edits_are_of_the_last_entry, entries_of_legal_histories_make_versions,
+    bumps_are_of_entries, commands_have_one_step, desks_of_messages_and_reports_change_no_plan,
+    drafts_are_of_entries, edits_are_of_the_last_entry, entries_of_legal_histories_make_versions,
     fronts_of_legal_histories_are_legal, legal_histories_make_sound_plans, visits_are_of_entries,
 };
 pub use opening::OpenFault;

@@ -12,14 +12,16 @@ use entry_bytes::{EntryFault, decode_entry};
 use plan_core::Plan;
 use std::alloc::Global;
 
-/// Why no board is opened over kept entries. They are numbered from 1, and the first that cannot stand is named.
+/// Why no board is opened over kept entries. They are numbered from 1, and the first one that is
+/// refused is named.
 #[derive(Clone, Copy, Debug, PartialEq, Eq)]
 pub enum OpenFault {
     /// The bytes of this entry are no entry for the airport.
     BadEntry(u32),
-    /// This entry is not accepted at its place, or its call number is 0 or not above that of the entry before.
+    /// This entry's command is not accepted at its place, or its call number is 0 or not above that
+    /// of the entry before.
     WrongEntry(u32),
-    /// Memory is wanting.
+    /// There is no memory.
     Memory,
 }
 
@@ -42,8 +44,8 @@ pub(crate) struct Past {
     pub(crate) next: u64,
 }
 
-/// The history that these bytes are read as, entry for entry, with its plan. At `Err` the first that cannot stand is
-/// named, or memory is wanting.
+/// The history that these bytes are read as, entry for entry, with its plan. `Err` names the first
+/// entry that is refused, or says that there is no memory.
 pub(crate) fn past_of(
     alloc: Global,
     airport: &Airport,
@@ -66,7 +68,7 @@ pub(crate) fn past_of(
 }
 
 impl Past {
-    // Reads on by one entry. At `Err` the bytes are not the next entry, or memory is wanting.
+    // Reads one more entry. `Err` if the bytes are not the next entry, or there is no memory.
     fn add(&mut self, alloc: Global, airport: &Airport, bytes: &[u8]) -> Result<(), OpenFault>
         requires past { IsPast airport.now self.old.plan.plan self.old.history.items self.old.next }
         ensures past { OnOk result (IsPast airport.now self.new.plan.plan self.new.history.items self.new.next) }
@@ -95,7 +97,7 @@ impl Past {
     }
 }
 
-// Why the entry of this number cannot stand, whose bytes are not read for this fault.
+// Why the entry of this number is refused, if reading its bytes gives this fault.
 fn not_read(number: u32, fault: EntryFault) -> OpenFault
     ensures is { result ≡ not_read number fault }
 {

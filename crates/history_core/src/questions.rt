@@ -1,19 +1,23 @@
-// What is told of a plan as it is.
+// What a reply says of a plan as it is.
 ghost use Rattle.std.specs.Prelude.{◌≡◌, ◌≤◌, IfOk};
 ghost use Rattle.desk_words.specs.Replies.{IsTellable};
 ghost use Rattle.plan_lists.specs.Held.{held_on};
+ghost use Rattle.plan_lists.specs.OfDay.{visits_on};
 ghost use Rattle.plan_lists.specs.Unplaced.{unplaced};
 ghost use Rattle.wall_chart.specs.Chart.{chart_text};
+ghost use Rattle.history_core.specs.Answer.{entry_told};
+ghost use Rattle.history_core.specs.History.{entry_at};
 
 use apron_base::Memory;
 use apron_rules::Airport;
+use desk_words::asks::Entry;
 use desk_words::replies::Told;
 use plan_core::Plan;
-use plan_lists::{held_on, unplaced};
+use plan_lists::{held_on, unplaced, visits_on};
 use std::alloc::Global;
 use wall_chart::chart;
 
-/// The parts that hold a stand on a day, counted from 1. The only error is want of memory.
+/// The parts that hold a stand on a day, counted from 1. The only error is a lack of memory.
 pub(crate) fn plan_told(
     alloc: Global,
     airport: &Airport,
@@ -29,7 +33,7 @@ pub(crate) fn plan_told(
     Ok(Told::Plan { parts })
 }
 
-/// The parts that wait for a stand. The only error is want of memory.
+/// The parts that wait for a stand. The only error is a lack of memory.
 pub(crate) fn unplaced_told(alloc: Global, plan: &Plan) -> Result<Told, Memory>
     ensures told { IfOk result (λ news. news ≡ Told.Unplaced (unplaced plan.now.plan)) }
     ensures tellable { IfOk result IsTellable }
@@ -38,7 +42,7 @@ pub(crate) fn unplaced_told(alloc: Global, plan: &Plan) -> Result<Told, Memory>
     Ok(Told::Unplaced { parts })
 }
 
-/// The wall chart of a day, counted from 1. The only error is want of memory.
+/// The wall chart of a day, counted from 1. The only error is a lack of memory.
 pub(crate) fn chart_told(
     alloc: Global,
     airport: &Airport,
@@ -53,4 +57,40 @@ pub(crate) fn chart_told(
 {
     let text = chart(alloc, airport, plan, day)?;
     Ok(Told::Chart { text })
+}
+
+/// The visits that hold a stand on a day, counted from 1, or wait for one. The only error is a lack
+/// of memory.
+pub(crate) fn day_told(
+    alloc: Global,
+    airport: &Airport,
+    plan: &Plan,
+    day: u32,
+) -> Result<Told, Memory>
+    requires airport { airport.now ≡ plan.now.plan.airport }
+    requires first { 1 ≤ day }
+    ensures told { IfOk result (λ news. news ≡ Told.Day (visits_on plan.now.plan day)) }
+    ensures tellable { IfOk result IsTellable }
+{
+    let visits = visits_on(alloc, airport, plan, day)?;
+    Ok(Told::Day { visits })
+}
+
+/// The entry of this number, counted from 1, or that there is none.
+pub(crate) fn entry_told(history: &[Entry], number: u32) -> Told
+    ensures is { result ≡ entry_told number (entry_at history.now number) }
+    ensures tellable { IsTellable result }
+{
+    if number == 0 {
+        return Told::NoEntry;
+    }
+    match history.get(number as usize - 1) {
+        Some(entry) => Told::Entry {
+            entry: number,
+            call: entry.call,
+            desk: entry.command.desk(),
+            kind: entry.command.kind(),
+        },
+        None => Told::NoEntry,
+    }
 }

@@ -1,4 +1,4 @@
-// Room for an entry and what it changes, before either is there.
+// Room for an entry and its changes, taken before either is made.
 ghost use Rattle.std.specs.Prelude.{◌≡◌, ◌<◌, OnOk, vec_capacity, vec_len};
 ghost use Rattle.plan_core.specs.PlanState.{HasRoom, IsInstallable};
 
@@ -6,7 +6,7 @@ use apron_base::Memory;
 use desk_words::asks::Entry;
 use plan_core::{Change, Plan};
 
-/// Takes the memory for one more entry, and for its change of the plan. At `Err` memory is wanting.
+/// Takes the memory for one more entry, and for its change of the plan. `Err` if there is none.
 pub(crate) fn make_room(
     plan: &mut Plan,
     history: &mut Vec<Entry>,

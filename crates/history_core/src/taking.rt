@@ -1,4 +1,5 @@
-// How a plan takes a command: it is looked at, and nothing changes. A module of its own has what each command does.
+// How a plan takes a command: here the plan is only read, and nothing changes. Each command has its
+// own module.
 ghost use Rattle.std.specs.Prelude.{◌≡◌, ◌↔◌, IfOk, IsTrue};
 ghost use Rattle.visit_book.specs.Numbers.{IsNumbered};
 ghost use Rattle.desk_words.specs.Commands.{IsCommandOf};
@@ -24,16 +25,16 @@ use report::take_report;
 use std::alloc::Global;
 use visit::take_visit;
 
-/// What comes of a command.
+/// What a command comes to.
 #[derive(Drop)]
 pub(crate) enum Taken {
-    /// It is accepted: this is what it changes, and the reply once that is done.
+    /// It is accepted: what it changes, and the reply once that is done.
     Accepted(Change, Reply),
     /// It changes nothing, and this is the reply.
     Answered(Reply),
 }
 
-/// What comes of a command at a plan whose history has so many entries. The plan stays as it is.
+/// What a command comes to at a plan whose history has this many entries. The plan stays as it is.
 pub(crate) fn take(
     alloc: Global,
     airport: &Airport,
@@ -63,15 +64,15 @@ pub(crate) fn take(
             };
             take_commit(alloc, airport, plan, entries, &draft)
         }
-        Command::Message { message } => take_message(alloc, airport, plan, entries, message),
-        Command::Report { visit, event } => {
+        Command::Message { message, .. } => take_message(alloc, airport, plan, entries, message),
+        Command::Report { visit, event, .. } => {
             take_report(alloc, airport, plan, entries, *visit, event)
         }
         Command::Cancel { visit } => take_cancel(alloc, plan, entries, *visit),
     }
 }
 
-// An accepted command's change, with what is told of it once that is done.
+// An accepted command's change, with what the reply says once that is done.
 fn told_of(change: Change, told: Told) -> Taken
     ensures is { result ≡ Taken.Accepted change (record { version = change.version; told = told }) }
 {
@@ -79,7 +80,7 @@ fn told_of(change: Change, told: Told) -> Taken
     Taken::Accepted(change, Reply { version, told })
 }
 
-// What is told of a command that changes nothing.
+// The answer to a command that changes nothing.
 fn answered(plan: &Plan, told: Told) -> Taken
     ensures is { result ≡ Taken.Answered (record { version = plan.now.plan.version; told = told }) }
 {
@@ -87,7 +88,7 @@ fn answered(plan: &Plan, told: Told) -> Taken
     Taken::Answered(Reply { version, told })
 }
 
-// Whether a history of so many entries takes one more.
+// Whether a history of this many entries takes one more.
 fn takes_entry(entries: usize) -> bool
     ensures is { IsTrue result ↔ TakesEntry entries }
 {

@@ -1,10 +1,10 @@
-// Why an ask gets no reply of the plan.
+// Why the plan gives no reply to an ask.
 use apron_base::{Failed, Memory};
 
-/// Why an ask gets no reply of the plan.
+/// Why the plan gives no reply to an ask.
 #[derive(Clone, Copy, Debug)]
 pub(crate) enum Unanswered {
-    /// Memory is wanting.
+    /// There is no memory.
     Memory,
     /// The keeper failed to append an accepted command.
     Fault,

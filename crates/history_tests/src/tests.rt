@@ -11,7 +11,7 @@ use std::alloc::Global;
 use std::test::Fail;
 use visit_book::{NewVisit, is_in_time};
 
-// One stand, N1, and one type, A320, whose aircraft stay for 40 minutes at least.
+// One stand, N1, and one type, A320, with 40 least minutes.
 fn airport(alloc: Global) -> Result<Airport, Fail> {
     on_one_frontage(
         alloc,
@@ -20,7 +20,7 @@ fn airport(alloc: Global) -> Result<Airport, Fail> {
     )
 }
 
-// These entries, each of which has some bytes.
+// These entries, each of which has at least one byte.
 fn listed(alloc: Global, texts: &[&[u8]]) -> Result<Vec<Listed<u8>>, Fail> {
     let mut entries = Vec::new(alloc);
     for text in texts {
@@ -40,7 +40,8 @@ fn copies(alloc: Global, entries: &[Listed<u8>]) -> Result<Vec<Listed<u8>>, Fail
     Ok(made)
 }
 
-// A board over a keeper of these entries, whose appends of these numbers fail; or why there is none.
+// A board over a keeper of these entries, whose appends of these numbers fail; or why there is no
+// board.
 fn opened<'a>(
     alloc: Global,
     airport: &'a Airport,
@@ -57,7 +58,7 @@ fn opened<'a>(
     }
 }
 
-// An A320 of this name is to be added, from 600 to 660; or the version is asked for.
+// An ask to add an A320 of this name, from 600 to 660; or to give the version.
 fn ask_of(airport: &Airport, name: Option<Name>) -> Option<Ask>
     ensures valid { IfSome result (IsAskOf airport.now) }
 {
@@ -85,7 +86,7 @@ fn ask_of(airport: &Airport, name: Option<Name>) -> Option<Ask>
     })
 }
 
-// Whether the board answers this text, or a fault where there is none.
+// Whether the board answers with this text, or with a fault if there is none.
 fn is_answered(
     alloc: Global,
     airport: &Airport,
@@ -119,8 +120,8 @@ const AT_FIRST: &[u8] =
 const SECOND_ADDED: &[u8] =
     b"HTTP/1.1 200 OK\r\nContent-Type: application/json\r\nContent-Length: 23\r\nX-Version: 2\r\n\r\n{\"version\":2,\"visit\":2}";
 
-// V1 by the first call, V2 by the second and by the sixth, V2 by the first, V1 by no call, V1 by the third, and V1 cut
-// short.
+// V1 by the first call, V2 by the second and by the sixth, V2 by the first, V1 by no call, V1 by
+// the third, and V1 cut short.
 const A: &[u8] = b"\x01\0\0\0\0\0\0\0\x01\x02V1\0\0\x03\x58\x02\0\0\x94\x02\0\0\0\0";
 
 const B: &[u8] = b"\x02\0\0\0\0\0\0\0\x01\x02V2\0\0\x03\x58\x02\0\0\x94\x02\0\0\0\0";
@@ -135,7 +136,8 @@ const AGAIN: &[u8] = b"\x03\0\0\0\0\0\0\0\x01\x02V1\0\0\x03\x58\x02\0\0\x94\x02\
 
 const CUT: &[u8] = b"\x03\0\0\0\0\0\0\0\x01\x02V1\0\0\x03";
 
-// Of the board over these entries, how many its history has and the number of its next call; or why there is none.
+// For the board over these entries, how many its history has, and the number of its next call; or
+// why there is no board.
 fn opens_to(
     alloc: Global,
     airport: &Airport,

@@ -1,25 +1,26 @@
-// Why calls of the system failed, as it is said on standard error.
+// Why calls of the system failed, as standard error says it.
 
 use std::io;
 
-/// Says why a call failed, in a line of its own: `apron: NAME: CAUSE`, the cause in the system's words.
+/// Says why a call failed, in a line of its own: `apron: NAME: CAUSE`, the cause in the system's
+/// words.
 pub fn tell<R: Eprint>(rt: &R, name: &str, cause: &io::Error) {
-    // Where standard error fails too, there is no other place to say it.
+    // If standard error fails too, there is no other place to say it.
     let _ = eprintln!(rt; "apron: {name}: {cause}");
 }
 
-/// The cause that was said last of one kind of call, until a call of that kind succeeds.
+/// The last cause reported for one kind of call, until a call of that kind succeeds.
 #[derive(Clone, Copy)]
 pub(crate) struct LastCause {
     said: Option<i32>,
 }
 
 impl LastCause {
-    /// Nothing was said yet.
+    /// Nothing was reported yet.
     pub(crate) const NONE: LastCause = LastCause { said: None };
 
-    /// Takes in how a call went, and says why it failed if that was not said yet. A call that a
-    /// signal interrupted is made again, and is no fault.
+    /// Takes in how a call went, and says why it failed, unless that was said already. A call that
+    /// a signal interrupted is made again, and is no fault.
     pub(crate) fn hear<R: Eprint, T>(&mut self, rt: &R, name: &str, answer: &io::Result<T>) {
         match answer {
             Ok(_) => self.said = None,
@@ -32,7 +33,8 @@ impl LastCause {
         }
     }
 
-    // Whether this is another cause than the one that was said last; it is then the last one.
+    // Whether this cause differs from the one that was reported last; if so, it is the last one
+    // from now on.
     fn is_news(&mut self, cause: i32) -> bool {
         let is_news = self.said != Some(cause);
         self.said = Some(cause);
@@ -40,7 +42,7 @@ impl LastCause {
     }
 }
 
-// The system's number of a cause; 0 where it is none of the system.
+// The system's number of a cause; 0 if it is not the system's.
 fn number_of(cause: &io::Error) -> i32 {
     cause.raw_os_error().unwrap_or(0)
 }

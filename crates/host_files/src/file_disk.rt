@@ -1,4 +1,4 @@
-// A disk over a file. It tells nothing of its bytes, and a crash may leave anything.
+// A disk over a file. It exposes nothing of its bytes, and a crash may leave anything.
 ghost use Rattle.std.specs.Prelude.{◌≡◌, is_err};
 ghost use Rattle.apron_base.specs.Counts.{Counts};
 
@@ -13,18 +13,19 @@ use std::os::unix::fs::FileExt;
 use std::path::Path;
 use std::rt::Files;
 
-/// What is said where the file's lock is not had.
-const TAKEN: &str = "another process has this journal; chart and export can be given a copy";
+/// What is said if the file's lock can't be had.
+const TAKEN: &str =
+    "another process has this journal; chart, export and propose can be given a copy";
 
-/// A disk over a file, of which it holds the system's lock until it is dropped. Where the file couldn't
-/// be opened, or another process has its lock, each call fails. A call that the system interrupted is
-/// tried again, and is no fault. It says on standard error why a call failed: each cause once until a
-/// call of that kind succeeds. Contracts see how many calls have failed.
+/// A disk over a file. It holds the system's lock of the file until it is dropped. If the file
+/// couldn't be opened, or another process has its lock, each call fails. A call that the system
+/// interrupted is tried again, and is no fault. Standard error says why a call failed: each cause
+/// once until a call of that kind succeeds. Contracts see how many calls have failed.
 #[derive(Drop)]
 pub struct FileDisk<'a, R> {
     rt: &'a R,
     path: &'a str,
-    // why not, where it couldn't be opened
+    // why not, if it couldn't be opened
     file: io::Result<File>,
     access: Access,
     lengths: LastCause,
@@ -50,8 +51,8 @@ impl<'a, R> Model for FileDisk<'a, R> {
 }
 
 impl<'a, R: Files<File = File> + Eprint> FileDisk<'a, R> {
-    /// The file at this path, of which no call has failed yet, with the lock that no other process
-    /// holds beside it.
+    /// The file at this path, with a lock that excludes all other processes. No call of it has
+    /// failed yet.
     pub fn open(rt: &'a R, path: &'a str) -> Self
         ensures none { result ≡ 0 }
     {
@@ -59,7 +60,7 @@ impl<'a, R: Files<File = File> + Eprint> FileDisk<'a, R> {
         FileDisk::over(rt, path, file, Access::ReadsAndWrites)
     }
 
-    /// The same, and where there is no file it is made. The file and its folder are synced, so that
+    /// The same, but the file is made if there is none. The file and its folder are synced, so that
     /// a crash leaves a file at this path.
     pub fn make(rt: &'a R, path: &'a str) -> Self
         ensures none { result ≡ 0 }
@@ -68,8 +69,8 @@ impl<'a, R: Files<File = File> + Eprint> FileDisk<'a, R> {
         FileDisk::over(rt, path, file, Access::ReadsAndWrites)
     }
 
-    /// The file at this path, of which no call has failed yet, to be read alone, with the lock that
-    /// other readers may hold beside it. Each write fails.
+    /// The file at this path, for reading only, with a lock that other readers may hold too. No
+    /// call of it has failed yet. Each write fails.
     pub fn open_to_read(rt: &'a R, path: &'a str) -> Self
         ensures none { result ≡ 0 }
     {
@@ -77,7 +78,7 @@ impl<'a, R: Files<File = File> + Eprint> FileDisk<'a, R> {
         FileDisk::over(rt, path, file, Access::Reads)
     }
 
-    // A later call on a file that is not there fails from the same cause, which is said here.
+    // A later call on a file that is not there fails for the same cause, which is said here.
     fn over(rt: &'a R, path: &'a str, file: io::Result<File>, access: Access) -> Self
         ensures none { result ≡ 0 }
     {
@@ -118,7 +119,7 @@ impl<'a, R: Eprint> FileDisk<'a, R> {
         self.opened()?.write_all_at(piece, u64::from(at))
     }
 
-    // Where nothing can be written there is nothing to sync, and such file systems may know no syncs.
+    // If nothing can be written there is nothing to sync, and such file systems may have no syncs.
     fn sync_now(&self) -> io::Result<()> {
         match self.opened()?.sync_data() {
             Err(cause) if self.access == Access::Reads && has_no_syncs(&cause) => Ok(()),
@@ -144,7 +145,7 @@ fn has_no_syncs(cause: &io::Error) -> bool {
     cause.kind() == ErrorKind::ReadOnlyFilesystem || cause.kind() == ErrorKind::InvalidInput
 }
 
-// The file, with the lock that no other process holds beside it.
+// The file, with a lock that excludes all other processes.
 fn open_to_write<R: Files<File = File>>(rt: &R, path: &str, makes: bool) -> io::Result<File> {
     let file = OpenOptions::new()
         .read(true)
@@ -158,12 +159,12 @@ fn open_to_write<R: Files<File = File>>(rt: &R, path: &str, makes: bool) -> io::
     }
 }
 
-// The file, with the lock that other readers may hold beside it.
+// The file, with a lock that other readers may hold too.
 fn open_to_read<R: Files<File = File>>(rt: &R, path: &str) -> io::Result<File> {
     let file = File::open(rt, path)?;
     match file.try_lock_shared() {
         Err(TryLockError::WouldBlock) => Err(taken()),
-        // Where the file system knows no locks no writer has one either.
+        // If the file system has no locks, no writer has one either.
         Ok(()) | Err(TryLockError::Error(_)) => Ok(file),
     }
 }
@@ -172,7 +173,7 @@ fn taken() -> io::Error {
     io::Error::new(ErrorKind::WouldBlock, TAKEN)
 }
 
-// Makes the file where there is none, and syncs it and its folder.
+// Makes the file if there is none, and syncs it and its folder.
 fn make_file<R: Files<File = File>>(rt: &R, path: &str) -> io::Result<File> {
     let file = open_to_write(rt, path, true)?;
     file.sync_all()?;

@@ -9,8 +9,8 @@ use std::marker::Model;
 use std::rt::Files;
 use std::{fs, io};
 
-/// The files of the system by their paths as they are written. It tells nothing of what is in them,
-/// counts each error, and says its cause on standard error. Contracts see its two counts.
+/// The files of the system, by their paths as they are written. It exposes nothing of what is in
+/// them, counts each error, and says its cause on standard error. Contracts see its two counts.
 #[derive(Drop)]
 pub struct FileShelf<'a, R> {
     rt: &'a R,
@@ -27,7 +27,7 @@ impl<'a, R> Model for FileShelf<'a, R> {
 }
 
 impl<'a, R: Files> FileShelf<'a, R> {
-    /// The files that this runtime opens, of which none has been asked for.
+    /// The files that this runtime opens. None has been asked for yet.
     pub fn new(rt: &'a R) -> Self
         ensures is { result ≡ record { faults = 0; read = 0 } }
     {

@@ -6,8 +6,8 @@ use std::io;
 use std::io::{Read, Write};
 use std::marker::Model;
 
-/// A stream that says on standard error why a read, a write or a flush failed: each cause once until
-/// such a call succeeds. Else it is the stream. Contracts see the stream.
+/// A stream that says on standard error why a read, a write or a flush failed: each cause once
+/// until such a call succeeds. In all else it is the stream. Contracts see the stream.
 #[derive(Drop)]
 pub struct ToldStream<'a, R, S> {
     rt: &'a R,
@@ -25,7 +25,7 @@ impl<'a, R, S> Model for ToldStream<'a, R, S> {
 }
 
 impl<'a, R: Eprint, S> ToldStream<'a, R, S> {
-    /// The stream, of which nothing was said yet. A line that is said of it has this name.
+    /// The stream, of which nothing was reported yet. Lines about it have this name.
     pub fn new(rt: &'a R, name: &'a str, inner: S) -> Self
         ensures is { result ≡ inner }
     {

@@ -1,4 +1,4 @@
--- What the head in the window says of the front of the whole buffer.
+-- What the head in the window shows of the front of the whole buffer.
 use Rattle.std.proofs.Common.{◌≡◌, ℕ, ◌-◌, ◌+◌, ◌≤◌, ◌<◌, List, ◌++◌, Result, Ok, Err, length, take, drop, sym, ap, ◌∙◌, subst, arith, inr}
 use Rattle.std.proofs.lemmas.List.{take-append-drop, take_all, length-take, length-take-le, drop-drop, length-drop}
 use Rattle.httparse.specs.Grammar.{RequestHead}
@@ -16,7 +16,7 @@ use Rattle.http_framing.specs.declared.front.RequestParts.{RequestParts}
 use Rattle.http_framing.specs.declared.heads.HeadFront as head
 use Rattle.http_framing.proofs.HeadLaws.{HasHead-window}
 
--- a head that lies at the front of a buffer and at spans of its window, and what its fields say of the body
+-- a head at the front of a buffer, at spans of its window, and what its fields say of the body
 pub record IsHeadAt (bytes window : List ℕ) (fields : List HeaderSpan) (spans : RequestSpans) (says : Result ℕ Refusal) (h : RequestHead) : Type 0 where
   pub head : HasHead bytes h (drop spans.len bytes)
   pub at : IsRequestAt window fields spans h
@@ -41,7 +41,7 @@ pub len_fits : (bytes window : List ℕ) (fields : List HeaderSpan) (spans : Req
 len_fits bytes window fields spans e within =
     let fits = within.section.len_fits in omega (arith, ap length e, length-take max_head bytes)
 
--- a part from a place up to the end is all behind it
+-- a part from a place up to the end is all that comes after the place
 pub part_behind : (bytes : List ℕ) (at : ℕ) → take (length bytes - at) (drop at bytes) ≡ drop at bytes
 part_behind bytes at = take_all (length bytes - at) (drop at bytes) (omega (arith, length-drop at bytes))
 

@@ -6,7 +6,7 @@ use Rattle.httparse.specs.Grammar.{RequestHead, print_request, ReadsRequest}
 use Rattle.httparse.proofs.GrammarLemmas.{request_unique, ReadsRequest-append}
 use Rattle.http_framing.specs.Heads.{HasHead, IsHopeless, IsTooLong, IsBadHead, IsUnfinished, max_head}
 
--- where two ways to split a text meet, the shorter front is the front of the longer one
+-- if two ways to split a text meet, the shorter front begins the longer one
 pub front_within : (a more p rest : List ℕ) → a ++ more ≡ p ++ rest → length p ≤ length a → a ≡ p ++ drop (length p) a
 front_within a more p rest e fits =
     let cut : take (length p) a ≡ p =
@@ -52,7 +52,7 @@ HasHead-good bytes h r x (inr long) = let over = long.none h r x.reads in let sh
 pub HasHead-finished : (bytes : List ℕ) (h : RequestHead) (r : List ℕ) → HasHead bytes h r → IsUnfinished bytes → ⊥
 HasHead-finished bytes h r x y = y.none h r x.reads
 
--- what is read in a window stands in the whole
+-- what is read in a window is in the whole
 pub HasHead-window : (n : ℕ) (bytes : List ℕ) (h : RequestHead) (len : ℕ) → len ≤ length (take n bytes)
     → HasHead (take n bytes) h (drop len (take n bytes)) → HasHead bytes h (drop len bytes)
 HasHead-window n bytes h len fits x =

@@ -49,7 +49,7 @@ malformed_malformed bytes why other (inr (h, after, x)) (inl (f, bad)) = absurd 
 malformed_malformed bytes why other (inr (h, after, x)) (inr (k, rest, y)) =
     let e = same_framing bytes h k after rest _ _ x.head y.head x.framed_as y.framed_as in cc
 
--- one ending, but for the choice
+-- one ending, except for the choice
 Ends-unique : (bytes : List ℕ) (e f : Ending) → Ends bytes e → Ends bytes f → (e ≡ f) ⊎ IsChoice e f
 Ends-unique bytes ended ended x y = inl refl
 Ends-unique bytes ended cut x y = absurd (true≢false (sym x.0 ∙ y.1))
@@ -85,7 +85,7 @@ request_ends bytes r rest (malformed why) x y = on_malformed y
     on_malformed (inr (h, after, z)) =
         let e = same_framing bytes r.head h _ after _ _ x.head z.head x.body z.framed_as in absurd (cc)
 
--- a stream has one list of requests, and one ending, but for the choice
+-- a stream has one list of requests and one ending, except for the choice
 pub one_reading : (bytes : List ℕ) (requests others : List Request) (ending other : Ending) → Requests bytes requests ending → Requests bytes others other
     → (requests ≡ others) × ((ending ≡ other) ⊎ IsChoice ending other)
 one_reading bytes [] [] e f x y = (refl, Ends-unique bytes e f x y)
@@ -114,7 +114,7 @@ hopeless_head bytes why refusal (inr (h, after, wanted, x)) (inl (e, bad)) = abs
 hopeless_head bytes why refusal (inr (h, after, wanted, x)) (inr (k, rest, y)) =
     let e = same_framing bytes h k after rest _ _ x.head y.head x.framed_as y.framed_as in absurd (cc)
 
--- one list of requests with the two endings of the choice ends so
+-- bytes with both endings of the choice are an unfinished and hopeless head
 chosen_ends : (bytes : List ℕ) (e f : Ending) → Ends bytes e → Ends bytes f → IsChoice e f → IsUnfinished bytes × IsHopeless bytes
 chosen_ends bytes cut (malformed why) x y choice = hopeless_head bytes why choice x.0 y
 chosen_ends bytes (malformed why) cut x y choice = hopeless_head bytes why choice y.0 x

@@ -37,7 +37,7 @@ pub splits_push : (bytes rest more : List ℕ) (requests : List Request) (r : Re
 splits_push bytes rest more [] r x y = (more, subst (λ t. HasRequest t r more) (sym x) y, refl)
 splits_push bytes rest more (q ∷ qs) r x y = (x.0, x.1, splits_push x.0 rest more qs r x.2 y)
 
--- what is no whole request yet has room for more bytes
+-- what is not a whole request yet has room for more bytes
 pub partial_short : (bytes : List ℕ) → IsPartial bytes → length bytes < max_request
 partial_short bytes (inl x) = let short = x.short in omega arith
 partial_short bytes (inr (h, after, wanted, x)) =
@@ -47,16 +47,16 @@ partial_short bytes (inr (h, after, wanted, x)) =
     let less = x.cut in
     omega (arith, length-append (print_request h) after)
 
--- a stream that ends there has ended where the bytes are empty lines
+-- a stream that ends there has ended between requests if the bytes are empty lines
 pub partial_ended : (bytes : List ℕ) → IsPartial bytes → is_blank bytes ≡ true → Ends bytes ended
 partial_ended bytes (inl x) blank = (blank, x.short)
 partial_ended bytes (inr (h, after, wanted, x)) blank = absurd (true≢false (sym blank ∙ HasHead-not_blank bytes h after x.head))
 
--- and is cut where they are not
+-- and is cut if they are not
 pub partial_cut : (bytes : List ℕ) → IsPartial bytes → is_blank bytes ≡ false → Ends bytes cut
 partial_cut bytes x other = (x, other)
 
--- the requests so far, where each leaves the session open, and how the rest ends
+-- the requests so far, if each leaves the session open, and how the rest ends
 pub requests_of : (bytes rest : List ℕ) (requests : List Request) (ending : Ending) → Splits bytes requests rest → All IsOpen requests → Ends rest ending
     → Requests bytes requests ending
 requests_of bytes rest [] ending x open_all ends = subst (λ t. Ends t ending) (sym x) ends
@@ -68,7 +68,7 @@ requests_of bytes rest (r ∷ rs) ending x open_all ends =
       λ _. requests_of x.0 rest rs ending x.2 (All-tail IsOpen r rs open_all) ends,
     )
 
--- the same where the last request closes the session
+-- the same if the last request closes the session
 pub requests_closed : (bytes rest : List ℕ) (before : List Request) (last : Request) → Splits bytes (before ++ last ∷ []) rest → All IsOpen before
     → is_closing last.head ≡ true → Requests bytes (before ++ last ∷ []) closed
 requests_closed bytes rest [] last x open_all closing = (x.0, x.1, λ _. (refl, refl), λ stays. absurd (true≢false (sym closing ∙ stays)))

@@ -5,7 +5,7 @@ use Rattle.std.specs.Prelude.{ℕ, ◌==◌, List, [], ◌∷◌, Bool, true, fa
 abbrev pub line_feed : ℕ
 line_feed = 10
 
--- the byte that may stand before it
+-- the byte that may come before it
 abbrev pub carriage_return : ℕ
 carriage_return = 13
 
@@ -15,7 +15,7 @@ abbrev mutual
   is_blank [] = true
   is_blank (byte ∷ bytes) = if byte == line_feed then is_blank bytes else (if byte == carriage_return then is_blank_after_cr bytes else false)
 
-  -- the same behind a CR
+  -- the same after a CR
   pub is_blank_after_cr : List ℕ → Bool
   is_blank_after_cr [] = true
   is_blank_after_cr (byte ∷ bytes) = if byte == line_feed then is_blank bytes else false

@@ -12,7 +12,7 @@ space = 32
 abbrev pub comma : ℕ
 comma = 44
 
--- the bytes from the first that is no space
+-- the bytes from the first that is not a space
 abbrev pub skip_spaces : List ℕ → List ℕ
 skip_spaces [] = []
 skip_spaces (byte ∷ bytes) = if byte == space then skip_spaces bytes else byte ∷ bytes

@@ -1,5 +1,5 @@
 -- What the fields of a head say.
-use Rattle.std.specs.Prelude.{◌≡◌, ℕ, ◌≤◌, List, [], ◌∷◌, length, map, Bool, bytes_eq, if◌then◌else◌, Option, Some, None}
+use Rattle.std.specs.Prelude.{ℕ, List, [], ◌∷◌, map, Bool, bytes_eq, if◌then◌else◌, Option, Some, None}
 use Rattle.std.specs.Char.{to_ascii_lowercase}
 use Rattle.apron_base.specs.Digits.{number_of}
 use Rattle.apron_base.specs.declared.digits.TheConstants.{MAX_DIGITS}
@@ -7,10 +7,10 @@ use Rattle.httparse.specs.Grammar.{RequestHead}
 use Rattle.httparse.specs.Spans.{name_and_value}
 use Rattle.http_framing.specs.declared.fields.FieldNumber.{FieldNumber}
 use Rattle.http_framing.specs.declared.fields.FieldNumber.TheVariants.{Absent, Written, Wrong}
-use Rattle.http_framing.specs.declared.fields.OnlyValue.{OnlyValue}
-use Rattle.http_framing.specs.declared.fields.OnlyValue.TheVariants.{Nothing, One, Many}
+use Rattle.http_framing.specs.declared.fields.FieldText.{FieldText}
+use Rattle.http_framing.specs.declared.fields.FieldText.TheVariants as found
 
--- two texts are the same but for the case of their letters
+-- two texts are the same except for the case of their letters
 unfoldable pub is_same_name : List ℕ → List ℕ → Bool
 is_same_name text name = bytes_eq (map to_ascii_lowercase text) (map to_ascii_lowercase name)
 
@@ -27,23 +27,40 @@ values_of name (field ∷ fields) = if is_same_name field.0 name then field.1 �
 abbrev pub pairs : RequestHead → List Pair
 pairs head = map name_and_value head.fields
 
--- what a search for one value finds among the values of a name
-abbrev pub IsOnly : OnlyValue → List (List ℕ) → Type 0
-IsOnly Nothing values = values ≡ []
-IsOnly (One value) values = values ≡ value.now ∷ []
-IsOnly Many values = 2 ≤ length values
+-- what the fields of one name say: there is none, the only one has this value, or there are two or
+-- more
+pub data TextSaid : Type 0 where
+  absent : TextSaid
+  written : List ℕ → TextSaid
+  twice : TextSaid
+
+-- what the fields of a name with these values say
+abbrev pub text_among : List (List ℕ) → TextSaid
+text_among [] = absent
+text_among (value ∷ []) = written value
+text_among (first ∷ second ∷ values) = twice
+
+-- what the fields of this name say
+abbrev pub text_field : List ℕ → List Pair → TextSaid
+text_field name fields = text_among (values_of name fields)
+
+-- what is found of the fields of one name
+abbrev pub text_shown : FieldText → TextSaid
+text_shown found.Absent = absent
+text_shown (found.Written value) = written value.now
+text_shown found.Twice = twice
 
 -- the number that a value writes, or that it writes none
 abbrev pub number_written : Option ℕ → FieldNumber
 number_written None = Wrong
 number_written (Some number) = Written number
 
--- the number that the only one of these values writes
-abbrev pub number_among : List (List ℕ) → FieldNumber
-number_among [] = Absent
-number_among (value ∷ []) = number_written (number_of value MAX_DIGITS)
-number_among (first ∷ second ∷ values) = Wrong
+-- the number that fields with this text write
+abbrev pub number_said : TextSaid → FieldNumber
+number_said absent = Absent
+number_said (written value) = number_written (number_of value MAX_DIGITS)
+number_said twice = Wrong
 
 -- the number that the only field of this name writes
 abbrev pub number_field : List ℕ → List Pair → FieldNumber
-number_field name fields = number_among (values_of name fields)
+number_field name fields = number_said (text_field name fields)

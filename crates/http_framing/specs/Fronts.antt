@@ -4,7 +4,7 @@ use Rattle.httparse.specs.Grammar.{RequestHead, print_request}
 use Rattle.httparse.specs.Spans.{IsRequestAt, IsRequestWithin}
 use Rattle.httparse.specs.declared.spans.HeaderSpan.{HeaderSpan}
 use Rattle.http_framing.specs.Closing.{is_closing}
-use Rattle.http_framing.specs.Fields.{number_field, pairs}
+use Rattle.http_framing.specs.Fields.{number_field, pairs, text_field, text_shown}
 use Rattle.http_framing.specs.Heads.{HasHead, IsBadHead, IsUnfinished}
 use Rattle.http_framing.specs.Requests.{Request, HasRequest, IsPartial, IsMalformed}
 use Rattle.http_framing.specs.Streams.{Ends, ended, cut}
@@ -20,6 +20,7 @@ pub record ArePartsOf (request : Request) (parts : RequestParts) : Type 0 where
   pub method : parts.method.now ≡ request.head.method
   pub target : parts.target.now ≡ request.head.target
   pub seen : parts.seen ≡ number_field (codes "x-seen") (pairs request.head)
+  pub desk : text_shown parts.desk ≡ text_field (codes "x-desk") (pairs request.head)
   pub body : parts.body.now ≡ request.body
   pub closes : parts.closes ≡ is_closing request.head
   pub whole : parts.length ≡ length (print_request request.head) + length request.body

@@ -17,7 +17,7 @@ pub record HasHead (bytes : List ℕ) (head : RequestHead) (rest : List ℕ) : T
   pub few : length head.fields ≤ max_fields
   pub short : length (print_request head) ≤ max_head
 
--- whatever bytes follow, they complete no head of at most 64 fields
+-- no bytes that follow complete a head of at most 64 fields
 abbrev pub IsHopeless : List ℕ → Type 0
 IsHopeless bytes = RequestOverflows max_fields bytes
 
@@ -30,7 +30,8 @@ pub record IsTooLong (bytes : List ℕ) : Type 0 where
 abbrev pub IsBadHead : List ℕ → Type 0
 IsBadHead bytes = IsHopeless bytes ⊎ IsTooLong bytes
 
--- no head is there, one may still come (inside a target `httparse` does not say), and there is room for more bytes of it
+-- there is no head, but one may still come (inside a target `httparse` does not say), and there is
+-- room for more bytes of it
 pub record IsUnfinished (bytes : List ℕ) : Type 0 where
   pub none : HasNoRequest bytes
   pub hopeful : MayBecomeRequest bytes

@@ -11,7 +11,7 @@ abbrev pub IsHeadRefusal : Refusal → Type 0
 IsHeadRefusal Head = ⊤
 IsHeadRefusal why = ⊥
 
--- the two endings of the one choice: the stream is cut, or its head is malformed
+-- the two endings to choose from: the stream is cut, or its head is malformed
 abbrev pub IsChoice : Ending → Ending → Type 0
 IsChoice cut (malformed why) = IsHeadRefusal why
 IsChoice (malformed why) cut = IsHeadRefusal why
@@ -21,8 +21,8 @@ IsChoice ending other = ⊥
 abbrev pub EndsInHopelessHead : List ℕ → List Request → Type 0
 EndsInHopelessHead bytes requests = (rest : List ℕ) × Splits bytes requests rest × IsUnfinished rest × IsHopeless rest
 
--- a stream has one list of requests, and one ending, except that one which ends inside a head that no
--- bytes complete has the choice
+-- a stream has one list of requests and one ending, except that a stream which ends inside a head
+-- that no bytes complete has the choice
 abbrev pub HaveOneReading : Type 0
 HaveOneReading =
     (bytes : List ℕ) (requests others : List Request) (ending other : Ending)

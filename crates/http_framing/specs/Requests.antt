@@ -1,4 +1,4 @@
--- The request at the front of some bytes, and what stands there where there is no whole one.
+-- The request at the front of some bytes, and what is there if there is no whole one.
 use Rattle.std.specs.Prelude.{◌≡◌, ℕ, ◌<◌, ◌⊎◌, List, ◌++◌, length, Ok, Err}
 use Rattle.httparse.specs.Grammar.{RequestHead}
 use Rattle.http_framing.specs.Heads.{HasHead, IsBadHead, IsUnfinished}
@@ -17,13 +17,13 @@ pub record HasRequest (bytes : List ℕ) (request : Request) (rest : List ℕ) :
   pub head : HasHead bytes request.head (request.body ++ rest)
   pub body : framed request.head.method (pairs request.head) ≡ Ok (length request.body)
 
--- a whole head is there, and its body is cut
+-- a whole head is there, but its body is cut
 pub record IsBodyCut (bytes : List ℕ) (first : RequestHead) (after : List ℕ) (wanted : ℕ) : Type 0 where
   pub head : HasHead bytes first after
   pub framed_as : framed first.method (pairs first) ≡ Ok wanted
   pub cut : length after < wanted
 
--- a whole head is there, and its fields are refused
+-- a whole head is there, but its fields are refused
 pub record IsRefused (bytes : List ℕ) (first : RequestHead) (after : List ℕ) (why : Refusal) : Type 0 where
   pub head : HasHead bytes first after
   pub framed_as : framed first.method (pairs first) ≡ Err why

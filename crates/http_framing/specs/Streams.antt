@@ -6,14 +6,15 @@ use Rattle.http_framing.specs.Closing.{is_closing}
 use Rattle.http_framing.specs.Requests.{Request, HasRequest, IsPartial, IsMalformed}
 use Rattle.http_framing.specs.declared.bodies.Refusal.{Refusal}
 
--- how a stream ends: after its last request, inside a request, after a request that closes, or at one that is refused
+-- how a stream ends: after its last request, inside a request, after a request that closes, or at
+-- one that is refused
 pub data Ending : Type 0 where
   ended : Ending
   cut : Ending
   closed : Ending
   malformed : Refusal → Ending
 
--- the bytes hold no whole request, and a stream that ends with them ends so
+-- the bytes hold no whole request, and a stream that ends with them has this ending
 abbrev pub Ends : List ℕ → Ending → Type 0
 Ends bytes ended = (is_blank bytes ≡ true) × (length bytes < max_head)
 Ends bytes cut = IsPartial bytes × (is_blank bytes ≡ false)
@@ -24,7 +25,7 @@ Ends bytes (malformed why) = IsMalformed bytes why
 abbrev pub IsOpen : Request → Type 0
 IsOpen request = is_closing request.head ≡ false
 
--- a stream of these bytes has these requests in order, and ends so
+-- a stream of these bytes has these requests in order, and this ending
 abbrev pub Requests : List ℕ → List Request → Ending → Type 0
 Requests bytes [] ending = Ends bytes ending
 Requests bytes (request ∷ requests) ending =

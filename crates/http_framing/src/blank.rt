@@ -2,8 +2,8 @@
 ghost use Rattle.std.specs.Prelude.{◌≡◌};
 ghost use Rattle.http_framing.specs.Blank.{is_blank};
 
-/// Whether the bytes are empty lines, of which the last may lack its LF: where a stream of fewer
-/// than `MAX_HEAD` such bytes ends, it ends between requests.
+/// Whether the bytes are empty lines, of which the last may lack its LF. If a stream ends with
+/// fewer than `MAX_HEAD` such bytes, it ends between requests.
 pub(crate) fn are_blank(bytes: &[u8]) -> bool
     ensures is { result ≡ is_blank bytes.now }
 {

@@ -5,19 +5,19 @@ ghost use Rattle.httparse.specs.Spans.{IsHeaderWithin, header_bytes, IsRequestAt
 ghost use Rattle.http_framing.specs.Fields.{pairs};
 ghost use Rattle.http_framing.specs.Bodies.{framed};
 
-use crate::fields::{OnlyValue, only_value};
+use crate::fields::{FieldText, field_text};
 use apron_base::{MAX_DIGITS, number_of};
 use httparse::spans::{HeaderSpan, RequestSpans};
 
 /// The most bytes of a body.
 pub const MAX_BODY: usize = 65_536;
 
-/// Why a request is refused. Where several reasons hold, the first of these counts: no head, an
+/// Why a request is refused. If several reasons hold, the first of these counts: no head, an
 /// encoding, a bad length, a large one, none.
 #[derive(Clone, Copy, Debug, PartialEq, Eq)]
 pub enum Refusal {
     /// No head of at most `MAX_FIELDS` fields and `MAX_HEAD` bytes can come; or there are two
-    /// `Content-Length` fields, or one whose value is not 1 to 10 digits.
+    /// `Content-Length` fields, or the value of the only one is not 1 to 10 digits.
     Head,
     /// There is a `Transfer-Encoding` field.
     Encoding,
@@ -45,16 +45,16 @@ fn length_by(bytes: &[u8], fields: &[HeaderSpan], method: &[u8]) -> Result<usize
     requires fields { All (IsHeaderWithin (length bytes.now)) fields.now }
     ensures value { result ≡ framed method.now (map (header_bytes bytes.now) fields.now) }
 {
-    let OnlyValue::Nothing = only_value(bytes, fields, b"transfer-encoding") else {
+    let FieldText::Absent = field_text(bytes, fields, b"transfer-encoding") else {
         return Err(Refusal::Encoding);
     };
-    match only_value(bytes, fields, b"content-length") {
-        OnlyValue::Nothing => if method == b"POST".as_slice() {
+    match field_text(bytes, fields, b"content-length") {
+        FieldText::Absent => if method == b"POST".as_slice() {
             Err(Refusal::Length)
         } else {
             Ok(0)
         },
-        OnlyValue::One(value) => match number_of(value, MAX_DIGITS) {
+        FieldText::Written(value) => match number_of(value, MAX_DIGITS) {
             None => Err(Refusal::Head),
             Some(number) => if number <= MAX_BODY as u64 {
                 Ok(number as usize)
@@ -62,6 +62,6 @@ fn length_by(bytes: &[u8], fields: &[HeaderSpan], method: &[u8]) -> Result<usize
                 Err(Refusal::Large)
             },
         },
-        OnlyValue::Many => Err(Refusal::Head),
+        FieldText::Twice => Err(Refusal::Head),
     }
 }

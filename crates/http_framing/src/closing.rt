@@ -1,4 +1,4 @@
-// Whether a request asks that the session end after it.
+// Whether a request asks for the end of the session after it.
 ghost use Rattle.std.specs.Prelude.{◌≡◌, ◌==◌, map, length, reverse, All};
 ghost use Rattle.httparse.specs.Spans.{IsHeaderWithin, header_bytes};
 ghost use Rattle.http_framing.specs.Closing.{asks_close as asks_close_lem, has_close as has_close_lem, is_close as is_close_lem, skip_spaces, trim_spaces as trim_spaces_lem};
@@ -19,8 +19,8 @@ pub(crate) fn asks_close(bytes: &[u8], fields: &[HeaderSpan]) -> bool
     false
 }
 
-/// Whether `close`, in any case, is one of the parts of a value between commas, where spaces at
-/// the ends of a part count for nothing.
+/// Whether `close`, in any case, is one of the parts of a value between commas. Spaces at the ends
+/// of a part don't count.
 fn has_close(value: &[u8]) -> bool
     ensures is { result ≡ has_close_lem value.now }
 {

@@ -1,20 +1,20 @@
-// One field of a head, found by its name.
+// What the fields of one name say.
 ghost use Rattle.std.specs.Prelude.{◌≡◌, map, length, All};
 ghost use Rattle.httparse.specs.Spans.{IsHeaderWithin, header_bytes};
-ghost use Rattle.http_framing.specs.Fields.{is_same_name, values_of, IsOnly, number_field};
+ghost use Rattle.http_framing.specs.Fields.{is_same_name, number_field, text_field, text_shown};
 
 use apron_base::{MAX_DIGITS, number_of};
 use httparse::spans::HeaderSpan;
 
-/// What a search for the value of one field finds.
-#[derive(Clone, Copy, Debug)]
-pub(crate) enum OnlyValue<'b> {
+/// What the fields of one name say, as a text.
+#[derive(Clone, Copy, Debug, PartialEq, Eq)]
+pub enum FieldText<'b> {
     /// No field has the name.
-    Nothing,
-    /// The value of the one that has.
-    One(&'b [u8]),
-    /// Two or more have the name.
-    Many,
+    Absent,
+    /// The value of the only field of the name, without the spaces and tabs around it.
+    Written(&'b [u8]),
+    /// Two or more fields have the name.
+    Twice,
 }
 
 /// What the fields of one name say of a number.
@@ -28,17 +28,17 @@ pub enum FieldNumber {
     Wrong,
 }
 
-/// The value of the only field of a name, in any case, without the white space around it.
-pub(crate) fn only_value<'b>(bytes: &'b [u8], fields: &[HeaderSpan], name: &[u8]) -> OnlyValue<'b>
+/// What the fields of a name, in any case, say.
+pub(crate) fn field_text<'b>(bytes: &'b [u8], fields: &[HeaderSpan], name: &[u8]) -> FieldText<'b>
     requires fields { All (IsHeaderWithin (length bytes.now)) fields.now }
-    ensures value { IsOnly result (values_of name.now (map (header_bytes bytes.now) fields.now)) }
+    ensures value { text_shown result ≡ text_field name.now (map (header_bytes bytes.now) fields.now) }
 {
-    let mut found = OnlyValue::Nothing;
+    let mut found = FieldText::Absent;
     for field in fields {
         if is_named(field.name.of(bytes), name) {
             found = match found {
-                OnlyValue::Nothing => OnlyValue::One(field.value.of(bytes)),
-                _ => return OnlyValue::Many,
+                FieldText::Absent => FieldText::Written(field.value.of(bytes)),
+                _ => return FieldText::Twice,
             };
         }
     }
@@ -50,13 +50,13 @@ pub(crate) fn field_number(bytes: &[u8], fields: &[HeaderSpan], name: &[u8]) -> 
     requires fields { All (IsHeaderWithin (length bytes.now)) fields.now }
     ensures value { result ≡ number_field name.now (map (header_bytes bytes.now) fields.now) }
 {
-    match only_value(bytes, fields, name) {
-        OnlyValue::Nothing => FieldNumber::Absent,
-        OnlyValue::One(value) => match number_of(value, MAX_DIGITS) {
+    match field_text(bytes, fields, name) {
+        FieldText::Absent => FieldNumber::Absent,
+        FieldText::Written(value) => match number_of(value, MAX_DIGITS) {
             Some(number) => FieldNumber::Written(number),
             None => FieldNumber::Wrong,
         },
-        OnlyValue::Many => FieldNumber::Wrong,
+        FieldText::Twice => FieldNumber::Wrong,
     }
 }
 

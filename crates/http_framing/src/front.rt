@@ -1,4 +1,4 @@
-// What stands at the front of the bytes that have come.
+// What is at the front of the bytes that have come.
 ghost use Rattle.std.specs.Prelude.{◌≡◌, ◌+◌, ◌<◌, ◌^◌, length};
 ghost use Rattle.httparse.specs.Grammar.{RequestHead};
 ghost use Rattle.httparse.specs.Spans.{IsRequestAt, IsRequestWithin};
@@ -6,11 +6,11 @@ ghost use Rattle.http_framing.specs.Fronts.{ArePartsOf, IsFront};
 
 use crate::bodies::{Refusal, body_length};
 use crate::closing::asks_close;
-use crate::fields::{FieldNumber, field_number};
+use crate::fields::{FieldNumber, FieldText, field_number, field_text};
 use crate::heads::{HeadFront, MAX_FIELDS, head_front, window_of};
 use httparse::spans::{EMPTY_HEADER_SPAN, HeaderSpan, RequestSpans};
 
-/// What stands at the front of the bytes that have come. Bytes that follow change no answer but
+/// What is at the front of the bytes that have come. Bytes that follow change no answer except
 /// `Partial`.
 #[derive(Clone, Copy, Debug)]
 pub enum Front<'b> {
@@ -18,7 +18,7 @@ pub enum Front<'b> {
     Whole(RequestParts<'b>),
     /// A request that is not whole yet, or nothing but empty lines.
     Partial,
-    /// No request can come of it, whatever bytes follow.
+    /// It can't become a request, whatever bytes follow.
     Malformed(Refusal),
 }
 
@@ -31,6 +31,8 @@ pub struct RequestParts<'b> {
     pub target: &'b [u8],
     /// The number that the only field `X-Seen` writes.
     pub seen: FieldNumber,
+    /// What the fields `X-Desk` say.
+    pub desk: FieldText<'b>,
     pub body: &'b [u8],
     /// Whether the session ends after the request.
     pub closes: bool,
@@ -38,7 +40,7 @@ pub struct RequestParts<'b> {
     pub length: usize,
 }
 
-/// What stands at the front of the bytes.
+/// What is at the front of the bytes.
 pub(crate) fn front_of(bytes: &[u8]) -> Front<'_>
     ensures is { IsFront bytes.now result }
 {
@@ -61,7 +63,7 @@ pub(crate) fn front_of(bytes: &[u8]) -> Front<'_>
     }
 }
 
-/// The parts of the request with this body, whose head lies at these spans of a window.
+/// The parts of the request with this body, whose head has these spans of a window.
 fn parts_of<'b>(
     window: &'b [u8],
     fields: &[HeaderSpan],
@@ -78,6 +80,7 @@ fn parts_of<'b>(
         method: spans.method.of(window),
         target: spans.path.of(window),
         seen: field_number(window, fields, b"x-seen"),
+        desk: field_text(window, fields, b"x-desk"),
         body,
         closes: spans.version == 0 || asks_close(window, fields),
         length: spans.len + body.len(),

@@ -21,7 +21,7 @@ pub(crate) enum HeadFront {
     Bad,
 }
 
-/// The bytes that the longest head may lie in.
+/// The bytes within which the longest head must end.
 pub(crate) fn window_of(bytes: &[u8]) -> &[u8]
     ensures value { result.now ≡ take max_head bytes.now }
 {
@@ -32,7 +32,8 @@ pub(crate) fn window_of(bytes: &[u8]) -> &[u8]
     }
 }
 
-/// Reads the head at the front of a window. The spans of its fields are put at the front of `fields`.
+/// Reads the head at the front of a window. The spans of its fields are put at the front of
+/// `fields`.
 pub(crate) fn head_front(window: &[u8], fields: &mut [HeaderSpan]) -> HeadFront
     requires room { length fields.old ≡ max_fields }
     requires window { length window.now ≤ max_head }

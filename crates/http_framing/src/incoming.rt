@@ -35,7 +35,7 @@ impl Model for Incoming {
     ghost invariant = { λ incoming. room ≤ vec_capacity incoming.bytes };
 }
 
-/// How a stream ends whose last bytes hold no whole request.
+/// How a stream ends if its last bytes hold no whole request.
 #[derive(Clone, Copy, Debug, PartialEq, Eq)]
 pub enum End {
     /// Between requests.
@@ -45,7 +45,7 @@ pub enum End {
 }
 
 impl Incoming {
-    /// A stream of which nothing has come.
+    /// A stream of which nothing has come yet.
     pub fn new(alloc: Global) -> Result<Incoming, AllocError>
         ensures empty { IfOk result (λ incoming. incoming ≡ []) }
     {
@@ -53,7 +53,7 @@ impl Incoming {
         Ok(Incoming { bytes })
     }
 
-    /// What stands at the front.
+    /// What is at the front.
     pub fn front(&self) -> Front<'_>
         ensures is { IsFront self.now result }
     {
@@ -72,7 +72,7 @@ impl Incoming {
         }
     }
 
-    /// Passes over as many bytes at the front.
+    /// Passes over this many bytes at the front.
     pub fn pass_over(&mut self, count: usize)
         requires most { count ≤ length self.old }
         ensures rest { self.new ≡ drop count self.old }

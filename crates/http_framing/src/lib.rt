@@ -1,8 +1,9 @@
 //! How a stream of bytes is cut into HTTP requests.
 //!
 //! A request is a head, as `httparse` reads it by default, and then as many bytes of body as its
-//! `Content-Length` says. A `Transfer-Encoding` is refused. RFC 9112 has the format; the limits
-//! are this project's own. What `httparse` lays out stays in this crate.
+//! `Content-Length` says. A `Transfer-Encoding` is refused. RFC 9112 gives the format; the limits
+//! are this project's own. What `httparse` gives stays in this crate. It knows nothing of airports,
+//! plans and desks.
 #![tactic(auto)]
 
 mod blank;
@@ -15,7 +16,7 @@ mod incoming;
 mod laws;
 
 pub use bodies::{MAX_BODY, Refusal};
-pub use fields::FieldNumber;
+pub use fields::{FieldNumber, FieldText};
 pub use front::{Front, RequestParts};
 pub use heads::{MAX_FIELDS, MAX_HEAD};
 pub use incoming::{End, Incoming, MAX_PIECE};

@@ -1,4 +1,5 @@
--- The phases of an append: the gate is closed again where that is needed, the record is staged, and the gate is opened.
+-- The phases of an append: the gate is closed again if that is needed, the record is staged, and
+-- the gate is opened.
 use Rattle.std.proofs.Common.{◌≡◌, ◌⊎◌, inl, inr, ℕ, ◌+◌, ◌≤◌, ◌<◌, List, [], ◌∷◌, ◌++◌, length, Bool, true, false, refl, sym, ◌∙◌, ap, arith, length-append}
 use Rattle.std.specs.Prelude.{Option, Some, None}
 use Rattle.std.specs.Option.{option_map}
@@ -13,11 +14,11 @@ use Rattle.journal_disk.proofs.Moments.{at_last, since_map, since_then}
 use Rattle.journal_disk.proofs.Settled.{closed_stands, every-push, front-push, gate_stands, kept_safe, list_told, open_record, place_inside, risk_told, stands_as, whole_stands}
 use Rattle.journal_disk.proofs.Tells.{between_any, told_after, told_before, mapped, map_map, Any}
 
--- the fact of each image that a crash may leave of a disk now: what the disk reads as is one of them
+-- what a disk now reads as is one of the images that a crash may leave
 abbrev pub Reads : DiskState → Type 0
 Reads disk = Told disk (disk.images disk.moment)
 
--- how a call ends that failed: the entries are kept, and what may be found behind them is known
+-- how a call ends that failed: the entries are kept, and it is known what may be found after them
 pub record HasFailed (extent other : Extent) (before now : DiskState) (entry : List ℕ) : Type 0 where
   pub kept : IsKept other now
   pub entries : option_map (entries_within other) now.contents ≡ option_map (entries_within extent) before.contents
@@ -25,7 +26,7 @@ pub record HasFailed (extent other : Extent) (before now : DiskState) (entry : L
   pub crash : AppendsSafely extent before now entry
   pub afterwards : IsCrashSafe other now
 
--- how a call ends that succeeded: the entry stands last
+-- how a call ends that succeeded: the entry is last
 pub record HasAdded (extent other : Extent) (before now : DiskState) (entry : List ℕ) : Type 0 where
   pub kept : IsKept other now
   pub entries : option_map (entries_within other) now.contents ≡ option_map (with_last entry) (option_map (entries_within extent) before.contents)
@@ -39,7 +40,7 @@ not_unclean u = absurd (cc u)
 abbrev pub with_gate : Extent → Bool → Extent
 with_gate extent unclean = record { first = extent.first; place = extent.place; number = extent.number; unclean = unclean }
 
--- the extent with this entry behind the others
+-- the extent with this entry after the others
 abbrev pub with_entry : Extent → List ℕ → Extent
 with_entry extent entry = record { first = extent.first; place = extent.place + (3 + length entry); number = extent.number + 1; unclean = false }
 
@@ -49,12 +50,12 @@ gate_inside front place long bytes closed = omega (arith, long, ap length closed
 whole_inside : (entry front : List ℕ) (place : ℕ) → length front ≡ place → (bytes : List ℕ) → IsWhole entry front bytes → place ≤ length bytes
 whole_inside entry front place long bytes whole = omega (arith, long, ap length whole.1.text, length-append front (whole.0 ∷ (sized entry ++ whole.1.next ∷ whole.1.rest)))
 
--- the same front, with something else behind it
+-- the same front, with something else after it
 abbrev resettled : (extent : Extent) (unclean : Bool) (before now : DiskState) (s : IsSettled extent before) (risk : List ℕ)
-    → (unclean ≡ true → IsEntry risk × (extent.number < most_entries)) → EachImage now (GateIs unclean risk (s.header ++ records s.entries)) → IsSettled (with_gate extent unclean) now
+    → (unclean ≡ true → IsEntry risk × (extent.number < most_entries)) → EachImage now (GateIs unclean risk (s.front ++ records s.entries)) → IsSettled (with_gate extent unclean) now
 resettled extent unclean before now s risk fits gate = record {
-  header = s.header;
-  opens = s.opens;
+  front = s.front;
+  begins = s.begins;
   entries = s.entries;
   risk = risk;
   first = s.first;
@@ -68,7 +69,7 @@ resettled extent unclean before now s risk fits gate = record {
 -- a journal on a disk before an append of this entry
 module _ (extent : Extent) (before : DiskState) (kept : IsKept extent before) (reads : Reads before) where
   abbrev front : (bytes : List ℕ) → before.contents ≡ Some bytes → List ℕ
-  front bytes is = (kept.settled bytes is).header ++ records (kept.settled bytes is).entries
+  front bytes is = (kept.settled bytes is).front ++ records (kept.settled bytes is).entries
 
   abbrev risk : (bytes : List ℕ) → before.contents ≡ Some bytes → List ℕ
   risk bytes is = (kept.settled bytes is).risk
@@ -77,7 +78,7 @@ module _ (extent : Extent) (before : DiskState) (kept : IsKept extent before) (r
   pub inside : Told before (λ bytes. extent.place ≤ length bytes)
   inside bytes is = place_inside extent before kept.few (kept.settled bytes is) bytes (reads bytes is)
 
-  -- what the images of a later state have behind the front
+  -- what the images of a later state have after the front
   abbrev Behind : DiskState → (List ℕ → List ℕ → Type 0) → Type 0
   Behind now P = (bytes : List ℕ) (is : before.contents ≡ Some bytes) → EachImage now (P (front bytes is))
 
@@ -123,7 +124,7 @@ module _ (extent : Extent) (before : DiskState) (kept : IsKept extent before) (r
       as_told true (Some o) (Some n) tells same = same o n refl refl refl
 
   module _ (entry : List ℕ) (size : IsEntry entry) (room : extent.number < most_entries) where
-    -- the entries that may be found behind the list
+    -- the entries that may be found after the list
     abbrev AtRisk : List ℕ → Type 0
     AtRisk other = (other ≡ entry) ⊎ (entry_at_risk extent before.contents ≡ Some other)
 
@@ -131,17 +132,17 @@ module _ (extent : Extent) (before : DiskState) (kept : IsKept extent before) (r
     gate_is bytes is image gate =
         let s = kept.settled bytes is in
         let here = reads bytes is in
-        stands_as extent before kept.few s bytes here kept.first AtRisk image (gate_stands extent.first s.header s.entries s.first s.sizes AtRisk image extent.unclean s.risk (omega (arith, s.count, kept.few)) (λ u. inr (risk_told extent before s bytes is here u)) (λ u. ((s.fits u).0, omega (arith, s.count, (s.fits u).1))) gate)
+        stands_as extent before kept.few s bytes here AtRisk image (gate_stands extent.first s.front s.entries s.first s.sizes AtRisk image extent.unclean s.risk (omega (arith, s.count, kept.few)) (λ u. inr (risk_told extent before s bytes is here u)) (λ u. ((s.fits u).0, omega (arith, s.count, (s.fits u).1))) gate)
 
     closed_is : (bytes : List ℕ) (is : before.contents ≡ Some bytes) (image : List ℕ) → IsClosed (front bytes is) image → StandsFor extent bytes AtRisk image
     closed_is bytes is image closed =
         let s = kept.settled bytes is in
-        stands_as extent before kept.few s bytes (reads bytes is) kept.first AtRisk image (closed_stands extent.first s.header s.entries s.first s.sizes AtRisk image (omega (arith, s.count, kept.few)) closed)
+        stands_as extent before kept.few s bytes (reads bytes is) AtRisk image (closed_stands extent.first s.front s.entries s.first s.sizes AtRisk image (omega (arith, s.count, kept.few)) closed)
 
     whole_is : (bytes : List ℕ) (is : before.contents ≡ Some bytes) (image : List ℕ) → IsWhole entry (front bytes is) image → StandsFor extent bytes AtRisk image
     whole_is bytes is image whole =
         let s = kept.settled bytes is in
-        stands_as extent before kept.few s bytes (reads bytes is) kept.first AtRisk image (whole_stands extent.first s.header s.entries s.first s.sizes AtRisk image entry (inl refl) size (omega (arith, s.count, room)) whole)
+        stands_as extent before kept.few s bytes (reads bytes is) AtRisk image (whole_stands extent.first s.front s.entries s.first s.sizes AtRisk image entry (inl refl) size (omega (arith, s.count, room)) whole)
 
     -- the disk after the mending
     module _ (mended : DiskState) (goes : Continues before mended) (reads_mended : Reads mended)
@@ -250,16 +251,16 @@ module _ (extent : Extent) (before : DiskState) (kept : IsKept extent before) (r
                 settled bytes is =
                     let s = kept.settled bytes is in
                     record {
-                      header = s.header;
-                      opens = s.opens;
+                      front = s.front;
+                      begins = s.begins;
                       entries = s.entries ++ entry ∷ [];
                       risk = [];
                       first = s.first;
                       sizes = every-push s.entries entry s.sizes size;
                       count = omega (arith, s.count, length_push s.entries entry);
-                      at = omega (arith, s.at, ap length (front-push extent.first s.header s.entries s.first s.sizes entry), length-append (s.header ++ records s.entries) (1 ∷ sized entry));
+                      at = omega (arith, s.at, ap length (front-push extent.first s.front s.entries s.first s.sizes entry), length-append (s.front ++ records s.entries) (1 ∷ sized entry));
                       fits = not_unclean;
-                      gate = λ image left. open_record extent.first s.header s.entries s.first s.sizes entry image (opened bytes is image left);
+                      gate = λ image left. open_record extent.first s.front s.entries s.first s.sizes entry image (opened bytes is image left);
                     }
 
                 -- the entry was added

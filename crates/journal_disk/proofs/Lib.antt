@@ -4,8 +4,11 @@ pub mod RecordTexts
 pub mod Moments
 pub mod Torn
 pub mod Tells
+pub mod Fronts
 pub mod Settled
 pub mod Appending
 pub mod OpenedTexts
 pub mod ReadTexts
+pub mod Writes
+pub mod Switching
 pub mod LawProofs

@@ -1,7 +1,7 @@
 -- How a run of device calls goes on.
-use Rattle.std.proofs.Common.{◌≡◌, ℕ, List, subst, sym, arith, inl, inr}
+use Rattle.std.proofs.Common.{◌≡◌, ℕ, List, ◌∙◌, subst, sym, arith, inl, inr}
 use Rattle.std.proofs.lemmas.Bool.{cases_lt}
-use Rattle.journal_disk.specs.Disk.{DiskState, EachImage, EachImageSince, Goes, Passes, Same, Torn}
+use Rattle.journal_disk.specs.Disk.{DiskState, EachImage, EachImageSince, Goes, Passes, Same, Stays, Torn}
 use Rattle.journal_disk.specs.TornWrites.{torn_same}
 
 -- before the first call
@@ -61,3 +61,40 @@ goes_synced a b c at size one two = record {
       | inl later ↦ one.since b.moment from later (omega arith) left
       | inr stood ↦ let same : b.moment ≡ a.moment = omega (arith, one.clock.later) in (from, subst (λ m. a.images m from) same (one.clock.past b.moment from stood left), torn_same at size from)
     ]
+
+-- some calls, and then others, whose steps are one step
+pub goes_both : (Step : List ℕ → List ℕ → Type 0) → ((x y z : List ℕ) → Step x y → Step y z → Step x z) → (a b c : DiskState) → Goes Step a b → Goes Step b c → Goes Step a c
+goes_both Step joined a b c one two = record {
+  clock = passes_both a b c one.clock two.clock;
+  since = λ moment image before now left. elim (cases_lt b.moment moment) [
+    | inl late ↦ let from = two.since moment image late now left in from_start image from.0 from.1 from.2
+    | inr early ↦ one.since moment image before early (two.clock.past moment image early left)
+  ];
+}
+  where
+    from_start : (image from : List ℕ) → b.images b.moment from → Step from image → (start : List ℕ) × a.images a.moment start × Step start image
+    from_start image from left step = elim (cases_lt a.moment b.moment) [
+      | inl later ↦ let start = one.since b.moment from later (omega arith) left in (start.0, start.1, joined start.0 from image start.2 step)
+      | inr stood ↦ let same : b.moment ≡ a.moment = omega (arith, one.clock.later) in (from, subst (λ m. a.images m from) same (one.clock.past b.moment from stood left), step)
+    ]
+
+-- a step that is one of another kind
+pub goes_like : (Step Other : List ℕ → List ℕ → Type 0) → ((x y : List ℕ) → Step x y → Other x y) → (a b : DiskState) → Goes Step a b → Goes Other a b
+goes_like Step Other same a b goes = record {
+  clock = goes.clock;
+  since = λ moment image before now left. let from = goes.since moment image before now left in (from.0, from.1, same from.0 image from.2);
+}
+
+-- calls that write nothing
+pub stays_both : (a b c : DiskState) → Stays a b → Stays b c → Stays a c
+stays_both a b c one two = record {
+  contents = two.contents ∙ one.contents;
+  crash = goes_both Same (λ x y z first second. second ∙ first) a b c one.crash two.crash;
+}
+
+-- no call
+pub goes_none : (Step : List ℕ → List ℕ → Type 0) (a : DiskState) → Goes Step a a
+goes_none Step a = record {
+  clock = record { later = omega arith; past = λ moment image early left. left; kept = λ moment image early left. left };
+  since = λ moment image before now left. absurd (omega arith);
+}

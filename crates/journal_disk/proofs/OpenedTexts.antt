@@ -1,35 +1,55 @@
--- From what a text stands for to what its journal is.
-use Rattle.std.proofs.Common.{true, false, nat_lt, nat_eq, ◌≡◌, ℕ, ◌+◌, ◌*◌, ◌≤◌, ◌<◌, List, [], ◌∷◌, ◌++◌, length, take, drop, Result, refl, ◌∙◌, ap, arith, length-append}
-use Rattle.std.specs.List.{starts_with}
-use Rattle.std.specs.Str.{bytes_eq}
-use Rattle.std.proofs.lemmas.Bool.Decides.{nat_tests}
+-- From what a text opens to, to what its journal is.
+use Rattle.std.proofs.Common.{◌≡◌, ℕ, ◌*◌, ◌≤◌, List, [], ◌∷◌, ◌++◌, length, take, drop, Option, Some, Result, Err, ◌∙◌, ap, arith, length-append}
 use Rattle.std.proofs.lemmas.List.{take_all, take_at}
 use Rattle.apron_base.specs.Histories.{Every}
-use Rattle.journal_disk.specs.Entries.{entries_of, records, sized, IsEntry}
-use Rattle.journal_disk.specs.Faults.{RecordFails, TextFails}
-use Rattle.journal_disk.specs.Header.{magic, digests_in, opening_of, or_bad_record}
-use Rattle.journal_disk.specs.Limits.{first_gate, most_record}
+use Rattle.journal_disk.specs.Entries.{records, sized, IsEntry}
+use Rattle.journal_disk.specs.Faults.{FailsAs, RecordFails}
+use Rattle.journal_disk.specs.Header.{as_old, or_bad_record, unless}
+use Rattle.journal_disk.specs.Limits.{most_record}
+use Rattle.journal_disk.specs.Opening.{IsOldPart}
 use Rattle.journal_disk.specs.declared.fault.JournalFault.{JournalFault}
-use Rattle.journal_disk.specs.declared.fault.JournalFault.TheVariants.{DiskFault, NotEmpty, NotAJournal, OtherAirport, BadRecord, Memory}
+use Rattle.journal_disk.specs.declared.fault.JournalFault.TheVariants.{DiskFault, NotEmpty, NotAJournal, OtherAirport, OldFormat, BadRecord, Memory}
 
--- where the header is that of these digests, it is the records that count
-pub opened_as : (digests text : List ℕ) → first_gate < length text → starts_with nat_eq text magic ≡ true → bytes_eq (digests_in text) digests ≡ true → opening_of digests text ≡ or_bad_record (entries_of first_gate text)
-opened_as digests text long starts same =
-    let whole : nat_lt (length text) (first_gate + 1) ≡ false = grind (arith, nat_tests) in
-    rw (whole, starts, same) refl
+-- a refusal is what the text is read as
+pub fails_is : {A : Type 0} (read : Result A JournalFault) (fault : JournalFault) → read ≡ Err fault → FailsAs read fault
+fails_is read DiskFault is = is
+fails_is read NotEmpty is = is
+fails_is read Memory is = tt
+fails_is read NotAJournal is = is
+fails_is read OldFormat is = is
+fails_is read (OtherAirport kept given) is = is
+fails_is read (BadRecord number) is = is
 
--- a refusal of the records is one of the text
-pub text_fails : (digests text : List ℕ) (read : Result (List (List ℕ)) ℕ) (fault : JournalFault) → opening_of digests text ≡ or_bad_record read → RecordFails read fault → TextFails digests text fault
-text_fails digests text read DiskFault is fails = absurd fails
-text_fails digests text read NotEmpty is fails = absurd fails
-text_fails digests text read Memory is fails = fails
-text_fails digests text read NotAJournal is fails = absurd fails
-text_fails digests text read (OtherAirport kept given) is fails = absurd fails
-text_fails digests text read (BadRecord number) is fails = is ∙ ap or_bad_record fails
+-- a refusal of the header is one of all that is read after it
+pub header_fails : {A : Type 0} (header : Option JournalFault) (read : Result A JournalFault) (fault : JournalFault) → header ≡ Some fault → FailsAs (unless header read) fault
+header_fails header read fault is = fails_is (unless header read) fault (ap (λ h. unless h read) is)
+
+-- and so is a refusal of the records
+pub records_fail : (all : Result (List (List ℕ)) JournalFault) (read : Result (List (List ℕ)) ℕ) (fault : JournalFault) → all ≡ or_bad_record read → RecordFails read fault → FailsAs all fault
+records_fail all read DiskFault is fails = absurd fails
+records_fail all read NotEmpty is fails = absurd fails
+records_fail all read Memory is fails = tt
+records_fail all read NotAJournal is fails = absurd fails
+records_fail all read OldFormat is fails = absurd fails
+records_fail all read (OtherAirport kept given) is fails = absurd fails
+records_fail all read (BadRecord number) is fails = is ∙ ap or_bad_record fails
+
+pub old_records_fail : (all : Result (Option (List (List ℕ))) JournalFault) (read : Result (List (List ℕ)) ℕ) (fault : JournalFault) → all ≡ as_old (or_bad_record read) → RecordFails read fault → FailsAs all fault
+old_records_fail all read DiskFault is fails = absurd fails
+old_records_fail all read NotEmpty is fails = absurd fails
+old_records_fail all read Memory is fails = tt
+old_records_fail all read NotAJournal is fails = absurd fails
+old_records_fail all read OldFormat is fails = absurd fails
+old_records_fail all read (OtherAirport kept given) is fails = absurd fails
+old_records_fail all read (BadRecord number) is fails = is ∙ ap (λ r. as_old (or_bad_record r)) fails
 
 pub records_bound : (entries : List (List ℕ)) → Every IsEntry entries → length (records entries) ≤ most_record * length entries
 records_bound [] sizes = omega arith
 records_bound (entry ∷ entries) sizes = omega (arith, records_bound entries sizes.1, length-append (sized entry) (records entries), sizes.0.1)
+
+-- so is a refusal of an old part that was read
+pub part_bound : (text : List ℕ) (entries : List (List ℕ)) (size : ℕ) → IsOldPart text entries size → size ≤ most_record * length entries
+part_bound text entries size part = omega (arith, part.size_is, records_bound entries part.sizes)
 
 -- the whole of what was read
 pub read_whole : (n len : ℕ) (b into rest : List ℕ) → n ≡ length b → len ≡ n → into ≡ take n (drop 0 b) → take len (into ++ rest) ≡ b

@@ -1,56 +1,108 @@
 -- From what was read of a text to what its journal is.
-use Rattle.journal_disk.proofs.LawProofs.{header_opens}
-use Rattle.std.proofs.Common.{Bool, false, ◌≡◌, ℕ, ◌+◌, ◌≤◌, List, [], ◌∷◌, ◌++◌, length, take, drop, append_assoc, take-append-drop, refl, sym, ◌∙◌, ap, subst, arith, length-append}
-use Rattle.std.proofs.lemmas.List.{length-take-le}
+use Rattle.std.proofs.Common.{Bool, true, false, ◌≡◌, ℕ, ◌+◌, ◌≤◌, List, [], ◌∷◌, ◌++◌, length, take, drop, append_assoc, take-append-drop, refl, sym, ◌∙◌, ap, subst, arith, length-append}
+use Rattle.std.proofs.lemmas.List.{length-take-le, take_at}
 use Rattle.journal_disk.specs.Entries.{records}
-use Rattle.journal_disk.specs.Header.{digests_in, opening_of}
 use Rattle.journal_disk.specs.Extent.{entries_within, extent_of, IsSettled}
 use Rattle.journal_disk.specs.Gates.{IsClosed}
+use Rattle.journal_disk.specs.Header.{behind_part, has_magic, is_new}
 use Rattle.journal_disk.specs.Disk.{DiskState, IsSafe}
 use Rattle.journal_disk.specs.Limits.{first_gate}
-use Rattle.journal_disk.specs.Opening.{IsRead}
+use Rattle.journal_disk.specs.Opening.{IsNewPart, IsOldPart, IsPassed, IsRead}
+use Rattle.journal_disk.specs.Parts.{IsFront}
 use Rattle.journal_disk.proofs.Appending.{not_unclean}
+use Rattle.journal_disk.proofs.Fronts.{format_kept, magic_kept}
+use Rattle.journal_disk.proofs.OpenedTexts.{records_bound}
 use Rattle.journal_disk.proofs.Settled.{told_entries}
-use Rattle.std.specs.Prelude.{Option, None, Some, IfSome, Ok}
+use Rattle.std.specs.Prelude.{Option, None, Some, IfSome}
 use Rattle.std.specs.Option.{option_map}
 
--- a text that was read from its first gate on
-module _ (first : ℕ) (bytes : List ℕ) (entries : List (List ℕ)) (size : ℕ) (inside : first ≤ length bytes) (read : IsRead (drop first bytes) entries size) where
-  abbrev front : List ℕ
-  front = take first bytes
+-- a text whose old part was passed over
+module _ (text : List ℕ) (size : ℕ) (p : IsPassed (drop first_gate text) size) (long : first_gate ≤ length text) where
+  abbrev pub begins : List ℕ
+  begins = take first_gate text ++ (records p.0 ++ p.1.closed.gate ∷ [])
 
-  abbrev read_closed : IsClosed (front ++ records entries) bytes
-  read_closed = record {
-    gate = read.closed.gate;
-    rest = read.closed.rest;
-    text = sym (take-append-drop first bytes) ∙ ap (λ (l : List ℕ). front ++ l) read.closed.text ∙ sym (append_assoc front (records entries) (read.closed.gate ∷ read.closed.rest));
-    shut = read.closed.shut;
+  pub goes : text ≡ begins ++ p.1.closed.rest
+  goes =
+      sym (take-append-drop first_gate text) ∙ ap (λ (l : List ℕ). take first_gate text ++ l) p.1.closed.text
+      ∙ ap (λ (l : List ℕ). take first_gate text ++ l) (sym (append_assoc (records p.0) (p.1.closed.gate ∷ []) p.1.closed.rest))
+      ∙ sym (append_assoc (take first_gate text) (records p.0 ++ p.1.closed.gate ∷ []) p.1.closed.rest)
+
+  pub begins_length : length begins ≡ behind_part size
+  begins_length = omega (arith, p.1.size_is, length-take-le first_gate text long, length-append (take first_gate text) (records p.0 ++ p.1.closed.gate ∷ []), length-append (records p.0) (p.1.closed.gate ∷ []))
+
+  pub part_inside : behind_part size ≤ length text
+  part_inside = omega (arith, begins_length, ap length goes, length-append begins p.1.closed.rest)
+
+  abbrev pub front_of : (new : Bool) → has_magic text ≡ true → is_new text ≡ new → IsFront new (take (behind_part size) text)
+  front_of new magic format = record {
+    header = take first_gate text;
+    old = p.0;
+    gate = p.1.closed.gate;
+    text = ap (take (behind_part size)) goes ∙ take_at begins p.1.closed.rest (behind_part size) begins_length;
+    long = length-take-le first_gate text long;
+    magic = magic_kept text ∙ magic;
+    format = format_kept text ∙ format;
+    sizes = p.1.sizes;
+    few = p.1.few;
+    shut = p.1.closed.shut;
   }
 
-  read_place : length (front ++ records entries) ≡ first + size
-  read_place = omega (arith, length-append front (records entries), length-take-le first bytes inside, read.size_is)
+-- the new part of a text of format 2
+pub new_part : (text : List ℕ) (size : ℕ) (entries : List (List ℕ)) (length_is : ℕ) → first_gate ≤ length text → has_magic text ≡ true → is_new text ≡ true → IsPassed (drop first_gate text) size
+    → IsRead (drop (behind_part size) text) entries length_is → IsNewPart text (behind_part size) entries length_is
+new_part text size entries length_is long magic new p read = record {
+  front = front_of text size p long true magic new;
+  inside = part_inside text size p long;
+  early = omega (arith, p.1.size_is, p.1.few, records_bound p.0 p.1.sizes);
+  read = read;
+}
 
-  -- a journal that was read, and is safe, is settled
-  pub read_settled : (digests : List ℕ) (disk : DiskState) → first ≡ first_gate → opening_of digests bytes ≡ Ok entries → IsSafe bytes disk → IsSettled (extent_of first (first + size) (length entries) false) disk
-  read_settled digests disk gate opened safe = record {
-    opens = subst (λ n. opening_of (digests_in (take n bytes)) (take n bytes ++ 0 ∷ []) ≡ Ok []) (sym gate) (header_opens digests bytes entries opened (subst (λ n. n ≤ length bytes) gate inside));
-    header = front;
-    entries = entries;
-    risk = [];
-    first = length-take-le first bytes inside;
-    sizes = read.sizes;
-    count = refl;
-    at = read_place;
-    fits = not_unclean;
-    gate = λ image left. subst (IsClosed (front ++ records entries)) (sym (safe image left)) read_closed;
-  }
+-- the old part of a text of format 1
+pub old_part : (text : List ℕ) (entries : List (List ℕ)) (size : ℕ) → first_gate ≤ length text → has_magic text ≡ true → is_new text ≡ false → IsRead (drop first_gate text) entries size → IsOldPart text entries size
+old_part text entries size long magic old read = record {
+  front = front_of text size (entries, read) long false magic old;
+  same = refl;
+  inside = part_inside text size (entries, read) long;
+  few = read.few;
+  sizes = read.sizes;
+  size_is = read.size_is;
+}
 
-  -- its entries are those that were read
-  pub read_list : (number : ℕ) (unclean : Bool) → entries_within (extent_of first (first + size) number unclean) bytes ≡ entries
-  read_list number unclean =
-      told_entries first front entries (length-take-le first bytes inside) read.sizes (first + size) (read.closed.gate ∷ read.closed.rest) bytes read_place read.few read_closed.text
+-- the front of a text that was read
+read_closed : (bytes : List ℕ) (first : ℕ) (entries : List (List ℕ)) (size : ℕ) → IsRead (drop first bytes) entries size → IsClosed (take first bytes ++ records entries) bytes
+read_closed bytes first entries size read = record {
+  gate = read.closed.gate;
+  rest = read.closed.rest;
+  text = sym (take-append-drop first bytes) ∙ ap (λ (l : List ℕ). take first bytes ++ l) read.closed.text ∙ sym (append_assoc (take first bytes) (records entries) (read.closed.gate ∷ read.closed.rest));
+  shut = read.closed.shut;
+}
 
--- what is made of the bytes where they are told
+read_place : (bytes : List ℕ) (first : ℕ) (entries : List (List ℕ)) (size : ℕ) → first ≤ length bytes → IsRead (drop first bytes) entries size → length (take first bytes ++ records entries) ≡ first + size
+read_place bytes first entries size long read = omega (arith, length-append (take first bytes) (records entries), length-take-le first bytes long, read.size_is)
+
+-- a journal that was read, and is safe, is settled
+pub read_settled : (bytes : List ℕ) (first : ℕ) (entries : List (List ℕ)) (size : ℕ) (disk : DiskState) → IsNewPart bytes first entries size → IsSafe bytes disk → IsSettled (extent_of first (first + size) (length entries) false) disk
+read_settled bytes first entries size disk part safe = record {
+  begins = part.front;
+  front = take first bytes;
+  entries = entries;
+  risk = [];
+  first = length-take-le first bytes part.inside;
+  sizes = part.read.sizes;
+  count = refl;
+  at = read_place bytes first entries size part.inside part.read;
+  fits = not_unclean;
+  gate = λ image left. subst (IsClosed (take first bytes ++ records entries)) (sym (safe image left)) (read_closed bytes first entries size part.read);
+}
+
+-- and its entries are those that were read
+pub read_list : (bytes : List ℕ) (first : ℕ) (entries : List (List ℕ)) (size number : ℕ) (unclean : Bool) → IsNewPart bytes first entries size → entries_within (extent_of first (first + size) number unclean) bytes ≡ entries
+read_list bytes first entries size number unclean part =
+    let read = part.read in
+    let closed = read_closed bytes first entries size read in
+    told_entries first (take first bytes) entries (length-take-le first bytes part.inside) read.sizes (first + size) (closed.gate ∷ closed.rest) bytes (read_place bytes first entries size part.inside read) read.few closed.text
+
+-- what is made of the bytes if they are exposed
 pub if_told : {B : Type 0} (f : List ℕ → B) (contents : Option (List ℕ)) (found : B) → ((bytes : List ℕ) → contents ≡ Some bytes → f bytes ≡ found) → IfSome (option_map f contents) (λ made. made ≡ found)
 if_told f None found same = tt
 if_told f (Some bytes) found same = same bytes refl

@@ -1,4 +1,4 @@
--- What texts of records stand for.
+-- What texts of records are read as.
 use Rattle.std.proofs.Common.{cond, inl, inr, length-drop, true, false, Bool, get_or, ◌&&◌, nat_le, nat_lt, subst, take-append-drop, ◌≡◌, ◌≢◌, ℕ, zero, suc, ◌+◌, ◌-◌, ◌*◌, ◌/◌, ◌%◌, ◌≤◌, ◌<◌, List, [], ◌∷◌, ◌++◌, length, take, drop, Option, Some, None, Result, Ok, Err, refl, sym, ◌∙◌, ap, arith, append_assoc, length-append}
 use Rattle.std.proofs.lemmas.List.{get_or-drop, length-take-le, length_push, take_rest, take_at, drop_at}
 use Rattle.std.proofs.lemmas.Bool.{cases_eq}
@@ -6,8 +6,8 @@ use Rattle.std.proofs.lemmas.Bool.Decides.{nat_tests}
 use Rattle.apron_base.specs.Histories.{Every}
 use Rattle.journal_disk.specs.Limits.{most_entries, most_bytes}
 use Rattle.journal_disk.specs.Gates.{IsClosed}
-use Rattle.journal_disk.specs.Opening.{NextIs}
-use Rattle.journal_disk.specs.Entries.{behind_gate, closed_gate, open_gate, before_rest, with_record, entries_from, sized, records, IsEntry}
+use Rattle.journal_disk.specs.Opening.{IsRead, NextIs}
+use Rattle.journal_disk.specs.Entries.{behind_gate, closed_gate, open_gate, before_rest, with_record, entries_from, part_length, sized, records, IsEntry}
 
 -- these entries and then those of the rest
 abbrev pub after_entries : List (List ℕ) → Result (List (List ℕ)) ℕ → Result (List (List ℕ)) ℕ
@@ -44,7 +44,7 @@ front_of : (entries : List (List ℕ)) (gate : ℕ) (rest : List ℕ) → (g : �
 front_of [] gate rest = (gate, rest, refl)
 front_of (entry ∷ entries) gate rest = (1, (sized entry ++ records entries) ++ gate ∷ rest, refl)
 
--- records and then a closed gate stand for their entries, whatever comes behind
+-- records and then a closed gate are read as their entries, whatever comes after
 pub entries-closed : (entries : List (List ℕ)) (left gate : ℕ) (rest : List ℕ) → Every IsEntry entries → length entries ≤ left → gate ≢ 1 → entries_from left (records entries ++ gate ∷ rest) ≡ Ok entries
 entries-closed [] left gate rest sizes few shut = closed left gate rest shut
 entries-closed (entry ∷ entries) zero gate rest sizes few shut = absurd (omega arith)
@@ -58,7 +58,7 @@ entries-closed (entry ∷ entries) (suc left) gate rest sizes few shut =
     ∙ ap (λ l. before_rest entry (entries_from left l)) (sym front.2)
     ∙ ap (before_rest entry) others
 
--- The turns of a reading. So many entries were read before.
+-- The turns of a reading. This many entries were read before.
 pub turn_end : (number : ℕ) (text : List ℕ) → number ≤ most_entries → length text ≡ 0 → entries_from (most_entries - number) text ≡ Err (number + 1)
 unfolding entries_from
 turn_end number [] few none = ap Err (omega (arith, few))
@@ -251,3 +251,49 @@ read_is (suc left) (gate ∷ rest) entries are is = elim (cases_eq gate 1) [
       subst (λ g. IsText (suc left) (g ∷ rest) entries) (sym is_open) (more_read left rest entries (bytes_behind gate rest are) found others)
   | inr shut ↦ nothing_read (suc left) gate rest entries shut is
 ]
+
+-- A part that is passed over.
+abbrev pub plus_length : ℕ → Option ℕ → Option ℕ
+plus_length n (Some m) = Some (n + m)
+plus_length n None = None
+
+pub plus_zero : (p : Option ℕ) → plus_length 0 p ≡ p
+plus_zero (Some m) = ap (λ i. Some i) (omega arith)
+plus_zero None = refl
+
+plus_plus : (n m : ℕ) (p : Option ℕ) → plus_length n (plus_length m p) ≡ plus_length (n + m) p
+plus_plus n m (Some k) = ap (λ i. Some i) (omega arith)
+plus_plus n m None = refl
+
+length_before : (entry : List ℕ) (r : Result (List (List ℕ)) ℕ) → part_length (before_rest entry r) ≡ plus_length (3 + length entry) (part_length r)
+length_before entry (Ok entries) = ap (λ i. Some i) (omega (arith, length-append (sized entry) (records entries)))
+length_before entry (Err number) = refl
+
+-- a turn of the loop
+pub passing : (text rest after entry : List ℕ) (number : ℕ) → NextIs number rest (Some (entry, after)) → length rest ≤ length text
+    → part_length (entries_from most_entries text) ≡ plus_length (length text - length rest) (part_length (entries_from (most_entries - number) rest))
+    → (number + 1 ≤ most_entries) × (length after ≤ length text) × (part_length (entries_from most_entries text) ≡ plus_length (length text - length after) (part_length (entries_from (most_entries - (number + 1)) after)))
+passing text rest after entry number next inside read =
+    let others = entries_from (most_entries - (number + 1)) after in
+    let so_far : length text - length rest + (3 + length entry) ≡ length text - length after = omega (arith, next.2, inside) in (
+      omega (arith, next.0),
+      omega (arith, next.2, inside),
+      read
+          ∙ ap (λ r. plus_length (length text - length rest) (part_length r)) next.1
+          ∙ ap (plus_length (length text - length rest)) (length_before entry others)
+          ∙ plus_plus (length text - length rest) (3 + length entry) (part_length others)
+          ∙ ap (λ n. plus_length n (part_length others)) so_far,
+    )
+
+some_number : (a b : ℕ) → Some a ≡ Some b → a ≡ b
+some_number a b is = cc
+
+-- what was passed over is records and a closed gate
+pub passed_is : (text : List ℕ) (size : ℕ) → AreBytes text → part_length (entries_from most_entries text) ≡ Some size → (old : List (List ℕ)) × IsRead text old size
+passed_is text size are is = by_read (entries_from most_entries text) refl is
+  where
+    by_read : (r : Result (List (List ℕ)) ℕ) → entries_from most_entries text ≡ r → part_length r ≡ Some size → (old : List (List ℕ)) × IsRead text old size
+    by_read (Err number) read e = absurd (cc e)
+    by_read (Ok old) read e =
+        let whole = read_is most_entries text old are read in
+        (old, record { sizes = whole.sizes; few = whole.few; closed = whole.closed; size_is = sym (some_number (length (records old)) size e) })

@@ -15,7 +15,7 @@ length-with_pieces (Passed ∷ calls) pieces = ap (λ n. suc n) (length-with_pie
 length-with_pieces (Wrote at size done ∷ calls) pieces = ap (λ n. suc n) (length-with_pieces calls (drop size pieces))
 length-with_pieces (Synced ∷ calls) pieces = ap (λ n. suc n) (length-with_pieces calls pieces)
 
--- a call put last, with its piece behind the others
+-- a call put last, with its piece after the others
 pub with_pieces-push : (calls : List DiskCall) (call : DiskCall) (pieces piece : List ℕ) → pieces_length calls ≡ length pieces → piece_length call ≡ length piece
     → with_pieces (calls ++ call ∷ []) (pieces ++ piece) ≡ with_pieces calls pieces ++ with_piece call piece ∷ []
 with_pieces-push [] Passed pieces piece is fits = refl

@@ -1,18 +1,18 @@
--- What images with a settled front stand for.
-use Rattle.std.proofs.Common.{◌≡◌, ◌≢◌, ◌⊎◌, inl, inr, ℕ, ◌+◌, ◌≤◌, ◌<◌, List, [], ◌∷◌, ◌++◌, length, take, drop, Bool, true, false, Some, Ok, refl, sym, ◌∙◌, ap, subst, arith, append_assoc, length-append}
+-- What images with a settled front are read as.
+use Rattle.std.proofs.Common.{◌≡◌, ◌≢◌, ◌⊎◌, inl, inr, ℕ, ◌+◌, ◌≤◌, ◌<◌, List, [], ◌∷◌, ◌++◌, length, take, drop, Bool, true, false, Some, Ok, refl, sym, ◌∙◌, ap, subst, arith, append_assoc, length-append, take-append-drop}
 use Rattle.std.specs.Prelude.{Option}
 use Rattle.std.specs.Option.{option_map}
 use Rattle.std.specs.Result.{result_unwrap_or}
 use Rattle.std.proofs.lemmas.Bool.{cases_eq}
-use Rattle.std.proofs.lemmas.List.{take_all, take_at, drop_at, append-nil, length_push}
+use Rattle.std.proofs.lemmas.List.{take_at, drop_at, append-nil, length_push}
 use Rattle.apron_base.specs.Histories.{Every}
 use Rattle.journal_disk.specs.Disk.{DiskState, Told}
 use Rattle.journal_disk.specs.Entries.{behind_gate, entries_from, entries_of, records, sized, IsEntry}
 use Rattle.journal_disk.specs.Extent.{Extent, entries_within, entry_at, entry_at_risk, entry_if, IsCrashSafe, IsKept, IsSettled, StandsFor}
 use Rattle.journal_disk.specs.Gates.{IsClosed, IsRecord, IsWhole, GateIs}
 use Rattle.journal_disk.specs.Header.{digests_in, opening_of}
-use Rattle.journal_disk.specs.Limits.{first_gate, most_entries}
-use Rattle.journal_disk.proofs.LawProofs.{digests_kept, image_opens}
+use Rattle.journal_disk.specs.Limits.{most_entries}
+use Rattle.journal_disk.proofs.Fronts.{digests_are, opens_new}
 use Rattle.journal_disk.proofs.RecordTexts.{entries-closed, is_shut, behind_gate-sized, records-append}
 
 pub every-push : (entries : List (List ℕ)) (entry : List ℕ) → Every IsEntry entries → IsEntry entry → Every IsEntry (entries ++ entry ∷ [])
@@ -23,7 +23,7 @@ every-push (e ∷ entries) entry sizes is = (sizes.0, every-push entries entry s
 pub shut_record : (front : List ℕ) (gate : ℕ) (entry image : List ℕ) → gate ≢ 1 → IsRecord gate entry front image → IsClosed front image
 shut_record front gate entry image shut is = record { gate = gate; rest = sized entry ++ is.next ∷ is.rest; text = is.text; shut = shut }
 
--- an image goes on behind its front
+-- how an image goes on after its front
 pub gate_text : (unclean : Bool) (risk front image : List ℕ) → GateIs unclean risk front image → (rest : List ℕ) × (image ≡ front ++ rest)
 gate_text false risk front image closed = (closed.gate ∷ closed.rest, closed.text)
 gate_text true risk front image whole = (whole.0 ∷ (sized risk ++ whole.1.next ∷ whole.1.rest), whole.1.text)
@@ -52,7 +52,7 @@ module _ (first : ℕ) (header : List ℕ) (entries : List (List ℕ)) (long : l
       ∙ ap (entries_from most_entries) (behind_header (closed.gate ∷ closed.rest))
       ∙ entries-closed entries most_entries closed.gate closed.rest sizes few closed.shut
 
-  -- the entries that the bytes tell
+  -- the entries that the bytes give
   pub told_entries : (place : ℕ) (rest bytes : List ℕ) → length front ≡ place → length entries ≤ most_entries → bytes ≡ front ++ rest → result_unwrap_or (entries_of first (take place bytes ++ 0 ∷ [])) [] ≡ entries
   told_entries place rest bytes reach few text =
       let start : take place bytes ≡ front = ap (take place) text ∙ take_at front rest place reach in
@@ -102,38 +102,34 @@ module _ (first : ℕ) (header : List ℕ) (entries : List (List ℕ)) (long : l
   gate_stands false entry few risk fits gate = closed_stands few gate
   gate_stands true entry few risk fits gate = whole_stands entry (risk refl) (fits refl).0 (fits refl).1 gate
 
--- what a disk tells of a settled journal on it
+-- what a disk exposes of a settled journal on it
 module _ (extent : Extent) (disk : DiskState) (few : extent.number ≤ most_entries) (s : IsSettled extent disk) (bytes : List ℕ) (reads : disk.images disk.moment bytes) where
-  text : (rest : List ℕ) × (bytes ≡ (s.header ++ records s.entries) ++ rest)
-  text = gate_text extent.unclean s.risk (s.header ++ records s.entries) bytes (s.gate bytes reads)
+  text : (rest : List ℕ) × (bytes ≡ (s.front ++ records s.entries) ++ rest)
+  text = gate_text extent.unclean s.risk (s.front ++ records s.entries) bytes (s.gate bytes reads)
 
   pub list_told : entries_within extent bytes ≡ s.entries
-  list_told = told_entries extent.first s.header s.entries s.first s.sizes extent.place text.0 bytes s.at (omega (arith, s.count, few)) text.1
+  list_told = told_entries extent.first s.front s.entries s.first s.sizes extent.place text.0 bytes s.at (omega (arith, s.count, few)) text.1
 
-  pub header_told : take extent.first bytes ≡ s.header
-  header_told = ap (take extent.first) text.1 ∙ header_of extent.first s.header s.entries s.first s.sizes text.0
+  pub header_told : take extent.first bytes ≡ s.front
+  header_told = ap (take extent.first) text.1 ∙ header_of extent.first s.front s.entries s.first s.sizes text.0
 
   pub place_inside : extent.place ≤ length bytes
-  place_inside = omega (arith, s.at, ap length text.1, length-append (s.header ++ records s.entries) text.0)
+  place_inside = omega (arith, s.at, ap length text.1, length-append (s.front ++ records s.entries) text.0)
 
 -- what an image opens to
-module _ (extent : Extent) (disk : DiskState) (few : extent.number ≤ most_entries) (s : IsSettled extent disk) (bytes : List ℕ) (reads : disk.images disk.moment bytes) (is_first : extent.first ≡ first_gate) where
-  same_digests : digests_in bytes ≡ digests_in s.header
+module _ (extent : Extent) (disk : DiskState) (few : extent.number ≤ most_entries) (s : IsSettled extent disk) (bytes : List ℕ) (reads : disk.images disk.moment bytes) where
+  same_digests : digests_in bytes ≡ digests_in s.begins.header
   same_digests =
-      let told : take first_gate bytes ≡ s.header = subst (λ n. take n bytes ≡ s.header) is_first (header_told extent disk few s bytes reads) in
-      let again : take first_gate s.header ≡ s.header = take_all first_gate s.header (omega (arith, s.first, is_first)) in
-      sym (digests_kept bytes) ∙ ap (drop 8) told ∙ ap (drop 8) (sym again) ∙ digests_kept s.header
+      let go = text extent disk few s bytes reads in
+      digests_are true s.front s.begins bytes (records s.entries ++ go.0) (go.1 ∙ append_assoc s.front (records s.entries) go.0)
 
-  opens_to : (image : List ℕ) (found : List (List ℕ)) → take extent.first image ≡ s.header → entries_of extent.first image ≡ Ok found → opening_of (digests_in bytes) image ≡ Ok found
+  opens_to : (image : List ℕ) (found : List (List ℕ)) → take extent.first image ≡ s.front → entries_of extent.first image ≡ Ok found → opening_of (digests_in bytes) image ≡ Ok found
   opens_to image found header entries =
-      let front : take first_gate (s.header ++ 0 ∷ []) ≡ s.header = take_at s.header (0 ∷ []) first_gate (s.first ∙ is_first) in
-      let at : take first_gate image ≡ s.header = subst (λ n. take n image ≡ s.header) is_first header in
-      let here : entries_of first_gate image ≡ Ok found = subst (λ n. entries_of n image ≡ Ok found) is_first entries in
-      let opens = image_opens (digests_in s.header) (s.header ++ 0 ∷ []) image [] found s.opens (at ∙ sym front) here in
-      subst (λ d. opening_of d image ≡ Ok found) (sym same_digests) opens
+      let goes : image ≡ s.front ++ drop extent.first image = sym (take-append-drop extent.first image) ∙ ap (λ (l : List ℕ). l ++ drop extent.first image) header in
+      opens_new s.front s.begins image (drop extent.first image) (digests_in bytes) found goes same_digests entries
 
-  -- what holds of an image by the front holds by the bytes that are told
-  pub stands_as : (AtRisk : List ℕ → Type 0) (image : List ℕ) → HasEntries extent.first s.header s.entries AtRisk image → StandsFor extent bytes AtRisk image
+  -- what holds of an image by its front holds by the exposed bytes
+  pub stands_as : (AtRisk : List ℕ → Type 0) (image : List ℕ) → HasEntries extent.first s.front s.entries AtRisk image → StandsFor extent bytes AtRisk image
   stands_as AtRisk image has =
       let Opens : List (List ℕ) → Type 0 = λ found. opening_of (digests_in bytes) image ≡ Ok found in
       let opened : Opens s.entries ⊎ ((entry : List ℕ) × AtRisk entry × Opens (s.entries ++ entry ∷ [])) = elim (has.1) [
@@ -153,7 +149,7 @@ whole_at false risk front bytes u gate = absurd (cc u)
 
 pub risk_told : (extent : Extent) (disk : DiskState) (s : IsSettled extent disk) (bytes : List ℕ) → disk.contents ≡ Some bytes → disk.images disk.moment bytes → extent.unclean ≡ true → entry_at_risk extent disk.contents ≡ Some s.risk
 risk_told extent disk s bytes is reads u =
-    if_told extent.unclean extent.place disk.contents bytes s.risk is u (λ v. told_risk extent.first s.header s.entries s.first s.sizes extent.place s.risk bytes s.at (s.fits v).0 (whole_at extent.unclean s.risk (s.header ++ records s.entries) bytes v (s.gate bytes reads)))
+    if_told extent.unclean extent.place disk.contents bytes s.risk is u (λ v. told_risk extent.first s.front s.entries s.first s.sizes extent.place s.risk bytes s.at (s.fits v).0 (whole_at extent.unclean s.risk (s.front ++ records s.entries) bytes v (s.gate bytes reads)))
 
 -- a journal that is kept is safe from a crash
 pub kept_safe : (extent : Extent) (disk : DiskState) → IsKept extent disk → Told disk (disk.images disk.moment) → IsCrashSafe extent disk
@@ -161,4 +157,4 @@ kept_safe extent disk kept reads bytes is image left =
     let s = kept.settled bytes is in
     let here = reads bytes is in
     let AtRisk : List ℕ → Type 0 = λ entry. entry_at_risk extent disk.contents ≡ Some entry in
-    stands_as extent disk kept.few s bytes here kept.first AtRisk image (gate_stands extent.first s.header s.entries s.first s.sizes AtRisk image extent.unclean s.risk (omega (arith, s.count, kept.few)) (risk_told extent disk s bytes is here) (λ u. ((s.fits u).0, omega (arith, s.count, (s.fits u).1))) (s.gate image left))
+    stands_as extent disk kept.few s bytes here AtRisk image (gate_stands extent.first s.front s.entries s.first s.sizes AtRisk image extent.unclean s.risk (omega (arith, s.count, kept.few)) (risk_told extent disk s bytes is here) (λ u. ((s.fits u).0, omega (arith, s.count, (s.fits u).1))) (s.gate image left))

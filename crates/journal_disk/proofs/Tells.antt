@@ -1,6 +1,6 @@
--- What is told before a call and after it.
+-- What is exposed before a call and after it.
 use Rattle.std.proofs.Common.{◌≡◌, ℕ, true, false, List, Result, Ok, Err, OnOk, OnErr, IfErr, subst, refl, sym, ap}
-use Rattle.std.specs.Prelude.{Option, Some, None}
+use Rattle.std.specs.Prelude.{IfSome, Option, Some, None}
 use Rattle.std.specs.Result.{IsErrAnd}
 use Rattle.std.specs.Option.{option_map}
 use Rattle.apron_base.specs.Counts.{Counts}
@@ -18,14 +18,14 @@ on_ok (Err e) a f = tt
 none_some : (bytes : List ℕ) → None ≡ Some bytes → ⊥
 none_some bytes is = cc
 
--- what is told after a call was told before it
+-- what is exposed after a call was exposed before it
 pub told_before : (R : List ℕ → List ℕ → Type 0) (old new : Option (List ℕ)) (after : List ℕ) → Between R old new → new ≡ Some after → (b : List ℕ) × (old ≡ Some b)
 told_before R None None after between is = absurd (none_some after is)
 told_before R None (Some n) after between is = absurd between
 told_before R (Some b) None after between is = absurd between
 told_before R (Some b) (Some n) after between is = (b, refl)
 
--- what is told before a call is told after it
+-- what is exposed before a call is exposed after it
 pub told_after : (R : List ℕ → List ℕ → Type 0) (old new : Option (List ℕ)) (b : List ℕ) → Between R old new → old ≡ Some b → (after : List ℕ) × (new ≡ Some after)
 told_after R None None b between is = absurd (none_some b is)
 told_after R None (Some n) b between is = absurd between
@@ -47,7 +47,7 @@ continues_both a b c one two = record {
   clock = passes_both a b c one.clock two.clock;
 }
 
--- what is made of the told bytes
+-- what is made of the exposed bytes
 pub mapped : {B : Type 0} (f g : List ℕ → B) (old new : Option (List ℕ)) → Between Any old new → ((b after : List ℕ) → old ≡ Some b → new ≡ Some after → g after ≡ f b) → option_map g new ≡ option_map f old
 mapped f g None None tells same = refl
 mapped f g None (Some n) tells same = absurd tells
@@ -70,3 +70,13 @@ counts_then before between now same rose = subst (λ n. Counts true n now) same 
 pub if_err_is : {T E : Type 0} (P : E → Type 0) (r : Result T E) (e : E) → IsErrAnd r (λ f. f ≡ e) → P e → IfErr r P
 if_err_is P (Ok x) e is p = tt
 if_err_is P (Err f) e is p = subst P (sym is) p
+
+-- what holds of what there is
+pub if_some : {A : Type 0} (o : Option A) {P Q : A → Type 0} → ((x : A) → P x → Q x) → IfSome o P → IfSome o Q
+if_some None f p = tt
+if_some (Some x) f p = f x p
+
+-- what is exposed is exposed alike
+pub told_same : (o : Option (List ℕ)) → Between Any o o
+told_same None = tt
+told_same (Some b) = tt

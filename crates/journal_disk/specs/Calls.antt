@@ -7,7 +7,7 @@ use Rattle.journal_disk.specs.declared.memory_disk.Room.{Room}
 use Rattle.journal_disk.specs.declared.memory_disk.DiskCall.{DiskCall}
 use Rattle.journal_disk.specs.declared.memory_disk.DiskCall.TheVariants.{Passed, Wrote, Synced}
 
--- a call that changed nothing, a write of a piece at a place, which was done or failed, or a sync
+-- a call that changed nothing; a write of a piece at a place, which was done or failed; or a sync
 -- that was done
 pub data Call : Type 0 where
   Idle : Call
@@ -19,7 +19,7 @@ abbrev pub after_call : Call → List ℕ → List ℕ
 after_call (Write at piece done) bytes = if done && nat_le at (length bytes) then written at piece bytes else bytes
 after_call _ bytes = bytes
 
--- what a crash may leave after a call, of a disk that reads as these bytes
+-- what a crash may leave after a call on a disk that reads as these bytes
 abbrev pub left_after : Call → List ℕ → (List ℕ → Type 0) → List ℕ → Type 0
 left_after Idle bytes Left image = Left image
 left_after (Write at piece done) bytes Left image = (from : List ℕ) × Left from × Torn at (length piece) from image
@@ -30,12 +30,12 @@ abbrev pub after_calls : List Call → List ℕ → List ℕ
 after_calls [] bytes = bytes
 after_calls (call ∷ calls) bytes = after_calls calls (after_call call bytes)
 
--- what a crash may leave after many calls, of a disk that read as these bytes before them
+-- what a crash may leave after many calls on a disk that read as these bytes before them
 abbrev pub left_by : List Call → List ℕ → (List ℕ → Type 0) → List ℕ → Type 0
 left_by [] bytes Left image = Left image
 left_by (call ∷ calls) bytes Left image = left_by calls (after_call call bytes) (left_after call bytes Left) image
 
--- the images of a moment, which is a number of calls, of a disk that had these bytes at first
+-- the images of a moment, which is a number of calls, on a disk that had these bytes at first
 abbrev pub images_at : List ℕ → List Call → ℕ → List ℕ → Type 0
 images_at first calls moment image = left_by (take moment calls) first (λ bytes. bytes ≡ first) image
 
@@ -45,7 +45,7 @@ Step (Write at piece done) = Torn at (length piece)
 Step _ = Same
 
 -- a disk in memory as contracts see it: its bytes at the beginning, its calls since then, the
--- numbers of the calls that are to fail, what it has room for, and how often a call has failed
+-- numbers of the calls that are to fail, its room, and how many calls have failed
 pub record MemoryHeld : Type 0 where
   pub first : List ℕ
   pub calls : List Call
@@ -80,7 +80,8 @@ abbrev pub sizes_of : List Call → ℕ
 sizes_of [] = 0
 sizes_of (call ∷ calls) = size_of call + sizes_of calls
 
--- the next call passes no room; one by which the disk doesn't grow needs none for its bytes
+-- the next call stays within the room; a call by which the disk doesn't grow needs no room for its
+-- bytes
 abbrev pub has_room : MemoryHeld → Call → Bool
 has_room held call =
     let bytes = bytes_of held in
@@ -88,7 +89,7 @@ has_room held call =
     && nat_le (sizes_of held.calls + size_of call) held.room.written
     && nat_le (length (after_call call bytes)) (max held.room.bytes (length bytes))
 
--- the calls with their pieces, which stand one behind the other
+-- the calls with their pieces, which are in the list one after the other
 abbrev pub with_pieces : List DiskCall → List ℕ → List Call
 with_pieces [] pieces = []
 with_pieces (Passed ∷ calls) pieces = Idle ∷ with_pieces calls pieces
@@ -111,7 +112,7 @@ abbrev pub pieces_length : List DiskCall → ℕ
 pieces_length [] = 0
 pieces_length (call ∷ calls) = piece_length call + pieces_length calls
 
--- the same call where it fails
+-- the same call if it fails
 abbrev pub failed_call : DiskCall → DiskCall
 failed_call (Wrote at size done) = Wrote at size false
 failed_call _ = Passed

@@ -1,31 +1,30 @@
 -- Disks: what they read as, what a crash may leave, and what their calls do to both.
 use Rattle.std.specs.Prelude.{◌≡◌, ℕ, ◌+◌, ◌≤◌, ◌<◌, List, ◌++◌, length, take, drop, Option, Some, None}
 
--- A disk at one time: what it reads as, where it tells that; the moment, a number that does not
--- fall; the images that a crash at each moment up to now may leave; and how often a call has
--- failed.
+-- A disk at one time: what it reads as, if it exposes that; the moment, a number that does not
+-- fall; the images that a crash at each moment up to now may leave; and how many calls have failed.
 pub record DiskState : Type 1 where
   pub contents : Option (List ℕ)
   pub moment : ℕ
   pub images : ℕ → List ℕ → Type 0
   pub faults : ℕ
 
--- a disk that tells nothing of what it reads as, and of which a crash may leave anything, after so
+-- a disk that exposes nothing of what it reads as, of which a crash may leave anything, after this
 -- many faults
 abbrev pub untold_disk : ℕ → DiskState
 untold_disk faults = record { contents = None; moment = 0; images = λ _ _. Unit {0}; faults = faults }
 
--- the fact of what the disk reads as, where it tells that
+-- the fact about what the disk reads as, if it exposes that
 abbrev pub Told : DiskState → (List ℕ → Type 0) → Type 0
 Told disk P = (bytes : List ℕ) → disk.contents ≡ Some bytes → P bytes
 
--- both are told and so related, or neither is told
+-- both are exposed and so related, or neither is exposed
 abbrev pub Between : (List ℕ → List ℕ → Type 0) → Option (List ℕ) → Option (List ℕ) → Type 0
 Between R (Some before) (Some now) = R before now
 Between R None None = Unit {0}
 Between R _ _ = ⊥
 
--- the disk tells what it reads as exactly where it told it before
+-- the disk exposes what it reads as exactly if it did before
 abbrev pub TellsAlike : DiskState → DiskState → Type 0
 TellsAlike before now = Between (λ _ _. Unit {0}) before.contents now.contents
 
@@ -33,7 +32,7 @@ TellsAlike before now = Between (λ _ _. Unit {0}) before.contents now.contents
 abbrev pub written : ℕ → List ℕ → List ℕ → List ℕ
 written at piece bytes = take at bytes ++ (piece ++ drop (at + length piece) bytes)
 
--- after a write of so many bytes that was cut short: any bytes in its range and past the old end,
+-- after a write of this many bytes that was cut short: any bytes in its range and past the old end,
 -- the same elsewhere
 pub record Torn (at size : ℕ) (old new : List ℕ) : Type 0 where
   pub before : take at new ≡ take at old
@@ -68,13 +67,13 @@ pub record Passes (before now : DiskState) : Type 0 where
   pub past : (moment : ℕ) (image : List ℕ) → moment ≤ before.moment → now.images moment image → before.images moment image
   pub kept : (moment : ℕ) (image : List ℕ) → moment ≤ before.moment → before.images moment image → now.images moment image
 
--- time goes on, and what a crash may leave since then is an image from before after one such step
+-- time goes on, and what a crash since then may leave is an image from before, after one such step
 pub record Goes (Step : List ℕ → List ℕ → Type 0) (before now : DiskState) : Type 0 where
   pub clock : Passes before now
   pub since : (moment : ℕ) (image : List ℕ) → before.moment < moment → moment ≤ now.moment → now.images moment image
       → (from : List ℕ) × before.images before.moment from × Step from image
 
--- some calls: the disk tells what it reads as exactly where it told it before, and time goes on
+-- after some calls: the disk exposes what it reads as exactly if it did before, and time goes on
 pub record Continues (before now : DiskState) : Type 0 where
   pub tells : TellsAlike before now
   pub clock : Passes before now

@@ -1,13 +1,13 @@
--- The records of a journal. A record is an open gate, which is the byte 1, the entry's length in
--- two bytes, the low one first, and the entry. Any other gate ends the records.
+-- The records of a journal. A record is an open gate (the byte 1), the entry's length in two bytes,
+-- the low one first, and the entry. Any other gate ends the records.
 use Rattle.std.specs.Prelude.{◌≤◌, ◌+◌, ◌-◌, ◌*◌, ◌/◌, ◌%◌, ℕ, zero, suc, List, [], ◌∷◌, ◌++◌, length, take, drop, Option, None, Some, Result, Ok, Err, ◌&&◌, ◌==◌, nat_le, nat_lt, if◌then◌else◌}
 use Rattle.journal_disk.specs.Limits.{most_entries, most_bytes}
 
--- the gate behind which there is a record
+-- the gate that a record follows
 abbrev pub open_gate : ℕ
 open_gate = 1
 
--- the gate that is written where nothing counts; any other than the open one means the same
+-- the gate that is written after the last record; any gate but the open one means the same
 abbrev pub closed_gate : ℕ
 closed_gate = 0
 
@@ -15,7 +15,7 @@ closed_gate = 0
 abbrev pub IsEntry : List ℕ → Type 0
 IsEntry entry = (1 ≤ length entry) × (length entry ≤ most_bytes)
 
--- the entry behind an open gate, and what comes behind it from the next gate on; none where it
+-- the entry after an open gate, and what comes after it, from the next gate on; none if the entry
 -- isn't whole
 abbrev pub behind_gate : List ℕ → Option (List ℕ × List ℕ)
 behind_gate [] = None
@@ -30,12 +30,12 @@ abbrev pub before_rest : List ℕ → Result (List (List ℕ)) ℕ → Result (L
 before_rest entry (Ok entries) = Ok (entry ∷ entries)
 before_rest entry (Err number) = Err number
 
--- the record of this number, where it is whole, and then the rest
+-- the record of this number, if it is whole, and then the rest
 abbrev pub with_record : ℕ → Option (List ℕ × List ℕ) → (List ℕ → Result (List (List ℕ)) ℕ) → Result (List (List ℕ)) ℕ
 with_record number None rest_of = Err number
 with_record number (Some (entry, rest)) rest_of = before_rest entry (rest_of rest)
 
--- the entries from a gate on, where there may be so many more, or the number of the first record
+-- the entries from a gate on, if there may be this many more, or the number of the first record
 -- that isn't whole
 unfoldable pub entries_from : ℕ → List ℕ → Result (List (List ℕ)) ℕ
 entries_from left [] = Err (most_entries + 1 - left)
@@ -56,3 +56,8 @@ sized entry = length entry % 256 ∷ length entry / 256 ∷ entry
 abbrev pub records : List (List ℕ) → List ℕ
 records [] = []
 records (entry ∷ entries) = open_gate ∷ (sized entry ++ records entries)
+
+-- how long the records of a part are; none if one of them isn't whole
+abbrev pub part_length : Result (List (List ℕ)) ℕ → Option ℕ
+part_length (Ok entries) = Some (length (records entries))
+part_length (Err number) = None

@@ -9,18 +9,19 @@ use Rattle.journal_disk.specs.Disk.{DiskState, EachImage, EachImageSince, Told}
 use Rattle.journal_disk.specs.Entries.{behind_gate, closed_gate, entries_of, records, IsEntry}
 use Rattle.journal_disk.specs.Gates.{GateIs}
 use Rattle.journal_disk.specs.Header.{digests_in, opening_of}
-use Rattle.journal_disk.specs.Limits.{first_gate, most_entries, most_bytes, most_record}
+use Rattle.journal_disk.specs.Limits.{most_entries, most_bytes, most_first, most_record}
+use Rattle.journal_disk.specs.Parts.{IsFront}
 
--- where a journal's first gate stands, where the gate behind its last record stands, how many
--- records lie between, and whether that gate may have been opened for an entry that was not
--- acknowledged
+-- where the first gate of a journal's new part is, where the gate after its last record is, how
+-- many records are between them, and whether that last gate may have been opened for an entry that
+-- was not acknowledged
 pub record Extent : Type 0 where
   pub first : ℕ
   pub place : ℕ
   pub number : ℕ
   pub unclean : Bool
 
--- the extent that has these, in order
+-- an extent by its parts
 abbrev pub extent_of : ℕ → ℕ → ℕ → Bool → Extent
 extent_of first place number unclean = record { first = first; place = place; number = number; unclean = unclean }
 
@@ -30,7 +31,7 @@ pub record JournalHeld (D : Type 0) : Type 0 where
   pub extent : Extent
 
 -- the entries of the records before the gate place: those of the bytes up to there, with a closed
--- gate behind them
+-- gate after them
 abbrev pub entries_within : Extent → List ℕ → List (List ℕ)
 entries_within extent bytes =
     result_unwrap_or (entries_of extent.first (take extent.place bytes ++ closed_gate ∷ [])) []
@@ -44,11 +45,11 @@ abbrev pub entry_if : Bool → ℕ → Option (List ℕ) → Option (List ℕ)
 entry_if true place contents = option_and_then (entry_at place) contents
 entry_if false place contents = None
 
--- the entry that was not acknowledged and may be found behind the others
+-- the entry that was not acknowledged and may be found after the others
 abbrev pub entry_at_risk : Extent → Option (List ℕ) → Option (List ℕ)
 entry_at_risk extent contents = entry_if extent.unclean extent.place contents
 
--- a journal as a keeper: its entries and the one at risk where the disk tells what it reads as
+-- a journal as a keeper: its entries and the one at risk, if the disk exposes what it reads as
 abbrev pub keeper_of : Extent → DiskState → KeeperState
 keeper_of extent disk = record {
   entries = option_map (entries_within extent) disk.contents;
@@ -58,14 +59,14 @@ keeper_of extent disk = record {
   faults = disk.faults;
 }
 
--- a keeper that was just opened: its entries where it tells them are these, and none is at risk
+-- a keeper that was just opened: its entries, if it exposes them, are these, and none is at risk
 pub record HasOpened (keeper : KeeperState) (found : List (List ℕ)) : Type 0 where
   pub entries : IfSome keeper.entries (λ entries. entries ≡ found)
   pub number : keeper.number ≡ length found
   pub at_risk : keeper.at_risk ≡ None
 
--- an image with the header of these bytes that opens to their entries before the gate place, or to
--- these and one more at risk
+-- an image with the header and the old part of these bytes, which opens to their entries before the
+-- gate place, or to these and one more at risk
 abbrev pub StandsFor : Extent → List ℕ → (List ℕ → Type 0) → List ℕ → Type 0
 StandsFor extent bytes AtRisk image =
     (take extent.first image ≡ take extent.first bytes)
@@ -79,30 +80,31 @@ IsCrashSafe extent disk =
     Told disk (λ bytes. EachImage disk (StandsFor extent bytes (λ entry. entry_at_risk extent disk.contents ≡ Some entry)))
 
 -- A crash at any moment of an append leaves the journal's entries from before it, or these and one
--- more: the one that is appended, or the one that was at risk.
+-- more: either the one that is appended, or the one that was at risk.
 abbrev pub AppendsSafely : Extent → DiskState → DiskState → List ℕ → Type 0
 AppendsSafely extent before now appended =
     Told before (λ bytes. EachImageSince before now (StandsFor extent bytes
     (λ entry. (entry ≡ appended) ⊎ (entry_at_risk extent before.contents ≡ Some entry))))
 
--- Up to the gate place stand the header, which is that of a journal, and the records of the entries.
--- Behind them each image has a closed gate or, where that may have been opened, the entry at risk.
+-- Up to the gate place there are the header and the old part of a journal of format 2, and the
+-- records of the entries. After them each image has a closed gate or, if that gate may have been
+-- opened, the entry at risk.
 pub record IsSettled (extent : Extent) (disk : DiskState) : Type 0 where
-  pub header : List ℕ
+  pub front : List ℕ
   pub entries : List (List ℕ)
   pub risk : List ℕ
-  pub opens : opening_of (digests_in header) (header ++ closed_gate ∷ []) ≡ Ok []
-  pub first : length header ≡ extent.first
+  pub begins : IsFront true front
+  pub first : length front ≡ extent.first
   pub sizes : Every IsEntry entries
   pub count : length entries ≡ extent.number
-  pub at : length (header ++ records entries) ≡ extent.place
+  pub at : length (front ++ records entries) ≡ extent.place
   pub fits : extent.unclean ≡ true → IsEntry risk × (extent.number < most_entries)
-  pub gate : EachImage disk (GateIs extent.unclean risk (header ++ records entries))
+  pub gate : EachImage disk (GateIs extent.unclean risk (front ++ records entries))
 
--- what a journal keeps in its type: its first gate stands behind the header, its numbers are within
--- their limits, and where the disk tells what it reads as, each image is settled
+-- what a journal keeps in its type: its places and its number are within their limits, and if the
+-- disk exposes what it reads as, each image is settled
 pub record IsKept (extent : Extent) (disk : DiskState) : Type 0 where
-  pub first : extent.first ≡ first_gate
+  pub first : extent.first ≤ most_first
   pub few : extent.number ≤ most_entries
   pub within : extent.place ≤ extent.first + most_record * extent.number
   pub settled : Told disk (λ _. IsSettled extent disk)

@@ -1,4 +1,4 @@
--- What is made opens.
+-- A journal that was just made can be opened.
 use Rattle.std.specs.Prelude.{◌≡◌, ℕ, List, [], length, Ok}
 use Rattle.journal_disk.specs.Header.{opening_of, empty_journal}
 use Rattle.journal_disk.specs.Limits.{digests_length}

@@ -5,8 +5,11 @@ pub mod MemoryFields
 pub mod TornWrites
 pub mod Entries
 pub mod Gates
-pub mod Extent
 pub mod Header
+pub mod Parts
+pub mod Extent
 pub mod Opening
+pub mod Switch
+pub mod Found
 pub mod Faults
 pub mod Laws

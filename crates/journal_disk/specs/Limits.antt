@@ -1,5 +1,5 @@
 -- The limits of a journal, and how long its parts are.
-use Rattle.std.specs.Prelude.{ℕ}
+use Rattle.std.specs.Prelude.{ℕ, ◌+◌, ◌*◌}
 use Rattle.apron_base.specs.declared.keeper.TheConstants.{MAX_ENTRIES, MAX_ENTRY}
 
 -- how many entries a journal can have
@@ -18,14 +18,26 @@ record_frame = 3
 abbrev pub most_record : ℕ
 most_record = 1027
 
--- how long what a journal begins with is
+-- where the format byte is: after the word that a journal begins with
+abbrev pub format_place : ℕ
+format_place = 5
+
+-- where the line's end is: after the format byte
+abbrev pub line_place : ℕ
+line_place = 6
+
+-- where the digests are: after the line's end
 abbrev pub magic_length : ℕ
 magic_length = 8
 
--- how long the two digests behind it are together
+-- how long the two digests after it are together
 abbrev pub digests_length : ℕ
 digests_length = 64
 
--- where the first gate stands: behind the header, which is both
+-- where the first gate of the old part is: after the header, which is all of these
 abbrev pub first_gate : ℕ
 first_gate = 72
+
+-- the farthest place at which the first gate of the new part can be
+abbrev pub most_first : ℕ
+most_first = first_gate + most_record * most_entries + 1

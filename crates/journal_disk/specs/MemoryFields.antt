@@ -1,4 +1,4 @@
--- The fields of a disk in memory, as what contracts see of them.
+-- The fields of a disk in memory, and what contracts see of them.
 use Rattle.std.specs.Prelude.{◌≡◌, ◌≤◌, length, vec_capacity}
 use Rattle.journal_disk.specs.Calls.{MemoryHeld, with_pieces, pieces_length, after_calls}
 use Rattle.journal_disk.specs.declared.memory_disk.MemoryDisk.TheInside.{Inside}

@@ -1,9 +1,11 @@
 -- What reading a journal's records gives.
-use Rattle.std.specs.Prelude.{◌≡◌, ◌+◌, ◌-◌, ◌<◌, ◌≤◌, ℕ, List, [], length, Option, None, Some, Ok}
+use Rattle.std.specs.Prelude.{◌≡◌, ◌+◌, ◌-◌, ◌<◌, ◌≤◌, ℕ, List, [], length, take, drop, true, false, Option, None, Some, Ok}
 use Rattle.apron_base.specs.Histories.{Every}
 use Rattle.journal_disk.specs.Entries.{before_rest, entries_from, records, IsEntry}
 use Rattle.journal_disk.specs.Gates.{IsClosed}
-use Rattle.journal_disk.specs.Limits.{most_entries, record_frame}
+use Rattle.journal_disk.specs.Header.{behind_part}
+use Rattle.journal_disk.specs.Limits.{most_entries, most_first, record_frame}
+use Rattle.journal_disk.specs.Parts.{IsFront}
 
 -- a text that was read: the records of these entries, of this length, and then a closed gate
 pub record IsRead (text : List ℕ) (entries : List (List ℕ)) (size : ℕ) : Type 0 where
@@ -12,8 +14,29 @@ pub record IsRead (text : List ℕ) (entries : List (List ℕ)) (size : ℕ) : T
   pub closed : IsClosed (records entries) text
   pub size_is : size ≡ length (records entries)
 
--- where so many entries were read before: nothing more counts, or this entry comes, and then the
--- rest
+-- a part that was passed over: some records, of this length, and then a closed gate
+abbrev pub IsPassed : List ℕ → ℕ → Type 0
+IsPassed text size = (old : List (List ℕ)) × IsRead text old size
+
+-- the new part of a journal of format 2 that was read: the header and the old part come before its
+-- first gate, and it has these entries
+pub record IsNewPart (text : List ℕ) (first : ℕ) (entries : List (List ℕ)) (size : ℕ) : Type 0 where
+  pub front : IsFront true (take first text)
+  pub inside : first ≤ length text
+  pub early : first ≤ most_first
+  pub read : IsRead (drop first text) entries size
+
+-- the old part of a journal of format 1 that was read: it has these entries, whose records have
+-- this many bytes
+pub record IsOldPart (text : List ℕ) (entries : List (List ℕ)) (size : ℕ) : Type 0 where
+  pub front : IsFront false (take (behind_part size) text)
+  pub same : front.old ≡ entries
+  pub inside : behind_part size ≤ length text
+  pub few : length entries ≤ most_entries
+  pub sizes : Every IsEntry entries
+  pub size_is : size ≡ length (records entries)
+
+-- after this many entries were read: nothing more counts, or this entry comes, and then the rest
 abbrev pub NextIs : ℕ → List ℕ → Option (List ℕ × List ℕ) → Type 0
 NextIs number text None = entries_from (most_entries - number) text ≡ Ok []
 NextIs number text (Some (entry, rest)) =

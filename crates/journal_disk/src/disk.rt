@@ -9,8 +9,8 @@ use apron_base::Failed;
 /// A disk. It has a clock of moments, and at each moment there are the images that a crash may
 /// leave. A call that fails raises the count of faults.
 pub trait Disk {
-    /// What it reads as where it tells that, the moment, what a crash may leave, and how often a
-    /// call has failed. The count stands still at `2^64 - 1`.
+    /// What it reads as, if it exposes that; the moment; what a crash may leave; and how many calls
+    /// have failed. The count stops at `2^64 - 1`.
     ghost state: { Self → DiskState };
 
     /// How many bytes there are.
@@ -27,9 +27,9 @@ pub trait Disk {
         ensures stays { Stays (state self.old) (state self.new) }
         ensures counts { Counts (is_err result) (state self.old).faults (state self.new).faults };
 
-    /// Writes the piece at `at`, over what is there and past the end. Until a sync a crash may
-    /// leave any bytes in the piece's range and past the old end, and after an `Err` they may read
-    /// as any bytes.
+    /// Writes the piece at `at`, over what is there and past the end. Until a sync, a crash may
+    /// leave any bytes in the piece's range and past the old end. After an `Err` reads may give any
+    /// bytes there, too.
     fn write_at(&mut self, at: u32, piece: &[u8]) -> Result<(), Failed>
         requires inside { Told (state self.old) (λ bytes. at ≤ length bytes) }
         ensures written { OnOk result ((state self.new).contents

@@ -1,4 +1,4 @@
-// The device calls of a journal, two by two. A record is written behind a closed gate, and is on
+// The disk calls of a journal, in pairs. A record is written after a closed gate, and is safely on
 // the disk before the gate opens: between two syncs a crash may leave any bytes in what was
 // written.
 ghost use Rattle.std.specs.Prelude.{◌≡◌, ◌+◌, ◌^◌, ◌≤◌, ◌<◌, ◌++◌, ◌∷◌, [], length, take, is_err, OnOk};
@@ -11,20 +11,20 @@ ghost use Rattle.journal_disk.specs.Gates.{GateIs, IsClosed, IsRecord, IsWhole, 
 use crate::Disk;
 use apron_base::{Failed, MAX_ENTRY};
 
-/// A gate behind which there is a record.
+/// A gate that a record follows.
 pub(crate) const OPEN: u8 = 1;
 
-/// A gate behind which nothing counts.
+/// A gate after which nothing counts.
 pub(crate) const CLOSED: u8 = 0;
 
-/// How long a record is besides its entry: a gate and the entry's length in two bytes.
+/// How many bytes a record has besides its entry: a gate, and two for the entry's length.
 pub(crate) const FRAME: usize = 3;
 
-/// How long the entry's length, the entry and the gate behind it can be.
+/// How long the entry's length, the entry and the gate after it can be together.
 const MAX_PIECE: usize = FRAME + MAX_ENTRY;
 
-/// Writes an entry behind the closed gate at the place, with a closed gate behind it. It doesn't
-/// count yet.
+/// Writes an entry after the closed gate at the place, and a closed gate after the entry. The entry
+/// doesn't count yet.
 pub(crate) fn stage<D: Disk>(disk: &mut D, place: u32, entry: &[u8]) -> Result<(), Failed>
     requires entry { IsEntry entry.now }
     requires fits { place + 1 < 2 ^ 32 }
@@ -42,7 +42,7 @@ pub(crate) fn stage<D: Disk>(disk: &mut D, place: u32, entry: &[u8]) -> Result<(
     write_safely(disk, place + 1, &piece[..end])
 }
 
-/// Writes this byte as the gate at the place, behind which there is an entry.
+/// Writes this byte as the gate at the place. An entry follows that gate.
 pub(crate) fn set_gate<D: Disk>(disk: &mut D, place: u32, gate: u8) -> Result<(), Failed>
     requires inside { Told (D.state disk.old) (λ bytes. place ≤ length bytes) }
     ensures continues { Continues (D.state disk.old) (D.state disk.new) }
@@ -57,7 +57,7 @@ pub(crate) fn set_gate<D: Disk>(disk: &mut D, place: u32, gate: u8) -> Result<()
     write_safely(disk, place, &[gate])
 }
 
-/// Closes the gate at the place again, where it may have been opened for an entry that was not
+/// Closes the gate at the place again if it may have been opened for an entry that was not
 /// acknowledged. It makes two calls of the disk, or none.
 pub(crate) fn mend<D: Disk>(disk: &mut D, place: u32, unclean: bool) -> Result<(), Failed>
     requires inside { Told (D.state disk.old) (λ bytes. place ≤ length bytes) }
@@ -76,7 +76,7 @@ pub(crate) fn mend<D: Disk>(disk: &mut D, place: u32, unclean: bool) -> Result<(
     set_gate(disk, place, CLOSED)
 }
 
-// Writes over what is there, and past the end; after it a crash leaves what was written.
+// Writes over what is there, and past the end; then syncs, so that a crash leaves what was written.
 pub(crate) fn write_safely<D: Disk>(disk: &mut D, at: u32, piece: &[u8]) -> Result<(), Failed>
     requires inside { Told (D.state disk.old) (λ bytes. at ≤ length bytes) }
     ensures tells { TellsAlike (D.state disk.old) (D.state disk.new) }

@@ -1,25 +1,39 @@
-// The header of a journal, the place of the first gate after it, and how an empty journal is made.
-ghost use Rattle.std.specs.Prelude.{◌≡◌, ◌<◌, ◌≤◌, Err, false, OnOk, IfOk, IfErr, length};
+// The header of a journal, and how an empty journal is made.
+ghost use Rattle.std.specs.Prelude.{◌≡◌, ◌<◌, ◌≤◌, None, Some, false, OnOk, IfErr, length};
 ghost use Rattle.std.proofs.Common.{◌≢◌};
 ghost use Rattle.apron_base.specs.Counts.{Counts};
 ghost use Rattle.journal_disk.specs.Disk.{Told, IsSafe, Stays, TellsAlike};
-ghost use Rattle.journal_disk.specs.Entries.{entries_of};
-ghost use Rattle.journal_disk.specs.Header.{digests_in, empty_journal, opening_of, or_bad_record};
+ghost use Rattle.journal_disk.specs.Header.{digests_in, empty_journal, header_fault};
 ghost use Rattle.journal_disk.specs.Faults.{InitFails};
 ghost use Rattle.journal_disk.specs.Limits.{first_gate};
 
 use crate::gates::write_safely;
 use crate::{Disk, JournalFault};
 
-// What a journal of the first format begins with.
-const MAGIC: [u8; 8] = *b"APRNJ1\r\n";
+// The word that a journal begins with.
+const MAGIC: [u8; 5] = *b"APRNJ";
 
-// How long the header is: the first gate is there.
-const HEADER: usize = 72;
+/// Where the format byte is.
+pub(crate) const FORMAT: usize = 5;
+
+/// The format byte of a journal of format 2. Any other byte means format 1.
+pub(crate) const NEW: u8 = b'2';
+
+// What follows the format byte.
+const LINE_END: [u8; 2] = *b"\r\n";
+
+// Where the line's end is.
+const LINE: usize = 6;
+
+// Where the digests are.
+const DIGESTS: usize = 8;
+
+/// How long the header is: the first gate of the old part is there.
+pub(crate) const HEADER: usize = 72;
 
 /// Makes a journal with no entry on an empty disk, of the files of these two digests (32 bytes
-/// each). It makes three calls of the disk, and takes no memory. A disk that has bytes already keeps
-/// them, however the call ends. `NotEmpty` if it has some; `DiskFault` if it failed.
+/// each). It makes three calls of the disk, and takes no memory. A disk that has bytes already
+/// keeps them, however the call ends. `NotEmpty` if it has bytes; `DiskFault` if it failed.
 pub fn init<D: Disk>(disk: &mut D, digests: &[u8; 64]) -> Result<(), JournalFault>
     ensures empty { OnOk result (Told (D.state disk.old) (λ bytes. length bytes ≡ 0)) }
     ensures made { OnOk result (Told (D.state disk.old)
@@ -37,27 +51,25 @@ pub fn init<D: Disk>(disk: &mut D, digests: &[u8; 64]) -> Result<(), JournalFaul
     Ok(())
 }
 
-fn empty_journal(digests: &[u8; 64]) -> [u8; HEADER + 1]
+fn empty_journal(digests: &[u8; 64]) -> [u8; HEADER + 2]
     ensures text { result ≡ empty_journal digests.now }
 {
-    let mut text = [0; HEADER + 1];
-    let (magic, rest) = text.split_at_mut(MAGIC.len());
-    magic.copy_from_slice(&MAGIC);
-    let (kept, _gate) = rest.split_at_mut(digests.len());
+    let mut text = [0; HEADER + 2];
+    let (begins, rest) = text.split_at_mut(DIGESTS);
+    begins.copy_from_slice(b"APRNJ2\r\n");
+    let (kept, _gates) = rest.split_at_mut(digests.len());
     kept.copy_from_slice(digests);
     text
 }
 
-/// Where the first gate is in a journal of the files of these digests. `NotAJournal` or
-/// `OtherAirport` for another text.
-pub(crate) fn first_gate(text: &[u8], digests: &[u8; 64]) -> Result<usize, JournalFault>
-    ensures gate { IfOk result (λ first. first ≡ first_gate) }
-    ensures inside { IfOk result (λ first. first < length text.now) }
-    ensures opens { IfOk result (λ first.
-        opening_of digests.now text.now ≡ or_bad_record (entries_of first text.now)) }
-    ensures refused { IfErr result (λ fault. opening_of digests.now text.now ≡ Err fault) }
+/// Tests that the text has the header of a journal of the files of these digests, of either format.
+/// Otherwise `NotAJournal` or `OtherAirport`.
+pub(crate) fn test_header(text: &[u8], digests: &[u8; 64]) -> Result<(), JournalFault>
+    ensures long { OnOk result (first_gate < length text.now) }
+    ensures passed { OnOk result (header_fault digests.now text.now ≡ None) }
+    ensures refused { IfErr result (λ fault. header_fault digests.now text.now ≡ Some fault) }
 {
-    if text.len() <= HEADER || !text.starts_with(&MAGIC) {
+    if text.len() <= HEADER || !text.starts_with(&MAGIC) || !text[LINE..].starts_with(&LINE_END) {
         return Err(JournalFault::NotAJournal);
     }
     let kept = digests_in(text);
@@ -67,7 +79,7 @@ pub(crate) fn first_gate(text: &[u8], digests: &[u8; 64]) -> Result<usize, Journ
             given: *digests,
         });
     }
-    Ok(HEADER)
+    Ok(())
 }
 
 fn digests_in(text: &[u8]) -> [u8; 64]
@@ -75,6 +87,6 @@ fn digests_in(text: &[u8]) -> [u8; 64]
     ensures digests { result ≡ digests_in text.now }
 {
     let mut kept = [0; 64];
-    kept.copy_from_slice(&text[MAGIC.len()..HEADER]);
+    kept.copy_from_slice(&text[DIGESTS..HEADER]);
     kept
 }

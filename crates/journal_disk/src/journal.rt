@@ -9,21 +9,21 @@ ghost use Rattle.journal_disk.specs.Header.{opening_of};
 ghost use Rattle.journal_disk.specs.Limits.{most_bytes};
 
 use crate::gates::{FRAME, OPEN, mend, set_gate, stage};
-use crate::opening::{Opened, read_journal};
+use crate::opening::{NewPart, read_journal};
 use crate::records::Records;
 use crate::{Disk, JournalFault};
 use apron_base::{Failed, Keeper, Listed, MAX_ENTRIES, MAX_ENTRY, Memory};
 use std::alloc::Global;
 use std::marker::Model;
 
-/// A journal on a disk. It acknowledges an entry once a crash at any moment leaves it there.
-/// Contracts see its disk and how far it reaches there.
+/// A journal on a disk. It acknowledges an entry once a crash at any moment leaves the entry there.
+/// Contracts see its disk and how far the journal reaches on it.
 #[derive(Drop)]
 pub struct Journal<D: Disk> {
     disk: D,
-    // where the first gate is
+    // where the first gate of the new part is
     first: u32,
-    // where the gate after the last record is
+    // where the gate after its last record is
     place: u32,
     number: u32,
     // that gate may have been opened for an entry that was not acknowledged
@@ -41,11 +41,11 @@ impl<D: Disk> Model for Journal<D> {
 }
 
 impl<D: Disk> Journal<D> {
-    /// Opens the journal of the files of these two digests (32 bytes each), and gives its entries
-    /// in order. It syncs before it reads, so what it gives is what a later crash leaves. A refusal
-    /// hands the disk back, which reads as before: `DiskFault` where the disk failed,
-    /// `NotAJournal`, `OtherAirport` or `BadRecord` for what it reads as, in this order, or
-    /// `Memory`.
+    /// Opens the journal of format 2 of the files of these two digests (32 bytes each), and gives
+    /// the entries of its new part, in order. It syncs before it reads, so a later crash leaves
+    /// what it gives. A refusal hands the disk back, which reads as before. It is `DiskFault` if
+    /// the disk failed; `NotAJournal`, `OtherAirport`, `OldFormat` or `BadRecord` by what the disk
+    /// reads as, tested in this order; or `Memory`.
     pub fn open(
         alloc: Global,
         disk: D,
@@ -65,8 +65,12 @@ impl<D: Disk> Journal<D> {
     {
         let mut disk = disk;
         match read_journal(alloc, &mut disk, digests) {
-            Ok(Opened { first, records }) => {
-                let Records { entries, length } = records;
+            Ok(
+                NewPart {
+                    first,
+                    records: Records { entries, length },
+                },
+            ) => {
                 let journal = Journal {
                     disk,
                     first: first as u32,
@@ -80,7 +84,7 @@ impl<D: Disk> Journal<D> {
         }
     }
 
-    /// The disk as it is. A crash leaves the journal's entries on it, or these and the one at risk.
+    /// The disk as it is. A crash leaves on it the journal's entries, or these and the one at risk.
     pub fn into_disk(self) -> D
         ensures disk { result ≡ self.disk }
         ensures entries { IsCrashSafe self.extent (D.state result) }
@@ -106,7 +110,7 @@ impl<D: Disk> Keeper for Journal<D> {
         Ok(())
     }
 
-    /// Makes four calls of the disk, and two before them where the gate may have been opened for an
+    /// Makes four calls of the disk, and two before them if the gate may have been opened for an
     /// entry that was not acknowledged.
     fn append(&mut self, entry: &[u8]) -> Result<(), Failed>
         requires some { 1 ≤ length entry.now }
@@ -118,15 +122,15 @@ impl<D: Disk> Keeper for Journal<D> {
         ensures err { OnErr result (FailsToAdd (keeper_of self.old.extent (D.state self.old.disk))
             (keeper_of self.new.extent (D.state self.new.disk)) entry.now) }
 
-        // The disk tells what it reads as where it told that before, and time goes on.
+        // The disk exposes what it reads as exactly if it did before, and time goes on.
         ensures continues { Continues (D.state self.old.disk) (D.state self.new.disk) }
 
-        // A crash at any moment of the call leaves the entries from before it, or these and one
-        // more.
+        // A crash at any moment of the call leaves the entries from before the call, or these and
+        // one more.
         ensures crash { AppendsSafely self.old.extent
             (D.state self.old.disk) (D.state self.new.disk) entry.now }
 
-        // From then on, until the next call, it leaves the entries, or these and the one at risk.
+        // From then until the next call, a crash leaves the entries, or these and the one at risk.
         ensures afterwards { IsCrashSafe self.new.extent (D.state self.new.disk) }
     {
         mend(&mut self.disk, self.place, self.unclean)?;

@@ -1,4 +1,4 @@
-// What is made opens.
+// A journal that was just made can be opened.
 ghost use Rattle.journal_disk.specs.Laws.{EmptyOpens};
 
 /// A journal that was just made opens, and has no entry.

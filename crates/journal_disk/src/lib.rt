@@ -1,5 +1,7 @@
-//! Entries on a disk, each of them there before it is acknowledged. It doesn't know what an entry
-//! means.
+//! Entries on a disk, each safely there before it is acknowledged. A journal has a header and two
+//! parts of records. Its format byte says whether the entries are those of the old part (format 1)
+//! or those of the new part after it (format 2). A journal of format 1 is only read, and switched
+//! to format 2. The crate doesn't know what an entry means.
 #![tactic(auto)]
 
 mod borrowed_disk;
@@ -12,7 +14,9 @@ mod journal;
 mod laws;
 mod memory_disk;
 mod opening;
+mod parts;
 mod records;
+mod upgrade;
 
 pub use digest::digest_of;
 pub use disk::Disk;
@@ -21,3 +25,4 @@ pub use header::init;
 pub use journal::Journal;
 pub use laws::a_new_journal_opens;
 pub use memory_disk::{DiskCall, MemoryDisk, Room, Unsynced};
+pub use upgrade::{Found, OldJournal, open_old};

@@ -1,5 +1,5 @@
-// A disk in memory, with calls that fail as told. It keeps its calls, so it knows what a crash at
-// any moment may leave.
+// A disk in memory, with calls that fail on command. It keeps its calls, so it knows what a crash
+// at any moment may leave.
 ghost use Rattle.std.specs.Prelude.{is_err, not, take, drop, ◌≡◌, ◌≤◌, ◌+◌, ◌||◌, ◌++◌, ◌∷◌, [], true, length, IfOk, OnOk, OnErr, vec_capacity};
 ghost use Rattle.apron_base.specs.Counts.{Counts};
 ghost use Rattle.journal_disk.specs.Disk.{written, Goes};
@@ -27,7 +27,7 @@ pub struct Room {
 pub enum DiskCall {
     /// A call that changed nothing: a length, a read or a sync that failed.
     Passed,
-    /// A write, which was done or failed. Its piece stands behind those of the writes before.
+    /// A write, which was done or failed. Its piece comes after those of the writes before.
     Wrote { at: u32, size: usize, done: bool },
     /// A sync that was done.
     Synced,
@@ -41,20 +41,20 @@ pub enum Unsynced {
     LeftOut,
     /// They are done whole.
     Whole,
-    /// They are done, the last one with its first half alone.
+    /// They are done, but of the last one only the first half.
     LastHalf,
-    /// They are done with each of their bytes as 1.
+    /// They are done, with 1 as each of their bytes.
     Ones,
 }
 
-/// A disk in memory. Contracts see its bytes at the beginning, its calls, what makes a call fail
-/// and its count of faults.
+/// A disk in memory. Contracts see its bytes at the beginning, its calls, which calls fail, and its
+/// count of faults.
 #[derive(Drop)]
 pub struct MemoryDisk {
     first: Vec<u8>,
     bytes: Vec<u8>,
     calls: Vec<DiskCall>,
-    // what the writes were given, one piece behind the other
+    // the pieces of the writes, one after the other
     pieces: Vec<u8>,
     failing: Vec<u64>,
     room: Room,
@@ -74,9 +74,9 @@ impl Model for MemoryDisk {
 }
 
 impl MemoryDisk {
-    /// A disk of these bytes, all of them safe from a crash. `failing` are the numbers of the calls
-    /// that fail, from 0, in any order. A call that passes the room fails too. At `Err` memory is
-    /// wanting for so much room.
+    /// A disk of these bytes, all of them safe from a crash. `failing` has the numbers of the calls
+    /// that fail, from 0, in any order. A call that exceeds the room fails too. `Err` if there is
+    /// no memory for this much room.
     pub fn new(
         alloc: Global,
         first: Vec<u8>,
@@ -137,7 +137,7 @@ impl MemoryDisk {
         self.failing.iter().any(|failing| *failing == number)
     }
 
-    // The next call passes no room.
+    // The next call stays within the room.
     fn has_room(&self, call: DiskCall, piece: &[u8]) -> bool
         requires piece { piece_length call ≡ length piece.now }
         ensures room { result ≡ has_room self.now (with_piece call piece.now) }
@@ -160,7 +160,8 @@ impl MemoryDisk {
         Failed
     }
 
-    // Makes the next call, which fails exactly where it is to fail or passes the room.
+    // Makes the next call. It fails exactly if it is one of those that are to fail, or exceeds the
+    // room.
     fn make(&mut self, call: DiskCall, piece: &[u8]) -> Result<(), Failed>
         requires piece { piece_length call ≡ length piece.now }
         ensures fails { is_err result
@@ -183,7 +184,7 @@ impl MemoryDisk {
         Ok(())
     }
 
-    // Does a call, and keeps it.
+    // Does a call, and records it.
     fn put(&mut self, call: DiskCall, piece: &[u8])
         requires piece { piece_length call ≡ length piece.now }
         requires room { has_room self.old (with_piece call piece.now) ≡ true }
@@ -195,7 +196,7 @@ impl MemoryDisk {
     }
 }
 
-// The same call where it fails.
+// The same call if it fails.
 fn failed_call(call: DiskCall) -> DiskCall
     ensures call { result ≡ failed_call call }
 {
@@ -264,7 +265,7 @@ fn length_after(bytes: &[u8], call: DiskCall, piece: &[u8]) -> usize
     }
 }
 
-// What a call does to the bytes, for which there is memory.
+// What a call does to the bytes. There is memory for it.
 fn do_call(bytes: &mut Vec<u8>, call: DiskCall, piece: &[u8])
     requires fits { length (after_call (with_piece call piece.now) bytes.old.items) ≤ vec_capacity bytes.old }
     ensures bytes { bytes.new.items ≡ after_call (with_piece call piece.now) bytes.old.items }
@@ -290,7 +291,7 @@ fn write_over(bytes: &mut Vec<u8>, at: usize, piece: &[u8])
     bytes[at..at + over].copy_from_slice(&piece[..over]);
 }
 
-// Puts a piece last, for which there is memory.
+// Puts a piece last. There is memory for it.
 fn put_last(bytes: &mut Vec<u8>, piece: &[u8])
     requires fits { length bytes.old.items + length piece.now ≤ vec_capacity bytes.old }
     ensures bytes { bytes.new.items ≡ bytes.old.items ++ piece.now }
@@ -342,7 +343,8 @@ fn is_write(call: &DiskCall) -> bool {
     matches!(call, DiskCall::Wrote { .. })
 }
 
-// Writes over what is there, and past the end; between the old end and the place come zeros.
+// Writes over what is there, and past the end. Zeros fill the space between the old end and the
+// place.
 fn put_over(bytes: &mut Vec<u8>, at: u32, piece: &[u8]) -> Result<(), AllocError> {
     let at = at as usize;
     let end = at + piece.len();

@@ -1,74 +1,125 @@
 // Opens a journal.
-ghost use Rattle.std.specs.Prelude.{◌≡◌, ◌≤◌, ◌*◌, Ok, false, length, drop, OnOk, IfOk, IfErr};
+ghost use Rattle.std.specs.Prelude.{◌≡◌, ◌≤◌, ◌*◌, Ok, false, length, OnOk, IfOk, IfErr, IfSome};
+ghost use Rattle.std.specs.Option.{option_map};
 ghost use Rattle.apron_base.specs.Counts.{Counts};
 ghost use Rattle.journal_disk.specs.Disk.{Told, IsDurable, Stays};
-ghost use Rattle.journal_disk.specs.Header.{opening_of};
-ghost use Rattle.journal_disk.specs.Faults.{TextFails, OpenFails, ReadFails};
-ghost use Rattle.journal_disk.specs.Limits.{first_gate, most_entries, most_record};
-ghost use Rattle.journal_disk.specs.Opening.{IsRead};
+ghost use Rattle.journal_disk.specs.Header.{old_opening_of, opening_of};
+ghost use Rattle.journal_disk.specs.Faults.{TextFails, OldTextFails, OpenFails, OldOpenFails, ReadFails};
+ghost use Rattle.journal_disk.specs.Limits.{most_entries, most_first, most_record};
+ghost use Rattle.journal_disk.specs.Opening.{IsNewPart, IsOldPart};
 
-use crate::header::first_gate;
-use crate::records::{Records, read_records};
+use crate::header::{FORMAT, HEADER, NEW, test_header};
+use crate::records::{Records, pass_records, read_records};
 use crate::{Disk, JournalFault};
 use std::alloc::Global;
 
-/// What a journal opens to: where its first gate is, and its records.
+/// The new part of a journal: where its first gate is, and its records.
 #[derive(Drop)]
-pub(crate) struct Opened {
+pub(crate) struct NewPart {
     pub(crate) first: usize,
     pub(crate) records: Records,
 }
 
-/// Makes what the disk reads as safe from a crash, and reads it as a journal.
+/// Makes what the disk reads as safe from a crash, and reads it as a journal of format 2.
 pub(crate) fn read_journal<D: Disk>(
     alloc: Global,
     disk: &mut D,
     digests: &[u8; 64],
-) -> Result<Opened, JournalFault>
+) -> Result<NewPart, JournalFault>
     ensures stays { Stays (D.state disk.old) (D.state disk.new) }
     ensures durable { OnOk result (IsDurable (D.state disk.old) (D.state disk.new)) }
     ensures opened { IfOk result (λ found. Told (D.state disk.old)
         (λ bytes. opening_of digests.now bytes ≡ Ok found.records.entries.items)) }
-    ensures whole { IfOk result (λ found. Told (D.state disk.old) (λ bytes.
-        (found.first ≤ length bytes)
-        × IsRead (drop found.first bytes) found.records.entries.items found.records.length)) }
-    ensures gate { IfOk result (λ found. found.first ≡ first_gate) }
+    ensures whole { IfOk result (λ found. Told (D.state disk.old)
+        (λ bytes. IsNewPart bytes found.first found.records.entries.items found.records.length)) }
+    ensures early { IfOk result (λ found. found.first ≤ most_first) }
     ensures few { IfOk result (λ found. length found.records.entries.items ≤ most_entries) }
     ensures within { IfOk result (λ found.
         found.records.length ≤ most_record * length found.records.entries.items) }
     ensures counts { OnOk result (Counts false (D.state disk.old).faults (D.state disk.new).faults) }
     ensures refused { IfErr result (OpenFails digests.now (D.state disk.old) (D.state disk.new)) }
 {
-    disk.sync()?;
     let text = read_all(alloc, disk)?;
-    let opened = read_text(alloc, &text, digests)?;
-    Ok(opened)
+    let part = read_text(alloc, &text, digests)?;
+    Ok(part)
 }
 
-// All the bytes of a disk.
+/// Makes what the disk reads as safe from a crash, and reads it as a journal of format 1; `None` if
+/// it is of format 2.
+pub(crate) fn read_old_journal<D: Disk>(
+    alloc: Global,
+    disk: &mut D,
+    digests: &[u8; 64],
+) -> Result<Option<Records>, JournalFault>
+    ensures stays { Stays (D.state disk.old) (D.state disk.new) }
+    ensures durable { OnOk result (IsDurable (D.state disk.old) (D.state disk.new)) }
+    ensures opened { IfOk result (λ found. Told (D.state disk.old) (λ bytes. old_opening_of digests.now bytes
+        ≡ Ok (option_map (λ records. records.entries.items) found))) }
+    ensures whole { IfOk result (λ found. IfSome found (λ records. Told (D.state disk.old)
+        (λ bytes. IsOldPart bytes records.entries.items records.length))) }
+    ensures few { IfOk result (λ found.
+        IfSome found (λ records. length records.entries.items ≤ most_entries)) }
+    ensures within { IfOk result (λ found. IfSome found (λ records.
+        records.length ≤ most_record * length records.entries.items)) }
+    ensures counts { OnOk result (Counts false (D.state disk.old).faults (D.state disk.new).faults) }
+    ensures refused { IfErr result (OldOpenFails digests.now (D.state disk.old) (D.state disk.new)) }
+{
+    let text = read_all(alloc, disk)?;
+    let found = read_old_text(alloc, &text, digests)?;
+    Ok(found)
+}
+
+// Makes what the disk reads as safe from a crash, and gives all its bytes.
 fn read_all<D: Disk>(alloc: Global, disk: &mut D) -> Result<Vec<u8>, JournalFault>
+    ensures durable { OnOk result (IsDurable (D.state disk.old) (D.state disk.new)) }
     ensures bytes { IfOk result (λ read. Told (D.state disk.old) (λ bytes. read.items ≡ bytes)) }
     ensures stays { Stays (D.state disk.old) (D.state disk.new) }
     ensures counts { OnOk result (Counts false (D.state disk.old).faults (D.state disk.new).faults) }
     ensures refused { IfErr result (ReadFails (D.state disk.old).faults (D.state disk.new).faults) }
 {
+    disk.sync()?;
     let length = disk.length()?;
     let mut bytes = vec![in alloc; 0; length as usize]?;
     disk.read(0, &mut bytes)?;
     Ok(bytes)
 }
 
-// The first gate and the records of a journal of these digests.
-fn read_text(alloc: Global, text: &[u8], digests: &[u8; 64]) -> Result<Opened, JournalFault>
+// The new part of a journal of these digests.
+fn read_text(alloc: Global, text: &[u8], digests: &[u8; 64]) -> Result<NewPart, JournalFault>
     ensures opened { IfOk result (λ found.
         opening_of digests.now text.now ≡ Ok found.records.entries.items) }
     ensures whole { IfOk result (λ found.
-        IsRead (drop found.first text.now) found.records.entries.items found.records.length) }
-    ensures gate { IfOk result (λ found. found.first ≡ first_gate) }
-    ensures inside { IfOk result (λ found. found.first ≤ length text.now) }
+        IsNewPart text.now found.first found.records.entries.items found.records.length) }
     ensures refused { IfErr result (TextFails digests.now text.now) }
 {
-    let first = first_gate(text, digests)?;
+    test_header(text, digests)?;
+    if text[FORMAT] != NEW {
+        return Err(JournalFault::OldFormat);
+    }
+    let Some(size) = pass_records(&text[HEADER..]) else {
+        return Err(JournalFault::BadRecord(0));
+    };
+    let first = HEADER + size + 1;
     let records = read_records(alloc, &text[first..])?;
-    Ok(Opened { first, records })
+    Ok(NewPart { first, records })
+}
+
+// The records of a journal of format 1 of these digests; `None` if it is of format 2.
+fn read_old_text(
+    alloc: Global,
+    text: &[u8],
+    digests: &[u8; 64],
+) -> Result<Option<Records>, JournalFault>
+    ensures opened { IfOk result (λ found. old_opening_of digests.now text.now
+        ≡ Ok (option_map (λ records. records.entries.items) found)) }
+    ensures whole { IfOk result (λ found. IfSome found (λ records.
+        IsOldPart text.now records.entries.items records.length)) }
+    ensures refused { IfErr result (OldTextFails digests.now text.now) }
+{
+    test_header(text, digests)?;
+    if text[FORMAT] == NEW {
+        return Ok(None);
+    }
+    let records = read_records(alloc, &text[HEADER..])?;
+    Ok(Some(records))
 }

@@ -1,10 +1,10 @@
 // The records of a journal's text.
-ghost use Rattle.std.specs.Prelude.{◌≡◌, ◌≤◌, ◌-◌, IfOk, IfErr, Ok, Err};
+ghost use Rattle.std.specs.Prelude.{◌≡◌, ◌≤◌, ◌-◌, IfOk, IfErr, IfSome, Ok, Err};
 ghost use Rattle.std.specs.Option.{option_map};
-ghost use Rattle.journal_disk.specs.Entries.{behind_gate, entries_from};
+ghost use Rattle.journal_disk.specs.Entries.{behind_gate, entries_from, part_length};
 ghost use Rattle.journal_disk.specs.Faults.{RecordFails};
 ghost use Rattle.journal_disk.specs.Limits.{most_entries};
-ghost use Rattle.journal_disk.specs.Opening.{IsRead, NextIs};
+ghost use Rattle.journal_disk.specs.Opening.{IsPassed, IsRead, NextIs};
 
 use crate::JournalFault;
 use crate::gates::OPEN;
@@ -50,8 +50,23 @@ pub(crate) fn read_records(alloc: Global, text: &[u8]) -> Result<Records, Journa
     Ok(Records { entries, length })
 }
 
-// The entry behind the gate that the text begins with, where that is open, and what comes behind
-// it. So many entries were read before.
+/// How many bytes the records of a part have; `None` if one of them isn't whole. It takes no
+/// memory.
+pub(crate) fn pass_records(text: &[u8]) -> Option<usize>
+    ensures length { result ≡ part_length (entries_from most_entries text.now) }
+    ensures whole { IfSome result (IsPassed text.now) }
+{
+    let mut rest = text;
+    let mut number = 0;
+    while let Some((_, after)) = next_record(rest, number).ok()? {
+        number += 1;
+        rest = after;
+    }
+    Some(text.len() - rest.len())
+}
+
+// The entry after the gate at the front of the text, if that gate is open, and what comes after the
+// entry. `number` entries were read before.
 fn next_record(text: &[u8], number: usize) -> Result<Option<(&[u8], &[u8])>, NotWhole>
     requires few { number ≤ most_entries }
     ensures next { IfOk result (λ next.
@@ -76,7 +91,7 @@ fn next_record(text: &[u8], number: usize) -> Result<Option<(&[u8], &[u8])>, Not
     }
 }
 
-// The entry behind an open gate, and what comes behind it from the next gate on.
+// The entry after an open gate, and what comes after it, from the next gate on.
 fn behind_gate(bytes: &[u8]) -> Option<(&[u8], &[u8])>
     ensures value { option_map (λ found. (found.0.now, found.1.now)) result ≡ behind_gate bytes.now }
 {

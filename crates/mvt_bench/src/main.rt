@@ -1,4 +1,5 @@
-// Measures how fast movement messages are read: `mvt_bench 100000` reads so many messages of each kind.
+// Measures how fast movement messages are read: `mvt_bench 100000` reads this many messages of each
+// kind.
 #![tactic(auto)]
 
 use mvt_grammar::read_mvt;
@@ -9,10 +10,10 @@ use std::{env, io};
 // The head of a message of four elements.
 const MESSAGE: &[u8] = b"MVT\nLH123/27.DAIQA.MUC\nAD2355/0008 AA0930/0940 EA0105 APR ED1200\n";
 
-// The head of a message of none.
+// The head of a message without elements.
 const FLIGHT: &[u8] = b"MVT\nLH123/27.DAIQA.MUC\n";
 
-// The head and then lines that are passed over, of so many bytes in all.
+// The head and then lines that are passed over, this many bytes in all.
 fn text_of(alloc: Global, head: &[u8], bytes: usize) -> Result<Vec<u8>, AllocError> {
     let mut text = head.to_vec(alloc)?;
     for at in head.len()..bytes {
@@ -21,7 +22,7 @@ fn text_of(alloc: Global, head: &[u8], bytes: usize) -> Result<Vec<u8>, AllocErr
     Ok(text)
 }
 
-// Reads the text so many times, and prints how many texts and bytes are read in a second.
+// Reads the text this many times, and prints how many texts and bytes are read in a second.
 fn measure(rt: &HostRuntime, name: &str, text: &[u8], times: u64) -> io::Result<()> {
     let start = Instant::now(rt)?;
     let mut read: u64 = 0;

@@ -20,7 +20,7 @@ split_some byte text front rest (Some k) e h =
     let rests : drop (position_or_len p text + 1) text ≡ rest = ap (λ n. drop (n + 1) text) there.1 ∙ parts.1 in
     split ∙ ap (λ x. x ∷ slice_split p (drop (position_or_len p text + 1) text)) fronts ∙ ap (λ x. front ∷ slice_split p x) rests
 
--- where there is a separator, the first piece ends before it
+-- if there is a separator, the first piece ends before it
 pub cut_at-some : (byte at : ℕ) (text front rest : List ℕ) → parted byte text ≡ Some (front, rest) → cut_at byte (piece at text) ≡ piece at front ∷ cut_at byte (piece (at + length front + 1) rest)
 cut_at-some byte at text front rest h = ap (placed at) (split_some byte text front rest (position (λ b. b == byte) text) refl h)
 
@@ -37,6 +37,6 @@ split_none byte text None e h =
     let past = no_place p text e in
     slice_split_none p text (λ k d l. fails_before_first p text k d (omega arith))
 
--- where there is none, the whole is the one piece
+-- if there is none, the whole is the only piece
 pub cut_at-none : (byte at : ℕ) (text : List ℕ) → parted byte text ≡ None → cut_at byte (piece at text) ≡ piece at text ∷ []
 cut_at-none byte at text h = ap (placed at) (split_none byte text (position (λ b. b == byte) text) refl h)

@@ -10,7 +10,7 @@ use Rattle.std.specs.Str.Parse.{digits_value}
 use Rattle.mvt_grammar.specs.Canonical.{digit, two_text, number_text}
 use Rattle.mvt_grammar.specs.Flights.{is_number}
 
--- what a digit that writes a number counts for
+-- the value of a digit that writes a number
 value_of : (n : ℕ) → n ≤ 9 → digit_value (digit n) ≡ n
 value_of n h =
     let counts = digit_value_digit (48 + n) (omega arith, omega arith) in
@@ -30,7 +30,7 @@ two_digits-back n h =
     let value : 10 * ((48 + n / 10) - 48) + ((48 + n % 10) - 48) ≡ n = omega arith in
     ap (λ t. cond t (Some (10 * ((48 + n / 10) - 48) + ((48 + n % 10) - 48))) None) (two_text-digits n h) ∙ ap Some value
 
--- what a text that writes a number has
+-- what holds of a text that writes a number
 pub record Writes (n : ℕ) (text : List ℕ) : Type 0 where
   pub form : is_number text ≡ true
   pub value : digits_value 10 text ≡ n

@@ -1,4 +1,4 @@
--- An estimate of arrival whose station isn't there ends its line.
+-- An estimate of arrival whose station is missing ends its line.
 use Rattle.std.proofs.Common.{◌≡◌, ℕ, Bool, true, false, cond, List, [], ◌∷◌, drop, refl, ap, ◌∙◌, Some, None, arith}
 use Rattle.std.specs.Prelude.{codes, is_some, not, ◌||◌}
 use Rattle.std.proofs.lemmas.Bool.Decides.{nat_tests}

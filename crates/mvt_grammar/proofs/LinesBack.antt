@@ -6,7 +6,7 @@ use Rattle.std.proofs.lemmas.Bool.{and_parts, ne_eqb, ltb-true}
 use Rattle.mvt_grammar.specs.Pieces.{piece, placed, is_empty, without_cr, without_spaces, trimmed, lines_of, words_of}
 use Rattle.mvt_grammar.proofs.Parts.{lacks, lacks-kind, split-none, split-at, list_all-both}
 
--- a byte that neither ends a line nor parts words, and that no trimming takes off
+-- a byte that neither ends a line nor separates words, and that no trimming removes
 abbrev pub is_visible : ℕ → Bool
 is_visible b = nat_lt 32 b
 
@@ -69,7 +69,7 @@ ends-join : (word : List ℕ) (words : List (List ℕ)) → IsWord word → AreW
 ends-join word [] h k = ends-word word h.visible h.some
 ends-join word (next ∷ words) h k = ends-append word (32 ∷ join_with_byte 32 (next ∷ words)) (ends_behind 32 (join_with_byte 32 (next ∷ words)) (ends-join next words k.0 k.1))
 
--- what is visible has none of the bytes that cut
+-- what is visible has none of the bytes at which texts are cut
 word-lacks : (byte : ℕ) (word : List ℕ) → is_visible byte ≡ false → IsWord word → lacks byte word ≡ true
 word-lacks byte word h k = lacks-kind is_visible byte word h k.visible
 
@@ -120,6 +120,6 @@ trim-lines at (line ∷ lines) h =
     ap (λ t. t ∷ map trimmed (placed (at + length line + 1) (lines ++ [] ∷ []))) (trimmed-kept at line h.0.end)
     ∙ ap (λ t. piece at line ∷ t) (trim-lines (at + length line + 1) lines h.1)
 
--- lines that were each written with a line feed, and the empty rest behind the last
+-- lines that were each written with a line feed, and the empty rest after the last
 pub lines_of-written : (at : ℕ) (lines : List (List ℕ)) → AreLines lines → lines_of (piece at (flat_map (λ line. line ++ 10 ∷ []) lines)) ≡ placed at (lines ++ [] ∷ [])
 lines_of-written at lines h = ap (λ t. map trimmed (placed at t)) (split-lines lines h) ∙ trim-lines at lines h

@@ -61,7 +61,8 @@ estimate-mark word next words clock h k =
 taken : (message : Mvt) (at : ℕ) (element : Element) (marks : List Mark) → has_element message element ≡ false → with_marks message (Found at element ∷ marks) ≡ with_marks (with_element message element) marks
 taken message at element marks h = ap (λ t. cond t (Err (Twice at)) (with_marks (with_element message element) marks)) h
 
--- what is read of words is what is read of the words behind, wherever they stand, by a message with more elements
+-- what is read of words is what is read of the words after them, wherever they are, by a message
+-- with more elements
 pub record Reads (message : Mvt) (at : ℕ) (words : List (List ℕ)) (more : Mvt) (rest : List (List ℕ)) : Type 0 where
   pub place : ℕ
   pub same : with_marks message (marks_of_words (placed at words)) ≡ with_marks more (marks_of_words (placed place rest))

@@ -10,7 +10,7 @@ use Rattle.apron_base.proofs.NameTests.{name_bytes_decide, name_decides}
 use Rattle.mvt_grammar.specs.Bytes.{is_capital, is_station}
 use Rattle.mvt_grammar.specs.Reading.{is_registration}
 
--- what a list of bytes of one kind is, of a wider kind
+-- a list of bytes of one kind is also one of a wider kind
 pub list_all-wider : (p q : ℕ → Bool) → ((b : ℕ) → p b ≡ true → q b ≡ true) → (text : List ℕ) → list_all p text ≡ true → list_all q text ≡ true
 list_all-wider p q wider [] h = refl
 list_all-wider p q wider (b ∷ bs) h =

@@ -51,7 +51,7 @@ parted-at byte xs ys h =
     let rest : drop (length xs + 1) text ≡ ys = ap (λ n. drop n text) (add-one (length xs)) ∙ drop_past xs byte ys in
     ap (parted_at text) (place_at byte xs ys h) ∙ ap (λ t. Some (t, drop (length xs + 1) text)) front ∙ ap (λ t. Some (xs, t)) rest
 
--- where there is none, it is not parted
+-- if there is none, it is not parted
 pub parted-none : (byte : ℕ) (text : List ℕ) → lacks byte text ≡ true → parted byte text ≡ None
 parted-none byte text h =
     let p : ℕ → Bool = λ b. b == byte in

@@ -134,7 +134,7 @@ elements_open message h =
     let ed = ed_words message.ed in
     FirstOpens-append ad (aa ++ (ea ++ ed)) (ad_opens message.ad h.ad) (FirstOpens-append aa (ea ++ ed) (aa_opens message.aa h.aa) (FirstOpens-append ea ed (ea_opens message.ea h.ea) (ed_opens message.ed h.ed)))
 
--- the lines behind the flight line give the marks of the words
+-- the lines after the flight line give the marks of the words
 line_marks : (at : ℕ) (words : List (List ℕ)) → AreWords words → FirstOpens words → flat_map marks_of_line (placed at (element_lines words ++ [] ∷ [])) ≡ marks_of_words (placed at words)
 line_marks at [] h k = refl
 line_marks at (word ∷ words) h k =
@@ -237,7 +237,7 @@ read_mvt_of-canonical message h =
 same_message : (x y : Mvt) → ◌≡◌ {A = Result Mvt MvtFault} (Ok x) (Ok y) → x ≡ y
 same_message x y h = cc
 
--- two readable messages with one canonical text are equal
+-- two readable messages with the same canonical text are equal
 pub canonical-same : (a b : Mvt) → IsReadable a → IsReadable b → canonical a ≡ canonical b → a ≡ b
 canonical-same a b h k same =
     let both : ◌≡◌ {A = Result Mvt MvtFault} (Ok a) (Ok b) = sym (read_mvt_of-canonical a h) ∙ ap read_mvt_of same ∙ read_mvt_of-canonical b k in

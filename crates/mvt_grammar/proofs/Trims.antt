@@ -11,7 +11,7 @@ push_not_empty : (xs : List ℕ) (b : ℕ) → is_empty (xs ++ b ∷ []) ≡ fal
 push_not_empty [] b = refl
 push_not_empty (x ∷ xs) b = refl
 
--- a byte before what is left of a text without its spaces at the end
+-- a byte before what is left of a text after its trailing spaces are removed
 abbrev before_trimmed : ℕ → List ℕ → List ℕ
 before_trimmed x rest = cond (eqb x 32) (cond (is_empty rest) [] (x ∷ rest)) (x ∷ rest)
 
@@ -24,7 +24,7 @@ spaces_step : (x : ℕ) (xs : List ℕ) (b : ℕ) (t : Bool) → before_trimmed 
 spaces_step x xs b true = refl
 spaces_step x xs b false = before_push x xs b
 
--- the last byte is lost where it is a space
+-- the last byte is removed if it is a space
 pub without_spaces-push : (xs : List ℕ) (b : ℕ) → without_spaces (xs ++ b ∷ []) ≡ cond (eqb b 32) (without_spaces xs) (xs ++ b ∷ [])
 without_spaces-push [] b = refl
 without_spaces-push (x ∷ xs) b = ap (before_trimmed x) (without_spaces-push xs b) ∙ spaces_step x xs b (eqb b 32)
@@ -41,7 +41,7 @@ cond_onto : (t : Bool) (x : ℕ) (ys zs : List ℕ) → x ∷ cond t ys zs ≡ c
 cond_onto true x ys zs = refl
 cond_onto false x ys zs = refl
 
--- the last byte is lost where it is a CR, and no other
+-- the last byte is removed if it is a CR, and no other is
 pub without_cr-push : (xs : List ℕ) (b : ℕ) → without_cr (xs ++ b ∷ []) ≡ cond (eqb b 13) xs (xs ++ b ∷ [])
 without_cr-push [] b = refl
 without_cr-push (x ∷ xs) b = cr_step x xs b ∙ ap (λ r. x ∷ r) (without_cr-push xs b) ∙ cond_onto (eqb b 13) x xs (xs ++ b ∷ [])

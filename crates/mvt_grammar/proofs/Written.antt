@@ -6,7 +6,7 @@ use Rattle.mvt_grammar.specs.Canonical.{heading_text, element_lines, element_wor
 use Rattle.mvt_grammar.specs.Led.{led, gap_after}
 use Rattle.mvt_grammar.specs.declared.message.Mvt.{Mvt}
 
--- words joined by spaces are the first word, and the others behind spaces
+-- words joined by spaces are the first word, and the others after spaces
 pub join-led : (word : List ℕ) (words : List (List ℕ)) → join_with_byte 32 (word ∷ words) ≡ word ++ led 32 words
 join-led word [] = sym (append-nil word)
 join-led word (next ∷ words) = ap (λ t. word ++ 32 ∷ t) (join-led next words)

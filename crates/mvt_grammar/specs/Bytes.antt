@@ -1,4 +1,4 @@
--- Capitals and digits, and texts of fixed forms that are made of them.
+-- Capitals and digits, and texts of fixed forms made of them.
 use Rattle.std.specs.Prelude.{ℕ, ◌+◌, ◌-◌, ◌*◌, ◌==◌, Bool, ◌&&◌, nat_le, List, length, take, drop, slice_index, Option, Some, None, position, if◌then◌else◌}
 use Rattle.std.specs.List.{list_all}
 
@@ -18,11 +18,11 @@ is_station text = length text == 3 && list_all is_capital text
 abbrev pub two_digits : List ℕ → Option ℕ
 two_digits text = if length text == 2 && list_all is_digit text then Some (10 * (slice_index text 0 - 48) + (slice_index text 1 - 48)) else None
 
--- the text before a place and the text behind it, where there is a place
+-- the text before a place and the text after it, if there is a place
 abbrev pub parted_at : List ℕ → Option ℕ → Option (List ℕ × List ℕ)
 parted_at text None = None
 parted_at text (Some at) = Some (take at text, drop (at + 1) text)
 
--- the text before the first such byte and the text after it, where it is there
+-- the text before the first such byte and the text after it, if there is one
 abbrev pub parted : ℕ → List ℕ → Option (List ℕ × List ℕ)
 parted byte text = parted_at text (position (λ b. b == byte) text)

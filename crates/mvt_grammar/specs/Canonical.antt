@@ -53,7 +53,7 @@ ed_words (Some clock) = (codes "ED" ++ clock_text clock) ∷ []
 abbrev pub element_words : Mvt → List (List ℕ)
 element_words message = times_words (codes "AD") message.ad ++ (times_words (codes "AA") message.aa ++ (ea_words message.ea ++ ed_words message.ed))
 
--- the element line, where there is an element
+-- the element line, if there is an element
 abbrev pub element_lines : List (List ℕ) → List (List ℕ)
 element_lines [] = []
 element_lines (word ∷ words) = join_with_byte 32 (word ∷ words) ∷ []

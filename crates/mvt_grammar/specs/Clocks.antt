@@ -34,7 +34,7 @@ dated text = do
 abbrev pub clock_of : List ℕ → Option Clock
 clock_of text = if length text == 6 then dated text else undated text
 
--- the times, where the text was parted at its first slash
+-- the times, if the text was parted at its first slash
 abbrev pub times_parted : List ℕ → Option (List ℕ × List ℕ) → Option (Clock × Option Clock)
 times_parted text None = do
   clock ← clock_of text

@@ -15,7 +15,7 @@ is_airline_byte b = is_capital b || is_digit b
 abbrev pub is_airline : List ℕ → Bool
 is_airline text = (length text == 3 && list_all is_capital text) || (length text == 2 && list_all is_airline_byte text && list_any is_capital text)
 
--- the airline has three bytes where the third is a capital, and else two
+-- the airline has three bytes if the third is a capital, and two otherwise
 abbrev pub airline_len : List ℕ → ℕ
 airline_len text = if is_capital (slice_index text 2) then 3 else 2
 
@@ -30,7 +30,7 @@ flight_with airline number suffix =
     then Some (record { airline = airline; number = digits_value 10 number; suffix = suffix })
     else None
 
--- the last byte of what follows the airline is the suffix where it is a capital
+-- the last byte of what follows the airline is the suffix if it is a capital
 abbrev pub flight_after : List ℕ → List ℕ → Option Flight
 flight_after airline text =
     let last = slice_index text (length text - 1) in

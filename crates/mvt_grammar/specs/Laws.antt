@@ -15,7 +15,7 @@ ReadingGivesReadable = (text : List ℕ) (message : Mvt) → read_mvt_of text �
 abbrev pub CanonicalIsReadBack : Type 0
 CanonicalIsReadBack = (message : Mvt) → IsReadable message → read_mvt_of (canonical message) ≡ Ok message
 
--- two readable messages with one canonical text are equal
+-- two readable messages with the same canonical text are equal
 abbrev pub CanonicalTellsApart : Type 0
 CanonicalTellsApart = (a b : Mvt) → IsReadable a → IsReadable b → canonical a ≡ canonical b → a ≡ b
 

@@ -1,7 +1,7 @@
--- Words as they are written one after another, each behind a byte that sets it apart.
+-- Words as they are written one after another, each after a byte that separates it.
 use Rattle.std.specs.Prelude.{ℕ, List, [], ◌∷◌, ◌++◌}
 
--- the words, the first behind this byte and each other behind a space
+-- the words, the first after this byte and each other after a space
 abbrev pub led : ℕ → List (List ℕ) → List ℕ
 led gap [] = []
 led gap (word ∷ words) = gap ∷ (word ++ led 32 words)

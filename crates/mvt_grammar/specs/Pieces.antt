@@ -1,8 +1,9 @@
--- A text cut into pieces, each with the place of its first byte: a text into its lines, a line into its words.
+-- A text cut into pieces, each with the place of its first byte: a text into its lines, a line into
+-- its words.
 use Rattle.std.specs.Prelude.{ℕ, ◌+◌, ◌==◌, Bool, true, false, not, List, [], ◌∷◌, length, map, filter, if◌then◌else◌}
 use Rattle.std.specs.List.{slice_split}
 
--- bytes of a text, the first of them at a place that counts from 0
+-- bytes of a text, and the place of the first of them, counted from 0
 pub record Piece : Type 0 where
   pub at : ℕ
   pub text : List ℕ
@@ -10,12 +11,12 @@ pub record Piece : Type 0 where
 abbrev pub piece : ℕ → List ℕ → Piece
 piece at text = record { at = at; text = text }
 
--- texts that follow one another with one byte between each two, the first of them at a place
+-- texts that follow one another with one byte between each two; the first is at this place
 abbrev pub placed : ℕ → List (List ℕ) → List Piece
 placed at [] = []
 placed at (text ∷ texts) = piece at text ∷ placed (at + length text + 1) texts
 
--- a piece cut at each such byte: one piece at least
+-- a piece cut at each such byte: at least one piece
 abbrev pub cut_at : ℕ → Piece → List Piece
 cut_at byte whole = placed whole.at (slice_split (λ b. b == byte) whole.text)
 
@@ -41,6 +42,6 @@ trimmed line = piece line.at (without_spaces (without_cr line.text))
 abbrev pub lines_of : Piece → List Piece
 lines_of whole = map trimmed (cut_at 10 whole)
 
--- the words of a line: what is left of it, cut at each space, where that is not empty
+-- the words of a line: what is left of it, cut at each space, without the empty pieces
 abbrev pub words_of : Piece → List Piece
 words_of line = filter (λ word. not (is_empty word.text)) (cut_at 32 line)

@@ -32,7 +32,7 @@ is_registration text = is_name text && nat_le (length text) 10
 abbrev pub headed : Flight → ℕ → List ℕ → List ℕ → Mvt
 headed flight day registration station = record { flight = flight; day = day; registration = registration; station = station; ad = None; aa = None; ea = None; ed = None }
 
--- the message without elements that the flight line FLIGHT/DD.REGISTRATION.STATION begins
+-- the message without elements that the flight line FLIGHT/DD.REGISTRATION.STATION gives
 abbrev pub heading_of : List ℕ → Option Mvt
 heading_of line = do
   slash ← parted 47 line
@@ -45,7 +45,7 @@ heading_of line = do
 abbrev pub is_identifier : Piece → Bool
 is_identifier line = bytes_eq line.text (codes "MVT")
 
--- the lines after the first line MVT, where it is among the first so many lines
+-- the lines after the first line MVT, which is looked for in this many lines
 abbrev pub after_identifier : ℕ → List Piece → Result (List Piece) MvtFault
 after_identifier zero lines = Err NoIdentifier
 after_identifier (suc more) [] = Err NoIdentifier
@@ -55,7 +55,7 @@ abbrev pub with_heading : Option Mvt → List Piece → Result (Mvt × List Piec
 with_heading None lines = Err BadFlightLine
 with_heading (Some message) lines = Ok (message, lines)
 
--- the message that the first line that is not empty begins, and the lines after it
+-- the message that the first line that is not empty gives, and the lines after it
 abbrev pub after_heading : List Piece → Result (Mvt × List Piece) MvtFault
 after_heading [] = Err BadFlightLine
 after_heading (line ∷ lines) = if is_empty line.text then after_heading lines else with_heading (heading_of line.text) lines

@@ -1,4 +1,4 @@
--- How the code holds pieces of a text, and what is left of one.
+-- How the code holds pieces of a text, and what is left of it.
 use Rattle.std.specs.Prelude.{ℕ, not, List, [], map, filter, Option, None, Some}
 use Rattle.mvt_grammar.specs.Pieces.{Piece, piece, cut_at, trimmed, is_empty}
 use Rattle.mvt_grammar.specs.declared.pieces.Span.{Span}

@@ -1,4 +1,4 @@
--- What the words of an element line tell: elements, faults, and where the line or the whole reading
+-- What the words of an element line mean: elements, faults, and where the line or the whole reading
 -- ends.
 use Rattle.std.specs.Prelude.{ℕ, nat_eq, Bool, not, ◌&&◌, ◌||◌, List, [], ◌∷◌, drop, slice_index, codes, Option, Some, None, is_some, if◌then◌else◌}
 use Rattle.std.specs.List.{starts_with}
@@ -17,7 +17,7 @@ use Rattle.mvt_grammar.specs.declared.words.Mark.TheVariants.{Found, Bad, End}
 abbrev pub begins : List ℕ → List ℕ → Bool
 begins text front = starts_with nat_eq text front
 
--- one of the four pairs, and no capital after it
+-- one of the four pairs, with no capital after it
 abbrev pub begins_element : List ℕ → Bool
 begins_element text =
     (begins text (codes "AD")
@@ -49,25 +49,26 @@ abbrev pub mark_of : ℕ → Option Element → Mark
 mark_of at (Some element) = Found at element
 mark_of at None = Bad at
 
--- a word that ends its line: one that is no element, or an estimate whose station isn't there
+-- a word that ends its line: one that isn't an element, or an estimate whose station is missing
 abbrev pub ends_line : List ℕ → Bool
 ends_line text = not (begins_element text) || is_some (estimated text)
 
--- the marks from a word on that has no station after it, by the marks of the words after it
+-- the marks from a word on that is followed by no station, by the marks of the words after it
 abbrev pub marks_from : Piece → List Mark → List Mark
 marks_from word after =
     if begins word.text (codes "SI") then End ∷ []
     else if ends_line word.text then []
     else mark_of word.at (element_of word.text) ∷ after
 
--- the estimate found at a place and the marks behind its station, or without an estimate the others
+-- the estimate found at a place and then the marks after its station; without an estimate, the
+-- other marks
 abbrev pub with_estimate : ℕ → Option Element → List Mark → List Mark → List Mark
 with_estimate at (Some estimate) behind others = Found at estimate ∷ behind
 with_estimate at None behind others = others
 
--- The marks of the words of a line, from left to right. Of these rules the first that fits a word
--- holds: it is an estimate with its station after it; it ends the reading; it ends the line; it is
--- an element of one word, or a fault.
+-- The marks of the words of a line, from left to right. The first of these rules that fits a word
+-- applies: it is an estimate with its station after it; it ends the reading; it ends the line; it
+-- is an element of one word, or a fault.
 abbrev pub marks_of_words : List Piece → List Mark
 marks_of_words [] = []
 marks_of_words (word ∷ []) = marks_from word []
@@ -76,8 +77,8 @@ marks_of_words (word ∷ next ∷ words) =
     (marks_of_words words)
     (marks_from word (marks_of_words (next ∷ words)))
 
--- the marks of a line: one that begins with SI ends the reading, and one that is no element line
--- tells nothing
+-- the marks of a line: a line that begins with SI ends the reading, and one that is no element line
+-- has none
 abbrev pub marks_of_line : Piece → List Mark
 marks_of_line line =
     if begins line.text (codes "SI") then End ∷ []

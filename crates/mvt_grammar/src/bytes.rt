@@ -1,4 +1,4 @@
-// Capitals and digits, and texts of fixed forms that are made of them.
+// Capitals and digits, and texts of fixed forms made of them.
 ghost use Rattle.std.specs.Prelude.{◌≡◌, ◌==◌, ◌+◌, ◌<◌, length, option_map, position, slice_index, IfSome};
 ghost use Rattle.std.specs.List.{list_all};
 ghost use Rattle.mvt_grammar.specs.Bytes.{is_capital, is_digit, is_station, two_digits, parted};
@@ -62,7 +62,7 @@ fn place_of(text: &[u8], byte: u8) -> Option<usize>
     text.iter().position(|b| *b == byte)
 }
 
-// The text before the first such byte and the text after it, where it is there.
+// The text before the first such byte and the text after it, if there is one.
 pub(crate) fn parted(text: &[u8], byte: u8) -> Option<(&[u8], &[u8])>
     ensures parts { option_map (λ parts. (parts.0.now, parts.1.now)) result ≡ parted byte text.now }
     ensures lengths { IfSome result (λ parts. length parts.0.now + 1 + length parts.1.now ≡ length text.now) }

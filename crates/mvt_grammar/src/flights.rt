@@ -36,7 +36,7 @@ pub(crate) fn is_airline(text: &[u8]) -> bool
     }
 }
 
-// The number that one to four digits write, and of other texts none.
+// The number that one to four digits write; `None` for other texts.
 #[tactic(auto, unfolding(apron_base::specs::Digits::number_of))]
 fn flight_number(text: &[u8]) -> Option<u16>
     ensures value { result ≡ if is_number text.now then Some (digits_value 10 text.now) else None }
@@ -76,9 +76,10 @@ fn airline_len(text: &[u8]) -> usize
     if third_is_capital(text) { 3 } else { 2 }
 }
 
-/// The flight that the whole text writes: where the third byte is a capital, the first three bytes are capitals and are
-/// the airline; else the first two are capitals or digits, at least one of them a capital, and are the airline. Then one
-/// to four digits, and at most one capital. None for any other text. It takes no memory.
+/// The flight that the whole text writes. If the third byte is a capital, the first three bytes
+/// must be capitals and are the airline; otherwise the first two must be capitals or digits, at
+/// least one of them a capital, and are the airline. Then one to four digits follow, and at most
+/// one capital. `None` for any other text. It takes no memory.
 pub fn read_flight(text: &[u8]) -> Option<Flight>
     ensures read { result ≡ flight_of text.now }
     ensures form { IfSome result IsFlight }

@@ -1,5 +1,5 @@
-// What holds between reading and the canonical text, for all texts and messages. Each law is the contract of a function
-// that does nothing.
+// What holds between reading and the canonical text, for all texts and messages. Each law is the
+// contract of a function that does nothing.
 ghost use Rattle.mvt_grammar.specs.Laws.{ReadingGivesReadable, CanonicalIsReadBack, CanonicalTellsApart, CanonicalIsShort, FlightIsReadBack};
 
 /// Each message that a text is read as is readable.
@@ -12,7 +12,7 @@ pub fn canonical_texts_are_read_back()
     ensures read { CanonicalIsReadBack }
 {}
 
-/// Two readable messages with one canonical text are equal.
+/// Two readable messages with the same canonical text are equal.
 pub fn canonical_texts_tell_messages_apart()
     ensures same { CanonicalTellsApart }
 {}

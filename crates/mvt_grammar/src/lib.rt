@@ -1,4 +1,5 @@
-//! Movement messages: reading their texts, and writing the canonical ones.
+//! Movement messages: reading their texts, and writing the canonical ones. It knows nothing of
+//! plans and visits.
 #![tactic(auto)]
 
 mod bytes;

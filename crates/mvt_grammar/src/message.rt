@@ -1,4 +1,4 @@
-// The parts of a movement message, and the faults of a text that is none.
+// The parts of a movement message, and the faults of a text that is not one.
 use apron_base::Name;
 
 /// A flight. This form is this project's own.
@@ -15,14 +15,14 @@ pub struct Flight {
 /// A time of an element.
 #[derive(Clone, Copy, Debug, PartialEq, Eq)]
 pub struct Clock {
-    /// The day of a month, 1 to 31, where the text gives it.
+    /// The day of a month, 1 to 31, if the text gives it.
     pub day: Option<u8>,
     /// The minute of the day, 0 to 1439.
     pub minute: u16,
 }
 
-/// A movement message. Its elements are those of IATA AHM 780; which shapes of them are taken is this project's own
-/// choice.
+/// A movement message. Its elements are those of IATA AHM 780; which forms of them are accepted is
+/// this project's own choice.
 #[derive(Clone, Copy, Debug, PartialEq, Eq)]
 pub struct Mvt {
     pub flight: Flight,
@@ -32,17 +32,18 @@ pub struct Mvt {
     pub registration: Name,
     /// Three capitals: the airport that the message is from.
     pub station: Name,
-    /// Actual departure: off block, and take-off where it is given.
+    /// Actual departure: off block, and take-off if it is given.
     pub ad: Option<(Clock, Option<Clock>)>,
-    /// Actual arrival: touchdown, and on block where it is given.
+    /// Actual arrival: touchdown, and on block if it is given.
     pub aa: Option<(Clock, Option<Clock>)>,
-    /// Estimated arrival, and the airport of three capitals that it is for.
+    /// Estimated arrival, and the airport (three capitals) that it is for.
     pub ea: Option<(Clock, Name)>,
     /// Estimated departure.
     pub ed: Option<Clock>,
 }
 
-/// Why a text is no movement message: its first fault from left to right. A place counts bytes from 0.
+/// Why a text is not a movement message: its first fault from left to right. A place counts bytes
+/// from 0.
 #[derive(Clone, Copy, Debug, PartialEq, Eq)]
 pub enum MvtFault {
     /// More than 4,000 bytes.
@@ -51,7 +52,7 @@ pub enum MvtFault {
     NoIdentifier,
     /// No line is left for the flight, or it has another form.
     BadFlightLine,
-    /// The word at this place begins as an element, and has another form.
+    /// The word at this place begins as an element, but has another form.
     BadElement(u32),
     /// The element at this place was read before.
     Twice(u32),

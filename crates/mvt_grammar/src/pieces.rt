@@ -4,7 +4,7 @@ ghost use Rattle.mvt_grammar.specs.Pieces.{without_cr, without_spaces};
 
 use crate::bytes::parted;
 
-// Bytes of a text, and the place of the first of them, which counts from 0.
+// Bytes of a text, and the place of the first of them, counted from 0.
 #[derive(Clone, Copy)]
 pub(crate) struct Span<'a> {
     pub at: u32,
@@ -16,7 +16,7 @@ impl<'a> Span<'a> {
     ghost use Rattle.mvt_grammar.specs.Spans.{piece_of, left_cut, left_lines, left_words};
     ghost use Rattle.mvt_grammar.specs.Pieces.{cut_at};
 
-    // The piece before the first such byte, or the whole, and what is left behind that byte.
+    // The piece before the first such byte, or the whole, and what is left after that byte.
     fn cut(self, byte: u8) -> (Span<'a>, Option<Span<'a>>)
         ensures value { cut_at byte (piece_of self.entry) ≡ piece_of result.0 ∷ left_cut byte result.1 }
     {
@@ -37,7 +37,7 @@ impl<'a> Span<'a> {
         }
     }
 
-    // The first line, and what is left behind it.
+    // The first line, and what is left after it.
     pub fn line(self) -> (Span<'a>, Option<Span<'a>>)
         ensures value { left_lines (Some self.entry) ≡ piece_of result.0 ∷ left_lines result.1 }
     {
@@ -49,7 +49,8 @@ impl<'a> Span<'a> {
         (line, left)
     }
 
-    // The first word of what is left of a line, and what is left behind it. None where there is no word.
+    // The first word of what is left of a line, and what is left after it. `None` if there is no
+    // word.
     pub fn word(line: Option<Span<'a>>) -> Option<(Span<'a>, Option<Span<'a>>)>
         ensures value { MatchOption result (left_words line.entry ≡ [])
             (λ found. left_words line.entry ≡ piece_of found.0 ∷ left_words found.1) }

@@ -24,8 +24,9 @@ fn is_clock(clock: &Clock) -> bool
     day && clock.minute < 1440
 }
 
-/// Whether some text is read as the flight: the airline is three capitals, or two capitals or digits of which at least one
-/// is a capital; the number is below 10,000; the suffix is a capital.
+/// Whether some text is read as the flight: the airline is three capitals, or two capitals or
+/// digits of which at least one is a capital; the number is below 10,000; and the suffix is a
+/// capital.
 pub fn is_flight(flight: &Flight) -> bool
     ensures is { IsTrue result ↔ IsFlight flight.now }
 {
@@ -81,8 +82,8 @@ fn are_estimates(message: &Mvt) -> bool
     ea && ed
 }
 
-/// Whether some text is read as the message: days of the month are 1 to 31, minutes of the day below 1440, the number of
-/// the flight below 10,000, and each name has its form.
+/// Whether some text is read as the message: days of the month are 1 to 31, minutes of the day are
+/// below 1440, the number of the flight is below 10,000, and each name has its form.
 pub fn is_readable(message: &Mvt) -> bool
     ensures is { IsTrue result ↔ IsReadable message.now }
 {

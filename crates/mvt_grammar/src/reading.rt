@@ -16,7 +16,7 @@ use apron_base::Name;
 // The most bytes that a text may have.
 const LONGEST: usize = 4000;
 
-// The line `MVT` is looked for among so many lines.
+// How many lines the line `MVT` is looked for in.
 const IDENTIFIER_LINES: u32 = 21;
 
 // What is left to read: words of a line, and the lines after it.
@@ -26,7 +26,7 @@ pub(crate) struct Left<'a> {
     lines: Option<Span<'a>>,
 }
 
-// The next mark, and what is left behind it.
+// The next mark, and what is left after it.
 fn next_of<'a>(start: Left<'a>) -> Option<(Mark, Left<'a>)>
     ensures value { MatchOption result (left_marks start.entry ≡ [])
         (λ found. left_marks start.entry ≡ found.0 ∷ left_marks found.1) }
@@ -47,7 +47,7 @@ fn next_of<'a>(start: Left<'a>) -> Option<(Mark, Left<'a>)>
     }
 }
 
-// The message with one more element, where it does not have that element yet.
+// The message with one more element, if it does not have that element yet.
 fn with_element(message: Mvt, at: u32, element: Element) -> Result<Mvt, MvtFault>
     ensures value { result ≡ if has_element message element then Err (MvtFault.Twice at) else Ok (with_element message element) }
 {
@@ -103,7 +103,7 @@ fn station_of(text: &[u8]) -> Option<Name>
     }
 }
 
-// The message without elements that a flight line begins.
+// The message without elements that a flight line gives.
 fn heading_of(line: &[u8]) -> Option<Mvt>
     ensures value { result ≡ heading_of line.now }
 {
@@ -166,14 +166,16 @@ fn after_heading(lines: Option<Span<'_>>) -> Result<(Mvt, Option<Span<'_>>), Mvt
     Err(MvtFault::BadFlightLine)
 }
 
-/// The message that a text is read as, or its first fault from left to right, by this project's own rules for the elements
-/// of IATA AHM 780.
+/// The message that a text is read as, or its first fault from left to right, by this project's own
+/// rules for the elements of IATA AHM 780.
 ///
-/// A line ends before LF; a CR at its end and then all spaces there are no part of it. At most 20 lines are passed over
-/// before the line `MVT`. The next line that is not empty is `FLIGHT/DD.REGISTRATION.STATION`. Of the lines after it those
-/// that begin with AD, AA, EA or ED and no capital behind that are read word by word, and others are passed over; the first
-/// line or word that begins with SI ends the reading. A word that does not begin as an element ends its line, and so does
-/// an estimate of arrival without its station of three capitals right behind it. A time is HHMM or DDHHMM.
+/// A line ends before LF; a CR at its end, and then all spaces there, do not belong to it. At most
+/// 20 lines are passed over before the line `MVT`. The next line that is not empty is
+/// `FLIGHT/DD.REGISTRATION.STATION`. Of the lines after it, those that begin with AD, AA, EA or ED
+/// and then no capital are read word by word; others are passed over. The first line or word that
+/// begins with SI ends the reading. A word that does not begin as an element ends its line, and so
+/// does an estimate of arrival without its station of three capitals right after it. A time is HHMM
+/// or DDHHMM.
 ///
 /// It takes no memory, and goes over the text once.
 pub fn read_mvt(text: &[u8]) -> Result<Mvt, MvtFault>

@@ -1,4 +1,4 @@
-// What the words of an element line tell: elements, faults, and where the line or the whole reading
+// What the words of an element line mean: elements, faults, and where the line or the whole reading
 // ends.
 ghost use Rattle.std.specs.Prelude.{◌≡◌, ◌≤◌, [], ◌∷◌, length, MatchOption};
 ghost use Rattle.mvt_grammar.specs.Words.{begins_element, element_of, estimated, marks_of_words};
@@ -19,7 +19,7 @@ pub(crate) enum Element {
     Ed(Clock),
 }
 
-// What words tell, at the place of the first byte of each.
+// What words mean, at the place of the first byte of each.
 #[derive(Clone, Copy)]
 pub(crate) enum Mark {
     Found(u32, Element),
@@ -27,7 +27,7 @@ pub(crate) enum Mark {
     End,
 }
 
-// One of the four pairs, and no capital after it.
+// One of the four pairs, with no capital after it.
 pub(crate) fn begins_element(text: &[u8]) -> bool
     ensures is { result ≡ begins_element text.now }
 {
@@ -66,7 +66,7 @@ fn element_of(word: &[u8]) -> Option<Element>
     }
 }
 
-// The next mark of what is left of a line, and what is left behind it.
+// The next mark of what is left of a line, and what is left after it.
 pub(crate) fn next_mark(line: Option<Span<'_>>) -> Option<(Mark, Option<Span<'_>>)>
     ensures value { MatchOption result (marks_of_words (left_words line.entry) ≡ [])
         (λ found. marks_of_words (left_words line.entry)

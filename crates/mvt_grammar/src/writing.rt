@@ -38,7 +38,8 @@ fn push_number(out: &mut Vec<u8>, number: u16) -> Result<(), Memory>
     }
 }
 
-/// Writes a flight at the end, its number without leading zeros. After want of memory a part of it may be there.
+/// Writes a flight at the end, its number without leading zeros. If memory runs out a part of it
+/// may be there.
 pub fn push_flight(out: &mut Vec<u8>, flight: &Flight) -> Result<(), Memory>
     requires valid { IsFlight flight.now }
     ensures text { OnOk result (out.new.items ≡ out.old.items ++ flight_text flight.now) }
@@ -74,7 +75,7 @@ fn push_times(out: &mut Vec<u8>, times: &(Clock, Option<Clock>)) -> Result<(), M
     Ok(())
 }
 
-// The words of an element behind this byte, and the byte that goes before the next word.
+// The words of an element, the first after this byte, and the byte that goes before the next word.
 fn push_times_words(
     out: &mut Vec<u8>,
     gap: u8,
@@ -126,7 +127,7 @@ fn push_ed_words(out: &mut Vec<u8>, gap: u8, clock: &Option<Clock>) -> Result<()
     Ok(())
 }
 
-// The words of all elements, the first behind a line feed.
+// The words of all elements, the first after a line feed.
 fn push_elements(out: &mut Vec<u8>, message: &Mvt) -> Result<(), Memory>
     requires valid { IsReadable message.now }
     ensures text { OnOk result (out.new.items ≡ out.old.items ++ led 10 (element_words message.now)) }
@@ -152,8 +153,9 @@ fn push_heading(out: &mut Vec<u8>, message: &Mvt) -> Result<(), Memory>
     Ok(())
 }
 
-/// The canonical text of a message: the line `MVT`, the flight line, and, where there is an element, a line with the
-/// elements in the order AD, AA, EA, ED, each line with LF. It is read as the message.
+/// The canonical text of a message: the line `MVT`, the flight line and, if there is an element, a
+/// line with the elements in the order AD, AA, EA, ED, each line with LF. It is read as the
+/// message.
 pub fn write_mvt(alloc: Global, message: &Mvt) -> Result<Listed<u8>, Memory>
     requires valid { IsReadable message.now }
     ensures text { IfOk result (λ text. text ≡ canonical message.now) }

@@ -66,7 +66,7 @@ const ENVELOPES: [(&str, &str); 6] = [
         "MVT  \r\n\r\n   \nLH1/27.D-1.APR  \r\n\r\n\nED1000   ",
         "MVT\nLH1/27.D-1.APR\nED1000\n",
     ),
-    // one CR is lost, and only before the spaces
+    // one CR is removed, and only before the spaces
     (
         "MVT\r\r\nMVT\r \n MVT\nMVT\nLH1/01.D.APR\n",
         "MVT\nLH1/01.D.APR\n",
@@ -120,14 +120,14 @@ fn elements_are_read_in_each_shape(rt: HostRuntime) {
     }
 }
 
-// The same of lines with what is no element.
+// The same for lines with words that are no elements.
 const STRANGERS: [(&str, &str); 19] = [
     ("AD1000/1010\nEDL31/0010\n", "AD1000/1010\n"),
     (
         "AD1000/1010 1020\nEA1040\nDL31/62/0010/0005\n=\n",
         "AD1000/1010\n",
     ),
-    // a stranger ends its line, and not the reading
+    // a word that is no element ends its line, but not the reading
     ("AD1000 X AA1100\nED1200\n", "AD1000 ED1200\n"),
     ("AD1000 APR AA1100\n", "AD1000\n"),
     ("AD1000 EDX AA2460\n", "AD1000\n"),

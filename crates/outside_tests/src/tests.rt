@@ -1,5 +1,6 @@
 // What comes from outside and goes there.
 mod adapters;
+mod formats;
 mod journals;
 mod keepers;
 mod list_ends;

@@ -1,4 +1,4 @@
--- Edits on the visits that they are of, and no others.
+-- Edits tried only on the visits that they change.
 use Rattle.std.proofs.Common.{◌≡◌, ◌<◌, ◌≤◌, ◌+◌, ◌||◌, ◌∙◌, ℕ, Bool, true, false, List, [], ◌∷◌, refl, arith, sym, ap, Option, None, Some, Result, Ok, Err, ok_or}
 use Rattle.std.specs.Option.{unwrap_or}
 use Rattle.std.proofs.lemmas.Bool.Decides.{nat_tests}
@@ -17,7 +17,7 @@ use Rattle.plan_core.proofs.ByNumber.{found_number, only, only_found, only_with}
 use Rattle.plan_core.proofs.Changed.{Follows, edits_follow, follows_numbered}
 use Rattle.plan_core.proofs.EditKept.{visit_number}
 
--- a result, for the visits that the edits are of
+-- a result, restricted to the visits that the edits change
 abbrev among : List Edit → Result (List Visit) EditFault → Result (List Visit) EditFault
 among all (Ok visits) = Ok (edited_visits all visits)
 among all (Err fault) = Err fault
@@ -78,14 +78,15 @@ among_err : (all : List Edit) (r : Result (List Visit) EditFault) (fault : EditF
 among_err all (Ok new) fault e = absurd (cc)
 among_err all (Err other) fault e = e
 
--- what the edits make of the visits that they are of is what they make of these among all visits
+-- what the edits make of the visits that they change is what they make of these among all visits
 pub edited_among : (a : AirportParts) (base : ℕ) (edits : List Edit) (visits named : List Visit)
     → after_all_edits a base edits (edited_visits edits visits) ≡ Ok named
     → (new : List Visit) × (after_all_edits a base edits visits ≡ Ok new) × (named ≡ edited_visits edits new)
 edited_among a base edits visits named e =
     among_ok edits (after_all_edits a base edits visits) named (sym (edits_among a edits base 1 edits visits (λ n h. h)) ∙ e)
 
--- the edits are refused so where they are so on the visits that they are of
+-- edits that are refused on the visits that they change are refused for the same cause on all
+-- visits
 pub refused_among : (a : AirportParts) (base : ℕ) (edits : List Edit) (visits : List Visit) (fault : EditFault)
     → after_all_edits a base edits (edited_visits edits visits) ≡ Err fault → after_all_edits a base edits visits ≡ Err fault
 refused_among a base edits visits fault e =

@@ -14,7 +14,7 @@ use Rattle.plan_core.specs.Rebase.{Rebases, Refuses}
 use Rattle.plan_core.proofs.Faults.{fault_is_of_edit, not_memory, refuses_edits}
 use Rattle.plan_core.proofs.FirstExists.{first_exists}
 
--- a commit, or a refusal for another cause than want of memory
+-- a commit, or a refusal for another cause than a lack of memory
 abbrev IsAnswered : PlanState → Draft → Type 0
 IsAnswered plan draft = ((new : List Visit) × Rebases plan draft new) ⊎ ((fault : EditFault) × (fault ≢ Memory) × Refuses plan draft fault)
 

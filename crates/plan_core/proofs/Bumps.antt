@@ -1,4 +1,4 @@
--- Changes of parts that leave no record of what took a stand but those that were there.
+-- Changes of parts that leave only such records of what took a stand as were there before.
 use Rattle.std.proofs.Common.{◌≡◌, ℕ, zero, suc, List, [], ◌∷◌, None, Some}
 use Rattle.std.specs.Prelude.{All, slice_set}
 use Rattle.std.proofs.lemmas.List.Elements.{All-contains, All-contains_itself, All-from_recursion, recursion_from_All}
@@ -14,7 +14,8 @@ use Rattle.plan_core.specs.PlanState.{HasBump}
 abbrev pub HaveNoNewBump : List Part → List Part → Type 0
 HaveNoNewBump new old = (bump : Bump) → HasBump new bump → HasBump old bump
 
--- so it is where what holds of the old places, of every planned one and of the one without a record holds of the new places
+-- if something holds of the old places, of every planned place and of a place without a record, and
+-- so of the new places, the new parts have no new record
 pub no_new_bump : (new old : List Part)
     → ((Holds : Place → Type 0) → ((stand : StandNo) → Holds (Planned stand)) → Holds (Unplaced None) → AllPlaces Holds old → AllPlaces Holds new)
     → HaveNoNewBump new old
@@ -29,7 +30,7 @@ no_new_bump new old keep bump has =
     own : All (λ part. part.place ≡ Unplaced (Some bump) → HasBump old bump) old
     own = λ k d within is. record { part = _; among = All-contains_itself old k d within; place = is }
 
--- where no part has a record there is none
+-- if no part has a record there is none
 pub no_bump_in : (parts : List Part) → All (λ part. part.place ≡ Unplaced None) parts → (bump : Bump) → HasBump parts bump → ⊥
 no_bump_in parts each bump has =
     let none : has.part.place ≡ Unplaced None = All-contains (λ part. part.place ≡ Unplaced None) parts has.part each has.among in

@@ -19,7 +19,7 @@ place_past : (n m : ℕ) (b : Bool) → nat_lt n m ≡ b → ◌≡◌ {A = Opti
 place_past n m true is e = absurd (cc)
 place_past n m false is e = grind (arith, nat_tests)
 
--- a place is the first where the test passes
+-- a place is the first at which the test passes
 pub place_of : (p : Visit → Bool) (visits : List Visit) (i : ℕ) → position p visits ≡ Some i → (i ≡ position_or_len p visits) × (i < length visits)
 place_of p visits i e = place_is (position_or_len p visits) (length visits) i (nat_lt (position_or_len p visits) (length visits)) refl e
 
@@ -29,7 +29,7 @@ no_place p visits e = place_past (position_or_len p visits) (length visits) (nat
 pub no_place_is : (p : Visit → Bool) (visits : List Visit) → position p visits ≡ None → position_or_len p visits ≡ length visits
 no_place_is p visits e = omega (arith, no_place p visits e, prefix_len-le-length (λ (visit : Visit). not (p visit)) visits)
 
--- what stands in that place is the first visit that passes
+-- the visit at that place is the first visit that passes
 pub found_by : (p : Visit → Bool) (visits : List Visit) (i : ℕ) (d : Visit) → position p visits ≡ Some i
     → (i < length visits) × (find p visits ≡ Some (slice_index_or visits i d))
 found_by p visits i d e =
@@ -37,11 +37,11 @@ found_by p visits i d e =
     let here : i ≡ position_or_len p visits = at.0 in
     (at.1, find_at p visits ∙ (ap (slice_get visits) (sym here) ∙ slice_get-get_or visits i d at.1))
 
--- where there is no place no visit passes
+-- if there is no place, no visit passes
 pub not_found_by : (p : Visit → Bool) (visits : List Visit) → position p visits ≡ None → find p visits ≡ None
 not_found_by p visits e = find_at p visits ∙ slice_get_past visits (position_or_len p visits) (no_place p visits e)
 
--- what stands in its place is the visit of the number
+-- the visit at its place is the visit of the number
 pub found_at : (visits : List Visit) (number : VisitNo) (i : ℕ) (d : Visit) → position (has_number number) visits ≡ Some i
     → (i < length visits) × (visit_at visits number ≡ Some (slice_index_or visits i d))
 found_at visits number = found_by (has_number number) visits

@@ -33,7 +33,7 @@ version_pushed drafts last desk draft false is new =
     rw (find-append (λ (drafted : Drafted). is_draft desk draft drafted.id) drafts (last ∷ []), is)
     (ap (option_map (λ (drafted : Drafted). drafted.version)) (other_found (find (λ (drafted : Drafted). is_draft desk draft drafted.id) drafts)))
 
--- whether drafts have one desk and number, said from either side
+-- whether drafts have the same desk and number does not depend on their order
 pub draft_either_way : (a b : List ℕ) (m n : ℕ) → (bytes_eq a b && (m == n)) ≡ (bytes_eq b a && (n == m))
 draft_either_way a b m n = rw (nat_list_eq_equiv.symm a b, nat_eq_equiv.symm m n) refl
 

@@ -17,7 +17,7 @@ rises_push : (low high up : ℕ) (drafts : List Drafted) (last : Drafted) → hi
 rises_push low high up [] last from below h = (omega arith, omega arith)
 rises_push low high up (d ∷ drafts) last from below h = (h.0, rises_push (d.version + 1) high up drafts last from below h.1)
 
--- a draft that none of the others is, tested first
+-- a draft that is none of the others, tested first
 not_first : (d : Drafted) (drafts : List Drafted) (desk : List ℕ) (number : ℕ) (b : Bool) → is_draft desk number d.id ≡ b
     → draft_version (d ∷ drafts) desk number ≡ None → (b ≡ false) × (draft_version drafts desk number ≡ None)
 not_first d drafts desk number true is none = let found : draft_version (d ∷ drafts) desk number ≡ Some d.version = rw is refl in absurd (cc)

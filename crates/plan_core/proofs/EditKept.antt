@@ -80,7 +80,7 @@ placed_keeps a visit j part place found here planned live h =
 abbrev pub HasOtherParts : Visit → Visit → Type 0
 HasOtherParts visit new = (parts : List Part) × (with_parts visit parts ≡ new)
 
--- the visit with other parts, of which none has a record that none of its parts had
+-- the visit with other parts, none of which has a record that none of its parts had
 record IsRemade (visit new : Visit) : Type 0 where
   pub parts : List Part
   pub is : with_parts visit parts ≡ new
@@ -154,13 +154,13 @@ visit_bumps a base k edit v new e =
 pub visit_number : (a : AirportParts) (base k : ℕ) (edit : Edit) (v new : Visit) → edit_visit a base k edit v ≡ Ok new → new.number ≡ v.number
 visit_number a base k edit v new e = ap (λ (w : Visit). w.number) (sym (visit_parts a base k edit v new e).1)
 
--- and what the visit was added as
+-- and the entry and data that the visit was added with
 pub visit_same : (a : AirportParts) (base k : ℕ) (edit : Edit) (v new : Visit) → edit_visit a base k edit v ≡ Ok new → IsSameVisit new v
 visit_same a base k edit v new e =
     let made = (visit_parts a base k edit v new e).1 in
     record { new = ap new_of (sym made); added = ap (λ (w : Visit). w.added) (sym made) }
 
--- what an edit makes of visits, it makes of the one of its number
+-- what an edit makes of visits, it makes of the visit of its number
 pub record EditsVisit (a : AirportParts) (base k : ℕ) (edit : Edit) (visits new : List Visit) : Type 0 where
   pub visit : Visit
   pub after : Visit

@@ -49,7 +49,7 @@ unfit_by_edit : (k : ℕ) (unfit : Option UnfitBy) → FailsByEdit (refuse_unfit
 unfit_by_edit k (Some by) = tt
 unfit_by_edit k None = tt
 
--- where a fact doesn't forbid it, an edit fails by a fault of an edit
+-- if a fact doesn't forbid it, an edit fails by a fault of an edit
 unless_on_block : (k : ℕ) (test : Bool) (next : Result Visit EditFault) → FailsByEdit next → FailsByEdit (refuse_if test (OnBlock k) >>= λ planned. next)
 unless_on_block k test next h = then_by_edit (refuse_if test (OnBlock k)) (λ planned. next) (refused_by_edit test (OnBlock k) tt) (λ planned. h)
 
@@ -91,7 +91,7 @@ fault_is_of_edit plan draft fault e =
     let P : Result (List Visit) EditFault → Type 0 = λ r. FailsByEdit r in
     subst P e (all_by_edit plan.airport draft.base 1 draft.edits plan.visits)
 
--- by which the draft is refused
+-- by this fault the draft is refused
 refuses_by : (plan : PlanState) (draft : Draft) (fault : EditFault) → IsOfEdit fault → after_all_edits plan.airport draft.base draft.edits plan.visits ≡ Err fault → Refuses plan draft fault
 refuses_by plan draft (UnknownVisit k) h e = e
 refuses_by plan draft (Overtaken k n version) h e = e

@@ -22,8 +22,8 @@ is_sought key key_of visit = is_live visit && is_by key (key_of visit)
 abbrev pub AreKeys : (Visit → Option Key) → List Visit → List FlightEntry → Type 0
 AreKeys key_of visits entries = map key_of visits ≡ map (λ entry. entry.key) entries
 
--- the places from this many on are walked: the next one is the last of the flight below them, and the first live visit is one below them or the one that
--- was seen
+-- the places from this many on are walked: the next one is the last of the flight below them, and
+-- the first live visit is one below them or the one already seen
 pub record IsWalked (entries : List FlightEntry) (visits : List Visit) (key : Key) (next : Option ℕ) (seen : Option Visit) : Type 0 where
   pub count : ℕ
   pub few : count ≤ length entries
@@ -80,7 +80,8 @@ not_both a b h = grind (arith, nat_tests)
 both_of : (a b : Bool) → b ≡ true → (a && b) ≡ a
 both_of a b h = grind (arith, nat_tests)
 
--- the first among so many is the first among one fewer, where the last of them is of another flight
+-- if the last of this many visits is of another flight, the first among them is the first among one
+-- fewer
 taken_other : (key_of : Visit → Option Key) (visits : List Visit) (entries : List FlightEntry) (key : Key) (count : ℕ) → AreKeys key_of visits entries
     → suc count ≤ length visits → is_of_flight entries key count ≡ false
     → find (is_sought key key_of) (take (suc count) visits) ≡ find (is_sought key key_of) (take count visits)
@@ -98,7 +99,7 @@ none_at : (key_of : Visit → Option Key) (visits : List Visit) (entries : List 
 none_at key_of visits entries key count true same few earlier is none = absurd (cc)
 none_at key_of visits entries key count false same few earlier is none = taken_other key_of visits entries key count same few is ∙ earlier none
 
--- where no place is of the flight none is found
+-- if no place is of the flight none is found
 found_none : (key_of : Visit → Option Key) (visits : List Visit) (entries : List FlightEntry) (key : Key) (count : ℕ) → AreKeys key_of visits entries
     → count ≤ length visits → last_place (is_of_flight entries key) count ≡ None → find (is_sought key key_of) (take count visits) ≡ None
 found_none key_of visits entries key zero same few none = refl
@@ -106,7 +107,7 @@ found_none key_of visits entries key (suc count) same few none =
     none_at key_of visits entries key count (is_of_flight entries key count) same few
     (λ earlier. found_none key_of visits entries key count same (omega arith) earlier) refl none
 
--- the place is of the flight, and one of so many
+-- the place is of the flight, and one of this many
 pub record IsLast (entries : List FlightEntry) (key : Key) (count place : ℕ) : Type 0 where
   pub below : place < count
   pub is : is_of_flight entries key place ≡ true
@@ -138,7 +139,7 @@ found_at key_of visits entries key count place true same few earlier is found =
     let last : count ≡ place = cc in ap (λ n. find (is_sought key key_of) (take (suc n) visits)) last
 found_at key_of visits entries key count place false same few earlier is found = taken_other key_of visits entries key count same few is ∙ earlier found
 
--- the first among so many is the first up to the last place of the flight
+-- the first among this many is the first up to the last place of the flight
 found_last : (key_of : Visit → Option Key) (visits : List Visit) (entries : List FlightEntry) (key : Key) (count place : ℕ) → AreKeys key_of visits entries
     → count ≤ length visits → last_place (is_of_flight entries key) count ≡ Some place
     → find (is_sought key key_of) (take count visits) ≡ find (is_sought key key_of) (take (suc place) visits)
@@ -147,13 +148,13 @@ found_last key_of visits entries key (suc count) place same few found =
     found_at key_of visits entries key count place (is_of_flight entries key count) same few
     (λ earlier. found_last key_of visits entries key count place same (omega arith) earlier) refl found
 
--- the last place of the flight is one of so many
+-- the last place of the flight is one of this many
 pub last_below : (entries : List FlightEntry) (key : Key) (count : ℕ) (next : Option ℕ) → next ≡ last_place (is_of_flight entries key) count
     → IfSome next (λ place. place < count)
 last_below entries key count None is = tt
 last_below entries key count (Some place) is = (last_is entries key count place (sym is)).below
 
--- the place before that an entry of the flight has is the last below its own
+-- the earlier place that an entry of the flight has is the last one before its own
 pub before_is : {S : Type 0} (places : HashMap FlightDay ℕ S) (entries : List FlightEntry) (key : Key) (count place : ℕ) (entry : FlightEntry)
     → AreFlightPlaces places entries → IsLast entries key count place → slice_get entries place ≡ Some entry
     → entry.before ≡ last_place (is_of_flight entries key) place
@@ -161,7 +162,7 @@ before_is places entries key count place entry h last at =
     h.before place entry key at
     (sym (ap (λ (found : Option FlightEntry). option_map_or (λ (e : FlightEntry). is_by key e.key) found false) at) ∙ last.is)
 
--- fewer places are left behind it
+-- fewer places are left after it
 pub fewer_left : (entries : List FlightEntry) (key : Key) (place : ℕ) (now next : Option ℕ) → now ≡ Some place
     → next ≡ last_place (is_of_flight entries key) place → places_left next < places_left now
 fewer_left entries key place now next at is =

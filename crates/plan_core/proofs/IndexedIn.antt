@@ -84,7 +84,7 @@ other_number a changed high p q rise formed in_p other same =
     let none : visit_at changed q.part.visit ≡ None = other_none changed q other in
     cc
 
--- there is place for the slots of changed visits where the plan with them is sound, and there is room
+-- there is place for the slots of changed visits if the plan with them is sound, and there is room
 pub can_index : (a : AirportParts) (index out : List StandSlots) (visits changed new : List Visit) (high : ℕ) → IsIndexed a index visits → IsMerged visits changed new
     → IsNumbered visits → All (IsWellFormed a) visits → All (IsWellFormed a) changed → Rises number_of 1 high changed → IsSound a (slots_of a new)
     → all_slots out ≡ others_of index (numbers_of changed) → length out ≡ length index
@@ -230,7 +230,7 @@ room_next now after slots i d inside room spare others stand =
       | inr apart ↦ omega (arith, room stand, count_next stand slots i d inside, ap (λ (at : StandSlots). at.spare) (others.others stand apart))
     ]
 
--- once it is put in, so many more are
+-- once it is put in, this many more are
 pub put_next : (out now after : List StandSlots) (slots : List Slot) (i : ℕ) (d : Slot) → i < length slots → HasPlaceFor out slots → IsPutSoFar out slots i now
     → AddsSlot (at_stand now (slice_index_or slots i d).stand) (at_stand after (slice_index_or slots i d).stand) (slice_index_or slots i d)
     → KeepsOtherStands now after (slice_index_or slots i d).stand → IsPutSoFar out slots (i + 1) after

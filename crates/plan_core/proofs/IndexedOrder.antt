@@ -1,4 +1,5 @@
--- The slots of visits in order of number: each is of a smaller part than those after it, and earlier where they are of one visit on one stand.
+-- The slots of visits in order of number: each is of a smaller part than those after it, and
+-- earlier if they are of one visit on one stand.
 use Rattle.std.proofs.Common.{◌≡◌, ◌<◌, ◌≤◌, ◌+◌, ◌⊎◌, inl, inr, ℕ, Bool, true, false, cond, List, [], ◌∷◌, ◌++◌, refl, sym, ap, arith, Option, None, Some, length, get_or, option_map, option_to_list}
 use Rattle.std.specs.Prelude.{All, AllPairs, count_by}
 use Rattle.std.proofs.lemmas.Bool.Decides.{nat_tests}
@@ -25,7 +26,8 @@ use Rattle.visit_book.specs.WellFormed.{IsSpaced, IsWellFormed}
 use Rattle.plan_core.specs.PlanState.{number_of}
 use Rattle.plan_core.proofs.Puts.{rises_from}
 
--- a slot of a part of the visit, of this number or a greater one, that starts at this minute or later
+-- a slot of a part, with this number or a greater one, of the visit, which starts at this minute or
+-- later
 pub record IsSlotFrom (a : AirportParts) (visit : VisitNo) (number start : ℕ) (slot : Slot) : Type 0 where
   pub visit_is : slot.part.visit ≡ visit
   pub part_is : number ≤ slot.part.part
@@ -54,7 +56,8 @@ slots_from_start a v tow k start (part ∷ parts) h =
         (record { visit_is = refl; part_is = omega arith; starts = h.0; ends = omega (arith, h.0, h.1); minutes = omega (arith, h.0, h.1) })
         (All-nil (IsSlotFrom a v.number k start))
 
--- the first is of a smaller visit, or of a smaller part of the same one, and then earlier where they are on one stand
+-- the first is of a smaller visit, or of a smaller part of the same visit, and then it is earlier
+-- if both are on one stand
 abbrev pub IsOrdered : Slot → Slot → Type 0
 IsOrdered slot other = (slot.part.visit.0 < other.part.visit.0)
     ⊎ ((slot.part.visit.0 ≡ other.part.visit.0) × (slot.part.part < other.part.part) × (slot.stand ≡ other.stand → IsEarlier slot other))
@@ -94,7 +97,7 @@ from_ordered a v tow k start (part ∷ parts) h =
         rest (slots_from_start a v tow (k + 1) (part.to + tow) parts h.2))
         (All-nil (λ x. All (IsOrdered x) rest))
 
--- a slot of a visit of this number or a greater one, that has a minute
+-- a slot of a visit of this number or a greater one that has at least one minute
 abbrev IsAbove : ℕ → Slot → Type 0
 IsAbove low slot = (low ≤ slot.part.visit.0) × HasMinutes slot
 
@@ -107,7 +110,7 @@ above a low high (v ∷ visits) rise formed =
     (All-weaker (IsAbove (v.number.0 + 1)) (IsAbove low) (λ s later. (omega (arith, rise.0, later.0), later.1))
     (slots_of a visits) (above a (v.number.0 + 1) high visits rise.1 (All-tail (IsWellFormed a) v visits formed)))
 
--- the slots of visits each have a minute
+-- each slot of the visits has at least one minute
 pub slots_minutes : (a : AirportParts) (low high : ℕ) (visits : List Visit) → Rises number_of low high visits → All (IsWellFormed a) visits
     → All HasMinutes (slots_of a visits)
 slots_minutes a low high visits rise formed = All-weaker (IsAbove low) HasMinutes (λ s h. h.1) (slots_of a visits) (above a low high visits rise formed)

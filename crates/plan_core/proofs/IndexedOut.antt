@@ -1,4 +1,5 @@
--- What an entry takes out of the index of a plan's slots are the slots of the visits that it changes.
+-- What an entry takes out of the index of a plan's slots is exactly the slots of the visits that it
+-- changes.
 use Rattle.std.proofs.Common.{◌≡◌, ◌≢◌, ◌∙◌, ◌<◌, ◌≤◌, ◌+◌, ◌==◌, ◌&&◌, ◌||◌, inl, inr, ℕ, zero, suc, Bool, true, false, cond, not, List, [], ◌∷◌, ◌++◌, refl, sym, ap, subst, arith, Option, None, Some, length, drop, get_or, option_map, option_to_list, slice_index_or}
 use Rattle.std.specs.Prelude.{All, Contains, filter, count_by}
 use Rattle.std.specs.List.Sorted.{IsPermutation}
@@ -71,7 +72,7 @@ own_part a v k part x (Some s) h =
     the_one x y (zero, inside, at) = at
     the_one x y (suc j, inside, at) = absurd (omega (arith, inside))
 
--- a slot of the visit's own isn't
+-- a slot of the visit itself isn't
 off_own : (a : AirportParts) (v : Visit) (k : ℕ) (parts : List Part) (x : Slot) → Contains (slots_from a v k parts) x → is_off_parts v.number k parts x ≡ false
 off_own a v k [] x h = absurd (omega (arith, h.1))
 off_own a v k (part ∷ parts) x h = elim (Contains-append_cases (option_to_list (slot_of a v k part)) (slots_from a v (k + 1) parts) x h) [
@@ -118,7 +119,7 @@ stands_of_index a index visits long formed =
     subst (λ (n : ℕ). All {X = Visit} (λ visit. HaveStandsOf n visit.parts) visits) (sym long)
     (All-weaker (IsWellFormed a) (λ visit. HaveStandsOf (length a.stands) visit.parts) (λ v h. h.places) visits formed)
 
--- an index of a plan that is sound has no clash that counts, without some visits too
+-- an index of a plan that is sound has no clash that counts, nor has it without some visits
 pub index_clear : (a : AirportParts) (index : List StandSlots) (visits : List Visit) (without : List VisitNo) → IsIndexed a index visits → All (IsWellFormed a) visits
     → IsSound a (slots_of a visits) → IsClear a index without
 index_clear a index visits without indexed formed sound = record {
@@ -175,7 +176,8 @@ parts_once a index changed high once rise formed part =
         none_of (p x) found.0 (λ h. sym (found_itself 1 high changed found.0 rise found.1) ∙ (ap (visit_at changed) (sym number ∙ of_same part x h) ∙ at))) in
         omega (arith, both, none, count_filter p (is_of_other (numbers_of changed)) (all_slots index), once part)
 
--- the index after a change: the slots of other visits are left, and those of the changed ones put in
+-- the index after a change: the slots of other visits stay, and those of the changed ones are put
+-- in
 pub reindexed : (a : AirportParts) (index out after : List StandSlots) (visits changed new : List Visit) (high : ℕ) → IsIndexed a index visits → IsMerged visits changed new
     → All (IsWellFormed a) visits → All (IsWellFormed a) changed → Rises number_of 1 high changed
     → all_slots out ≡ others_of index (numbers_of changed) → IsPermutation (all_slots out ++ slots_of a changed) (all_slots after) → length after ≡ length index

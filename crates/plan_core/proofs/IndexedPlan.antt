@@ -56,7 +56,7 @@ same_indexed a index after visits h long same = record {
   parts = subst HasPartsOnce (sym same) h.parts;
 }
 
--- the slots of the index in order of their parts are those of the visits
+-- the slots of the index, in order of their parts, are those of the visits
 pub index_ordered : (plan : PlanState) (index : List StandSlots) → IsIndexedPlan plan index → by_part (all_slots index) ≡ slots_of plan.airport plan.visits
 index_ordered plan index h =
     let high : ℕ = length plan.visits + 1 in
@@ -107,7 +107,7 @@ empty_held a vs ds index visits drafts long none =
     subst (λ (s : PlanState). IsIndexedPlan s index) (sym (plan_is a vs [] ds [] 0 visits drafts))
     (record { plan_is = empty_is a; indexed = empty_indexed a index long none; index_is = empty_index index none })
 
--- what is left of the index of a plan where the old slots of a change are taken out
+-- what is left of the index of a plan after the old slots of a change are taken out
 pub record IsTakenOut (plan : PlanState) (change : ChangeState) (index out : List StandSlots) : Type 0 where
   pub left : all_slots out ≡ filter (is_off_visits plan.visits change.visits) (all_slots index)
   pub room : KeepsRoom index out
@@ -137,7 +137,7 @@ install_place plan change index out h fits room taken =
     (formed plan h.plan_is) (λ k d inside. (fits.each k d inside).well_formed) fits.rise fits.sound (left_is plan change index out h taken) taken.room.stands
     (λ stand. omega (arith, room stand, taken.room.spare stand, ap (λ (xs : List Slot). count_by (is_on stand) xs) fits.slots)))
 
--- with them it is the index of the plan with the change
+-- with them it is the index of the plan after the change
 pub install_indexed : (plan : PlanState) (change : ChangeState) (index out after : List StandSlots) → IsIndexedPlan plan index → IsInstallable plan change
     → IsTakenOut plan change index out → IsPermutation (all_slots out ++ change.slots) (all_slots after) → length after ≡ length out → IsIndex after
     → IsIndexedPlan (installed plan change) after

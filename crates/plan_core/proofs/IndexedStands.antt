@@ -1,4 +1,4 @@
--- An index of which one stand changes.
+-- An index in which one stand changes.
 use Rattle.std.proofs.Common.{◌≡◌, ◌≢◌, ◌∙◌, ◌<◌, ◌&&◌, inl, inr, ℕ, zero, suc, Bool, true, false, cond, not, List, [], ◌∷◌, ◌++◌, refl, sym, ap, subst, arith, Some, length, get_or, append_assoc, if◌then◌else◌}
 use Rattle.std.specs.Prelude.{Contains, filter, nat_le}
 use Rattle.std.specs.List.Sorted.{IsPermutation}
@@ -105,7 +105,7 @@ pub removed_index : (stand : StandNo) (part : PartId) (before after : List Stand
 removed_index stand part before after is removes others =
     changed_index stand before after is others (stand_without_part stand part (at_stand before stand) (at_stand after stand) (is stand) removes)
 
--- room that is kept twice
+-- room that is kept at each of two steps
 pub room_both : (first second third : List StandSlots) → KeepsRoom first second → KeepsRoom second third → KeepsRoom first third
 room_both first second third h k = record { stands = k.stands ∙ h.stands; spare = λ stand. omega (arith, h.spare stand, k.spare stand) }
 

@@ -31,7 +31,8 @@ use Rattle.plan_core.proofs.ByNumber.{found_number, number_is}
 use Rattle.plan_core.proofs.IndexedOrder.{IsSlotFrom, slots_from_start}
 use Rattle.plan_core.proofs.Puts.{CanPut, by_case, first_number, put_next}
 
--- the visits of a plan after a change: the changed ones, and of those before it the others
+-- the visits of a plan after a change: the changed ones, and those of the others that were there
+-- before
 pub record IsMerged (old changed new : List Visit) : Type 0 where
   pub has : (v : Visit) → Contains changed v → Contains new v
   pub kept : (v : Visit) → Contains old v → visit_at changed v.number ≡ None → Contains new v
@@ -74,7 +75,7 @@ other_none changed x h = none_from (visit_at changed x.part.visit) (ap (λ b. no
 pub none_other : (changed : List Visit) (x : Slot) → visit_at changed x.part.visit ≡ None → is_of_other (numbers_of changed) x ≡ true
 none_other changed x h = ap (λ b. not b) (any_is changed x) ∙ ap (λ (found : Option Visit). not (is_some found)) h
 
--- the slots after a change are those of the changed visits, and those before of others
+-- the slots after a change are those of the changed visits, and the earlier ones of other visits
 merged_from : (a : AirportParts) (old changed new : List Visit) (x : Slot) → IsMerged old changed new → All (IsWellFormed a) old → Contains (slots_of a new) x
     → (Contains (slots_of a old) x × (is_of_other (numbers_of changed) x ≡ true)) ⊎ Contains (slots_of a changed) x
 merged_from a old changed new x merged formed h =
@@ -97,7 +98,8 @@ merged_changed a old changed new x merged h =
     let found = slot_visit a changed x h in
     visit_slot a new found.0 x (merged.has found.0 found.1) found.2
 
--- the slots of an index but those of the changed visits, and these as they are then, are the slots after the change
+-- the slots of an index without those of the changed visits, together with the new slots of these,
+-- are the slots after the change
 pub merged_slots : (a : AirportParts) (index : List StandSlots) (old changed new : List Visit) → IsIndexed a index old → IsMerged old changed new → All (IsWellFormed a) old
     → (x : Slot) → Contains (others_of index (numbers_of changed) ++ slots_of a changed) x ↔ Contains (slots_of a new) x
 merged_slots a index old changed new indexed merged formed x =
@@ -113,7 +115,7 @@ merged_slots a index old changed new indexed merged formed x =
       ],
     )
 
--- a first clash is one of the slots of a list, in whatever order
+-- a first clash depends only on which slots are in a list, not on their order
 pub first_same : (a : AirportParts) (xs ys : List Slot) (found : Option Clash) → ((x : Slot) → Contains xs x ↔ Contains ys x) → IsFirstClash a xs found → IsFirstClash a ys found
 first_same a xs ys found same h =
     least_same (IsClashAmong a xs) (IsClashAmong a ys) found (along xs ys (λ x. (same x).0)) (along ys xs (λ x. (same x).1)) h
@@ -202,7 +204,7 @@ merged_replaced visits changed numbered rise = record {
         let same : c ≡ y = sym (ap (λ (found : Option Visit). unwrap_or found v) at) ∙ new in
         inl (subst (Contains changed) same (found_listed changed v.number c at))
 
--- a visit that is put in is one of the visits then, and so are all of other numbers
+-- a visit that is put in is one of the visits afterwards, and so are all of other numbers
 record IsPutIn (visits : List Visit) (v : Visit) (after : List Visit) : Type 0 where
   has : Contains after v
   kept : (w : Visit) → Contains visits w → w.number.0 ≢ v.number.0 → Contains after w

@@ -14,7 +14,7 @@ use Rattle.plan_core.specs.declared.flights.FlightDay.{FlightDay}
 use Rattle.plan_core.specs.declared.flights.FlightEntry.{FlightEntry}
 use Rattle.plan_core.specs.FlightPlaces.{AreFlightPlaces, flight_day, is_of_flight, is_same_day, last_place}
 
--- tests that agree at so many places have one last place
+-- tests that agree at this many places have the same last place
 last_place_by : (test other : ℕ → Bool) (count : ℕ) → ((place : ℕ) → place < count → test place ≡ other place) → last_place test count ≡ last_place other count
 last_place_by test other zero same = refl
 last_place_by test other (suc count) same =
@@ -67,7 +67,7 @@ made_of : (a b : List ℕ) (m n : ℕ) (s t : Option ℕ) (d e : ℕ) → a ≡ 
     → ◌≡◌ {A = FlightDay} (record { airline = a; number = m; suffix = s; day = d }) (record { airline = b; number = n; suffix = t; day = e })
 made_of a b m n s t d e p q r u = cc
 
--- keys of one flight have one flight and day
+-- keys of the same flight have the same flight and day
 same_flight_day : (key found : Key) → is_key_of key.flight key.day found ≡ true → flight_day found ≡ flight_day key
 same_flight_day key found is =
     let outer = both_true _ (found.day == key.day) is in
@@ -81,7 +81,7 @@ grouped true true c d = refl
 grouped true false c d = refl
 grouped false b c d = refl
 
--- whether keys are of one flight and day
+-- whether keys are of the same flight and day
 pub is_by_day : (key found : Key) → is_same_day (flight_day found) (flight_day key) ≡ is_key_of key.flight key.day found
 is_by_day key found =
     grouped (bytes_eq found.flight.airline key.flight.airline) (found.flight.number == key.flight.number)
@@ -129,7 +129,7 @@ places_with old new entries key found before place h some last was puts =
     (places_pushed old new entries (record { key = Some found; before = before }) h was
     (λ other. puts other ∙ ap (λ (p : ℕ). cond (is_by other (Some found)) (Some p) (get_by (is_same_day (flight_day other)) old)) last))
 
--- and with one more of none
+-- and with one more without a flight
 pub places_without : {S : Type 0} (places : HashMap FlightDay ℕ S) (entries : List FlightEntry) (key : Option Key) (before : Option ℕ)
     → AreFlightPlaces places entries → key ≡ None → before ≡ None → AreFlightPlaces places (entries ++ record { key = key; before = before } ∷ [])
 places_without places entries key before h none was =

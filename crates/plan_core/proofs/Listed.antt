@@ -23,7 +23,7 @@ flights_there visits v flight_of r =
     map-set_same (λ (w : Visit). flight_of (new_of w)) visits (v.number.0 - 1) v v
     (ap flight_of r.same.new ∙ ap (λ (w : Visit). flight_of (new_of w)) (sym (get_or_from_slice_get visits (v.number.0 - 1) r.old v r.at)))
 
--- the index stays where a visit takes the place of its number
+-- the index stays if a visit takes the place of its number
 pub listed_there : {S : Type 0} (places : HashMap (List ℕ) ℕ S) (arrivals departures : List (Option Key)) (visits : List Visit) (v : Visit)
     → AreListed places arrivals departures visits → 1 ≤ v.number.0 → v.number.0 ≤ length visits → KeepsOrAdds visits v
     → AreListed places arrivals departures (put_one visits v)
@@ -37,7 +37,7 @@ listed_there places arrivals departures visits v h some within same =
       departing = flights_there visits v (λ new. new.dep) r ∙ h.departing;
     })
 
--- and has one more place where a visit comes last
+-- and has one more place if a visit comes last
 pub listed_next : {S : Type 0} (old new : HashMap (List ℕ) ℕ S) (arrivals departures : List (Option Key)) (visits : List Visit) (v : Visit)
     → AreListed old arrivals departures visits → v.number.0 ≡ length visits + 1 → KeepsOrAdds visits v
     → ((name : List ℕ) → get_by (bytes_eq name) new ≡ cond (bytes_eq v.name name) (Some (length visits)) (get_by (bytes_eq name) old))

@@ -26,7 +26,7 @@ use Rattle.plan_core.proofs.Puts.{by_case}
 one_of_keeps : (visits : List Visit) (visit : Visit) → IsOneOf visits visit → KeepsOrAdds visits visit
 one_of_keeps visits visit h = rw h.at h.same
 
--- visits that the plan's next entry may make of its own can be installed
+-- changed visits that the plan's next entry may put in can be installed
 pub moving_fits : (plan : PlanState) (visits : List Visit) → IsMovable plan visits → plan.version + 1 < version_limit → IsInstallable plan (moving plan visits)
 moving_fits plan visits h last = record {
   version = refl;
@@ -74,7 +74,7 @@ lifted_slots : (a : AirportParts) (visit : Visit) (k : ℕ) (parts : List Part) 
 lifted_slots a visit k [] = refl
 lifted_slots a visit k (part ∷ parts) = lifted_slots a visit (k + 1) parts
 
--- where a visit that holds no stand takes the place of one, there are no slots but those that were there
+-- if a visit that holds no stand takes the place of one, there are no new slots
 set_fewer : (a : AirportParts) (visits : List Visit) (i : ℕ) (visit : Visit) (slot : Slot) → slots_of_visit a visit ≡ []
     → Contains (slots_of a (slice_set visits i visit)) slot → Contains (slots_of a visits) slot
 set_fewer a [] i visit slot none has = has
@@ -105,7 +105,7 @@ number_within plan visit numbered at =
     test false few is past = absurd (outside (λ some. absurd (grind (arith, nat_tests))))
     test true false is past = absurd (outside (λ some. grind (arith, nat_tests)))
 
--- a visit of the plan that is cancelled can be told
+-- a visit of the plan that is cancelled can be put in
 pub cancelled_movable : (plan : PlanState) (visit : Visit) → IsPlan plan → IsCancellable plan visit → IsMovable plan (cancelled visit ∷ [])
 cancelled_movable plan visit h at =
     let within = number_within plan visit h.numbered at.at in

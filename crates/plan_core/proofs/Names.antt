@@ -13,7 +13,7 @@ use Rattle.std.proofs.lemmas.List.Sums.{prefix_len-le-length}
 use Rattle.visit_book.specs.declared.visits.Visit.{Visit}
 use Rattle.plan_core.specs.Names.{HaveDifferentNames, has_name, visit_named}
 
--- whether two names are one, said from either side
+-- whether two names are the same does not depend on their order
 name_either_way : (a b : List ℕ) → bytes_eq a b ≡ bytes_eq b a
 name_either_way a b = nat_list_eq_equiv.symm a b
 
@@ -21,7 +21,7 @@ found_then : (b : Bool) (x : Visit) (rest : Option Visit) → cond b (Some x) re
 found_then true x rest e = absurd (cc)
 found_then false x rest e = (refl, e)
 
--- a name that no visit has is had by none where one is replaced by one of its name
+-- a name that no visit has is still had by none after one is replaced by one of its name
 pub unnamed_set : (name : List ℕ) (visits : List Visit) (i : ℕ) (old new : Visit) → slice_get visits i ≡ Some old → new.name ≡ old.name
     → visit_named visits name ≡ None → visit_named (slice_set visits i new) name ≡ None
 unnamed_set name [] i old new at same none = refl
@@ -34,7 +34,7 @@ unnamed_set name (x ∷ visits) (suc i) old new at same none =
     let first = found_then (has_name name x) x (visit_named visits name) none in
     rw first.0 (unnamed_set name visits i old new at same first.1)
 
--- visits keep different names where one is replaced by one of its name
+-- visits keep different names after one is replaced by one of its name
 pub different_set : (visits : List Visit) (i : ℕ) (old new : Visit) → slice_get visits i ≡ Some old → new.name ≡ old.name
     → HaveDifferentNames visits → HaveDifferentNames (slice_set visits i new)
 different_set [] i old new at same h = tt
@@ -64,7 +64,7 @@ found_there [] i old at = absurd (cc)
 found_there (x ∷ visits) zero old at = cc
 found_there (x ∷ visits) (suc i) old at = found_there visits i old at
 
--- the place of a name stays where a visit is replaced by one of its name
+-- the place of a name stays after a visit is replaced by one of its name
 pub place_set : (name : List ℕ) (visits : List Visit) (i : ℕ) (old new : Visit) → slice_get visits i ≡ Some old → new.name ≡ old.name
     → position (has_name name) (slice_set visits i new) ≡ position (has_name name) visits
 place_set name visits i old new at same =

@@ -39,7 +39,7 @@ placed_first e low (x ∷ visits) v h below = first (e x.number.0) refl (placed_
 abbrev with_number : (ℕ → Bool) → VisitNo → ℕ → Bool
 with_number e m n = e n || (m.0 == n)
 
--- visits of greater numbers have not this one
+-- visits of greater numbers don't have this one
 only_above : (e : ℕ → Bool) (m : VisitNo) (low : ℕ) (visits : List Visit) → IsNumberedAbove low visits → m.0 ≤ low → only (with_number e m) visits ≡ only e visits
 only_above e m low [] h below = refl
 only_above e m low (x ∷ visits) h below = first (e x.number.0) refl (only_above e m (low + 1) visits h.1 (omega arith))
@@ -85,7 +85,7 @@ found_above low visits m v h at = test (nat_lt low m.0) refl
     test false is =
         let none : visit_at visits m ≡ None = visit_at-below low visits m h (grind (arith, nat_tests)) in absurd (cc)
 
--- the visit put among those that pass the test is among those that do or have its number
+-- the visit put among those that pass the test is among those that pass it or have its number
 placed_only : (e : ℕ → Bool) (m : VisitNo) (low : ℕ) (visits : List Visit) (v : Visit) → IsNumberedAbove low visits → visit_at visits m ≡ Some v → e m.0 ≡ false
     → placed (only e visits) v ≡ only (with_number e m) visits
 placed_only e m low [] v h at out = absurd (cc)
@@ -162,7 +162,7 @@ pub only_alike : (e f : ℕ → Bool) (visits : List Visit) → ((n : ℕ) → e
 only_alike e f [] same = refl
 only_alike e f (x ∷ visits) same = rw (same x.number.0) (ap (λ vs. cond (f x.number.0) (x ∷ vs) vs) (only_alike e f visits same))
 
--- no edits are of no visits
+-- without edits no visit is edited
 pub edited_none : (visits : List Visit) → edited_visits [] visits ≡ []
 edited_none [] = refl
 edited_none (x ∷ visits) = edited_none visits

@@ -1,4 +1,4 @@
--- A draft gets one answer at most.
+-- A draft gets at most one answer.
 use Rattle.std.proofs.Common.{◌≡◌, ◌≢◌, ◌⊎◌, ◌∙◌, List, refl, sym, ap, subst, inl, inr, Some, Result, Ok, Err}
 use Rattle.apron_rules.specs.declared.rules.Clash.{Clash}
 use Rattle.apron_rules.specs.Clash.{IsFirstClash, IsSound}
@@ -29,7 +29,7 @@ record LeavesClash (plan : PlanState) (draft : Draft) (fault : EditFault) : Type
   apply : edited plan draft ≡ Ok new
   first : IsFirstClash plan.airport (slots_of plan.airport new) (Some clash)
 
--- an edit is refused so, or they leave that clash
+-- an edit is refused for this cause, or the edits leave that clash
 cause_of : (plan : PlanState) (draft : Draft) (fault : EditFault) → fault ≢ Memory → Refuses plan draft fault → (edited plan draft ≡ Err fault) ⊎ LeavesClash plan draft fault
 cause_of plan draft (UnknownVisit k) cause h = inl h
 cause_of plan draft (Overtaken k n version) cause h = inl h

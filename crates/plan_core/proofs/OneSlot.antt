@@ -47,7 +47,7 @@ of_all a m n (v ∷ visits) le h =
 abbrev AreApart : List Slot → List Slot → Type 0
 AreApart xs ys = (p q : Slot) → Contains xs p → Contains ys q → p.part ≡ q.part → ⊥
 
--- a number of their parts tells them apart
+-- slots are of different parts if some number of these parts differs
 apart_by : (number : PartId → ℕ) (k : ℕ) (xs ys : List Slot) → All (λ s. number s.part ≡ k) xs → All (λ s. k + 1 ≤ number s.part) ys → AreApart xs ys
 apart_by number k xs ys first second p q cp cq same =
     let low : number p.part ≡ k = All-contains (λ s. number s.part ≡ k) xs p first cp in

@@ -21,20 +21,21 @@ pub rises_from : (low from high : ℕ) (visits : List Visit) → low ≤ from �
 rises_from low from high [] le h = omega (arith, h)
 rises_from low from high (v ∷ visits) le h = (omega (arith, h.0), h.1)
 
--- visits that can be put in, where there were so many at first: their numbers rise to the next one at most, and each is of one of the visits or of a new one
+-- visits that can be put in after this many: their numbers rise to the next one at most, and each
+-- is a changed one of the visits or a new one
 pub record CanPut (count : ℕ) (visits changed : List Visit) : Type 0 where
   pub numbered : IsNumbered visits
   pub size : count ≤ length visits
   pub rise : Rises number_of 1 (count + 2) changed
   pub same : AllByRecursion (KeepsOrAdds visits) changed
 
--- the first of them is of one of the visits, or the next one
+-- the first of them is one of the visits, or the next one
 pub first_number : (count : ℕ) (visits : List Visit) (v : Visit) (changed : List Visit) → CanPut count visits (v ∷ changed) → IsThereOrNext (length visits) v
 first_number count visits v changed h =
     let rest : v.number.0 + 1 + length changed ≤ count + 2 = rises_length number_of (v.number.0 + 1) (count + 2) changed h.rise.1 in
     (h.rise.0, omega (arith, h.size, rest))
 
--- what stands in the place of a number is the visit of the number
+-- the visit in the place of a number is the visit of that number
 in_place : (visits : List Visit) (number : VisitNo) → IsNumbered visits → 1 ≤ number.0 → visit_at visits number ≡ slice_get visits (number.0 - 1)
 in_place visits number h some = visit_at-place 0 visits number h (omega arith)
 
@@ -43,7 +44,7 @@ some_within [] i within = absurd (omega arith)
 some_within (v ∷ visits) zero within = (v, refl)
 some_within (v ∷ visits) (suc i) within = some_within visits i (omega arith)
 
--- the visit whose place a visit takes, and what it was added as
+-- the visit whose place a visit takes; both were added as the same
 pub record Replaces (visits : List Visit) (v : Visit) : Type 0 where
   pub old : Visit
   pub at : slice_get visits (v.number.0 - 1) ≡ Some old
@@ -73,7 +74,7 @@ same_first : (number : VisitNo) (x y : Visit) (rest : Option Visit) → has_numb
     → (if has_number number x then Some x else rest) ≡ (if has_number number y then Some y else rest)
 same_first number x y rest a b = rw (a, b) refl
 
--- a visit of another number is found as before where one is replaced
+-- a visit of another number is found as before after one is replaced
 other_found : (number : VisitNo) (visits : List Visit) (i : ℕ) (old new : Visit) → slice_get visits i ≡ Some old
     → has_number number old ≡ false → has_number number new ≡ false → visit_at (slice_set visits i new) number ≡ visit_at visits number
 other_found number [] i old new at a b = refl
@@ -88,7 +89,7 @@ kept_or_added : (found : Option Visit) (w : Visit) (P Q : Type 0) → (P → Q) 
 kept_or_added None w P Q f h = f h
 kept_or_added (Some old) w P Q f h = h
 
--- a visit of another number can still be put in where one is replaced
+-- a visit of another number can still be put in after one is replaced
 still_set : (visits : List Visit) (v w : Visit) → (r : Replaces visits v) → v.number.0 < w.number.0 → KeepsOrAdds visits w
     → KeepsOrAdds (slice_set visits (v.number.0 - 1) v) w
 still_set visits v w r above h =
@@ -140,7 +141,7 @@ put_case visits v h = test (nat_le v.number.0 (length visits)) refl
     test true is = there (grind (arith, nat_tests)) (rw is refl)
     test false is = let past : length visits < v.number.0 = grind (arith, nat_tests) in next (omega (arith, h.1)) (rw is refl)
 
--- what holds of the list after one of the two holds of it with the visit put in
+-- what holds of the list in either case holds after the visit is put in
 pub by_case : (P : List Visit → Type 0) (visits : List Visit) (v : Visit) → IsThereOrNext (length visits) v
     → (v.number.0 ≤ length visits → P (slice_set visits (v.number.0 - 1) v)) → (v.number.0 ≡ length visits + 1 → P (visits ++ v ∷ [])) → P (put_one visits v)
 by_case P visits v h first second = elim (put_case visits v h) [
@@ -157,7 +158,7 @@ put_one_size : (visits : List Visit) (v : Visit) → IsThereOrNext (length visit
 put_one_size visits v here =
     by_case (λ after. length visits ≤ length after) visits v here (λ within. omega (arith, length-set visits (v.number.0 - 1) v)) (λ past. omega (arith, length-append visits (v ∷ [])))
 
--- and their names different
+-- and their names stay different
 put_one_named : (visits : List Visit) (v : Visit) → IsThereOrNext (length visits) v → IsNumbered visits → KeepsOrAdds visits v → HaveDifferentNames visits
     → HaveDifferentNames (put_one visits v)
 put_one_named visits v here numbered same h =
@@ -179,7 +180,7 @@ put_next count visits v changed h =
           (λ past. let size : count ≤ length visits = h.size in none_after (KeepsOrAdds (visits ++ v ∷ [])) (v.number.0 + 1) (count + 2) changed (omega arith) h.rise.1);
     }
 
--- what holds of visits that are put in one by one
+-- what holds of visits, holds as others are put in one by one
 put_each : (P : List Visit → Type 0) (count : ℕ) (visits changed : List Visit)
     → ((before : List Visit) (v : Visit) (rest : List Visit) → CanPut count before (v ∷ rest) → P before → P (put_one before v))
     → CanPut count visits changed → P visits → P (put_in visits changed)
@@ -198,7 +199,7 @@ put_named count visits changed h named =
     put_each HaveDifferentNames count visits changed
     (λ before v rest can now. put_one_named before v (first_number count before v rest can) can.numbered can.same.0 now) h named
 
--- visits as a change has them can be put in
+-- the visits of a change can be put in
 pub can_put : (visits changed : List Visit) → IsNumbered visits → Rises number_of 1 (length visits + 2) changed → All (KeepsOrAdds visits) changed
     → CanPut (length visits) visits changed
 can_put visits changed numbered rise same = record {

@@ -1,4 +1,4 @@
--- The edits of a draft on a working copy of the visits that they are of.
+-- The edits of a draft, on a working copy of the visits that they change.
 use Rattle.std.proofs.Common.{◌≡◌, ◌≤◌, ◌∙◌, ◌+◌, ℕ, Bool, true, false, cond, List, [], ◌∷◌, ap, arith, length, map, refl, subst, sym, Some, Ok, Err}
 use Rattle.std.specs.Prelude.{All}
 use Rattle.std.proofs.lemmas.List.Elements.{All-filter}
@@ -32,7 +32,7 @@ pub edited_formed : (plan : PlanState) (edits : List Edit) → IsPlan plan → A
 edited_formed plan edits h =
     All-filter (λ visit. is_edited edits visit.number.0) (IsWellFormed plan.airport) plan.visits (λ k d within. (h.each k d within).well_formed)
 
--- the edits apply to the plan's visits, of which these are the edited ones
+-- the edits apply to the plan's visits, and these are the edited ones
 pub record Applied (plan : PlanState) (draft : Draft) (edited : List Visit) : Type 0 where
   pub new : List Visit
   pub apply : after_all_edits plan.airport draft.base draft.edits plan.visits ≡ Ok new
@@ -94,7 +94,7 @@ rebase_bound plan draft edited done {a} {index} {held} {slots} airport same own 
 abbrev pub change_of : Draft → List Visit → List Slot → ℕ → ChangeState
 change_of draft visits slots version = record { visits = visits; slots = slots; draft = Some (id_of draft); version = version }
 
--- the edited visits with the next version, where there is no clash
+-- the edited visits with the next version, if there is no clash
 abbrev pub rebased : (plan : PlanState) (draft : Draft) (edited after : List Visit) (slots : List Slot) (version : ℕ) → (done : Applied plan draft edited)
     → IsSound plan.airport (slots_of plan.airport done.new) → after ≡ map (edited_last version) edited → slots ≡ slots_of plan.airport edited
     → version ≡ plan.version + 1 → IsRebased plan draft (change_of draft after slots version)

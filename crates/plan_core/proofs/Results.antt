@@ -3,7 +3,7 @@ use Rattle.std.proofs.Common.{◌≡◌, refl, Option, None, Some, Result, Ok, E
 use Rattle.std.specs.Prelude.{OnOk}
 use Rattle.apron_base.specs.ResultChain.{◌>>=◌}
 
--- where a chain gives a value, its first part gave one, of which the rest made that
+-- if a chain gives a value, its first part gave one, from which the rest made that value
 pub then_ok : {T U E : Type 0} (first : Result T E) (next : T → Result U E) (y : U) → (first >>= next) ≡ Ok y
     → (x : T) × (first ≡ Ok x) × (next x ≡ Ok y)
 then_ok (Ok x) next y e = (x, refl, e)
@@ -22,7 +22,7 @@ err_is x y e = cc
 pub not_both : {T E : Type 0} (x : T) (y : E) → ◌≡◌ {A = Result T E} (Ok x) (Err y) → ⊥
 not_both x y e = cc
 
--- what a clause says of a call that gives a value holds where it gave one
+-- what a clause says of a call that gives a value holds if it gave one
 pub on_ok : {T E P : Type 0} (r : Result T E) (x : T) → r ≡ Ok x → OnOk r P → P
 on_ok (Ok y) x e h = h
 on_ok (Err fault) x e h = absurd (cc)

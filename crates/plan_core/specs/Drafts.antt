@@ -8,7 +8,8 @@ use Rattle.visit_book.specs.declared.edits.Edit.{Edit}
 use Rattle.plan_core.specs.declared.drafts.DraftId.{DraftId}
 use Rattle.plan_core.specs.declared.drafts.Drafted.{Drafted}
 
--- a desk's draft: the desk's name, the number that the desk gave it, the version over which it was made, and its edits in order
+-- a desk's draft: the desk's name, the number that the desk gave it, the version over which it was
+-- made, and its edits in order
 pub record Draft : Type 0 where
   pub desk : List ℕ
   pub number : ℕ
@@ -23,7 +24,7 @@ draft_of desk number base edits = record { desk = desk; number = number; base = 
 abbrev pub id_of : Draft → DraftId
 id_of draft = record { desk = draft.desk; number = draft.number }
 
--- this desk's draft of this number
+-- the id is of this desk's draft of this number
 abbrev pub is_draft : List ℕ → ℕ → DraftId → Bool
 is_draft desk number id = bytes_eq desk id.desk && (number == id.number)
 
@@ -35,13 +36,13 @@ draft_version drafts desk number = option_map (λ drafted. drafted.version) (fin
 abbrev pub version_of : Drafted → ℕ
 version_of drafted = drafted.version
 
--- no two of the drafts have one desk and number
+-- no two of the drafts have the same desk and number
 abbrev pub AreDifferent : List Drafted → Type 0
 AreDifferent [] = Unit {0}
 AreDifferent (drafted ∷ drafts) = (draft_version drafts drafted.id.desk drafted.id.number ≡ None) × AreDifferent drafts
 
--- drafts that became commits of a plan at this version: the versions that they made rise strictly from at least 1 to at most that one, and no two have
--- one desk and number
+-- drafts that became commits of a plan at this version: the versions that they made rise strictly
+-- from at least 1 to at most that one, and no two have the same desk and number
 pub record AreDraftsAt (version : ℕ) (drafts : List Drafted) : Type 0 where
   pub rising : Rises version_of 1 (version + 1) drafts
   pub different : AreDifferent drafts
@@ -51,7 +52,7 @@ abbrev pub with_draft : List Drafted → Option DraftId → ℕ → List Drafted
 with_draft drafts None version = drafts
 with_draft drafts (Some id) version = drafts ++ record { id = id; version = version } ∷ []
 
--- drafts in order, and how many can be added to them without memory
+-- drafts in order, and how many can be added to them without taking memory
 pub record DraftsHeld : Type 0 where
   pub kept : List Drafted
   pub room : ℕ

@@ -1,4 +1,4 @@
--- Where the visits of each flight are among visits.
+-- Where the visits of each flight are in a list of visits.
 use Rattle.std.specs.Prelude.{◌≡◌, ◌==◌, ◌&&◌, ℕ, zero, suc, Bool, true, false, List, Option, None, Some, length, nat_eq, slice_get, if◌then◌else◌}
 use Rattle.std.specs.HashMap.{HashMap, get_by}
 use Rattle.std.specs.Option.{option_eq, option_map_or}
@@ -8,7 +8,7 @@ use Rattle.visit_book.specs.Flights.{is_by}
 use Rattle.plan_core.specs.declared.flights.FlightDay.{FlightDay}
 use Rattle.plan_core.specs.declared.flights.FlightEntry.{FlightEntry}
 
--- the keys of visits in order, and how many can be added to them without memory
+-- the keys of visits in order, and how many can be added to them without taking memory
 pub record KeysHeld : Type 0 where
   pub keys : List (Option Key)
   pub room : ℕ
@@ -26,12 +26,13 @@ is_same_day flight other =
 abbrev pub is_of_flight : List FlightEntry → Key → ℕ → Bool
 is_of_flight entries key place = option_map_or (λ entry. is_by key entry.key) (slice_get entries place) false
 
--- the last of so many places, counted from 0, that passes the test
+-- the last of this many places, counted from 0, that passes the test
 abbrev pub last_place : (ℕ → Bool) → ℕ → Option ℕ
 last_place test zero = None
 last_place test (suc place) = if test place then Some place else last_place test place
 
--- the map has the last place of each flight, and each entry of a flight has the last place of it before its own
+-- the map has the last place of each flight, and each entry of a flight has the last place of it
+-- before its own
 pub record AreFlightPlaces {S : Type 0} (places : HashMap FlightDay ℕ S) (entries : List FlightEntry) : Type 0 where
   pub last : (key : Key) → get_by (is_same_day (flight_day key)) places ≡ last_place (is_of_flight entries key) (length entries)
   pub before : (place : ℕ) (entry : FlightEntry) (key : Key) → slice_get entries place ≡ Some entry → is_by key entry.key ≡ true

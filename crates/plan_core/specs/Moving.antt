@@ -1,4 +1,4 @@
--- Changes that no draft asks for: what happened to visits, and visits that don't come.
+-- Changes that no draft asks for: what happened to visits, and cancelled visits.
 use Rattle.std.specs.Prelude.{◌≡◌, ◌+◌, true, false, List, [], ◌∷◌, length, map, All, None, Some}
 use Rattle.apron_base.specs.Histories.{Rises}
 use Rattle.apron_rules.specs.Clash.{IsSound}
@@ -11,21 +11,22 @@ use Rattle.visit_book.specs.Numbers.{visit_at}
 use Rattle.visit_book.specs.Slots.{slots_of}
 use Rattle.plan_core.specs.PlanState.{ChangeState, IsSameVisit, IsVisitAt, PlanState, number_of, put_in}
 
--- the visit is one of the plan changed: it keeps what that was added as
+-- a changed copy of one of the visits, added by the same entry with the same data
 pub record IsOneOf (visits : List Visit) (visit : Visit) : Type 0 where
   pub before : Visit
   pub at : visit_at visits visit.number ≡ Some before
   pub same : IsSameVisit visit before
 
--- visits that the plan's next entry may make of its own: each is one of the plan's changed, and such as a plan at the next version has, with numbers that
--- rise, and with them put in the plan is sound
+-- changed visits that the plan's next entry may put in: each is a changed copy of a visit of the
+-- plan, and valid at the next version; their numbers rise; and the plan with them is sound
 pub record IsMovable (plan : PlanState) (visits : List Visit) : Type 0 where
   pub each : All (IsVisitAt plan.airport (plan.version + 1)) visits
   pub rise : Rises number_of 1 (length plan.visits + 1) visits
   pub same : All (IsOneOf plan.visits) visits
   pub sound : IsSound plan.airport (slots_of plan.airport (put_in plan.visits visits))
 
--- the change that makes these visits of the plan's: it has their slots, and makes the next version
+-- the change that puts in these changed visits of the plan: it has their slots, and makes the next
+-- version
 abbrev pub moving : PlanState → List Visit → ChangeState
 moving plan visits = record { visits = visits; slots = slots_of plan.airport visits; draft = None; version = plan.version + 1 }
 
@@ -33,7 +34,7 @@ moving plan visits = record { visits = visits; slots = slots_of plan.airport vis
 abbrev pub lifted : Part → Part
 lifted part = record part { place = Unplaced None }
 
--- the visit, which does not come
+-- the visit, cancelled
 abbrev pub cancelled : Visit → Visit
 cancelled visit = record visit { parts = map lifted visit.parts; end = Cancelled }
 

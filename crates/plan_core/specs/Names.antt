@@ -11,7 +11,7 @@ has_name name visit = bytes_eq name visit.name
 abbrev pub visit_named : List Visit → List ℕ → Option Visit
 visit_named visits name = find (has_name name) visits
 
--- no two visits have one name
+-- no two visits have the same name
 abbrev pub HaveDifferentNames : List Visit → Type 0
 HaveDifferentNames [] = Unit {0}
 HaveDifferentNames (visit ∷ visits) = (visit_named visits visit.name ≡ None) × HaveDifferentNames visits

@@ -1,4 +1,4 @@
--- The visits that a draft's edits are worked out on.
+-- The visits on which a draft's edits are tried.
 use Rattle.std.specs.Prelude.{nat_le, Bool, List, insert, is_some, map, unwrap_or, if◌then◌else◌}
 use Rattle.std.specs.List.{position_or_len}
 use Rattle.apron_base.specs.declared.numbers.VisitNo.{VisitNo}
@@ -14,7 +14,8 @@ use Rattle.visit_book.specs.Places.{is_actual}
 abbrev pub is_from : VisitNo → Visit → Bool
 is_from number visit = nat_le number.0 visit.number.0
 
--- the visits with this one before those of greater numbers, unless one of its number is there
+-- the visits with this one before those of greater numbers, unless there is one of its number
+-- already
 abbrev pub with_visit_once : List Visit → Visit → List Visit
 with_visit_once visits visit =
     if is_some (visit_at visits visit.number) then visits else insert visits (position_or_len (is_from visit.number) visits) visit
@@ -27,7 +28,7 @@ newest others visit = unwrap_or (visit_at others visit.number) visit
 abbrev pub replaced : List Visit → List Visit → List Visit
 replaced visits others = map (newest others) visits
 
--- the part is actual, where it is to be put or lifted, or a later one is, where it is to be cut or joined
+-- for a put or a lift the part is actual, for a cut or a join a later part is
 abbrev pub is_on_block : Edit → Visit → Part → Bool
 is_on_block (Put of k stand) visit part = is_actual part.place
 is_on_block (Lift of k) visit part = is_actual part.place

@@ -1,10 +1,10 @@
-// A visit that does not come.
+// Cancelling a visit.
 ghost use Rattle.std.specs.Prelude.{◌≡◌, map};
 ghost use Rattle.plan_core.specs.Moving.{cancelled, lifted};
 
 use visit_book::{End, Part, Parts, Place, Visit};
 
-/// The visit cancelled: none of its parts is on a stand, or has a record of what took it.
+/// The visit cancelled: none of its parts is on a stand, or has a record of what took its stand.
 pub(crate) fn cancelled(visit: &Visit) -> Visit
     ensures is { result ≡ cancelled visit.now }
 {

@@ -21,8 +21,8 @@ pub struct Drafted {
     pub version: u32,
 }
 
-/// The drafts that became commits, in order, and the version of each by its id. Contracts see them as
-/// their list, and besides how many can be added without memory.
+/// The drafts that became commits, in order, and the version of each by its id. Contracts see them
+/// as their list, and how many more can be added without taking memory.
 #[derive(Drop)]
 pub(crate) struct Drafts {
     kept: Vec<Drafted>,
@@ -64,7 +64,7 @@ impl Drafts {
             .copied()
     }
 
-    /// Makes room for one more. At `Err` memory is wanting, and no room is lost.
+    /// Makes room for one more. `Err` if there is no memory; no room is lost then.
     pub(crate) fn reserve(&mut self) -> Result<(), Memory>
         ensures kept { self.new.kept ≡ self.old.kept }
         ensures ok { OnOk result (1 ≤ self.new.room) }

@@ -1,4 +1,4 @@
-// Edits on a working copy of the visits that they are of. Edits are counted from 1.
+// Edits on a working copy of the visits that they change. Edits are counted from 1.
 ghost use Rattle.std.specs.Prelude.{◌≡◌, ◌≤◌, ◌<◌, ◌++◌, ◌∷◌, [], All, Ok, Err, Some, IfErr, IfOk, OnOk, true, length, map, position};
 ghost use Rattle.std.specs.List.{position_or_len};
 ghost use Rattle.visit_book.specs.Edits.{IsEditOf, most_edits, part_of, visit_of};
@@ -18,7 +18,7 @@ use visit_book::{
     is_live, join, part_of, visit_at, visit_of,
 };
 
-/// The visits that the edits are of, in order of number.
+/// The visits that the edits change, in order of number.
 pub(crate) fn edited_visits(
     alloc: Global,
     edits: &[Edit],
@@ -36,7 +36,7 @@ pub(crate) fn edited_visits(
     Ok(edited)
 }
 
-/// Adds a visit before those of greater numbers, unless one of its number is there.
+/// Adds a visit before those of greater numbers, unless there is one of its number already.
 pub fn add_visit_once(visits: &mut Vec<Visit>, visit: Visit) -> Result<(), Memory>
     ensures ok { OnOk result (visits.new.items ≡ with_visit_once visits.old.items visit) }
 {
@@ -46,7 +46,7 @@ pub fn add_visit_once(visits: &mut Vec<Visit>, visit: Visit) -> Result<(), Memor
     Ok(())
 }
 
-// How many visits stand before the first of this number or a greater one.
+// How many visits come before the first of this number or a greater one.
 fn count_below(visits: &[Visit], number: VisitNo) -> usize
     ensures count { result ≡ position_or_len (is_from number) visits.now }
     ensures most { result ≤ length visits.now }
@@ -69,7 +69,8 @@ fn is_from(visit: &Visit, number: VisitNo) -> bool
     visit.number.0 >= number.0
 }
 
-/// Applies the edits of a draft made over this base in order. At `Err` the visits are of no use any more.
+/// Applies, in order, the edits of a draft made over this base. After `Err` the visits must not be
+/// used.
 pub(crate) fn after_all_edits(
     airport: &Airport,
     base: u32,
@@ -177,7 +178,7 @@ fn edit_part(
     }
 }
 
-// Whether the part is actual, where it is to be put or lifted, or a later one is, where it is to be cut or joined.
+// For a put or a lift, whether the part is actual; for a cut or a join, whether a later part is.
 fn is_on_block(edit: &Edit, visit: &Visit, part: &Part) -> bool
     ensures is { result ≡ is_on_block edit.now visit.now part.now }
 {

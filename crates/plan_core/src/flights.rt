@@ -1,4 +1,4 @@
-// Where among visits those of each flight are.
+// Where the visits of each flight are in a list of visits.
 ghost use Rattle.std.specs.Prelude.{◌≡◌, ◌≤◌, ◌+◌, ◌++◌, ◌∷◌, [], ◌&&◌, Option, OnOk, Some, cond, find, length, map, option_copied};
 ghost use Rattle.std.specs.HashMap.{get_by, spare};
 ghost use Rattle.visit_book.specs.declared.visits.Key.{Key};
@@ -13,7 +13,7 @@ use std::collections::HashMap;
 use std::marker::Model;
 use visit_book::{Key, Visit, is_live};
 
-/// A flight and its day, as a map takes them.
+/// A flight and its day, as the key of a map.
 #[derive(Clone, Copy, Debug, PartialEq, Eq, Hash)]
 struct FlightDay {
     airline: Name,
@@ -22,16 +22,17 @@ struct FlightDay {
     day: u8,
 }
 
-/// The key that a visit has, if it has one, and the place of the last visit before it with the same flight. Places count
-/// from 0.
+/// The key of a visit, if it has one, and the place of the last visit before it with the same
+/// flight. Places count from 0.
 #[derive(Clone, Copy, Debug)]
 struct FlightEntry {
     key: Option<Key>,
     before: Option<usize>,
 }
 
-/// Where among visits those of each flight are, of the flights that they come by, or of those that they leave by.
-/// Contracts see it as the keys of the visits in order, and besides how many can be added without memory.
+/// Where the visits of each flight are in a list of visits: of the flights that they come by, or of
+/// those that they leave by. Contracts see it as the keys of the visits in order, and how many more
+/// can be added without taking memory.
 #[derive(Drop)]
 pub(crate) struct FlightPlaces {
     entries: Vec<FlightEntry>,
@@ -61,7 +62,7 @@ impl FlightPlaces {
         }
     }
 
-    /// Makes room for so many more. At `Err` memory is wanting, and no room is lost.
+    /// Makes room for this many more. `Err` if there is no memory; no room is lost then.
     pub(crate) fn reserve(&mut self, count: usize) -> Result<(), Memory>
         ensures keys { self.new.keys ≡ self.old.keys }
         ensures ok { OnOk result (count ≤ self.new.room) }
@@ -85,8 +86,8 @@ impl FlightPlaces {
         self.entries.push_reserved(FlightEntry { key, before });
     }
 
-    /// The first live visit of a flight, where these are the visits that have the keys. It looks at no visit of another
-    /// flight.
+    /// The first live visit of a flight, if these are the visits that have the keys. It looks at no
+    /// visit of another flight.
     pub(crate) fn first_live<'a>(&self, visits: &'a [Visit], key: &Key) -> Option<&'a Visit>
         requires count { length visits.now ≡ length self.now.keys }
         ensures is { (key_of : Visit → Option Key) → map key_of visits.now ≡ self.now.keys
@@ -105,7 +106,8 @@ impl FlightPlaces {
     }
 }
 
-// Puts the place as the last one of the key's flight, and gives the one that was the last. It takes no memory.
+// Makes the place the last one of the key's flight, and gives the one that was last before. It
+// takes no memory.
 fn put_last(last: &mut HashMap<FlightDay, usize>, key: &Key, place: usize) -> Option<usize>
     requires room { 1 ≤ spare last.old }
     ensures before { result ≡ get_by (is_same_day (flight_day key.now)) last.old }

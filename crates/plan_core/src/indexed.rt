@@ -1,4 +1,5 @@
-// The index of a plan's slots: what an entry takes out and puts in, and the first clash near what changed.
+// The index of a plan's slots: what an entry takes out and puts in, and the first clash near what
+// changed.
 ghost use Rattle.std.specs.Prelude.{◌≡◌, ◌≤◌, ◌<◌, ◌+◌, ◌++◌, All, IfNone, IfOk, IfSome, OnOk, count_by, filter, length};
 ghost use Rattle.std.specs.List.Sorted.{IsPermutation};
 ghost use Rattle.apron_base.specs.Histories.{Rises};
@@ -23,8 +24,8 @@ use std::alloc::Global;
 use std::sync::ledger::Ledger;
 use visit_book::{Place, Visit, visit_at};
 
-/// Takes the slots out that the visits have before a change: of those with the numbers of the changed ones.
-/// It takes no memory.
+/// Takes out the slots that visits have before a change: those of the visits with the numbers of
+/// the changed ones. It takes no memory.
 pub(crate) fn take_out(index: &mut StandIndex, visits: &[Visit], changed: &[Visit])
     requires index { IsIndex index.old }
     requires numbered { IsNumbered visits.now }
@@ -38,7 +39,7 @@ pub(crate) fn take_out(index: &mut StandIndex, visits: &[Visit], changed: &[Visi
     }
 }
 
-// Takes the slots of the visit of this number out, if there is one.
+// Takes out the slots of the visit of this number, if there is one.
 fn take_out_number(index: &mut StandIndex, visits: &[Visit], number: VisitNo)
     requires index { IsIndex index.old }
     requires numbered { IsNumbered visits.now }
@@ -53,7 +54,7 @@ fn take_out_number(index: &mut StandIndex, visits: &[Visit], number: VisitNo)
     }
 }
 
-// Takes the slots of a visit out.
+// Takes out the slots of a visit.
 fn take_out_visit(index: &mut StandIndex, visit: &Visit)
     requires index { IsIndex index.old }
     requires stands { HaveStandsOf (length index.old) visit.now.parts }
@@ -71,7 +72,7 @@ fn take_out_visit(index: &mut StandIndex, visit: &Visit)
     }
 }
 
-// Takes the slot of the part in this place out, if it is on a stand.
+// Takes out the slot of the part at this place, if it is on a stand.
 fn take_out_part(index: &mut StandIndex, part: PartId, place: &Place)
     requires index { IsIndex index.old }
     requires stand { IfSome (stand_of place.now) (λ stand. stand.0 < length index.old) }
@@ -85,8 +86,8 @@ fn take_out_part(index: &mut StandIndex, part: PartId, place: &Place)
     }
 }
 
-/// Puts slots in, each on its stand. There is room for all, and no two planned ones meet on a stand, neither
-/// with each other nor with those that are there. It takes no memory.
+/// Puts slots in, each on its stand. There is room for all, and no two planned ones meet on a
+/// stand, neither with one another nor with those that are there. It takes no memory.
 pub(crate) fn put_in(index: &mut StandIndex, slots: &[Slot])
     requires index { IsIndex index.old }
     requires place { HasPlaceFor index.old slots.now }
@@ -99,8 +100,8 @@ pub(crate) fn put_in(index: &mut StandIndex, slots: &[Slot])
     }
 }
 
-/// Makes room on the stand of each slot for as many as the slots have there. At `Err` memory is wanting, and
-/// the slots of the index are as they were.
+/// Makes room on the stand of each slot for as many slots as are on that stand. `Err` if there is
+/// no memory; the slots of the index are then as they were.
 pub(crate) fn reserve(index: &mut StandIndex, slots: &[Slot]) -> Result<(), Memory>
     requires index { IsIndex index.old }
     requires stands { All (λ slot. slot.stand.0 < length index.old) slots.now }
@@ -115,7 +116,7 @@ pub(crate) fn reserve(index: &mut StandIndex, slots: &[Slot]) -> Result<(), Memo
     Ok(())
 }
 
-// Makes room on a stand for as many as the slots have there.
+// Makes room on a stand for as many of the slots as are on it.
 fn reserve_on(index: &mut StandIndex, slots: &[Slot], stand: StandNo) -> Result<(), Memory>
     requires index { IsIndex index.old }
     requires stand { stand.0 < length index.old }
@@ -137,8 +138,8 @@ fn count_on(slots: &[Slot], stand: StandNo) -> usize
     slots.iter().filter(|slot| slot.stand.0 == stand.0).count()
 }
 
-/// The first clash of the plan that has the changed visits in the places of those with their numbers, where
-/// these are their slots: None where there is none. The only error is want of memory.
+/// The first clash of the plan after the changed visits, which have these slots, replace those of
+/// the same number; `None` if there is none. The only error is a lack of memory.
 pub(crate) fn first_clash_near<L: Ledger>(
     alloc: Global,
     airport: &Airport,

@@ -14,13 +14,14 @@ ghost use Rattle.plan_core.specs.Moving.{IsCancellable, cancelled, moving, with_
 ghost use Rattle.plan_core.specs.PlanState.{ChangeState, IsInstallable, IsPlan, PlanState, installed};
 ghost use Rattle.plan_core.specs.Rebase.{IsRebased, Rebases, Refuses, committed};
 
-/// Each part of visits that are numbered in order has one slot at most, so there is one first clash.
+/// Each part of visits that are numbered in order has at most one slot, so there is one first
+/// clash.
 pub fn slots_have_different_parts()
     ensures apart { (airport : AirportParts) (visits : List Visit) → IsNumbered visits → HaveDifferentParts (slots_of airport visits) }
 {}
 
-/// Want of memory aside, there is one answer to a draft at most: it is refused by one fault, and not where
-/// its edits apply and leave a sound plan.
+/// Apart from a lack of memory, a draft has at most one answer: it is refused by only one fault,
+/// and not refused if its edits apply and leave a sound plan.
 pub fn answer_is_one()
     ensures refusal { (plan : PlanState) (draft : Draft) (fault other : EditFault)
         → IsNumbered plan.visits → fault ≢ Memory → other ≢ Memory
@@ -29,7 +30,7 @@ pub fn answer_is_one()
         → fault ≢ Memory → Rebases plan draft new → ¬ (Refuses plan draft fault) }
 {}
 
-/// Want of memory aside, there is an answer to each draft.
+/// Apart from a lack of memory, each draft has an answer.
 pub fn answer_exists()
     ensures some { (plan : PlanState) (draft : Draft)
         → ((new : List Visit) × Rebases plan draft new) ⊎ ((fault : EditFault) × (fault ≢ Memory) × Refuses plan draft fault) }

@@ -1,4 +1,4 @@
--- Listed parts are on stands, or nowhere.
+-- Listed parts are on stands, or on none.
 use Rattle.std.proofs.Common.{◌≡◌, ◌∷◌, [], ℕ, Bool, true, false, List, map, refl}
 use Rattle.std.specs.Prelude.{All, Contains, IsSome, Option, None, Some, filter, is_none, option_map, if◌then◌else◌}
 use Rattle.std.specs.List.{flat_map}
@@ -22,7 +22,7 @@ use Rattle.plan_lists.proofs.Ranks.{ordered_from}
 abbrev IsOnStand : PartRow → Type 0
 IsOnStand row = IsSome (stand_of row.part.place)
 
--- the part stands nowhere
+-- the part is on no stand
 abbrev IsNowhere : PartRow → Type 0
 IsNowhere row = stand_of row.part.place ≡ None
 

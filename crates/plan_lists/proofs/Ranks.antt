@@ -60,7 +60,7 @@ is_id id part = is_part id part.row.id
 abbrev one_if : PartId → Waiting → ℕ
 one_if id part = cond (is_id id part) 1 0
 
--- the rows that stand nowhere, as parts of the visit
+-- the rows that are on no stand, as parts of the visit
 abbrev waits : Visit → List PartRow → List Waiting
 waits visit rows = map (with_rank visit) (filter is_unplaced rows)
 
@@ -80,7 +80,7 @@ at_most_one id part = by_test (is_id id part)
     by_test true = omega arith
     by_test false = omega arith
 
--- one more row adds itself at most
+-- one more row adds at most itself
 one_more : (id : PartId) (visit : Visit) (row : PartRow) (rows : List PartRow) → sum_by (one_if id) (waits visit (row ∷ rows)) ≤ one_if id (with_rank visit row) + sum_by (one_if id) (waits visit rows)
 one_more id visit row rows = by_test (is_unplaced row)
   where
@@ -92,7 +92,7 @@ one_more id visit row rows = by_test (is_unplaced row)
 abbrev row_at : Visit → ℕ → Part → PartRow
 row_at visit number part = record { id = record { visit = visit.number; part = number }; part = part }
 
--- of the parts from a number on none has a lower number
+-- among the parts from a number on, none has a lower number
 none_below : (id : PartId) (visit : Visit) (number : ℕ) (parts : List Part) → id.part < number → sum_by (one_if id) (waits visit (rows_from visit number parts)) ≤ 0
 none_below id visit number [] h = omega arith
 none_below id visit number (part ∷ parts) h =
@@ -100,7 +100,7 @@ none_below id visit number (part ∷ parts) h =
     let none : one_if id (with_rank visit (row_at visit number part)) ≡ 0 = ap (λ b. cond b 1 0) other in
     omega (arith, none, none_below id visit (number + 1) parts (omega arith), one_more id visit (row_at visit number part) (rows_from visit (number + 1) parts))
 
--- of the parts from a number on one at most is this one
+-- among the parts from a number on, at most one is this one
 once_from : (id : PartId) (visit : Visit) (number : ℕ) (parts : List Part) → sum_by (one_if id) (waits visit (rows_from visit number parts)) ≤ 1
 once_from id visit number [] = omega arith
 once_from id visit number (part ∷ parts) =
@@ -170,7 +170,7 @@ neither false false h = (refl, refl)
 neither false true h = absurd (cc)
 neither true b h = absurd (cc)
 
--- parts that tie are one part
+-- parts that tie are the same part
 tie_is_part : (part other : Waiting) → ties ranks_before part other ≡ true → is_id part.row.id other ≡ true
 tie_is_part part other h =
     let two = neither (ranks_before part other) (ranks_before other part) h in

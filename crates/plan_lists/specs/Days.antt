@@ -5,11 +5,11 @@ use Rattle.std.specs.Prelude.{◌+◌, ◌-◌, ◌*◌, ℕ, zero, suc, List, [
 abbrev pub day_length : ℕ
 day_length = 1440
 
--- the first minute of a day, where day 1 is the plan's first
+-- the first minute of a day; day 1 is the plan's first
 abbrev pub day_start : ℕ → ℕ
 day_start day = day_length * (day - 1)
 
--- so many minutes from this one on
+-- this many minutes from this one on
 unfoldable pub minutes_from : ℕ → ℕ → List ℕ
 minutes_from minute zero = []
 minutes_from minute (suc more) = minute ∷ minutes_from (minute + 1) more

@@ -16,7 +16,7 @@ unfoldable pub is_held_on : ℕ → Option Slot → Bool
 is_held_on day None = false
 is_held_on day (Some slot) = list_any (is_held slot) (minutes_of_day day)
 
--- the part of the visit is on a stand, which it holds at some minute of the day
+-- the part of the visit is on a stand and holds it at some minute of the day
 abbrev pub holds_on : AirportParts → ℕ → Visit → PartRow → Bool
 holds_on airport day visit row = is_held_on day (slot_of airport visit row.id.part row.part)
 

@@ -2,3 +2,4 @@ pub mod Days
 pub mod Rows
 pub mod Held
 pub mod Unplaced
+pub mod OfDay

@@ -11,7 +11,7 @@ use Rattle.desk_words.specs.declared.replies.PartRow.{PartRow}
 use Rattle.plan_lists.specs.Rows.{rows_of}
 use Rattle.plan_lists.specs.declared.waiting.Waiting.{Waiting}
 
--- the part stands nowhere
+-- the part is on no stand
 abbrev pub is_unplaced : PartRow → Bool
 is_unplaced row = is_none (stand_of row.part.place)
 
@@ -19,7 +19,7 @@ is_unplaced row = is_none (stand_of row.part.place)
 abbrev pub with_rank : Visit → PartRow → Waiting
 with_rank visit row = record { class = visit.class; on = visit.on; row = row }
 
--- the parts of the visit that wait for a stand: none of one that is gone or cancelled
+-- the parts of the visit that wait for a stand: none if it is gone or cancelled
 abbrev pub waiting_of : Visit → List Waiting
 waiting_of visit = if is_live visit then map (with_rank visit) (filter is_unplaced (rows_of visit)) else []
 

@@ -1,22 +1,22 @@
 // The parts that hold a stand on a day.
-ghost use Rattle.std.specs.Prelude.{◌≡◌, ◌≤◌, ◌++◌, ◌∷◌, [], All, IfOk, IsSome, OnOk, if◌then◌else◌};
-ghost use Rattle.visit_book.specs.Places.{stand_of};
-ghost use Rattle.visit_book.specs.WellFormed.{IsWellFormed};
-ghost use Rattle.plan_lists.specs.Held.{held_of, held_on, is_held_on};
+ghost use Rattle.std.specs.Prelude.{◌≡◌, ◌≤◌, ◌++◌, All, IfOk, IsSome, OnOk};
+ghost use Rattle.visit_book.specs.Places.{IsPlaceOf, stand_of};
+ghost use Rattle.visit_book.specs.WellFormed.{IsWellFormed, latest_end};
+ghost use Rattle.plan_lists.specs.Held.{held_of, held_on, holds_on, is_held_on};
+ghost use Rattle.plan_lists.specs.Rows.{row};
 
-use crate::rows::row;
+use crate::days::overlaps_day;
+use crate::rows::{push_if, row};
 use apron_base::{Listed, Memory, Slot};
 use apron_rules::Airport;
 use desk_words::replies::PartRow;
 use plan_core::Plan;
 use std::alloc::Global;
-use visit_book::{Visit, slot_of};
+use visit_book::{Part, Visit, slot_of};
 
-// How many minutes a day has.
-const DAY: u64 = 1440;
-
-/// The parts that hold their stand at a minute of this day, counted from 1, the stand's buffer minutes among those that
-/// they hold: in order of visit and part. The only error is want of memory.
+/// The parts that hold their stand at a minute of this day, counted from 1, in order of visit and
+/// part. The minutes that a part holds include the stand's buffer. The only error is a lack of
+/// memory.
 pub fn held_on(
     alloc: Global,
     airport: &Airport,
@@ -36,7 +36,7 @@ pub fn held_on(
     Ok(rows)
 }
 
-// Puts the parts of the visit that hold a stand on the day last.
+// Adds at the end the parts of the visit that hold a stand on the day.
 fn push_held(
     rows: &mut Listed<PartRow>,
     airport: &Airport,
@@ -50,36 +50,31 @@ fn push_held(
     let parts = visit.parts.as_slice();
     for index in 0..parts.len() {
         let number = index as u8 + 1;
-        let slot = slot_of(airport, visit, number, &parts[index]);
-        push_if(
-            rows,
-            row(visit, number, &parts[index]),
-            is_held_on(day, slot),
-        )?;
+        let held = holds_on(airport, day, visit, number, &parts[index]);
+        push_if(rows, row(visit, number, &parts[index]), held)?;
     }
     Ok(())
 }
 
-fn push_if(rows: &mut Listed<PartRow>, row: PartRow, held: bool) -> Result<(), Memory>
-    ensures ok { OnOk result (rows.new ≡ rows.old ++ (if held then row ∷ [] else [])) }
+// Whether the part of the visit with this number is on a stand and holds it at some minute of the
+// day.
+pub(crate) fn holds_on(airport: &Airport, day: u32, visit: &Visit, number: u8, part: &Part) -> bool
+    requires first { 1 ≤ day }
+    requires place { IsPlaceOf airport.now part.now.place }
+    requires to { part.now.to ≤ latest_end airport.now visit.now.kind }
+    ensures is { result ≡ holds_on airport.now day visit.now (row visit.now number part.now) }
 {
-    if held {
-        rows.push(row)?;
-    }
-    Ok(())
+    is_held_on(day, slot_of(airport, visit, number, part))
 }
 
 // Whether the slot, if there is one, holds its stand at some minute of the day.
-#[tactic(auto, using(crate::proofs::Minutes::overlap_of_day), unfolding(crate::specs::Held::is_held_on))]
+#[tactic(auto, unfolding(crate::specs::Held::is_held_on))]
 fn is_held_on(day: u32, slot: Option<Slot>) -> bool
     requires first { 1 ≤ day }
     ensures is { result ≡ is_held_on day slot }
 {
     match slot {
-        Some(slot) => {
-            let start = DAY * (u64::from(day) - 1);
-            u64::from(slot.from).max(start) < u64::from(slot.end).min(start + DAY)
-        }
+        Some(slot) => overlaps_day(day, slot.from, slot.end),
         None => false,
     }
 }

@@ -1,10 +1,14 @@
-//! Lists of a plan: the parts that wait for a stand, and those that hold one on a day. It knows neither
-//! histories nor the texts of replies.
+//! Lists of a plan: the parts that wait for a stand, those that hold one on a day, and the visits
+//! of a day. It knows nothing of histories and texts.
 #![tactic(auto)]
 
+mod days;
 mod held;
 mod rows;
+mod visits;
 pub mod waiting;
 
+pub use days::DAY_LENGTH;
 pub use held::held_on;
+pub use visits::{is_of_day, visits_on};
 pub use waiting::unplaced;

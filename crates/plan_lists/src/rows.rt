@@ -1,8 +1,8 @@
-// Parts with their numbers.
-ghost use Rattle.std.specs.Prelude.{◌≡◌};
+// Parts with their numbers, and growing lists.
+ghost use Rattle.std.specs.Prelude.{◌≡◌, ◌++◌, ◌∷◌, [], OnOk, if◌then◌else◌};
 ghost use Rattle.plan_lists.specs.Rows.{row};
 
-use apron_base::PartId;
+use apron_base::{Listed, Memory, PartId};
 use desk_words::replies::PartRow;
 use visit_book::{Part, Visit};
 
@@ -17,4 +17,14 @@ pub(crate) fn row(visit: &Visit, number: u8, part: &Part) -> PartRow
         },
         part: *part,
     }
+}
+
+// Adds the item at the end, if it belongs to the list.
+pub(crate) fn push_if<T: Drop>(list: &mut Listed<T>, item: T, is: bool) -> Result<(), Memory>
+    ensures ok { OnOk result (list.new ≡ list.old ++ (if is then item ∷ [] else [])) }
+{
+    if is {
+        list.push(item)?;
+    }
+    Ok(())
 }

@@ -11,7 +11,7 @@ use plan_core::Plan;
 use std::alloc::Global;
 use visit_book::{Place, Visit, is_live};
 
-/// A part that stands nowhere, with the class and the scheduled minute on block of its visit.
+/// A part that is on no stand, with the class and the scheduled minute on block of its visit.
 #[derive(Clone, Copy, Debug)]
 pub struct Waiting {
     pub class: u8,
@@ -19,8 +19,9 @@ pub struct Waiting {
     pub row: PartRow,
 }
 
-/// The parts of live visits that stand nowhere, by rank: the class of the visit, its scheduled minute on block, its
-/// number and the part decide, lower ones first. The only error is want of memory.
+/// The parts of live visits that are on no stand, by rank: the class of the visit, its scheduled
+/// minute on block, its number and the part decide, lower ones first. The only error is a lack of
+/// memory.
 pub fn unplaced(alloc: Global, plan: &Plan) -> Result<Listed<PartRow>, Memory>
     ensures unplaced { IfOk result (λ rows. rows ≡ unplaced plan.now.plan) }
     ensures nowhere { IfOk result (λ rows. All (λ row. stand_of row.part.place ≡ None) rows) }
@@ -41,7 +42,7 @@ fn all_waiting(alloc: Global, visits: &[Visit]) -> Result<Vec<Waiting>, Memory>
     Ok(parts)
 }
 
-// Puts the parts of the visit that wait for a stand last.
+// Adds at the end the parts of the visit that wait for a stand.
 fn push_waiting(parts: &mut Vec<Waiting>, visit: &Visit) -> Result<(), Memory>
     ensures ok { OnOk result (parts.new.items ≡ parts.old.items ++ waiting_of visit.now) }
 {
@@ -67,7 +68,7 @@ fn push_if(parts: &mut Vec<Waiting>, part: Waiting) -> Result<(), Memory>
     Ok(())
 }
 
-fn is_unplaced(row: &PartRow) -> bool
+pub(crate) fn is_unplaced(row: &PartRow) -> bool
     ensures is { result ≡ is_unplaced row.now }
 {
     matches!(row.part.place, Place::Unplaced(_))

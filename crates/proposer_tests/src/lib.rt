@@ -1,4 +1,5 @@
-//! Tests of `stand_proposer`, at plans of the demo airport: what is put where, what is left and why.
+//! Tests of `stand_proposer`, at plans of the demo airport: what is put where, what is left and
+//! why.
 #![tactic(auto)]
 
 #[cfg(test)]

@@ -2,6 +2,7 @@
 mod boards;
 mod cases;
 mod demo;
+mod folding;
 
 use apron_base::{PartId, VisitNo};
 use apron_rules::{Airport, Clash, UnfitBy};
@@ -91,7 +92,15 @@ fn parts_are_put_on_the_first_stands_that_take_them(rt: HostRuntime) -> Result<(
     Ok(())
 }
 
-// An A388 on stand 14, another of the lowest class number, and 65 A320s one after the other.
+#[test]
+fn wing_tips_count_as_they_are_at_each_minute(rt: HostRuntime) -> Result<(), Fail> {
+    let airport = folding::airport(rt.alloc())?;
+    let holds = holds(rt.alloc(), &airport, &folding::CASE)?;
+    assert!(rt; holds);
+    Ok(())
+}
+
+// An A388 on stand 14, another A388 of the lowest class number, and 65 A320s one after the other.
 fn many(alloc: Global) -> Result<Vec<Added>, Fail> {
     let mut visits = Vec::new(alloc);
     visits.push((2, 3, 600, 700))?;

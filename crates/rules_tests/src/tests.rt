@@ -29,8 +29,8 @@ fn stand(name: &[u8], centre: u32, letter: Letter, half_of: Option<Name>) -> Opt
     })
 }
 
-// Two pairs of stands, 4,029 and 4,030 cm apart; a whole stand with two halves 4,030 cm apart; two stands
-// with a restriction; two stands with an object beside each.
+// Two pairs of stands, 4,029 and 4,030 cm apart; a whole stand with two halves 4,030 cm apart; two
+// stands with a restriction; two stands with an object beside each.
 fn stands() -> Option<[StandRow; 10]> {
     let whole = Name::new(b"W");
     Some([
@@ -155,7 +155,7 @@ fn wrong_rule(airport: &Airport) -> Option<&'static str> {
     None
 }
 
-// Whether a type fits a stand, or what it does not fit by.
+// Whether a type fits a stand, or by what it does not fit.
 fn fits_so(airport: &Airport, name: &str, kind: u16, want: Result<(), UnfitBy>) -> bool {
     match number(airport, name) {
         Some(s) => has_type(airport, kind) && airport.fits(s, TypeNo(kind)) == want,
@@ -209,8 +209,8 @@ fn wrong_neighbours(airport: &Airport) -> Option<&'static str> {
     None
 }
 
-// Two aircraft exclude each other by the first rule, an aircraft fits up to its clearance, and neighbours are the stands
-// that some two types exclude.
+// Two aircraft exclude each other by the first rule, an aircraft fits up to its clearance, and
+// neighbours are the stands that some two types exclude.
 fn wrong_row(airport: &Airport) -> Option<&'static str> {
     wrong_rule(airport)
         .or(wrong_fit(airport))

@@ -49,7 +49,7 @@ A388,7975,90
 X360,3600,40
 ";
 
-/// A visit is added, and stands: requests of 123 and 129 bytes.
+/// Requests of 123 and 129 bytes: a visit is added, and put on a stand.
 pub const FIRST: &[u8] =
     b"POST /visits HTTP/1.1\r\nContent-Length: 78\r\n\r\n{\"name\":\"V1\",\"type\":\"A320\",\"class\":3,\"on\":600,\"off\":660,\"arr\":null,\"dep\":null}POST /commits HTTP/1.1\r\nContent-Length: 83\r\n\r\n{\"desk\":\"D\",\"draft\":1,\"base\":1,\"edits\":[{\"put\":{\"visit\":1,\"part\":1,\"stand\":\"N1\"}}]}";
 
@@ -68,7 +68,7 @@ pub const ROOM: Room = Room {
     calls: 20_000,
 };
 
-/// The words of a text that has spaces between them. At `Err` memory is wanting.
+/// The words of a text that has spaces between them. `Err` if there is no memory.
 pub fn words(alloc: Global, texts: &str) -> Result<Vec<Word>, Memory> {
     let mut words = Vec::new(alloc);
     for text in texts.split_ascii_whitespace() {
@@ -77,7 +77,7 @@ pub fn words(alloc: Global, texts: &str) -> Result<Vec<Word>, Memory> {
     Ok(words)
 }
 
-/// A file of this name. At `Err` memory is wanting.
+/// A file of this name. `Err` if there is no memory.
 pub fn kept(alloc: Global, name: &str, bytes: &[u8]) -> Result<Kept, Memory> {
     Ok(Kept {
         name: Word::new(alloc, name)?,

@@ -30,7 +30,7 @@ pub record HasPlainFields (airport : AirportParts) (new : NewVisit) : Type 0 whe
   pub arr_day : IfSome new.arr (λ key. key.day < 2 ^ 64)
   pub dep_day : IfSome new.dep (λ key. key.day < 2 ^ 64)
 
--- a visit of an airport, of a type with a name, has them
+-- a visit of an airport, of a type with a name, has such fields
 pub plain-fields : (airport : AirportParts) → IsAirport airport → (new : NewVisit) (row : TypeRow) → IsSeasonVisit airport new → IsRowOf airport new.kind row → HasPlainFields airport new
 plain-fields airport is new row h at =
     let times = times_of airport new h.of_airport.in_time in
@@ -76,7 +76,7 @@ visit_row airport new h =
     ) in
     row-plain new.name (name_of_type airport new.kind) (decimal new.class ∷ decimal new.on ∷ decimal new.off ∷ flight_field new.arr ∷ day_field new.arr ∷ flight_field new.dep ∷ day_field new.dep ∷ []) plain
 
--- the same of fields that are those of the visit
+-- the same for fields that are those of the visit
 pub fields_row : (airport : AirportParts) (new : NewVisit) (name kind class on off arr arr_day dep dep_day : List ℕ) → name ≡ new.name → kind ≡ name_of_type airport new.kind → class ≡ decimal new.class → on ≡ decimal new.on → off ≡ decimal new.off
     → arr ≡ flight_field new.arr → arr_day ≡ day_field new.arr → dep ≡ flight_field new.dep → dep_day ≡ day_field new.dep → HasPlainFields airport new
     → row_text default_writer (name ∷ kind ∷ class ∷ on ∷ off ∷ arr ∷ arr_day ∷ dep ∷ dep_day ∷ []) ≡ visit_line airport new

@@ -56,7 +56,7 @@ key-back (Some key) h k =
     let read = flight_of-back key.flight h in
     rw (some_text _ key.flight read, read, small-back greatest_day key.day k (omega arith)) refl
 
--- a name by the property is one by the test
+-- a text that has the property of a name passes the test of one
 pub named : (text : List ℕ) (o : Option (List ℕ)) → SomeIff o (IsName text) text → o ≡ if_name text
 named text None h =
     elim (is_name text) as (λ b. is_name text ≡ b → None ≡ cond b (Some text) None)

@@ -30,7 +30,7 @@ use Rattle.season_files.proofs.Times.{IsSeasonVisit, day-within, times_of}
 use Rattle.season_files.proofs.TypeNames.{type-back, type_row}
 
 module _ (airport : AirportParts) (is : IsAirport airport) (named : All HasName airport.types) where
-  -- the fields of a visit tell it
+  -- the fields of a visit give that visit
   visit-back : (new : NewVisit) → IsSeasonVisit airport new → visit_of airport (visit_fields airport new) ≡ Some new
   unfolding visit_in key_in field_at
   visit-back new h =

@@ -21,7 +21,7 @@ unmapped : {A B : Type 0} (f : A → B) (o : Option A) → option_map f o ≡ No
 unmapped f None h = refl
 unmapped f (Some x) h = absurd (cc)
 
--- no name of a type is there twice
+-- no name of a type occurs twice
 types_once : (parts : AirportParts) → fault_of parts ≡ None → first_repeated (type_names parts) ≡ None
 unfolding fault_of
 types_once parts h =

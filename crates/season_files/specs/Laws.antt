@@ -9,16 +9,18 @@ use Rattle.visit_book.specs.declared.visits.Visit.{Visit}
 use Rattle.season_files.specs.Seasons.{season_in}
 use Rattle.season_files.specs.Texts.{season_of, season_text}
 
--- the name of the type is one: what a definition has to say, since texts range over all lists there
+-- the name of the type is a name; a definition has to say so, since here texts range over all lists
 abbrev pub HasName : TypeRow → Type 0
 HasName row = IsName row.name
 
--- a visit with a name, which was added with what can be said at the airport, as each visit of a plan of the airport was
+-- a visit with a name, added with data valid at the airport, as each visit of a plan of the airport
+-- was
 pub record IsVisitOf (airport : AirportParts) (visit : Visit) : Type 0 where
   pub name : IsName visit.name
   pub new : IsNewVisitOf airport (new_of visit)
 
--- the season file of visits of an airport is read as what those that aren't cancelled were added with
+-- the season file of visits of an airport is read as the data that the uncancelled ones were added
+-- with
 abbrev pub SeasonIsReadBack : Type 0
 SeasonIsReadBack = (airport : AirportParts) (visits : List Visit) → IsAirport airport → All HasName airport.types → All (IsVisitOf airport) visits
     → season_in airport (season_text airport (season_of visits)) ≡ Ok (season_of visits)

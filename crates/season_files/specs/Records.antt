@@ -1,4 +1,4 @@
--- The records of a season file: the visit that the nine fields of one tell.
+-- The records of a season file: the visit that the nine fields of a record give.
 use Rattle.std.specs.Prelude.{ℕ, ◌+◌, ◌&&◌, ◌==◌, nat_le, Bool, false, List, length, codes, Option, Some, None, if◌then◌else◌}
 use Rattle.std.specs.Option.{option_map}
 use Rattle.std.specs.Str.{bytes_eq}
@@ -14,13 +14,13 @@ use Rattle.visit_book.specs.NewVisits.{is_in_time}
 use Rattle.visit_book.specs.WellFormed.{greatest_class}
 use Rattle.visit_book.specs.declared.visits.Key.{Key}
 use Rattle.visit_book.specs.declared.visits.NewVisit.{NewVisit}
-use Rattle.season_files.specs.declared.records.TheConstants.{COLUMNS, MAX_NUMBER_DIGITS}
+use Rattle.season_files.specs.declared.records.TheConstants.{COLUMNS}
 
 -- the greatest day that a key can have
 abbrev pub greatest_day : ℕ
 greatest_day = 255
 
--- the field is there and is this word
+-- the field exists and is this word
 abbrev pub field_is : List ℕ → Option (List ℕ) → Bool
 field_is word None = false
 field_is word (Some field) = bytes_eq field word
@@ -44,7 +44,7 @@ heads_flights fields =
 unfoldable pub is_header : List (List ℕ) → Bool
 is_header fields = (length fields == COLUMNS) && (heads_visit fields && heads_flights fields)
 
--- the text, where it is a name
+-- the text, if it is a name
 abbrev pub if_name : List ℕ → Option (List ℕ)
 if_name text = if is_name text then Some text else None
 
@@ -54,15 +54,19 @@ type_named airport text = do
   name ← if_name text
   option_map (λ place. record { 0 = place }) (place_of name (type_names airport))
 
--- the number, where it isn't above this one
+-- the number, if it isn't above this one
 abbrev pub at_most : ℕ → ℕ → Option ℕ
 at_most most number = if nat_le number most then Some number else None
 
+-- the most digits of a number
+abbrev pub most_digits : ℕ
+most_digits = 9
+
 -- the number of 1 to 9 digits
 abbrev pub number_named : List ℕ → Option ℕ
-number_named text = number_of text MAX_NUMBER_DIGITS
+number_named text = number_of text most_digits
 
--- the number of 1 to 9 digits, where it isn't above this one
+-- the number of 1 to 9 digits, if it isn't above this one
 abbrev pub small_named : ℕ → List ℕ → Option ℕ
 small_named most text = number_named text >>= at_most most
 
@@ -89,7 +93,7 @@ key_with flight day = do
   day ← small_named greatest_day day
   Some (record { flight = flight; day = day })
 
--- no key where both are empty, or the key of a flight and a day
+-- no key if both are empty, or the key of a flight and a day
 abbrev pub key_named : List ℕ → List ℕ → Option (Option Key)
 key_named flight day = if length flight == 0 then (if length day == 0 then Some None else None) else option_map Some (key_with flight day)
 
@@ -100,7 +104,7 @@ key_in fields i = do
   day ← field_at fields (i + 1)
   key_named flight day
 
--- the visit, where its times are such as it can have at the airport
+-- the visit, if its times are valid at the airport
 abbrev pub if_in_time : AirportParts → NewVisit → Option NewVisit
 if_in_time airport new = if is_in_time airport new then Some new else None
 
@@ -116,7 +120,7 @@ visit_in airport fields = do
   dep ← key_in fields 7
   if_in_time airport (record { name = name; kind = kind; class = class; on = on; off = off; arr = arr; dep = dep })
 
--- the visit that a record tells at the airport: a name, a type of the airport, a class, the minutes on and off block, and the flights by which it comes
--- and leaves, each with its day or both empty
+-- the visit that a record gives at the airport: a name, a type of the airport, a class, the minutes
+-- on and off block, and the flights that it comes and leaves by, each with its day or both empty
 abbrev pub visit_of : AirportParts → List (List ℕ) → Option NewVisit
 visit_of airport fields = if length fields == COLUMNS then visit_in airport fields else None

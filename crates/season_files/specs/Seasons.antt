@@ -1,4 +1,4 @@
--- The visits that a text tells, or its first refused record.
+-- The visits that a text gives, or its first refused record.
 use Rattle.std.specs.Prelude.{◌≡◌, ℕ, ◌+◌, List, [], ◌∷◌, length, Option, Some, None, Result, Ok, Err, if◌then◌else◌}
 use Rattle.apron_base.specs.ResultChain.{◌>>=◌}
 use Rattle.apron_rules.specs.declared.parts.AirportParts.{AirportParts}
@@ -23,12 +23,13 @@ visits_from airport k (fields ∷ rest) = do
   more ← visits_from airport (k + 1) rest
   Ok (new ∷ more)
 
--- the visits of the records behind the header, which is the first record
+-- the visits of the records after the header, which is the first record
 unfoldable pub visits_of : AirportParts → List (List (List ℕ)) → Result (List NewVisit) ℕ
 visits_of airport [] = Err 1
 visits_of airport (header ∷ rows) = if is_header header then visits_from airport 2 rows else Err 1
 
--- the same from a state of the reader and the bytes that are left: at most so many records, the first of which is the k-th
+-- the same from a state of the reader and the bytes that are left: at most this many records, the
+-- first of which is the k-th
 abbrev pub visits_left : AirportParts → ℕ → ℕ → State → List ℕ → Result (List NewVisit) ℕ
 visits_left airport k turns s left = visits_from airport k (records_from default_config turns s left)
 
@@ -36,17 +37,18 @@ visits_left airport k turns s left = visits_from airport k (records_from default
 abbrev pub season_left : AirportParts → ℕ → State → List ℕ → Result (List NewVisit) ℕ
 season_left airport turns s left = visits_of airport (records_from default_config turns s left)
 
--- the visits of a text in order of its records, or the number of the first record that is refused, counted from 1 with the header. Records are read as
--- csv reads them by default: a byte order mark is taken off, lines may end with CR LF, fields may be quoted, and an empty line is no record
+-- The visits of a text in order of its records, or the number of the first record that is refused,
+-- counted from 1 with the header. Records are read as csv reads them by default: a byte order mark
+-- is removed, lines may end with CR LF, fields may be quoted, and an empty line is no record.
 abbrev pub season_in : AirportParts → List ℕ → Result (List NewVisit) ℕ
 season_in airport text = season_left airport (length text + 1) st.StartRecord (strip_bom text)
 
--- the fault is that of the text, unless memory was wanting
+-- the fault is that of the text, unless memory ran out
 abbrev pub Refuses : SeasonFault → Result (List NewVisit) ℕ → Type 0
 Refuses (BadRow k) told = told ≡ Err k
 Refuses Memory told = Unit {0}
 
--- what was read is what the text tells, unless memory was wanting
+-- what was read is what the text gives, unless memory ran out
 abbrev pub Reads : Result (List NewVisit) SeasonFault → Result (List NewVisit) ℕ → Type 0
 Reads (Ok visits) told = told ≡ Ok visits
 Reads (Err fault) told = Refuses fault told

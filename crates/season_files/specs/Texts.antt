@@ -23,7 +23,7 @@ columns =
     codes "name" ∷ codes "type" ∷ codes "class" ∷ codes "on" ∷ codes "off"
     ∷ codes "arr" ∷ codes "arrday" ∷ codes "dep" ∷ codes "depday" ∷ []
 
--- the name of a row, nothing where there is none
+-- the name of a row, empty if there is none
 abbrev pub name_of_row : Option TypeRow → List ℕ
 name_of_row None = []
 name_of_row (Some row) = row.name
@@ -32,12 +32,12 @@ name_of_row (Some row) = row.name
 abbrev pub name_of_type : AirportParts → TypeNo → List ℕ
 name_of_type airport kind = name_of_row (type_at airport kind)
 
--- the flight of a key, its number without leading zeros, and nothing for no key
+-- the flight of a key, its number without leading zeros; empty if there is no key
 abbrev pub flight_field : Option Key → List ℕ
 flight_field None = []
 flight_field (Some key) = flight_text key.flight
 
--- the day of a key, and nothing for no key
+-- the day of a key; empty if there is no key
 abbrev pub day_field : Option Key → List ℕ
 day_field None = []
 day_field (Some key) = decimal key.day
@@ -56,7 +56,7 @@ visit_line airport new = line (visit_fields airport new)
 unfoldable pub season_text : AirportParts → List NewVisit → List ℕ
 season_text airport visits = line columns ++ flat_map (visit_line airport) visits
 
--- the visit came to this end
+-- the visit ended cancelled
 abbrev pub is_cancelled_end : End → Bool
 is_cancelled_end Cancelled = true
 is_cancelled_end end = false
@@ -65,6 +65,6 @@ is_cancelled_end end = false
 abbrev pub is_uncancelled : Visit → Bool
 is_uncancelled visit = not (is_cancelled_end visit.end)
 
--- what the visits that aren't cancelled were added with, in their order
+-- the data that the uncancelled visits were added with, in their order
 abbrev pub season_of : List Visit → List NewVisit
 season_of visits = map new_of (filter is_uncancelled visits)

@@ -1,7 +1,7 @@
 // Why a text gives no season.
 use apron_base::Memory;
 
-/// The first refused record, counted from 1 with the header, or want of memory.
+/// The first refused record, counted from 1 with the header, or a lack of memory.
 #[derive(Clone, Copy, Debug, PartialEq, Eq)]
 pub enum SeasonFault {
     BadRow(u32),

@@ -1,4 +1,4 @@
-//! Season files: the visits that are to be added, as a table of nine columns, read and written. It knows no
+//! Season files: visits to be added, as a table of nine columns, read and written. It knows no
 //! plan, and adds nothing.
 #![tactic(auto)]
 

@@ -36,7 +36,7 @@ fn read_header(
     }
 }
 
-// Reads the records after the header, as many as `turns`.
+// Reads the records after the header, at most `turns` of them.
 fn read_visits(
     alloc: Global,
     airport: &Airport,
@@ -56,7 +56,7 @@ fn read_visits(
         let Some(new) = visit_of(airport, row) else {
             return Err(SeasonFault::BadRow(k as u32 + 2));
         };
-        // This names the type of a field of what is pushed, which the proof of the push has to be told.
+        // This names the type of a field of what is pushed; the proof of the push needs it.
         let _named: Option<Key> = new.arr;
         if visits.push(new).is_err() {
             return Err(SeasonFault::Memory);
@@ -65,10 +65,11 @@ fn read_visits(
     Ok(visits)
 }
 
-/// The visits of a season file for the airport, in order of its records. The minutes are from 00:00 UTC of the
-/// airport's first day, and days are counted from 1, which is that day. At `BadRow` the record of this number is the
-/// first that is refused, counted from 1 with the header: it is missing as header, it has not nine fields or one of another form,
-/// its type is not of the airport, or its times are not such as a visit can have there.
+/// The visits of a season file for the airport, in order of its records. Minutes are from 00:00 UTC
+/// of the airport's first day. Days are counted from 1, which is that day. `BadRow` gives the
+/// number of the first record that is refused, counted from 1 with the header: the header is
+/// missing, or the record does not have nine fields, or a field has another form, or its type is
+/// not of the airport, or its times are not valid there.
 pub fn read_season(
     alloc: Global,
     airport: &Airport,

@@ -39,7 +39,7 @@ fn heads_visit(row: &ByteRecord) -> bool
         && is_field(row, 4, b"off")
 }
 
-// Whether the fields behind these name the flights.
+// Whether the fields after these name the flights.
 fn heads_flights(row: &ByteRecord) -> bool
     ensures is { result ≡ heads_flights (fields_of row.now) }
 {
@@ -58,7 +58,7 @@ fn is_field(row: &ByteRecord, i: usize, word: &[u8]) -> bool
     }
 }
 
-/// The visit that a record tells at the airport, where it tells one.
+/// The visit that a record gives at the airport, if it gives one.
 pub(crate) fn visit_of(airport: &Airport, row: &ByteRecord) -> Option<NewVisit>
     ensures value { result ≡ visit_of airport.now (fields_of row.now) }
     ensures new { IfSome result (IsNewVisitOf airport.now) }
@@ -159,7 +159,7 @@ fn small(text: &[u8], most: u8) -> Option<u8>
     }
 }
 
-// The key of the two fields from this place on: `Some(None)` where both are empty.
+// The key of the two fields from this place on: `Some(None)` if both are empty.
 #[tactic(auto, unfolding(crate::specs::Records::key_in))]
 fn key_in(row: &ByteRecord, i: usize) -> Option<Option<Key>>
     requires place { i < COLUMNS }

@@ -28,7 +28,7 @@ fn write_header(alloc: Global) -> Result<Writer<Vec<u8>>, Memory>
     Ok(wtr)
 }
 
-// The text of the flight of a key, empty where there is none.
+// The text of the flight of a key, empty if there is none.
 fn flight_field(alloc: Global, key: &Option<Key>) -> Result<Vec<u8>, Memory>
     requires flight { IfSome key.now HasFlight }
     ensures text { IfOk result (λ text. text.items ≡ flight_field key.now) }
@@ -40,7 +40,7 @@ fn flight_field(alloc: Global, key: &Option<Key>) -> Result<Vec<u8>, Memory>
     Ok(text)
 }
 
-// The day of a key in digits, nothing where there is none.
+// The day of a key in digits, nothing if there is none.
 fn day_field<'a>(buffer: &'a mut Buffer, key: &Option<Key>) -> &'a [u8]
     ensures text { result.now ≡ day_field key.now }
 {
@@ -91,8 +91,8 @@ fn is_uncancelled(visit: &Visit) -> bool
     !matches!(visit.end, End::Cancelled)
 }
 
-/// The season file of what these visits of the airport were added with, in their order, but of none that is cancelled.
-/// Its lines end with LF. At `Err` memory is wanting.
+/// The season file of the data that these visits of the airport were added with, in their order,
+/// without the cancelled ones. Its lines end with LF. `Err` if there is no memory.
 pub fn write_season(
     alloc: Global,
     airport: &Airport,

@@ -1,4 +1,5 @@
-//! Tests of `season_files`: what is read of a season file, which record is refused, and what is written.
+//! Tests of `season_files`: what is read of a season file, which record is refused, and what is
+//! written.
 #![tactic(auto)]
 
 #[cfg(test)]

@@ -19,7 +19,7 @@ const TWO: &str =
 // No more bytes than this are read.
 const MOST: usize = 1_000_000;
 
-// One stand, N1, and two types, of 40 and of 25 minutes at least.
+// One stand, N1, and two types, with 40 and 25 least minutes.
 fn airport(alloc: Global) -> Result<Airport, Fail> {
     let turboprop = TypeRow::without_folding(Name::literal(b"AT76"), 2_705, 25);
     on_one_frontage(
@@ -29,7 +29,7 @@ fn airport(alloc: Global) -> Result<Airport, Fail> {
     )
 }
 
-// The visits that a text tells.
+// The visits that a text gives.
 fn season(alloc: Global, airport: &Airport, text: &[u8]) -> Result<Listed<NewVisit>, SeasonFault>
     ensures new { IfOk result (All (IsNewVisitOf airport.now)) }
 {
@@ -39,7 +39,7 @@ fn season(alloc: Global, airport: &Airport, text: &[u8]) -> Result<Listed<NewVis
     read_season(alloc, airport, text)
 }
 
-// The number of the first record that is refused, 0 where none is.
+// The number of the first record that is refused, 0 if none is.
 fn refused(alloc: Global, text: &str) -> Result<Option<u32>, Fail> {
     let airport = airport(alloc)?;
     Ok(match season(alloc, &airport, text.as_bytes()) {
@@ -49,13 +49,13 @@ fn refused(alloc: Global, text: &str) -> Result<Option<u32>, Fail> {
     })
 }
 
-// The same of the header and these records.
+// The same for the header and these records.
 fn refused_behind(alloc: Global, records: &str) -> Result<Option<u32>, Fail> {
     let text = format!(in alloc; "{HEADER}{records}")?;
     refused(alloc, text.as_str())
 }
 
-// Visits that were added with these, of which the first so many are cancelled.
+// Visits that were added with these data; the first `cancelled` of them are cancelled.
 fn visits(
     alloc: Global,
     airport: &Airport,
@@ -80,7 +80,7 @@ fn visit_of(new: &NewVisit, cancelled: bool) -> Visit
     Visit { end, ..visit }
 }
 
-// What is written of the visits that a text tells, of which the first so many are cancelled.
+// What is written of the visits that a text gives; the first `cancelled` of them are cancelled.
 fn rewritten(alloc: Global, text: &str, cancelled: usize) -> Result<Listed<u8>, Fail> {
     let airport = airport(alloc)?;
     let Ok(season) = season(alloc, &airport, text.as_bytes()) else {
@@ -99,7 +99,7 @@ fn is_rewritten(alloc: Global, text: &str, cancelled: usize, want: &str) -> Resu
     Ok(found.as_slice() == want.as_bytes())
 }
 
-// What a text has, the text, how many of its two visits are cancelled, and what is written.
+// What a text shows, the text, how many of its two visits are cancelled, and what is written.
 const TEXTS: [(&'static str, &'static str, usize, &'static str); 8] = [
     ("as it is written", TWO, 0, TWO),
     (
@@ -206,7 +206,7 @@ fn a_text_without_the_header_is_refused_at_it(rt: HostRuntime) -> Result<(), Fai
     Ok(())
 }
 
-// Records behind the header, and the number of the first that is refused, where the header is the first of all.
+// Records after the header, and the number of the first that is refused; the header is number 1.
 const RECORDS: [(&'static str, u32); 47] = [
     ("", 0),
     ("V1,A320,3,600,660,LH123,1,LH124\n", 2),

@@ -110,7 +110,7 @@ fn listener(alloc: Global, input: &[u8]) -> Result<ListListener<ListSource, List
     Ok(ListListener::new(alloc, to_come, Vec::new(alloc))?)
 }
 
-// What the first connection of a listener was told.
+// What the first connection of a listener was sent.
 fn told(listener: &ListListener<ListSource, ListSink>) -> &[u8] {
     match listener.finished() {
         [first, ..] => first.sink.bytes(),
@@ -118,12 +118,13 @@ fn told(listener: &ListListener<ListSource, ListSink>) -> &[u8] {
     }
 }
 
-// Whether the journal on this disk is at the version that this reply tells.
+// Whether the journal on this disk is at the version that this reply shows.
 fn is_at<D: Disk>(alloc: Global, disk: &mut D, version: &[u8]) -> Result<bool, Memory> {
     Ok(printed(alloc, "desk A T", VERSION, disk)?.as_slice() == version)
 }
 
-// Serves at these listeners. It gives whether the status and the printed line are these, and the disk.
+// Serves at these listeners. It gives whether the status and the printed line are these, and the
+// disk.
 fn served<L: Workplace + Send, D: Disk + Drop + Send, R: Wait + Threads + Sync>(
     rt: &R,
     alloc: Global,
@@ -147,7 +148,7 @@ fn served<L: Workplace + Send, D: Disk + Drop + Send, R: Wait + Threads + Sync>(
     Ok((status == want.0 && sink.bytes() == want.1, disk))
 }
 
-// Whether two listeners of one connection each were told one of these pairs of replies.
+// Whether two listeners of one connection each were sent one of these pairs of replies.
 fn are_told(listeners: &[ListListener<ListSource, ListSink>], pairs: &[(&[u8], &[u8])]) -> bool {
     match listeners {
         [one, two] => pairs.contains(&(told(one), told(two))),
@@ -155,8 +156,8 @@ fn are_told(listeners: &[ListListener<ListSource, ListSink>], pairs: &[(&[u8], &
     }
 }
 
-// Two desks at once, each over a connection of its own: whether they are told one of these pairs of replies, and the version
-// afterwards is this one.
+// Two desks at once, each over a connection of its own: whether they get one of these pairs of
+// replies, and the version afterwards is this one.
 fn both_are_told<R: Wait + Threads + Sync>(
     rt: &R,
     alloc: Global,
@@ -190,7 +191,8 @@ fn a_desk_that_asks_the_version_is_told_one_that_there_was(rt: HostRuntime) -> R
     Ok(())
 }
 
-// Whether of two desks that want the one stand at once one is accepted, and the other told of the clash.
+// Whether, of two desks that want the one stand at once, one is accepted and the other gets the
+// clash.
 fn one_gets_the_stand<R: Wait + Threads + Sync>(rt: &R, alloc: Global) -> Result<bool, Memory> {
     let mut disk = journal(alloc)?;
     printed(alloc, "desk A T", BOTH, &mut disk)?;

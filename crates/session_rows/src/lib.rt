@@ -1,4 +1,4 @@
-//! What a desk is told for whole sessions: tables of requests and replies, and nothing else.
+//! What a desk gets for whole sessions: tables of requests and replies, and nothing else.
 #![tactic(auto)]
 
 #[cfg(test)]

@@ -1,4 +1,5 @@
-// Sessions at the airport of the examples. The expected texts are written by hand from the format of requests and replies.
+// Sessions at the airport of the examples. The expected texts are written by hand from the format
+// of requests and replies.
 mod commits;
 mod folding;
 mod limits;

@@ -8,8 +8,8 @@ use apron_rules::{Airport, AirportParts, Date, Frontage, StandRow, TypeRow};
 use std::alloc::Global;
 use std::test::Fail;
 
-/// What the airport APR has before its frontages, stands and types: a plan of three days from 27 March 2026 on, where
-/// aircraft taxi in for 5 minutes and a tow takes 20.
+/// What the airport APR has before its frontages, stands and types: a plan of three days from 27
+/// March 2026 on, 5 minutes of taxi-in, and 20 minutes for a tow.
 pub fn empty_parts(alloc: Global) -> AirportParts
     ensures station { IsTrue (is_station result.station) }
     ensures first { IsFirstDay result.first }
@@ -32,7 +32,7 @@ pub fn empty_parts(alloc: Global) -> AirportParts
     }
 }
 
-/// The airport of these parts. At `Err` they make none, or memory has run out.
+/// The airport of these parts. `Err` if they make none, or memory has run out.
 pub fn airport_of(alloc: Global, parts: AirportParts) -> Result<Airport, Fail>
     requires station { IsTrue (is_station parts.station) }
     requires first { IsFirstDay parts.first }
@@ -81,7 +81,7 @@ pub fn stand_on_n(name: Name, centre: u32) -> StandRow {
     }
 }
 
-/// A type with the span of an A320, whose aircraft stay for 40 minutes at least.
+/// A type with the span of an A320 and 40 least minutes.
 pub fn type_of_40(name: Name) -> TypeRow {
     TypeRow::without_folding(name, 3_580, 40)
 }

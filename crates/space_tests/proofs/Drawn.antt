@@ -45,7 +45,7 @@ drawn_less airport number slots drawn =
       before = λ k d inside. later_draw number (get_or slots k d) (drawn.before k d inside);
     }
 
--- and with the one of this number
+-- and so are they with the one of this number
 pub drawn_more : (airport : AirportParts) (number : ℕ) (slots : List Slot) (slot : Slot) → AreDrawn airport number slots → IsDraw airport number slot → AreDrawn airport (number + 1) (slots ++ slot ∷ [])
 drawn_more airport number slots slot drawn draw =
     record {

@@ -15,7 +15,7 @@ none_pass p (x ∷ xs) none =
     let here : p x ≡ false = All-head (λ y. p y ≡ false) x xs none in
     rw here (none_pass p xs (All-tail (λ y. p y ≡ false) x xs none))
 
--- where none from a place on passes, those before give all that pass
+-- if none from a place on passes, those before give all that pass
 pub all_passed : {X : Type 0} (p : X → Bool) (xs : List X) (i : ℕ) → All (λ x. p x ≡ false) (drop i xs) → filter p (take i xs) ≡ filter p xs
 all_passed p xs i none =
     sym (ap (filter p) (sym (take-append-drop i xs)) ∙ (filter-append p (take i xs) (drop i xs) ∙ (ap (λ ys. filter p (take i xs) ++ ys) (none_pass p (drop i xs) none) ∙ append-nil (filter p (take i xs)))))
@@ -32,7 +32,7 @@ ended_misses from end f e ended = grind (arith, nat_tests)
 later_misses : (from end f e g h : ℕ) → from < e → f < e → nat_lt (max from f) (min end e) ≡ false → f ≤ g → nat_lt (max from g) (min end h) ≡ false
 later_misses from end f e g h held some misses later = grind (arith, nat_tests)
 
--- those that have ended are no hits
+-- slots that have ended are no hits
 pub none_before : (xs : List Slot) (i from end : ℕ) → AllWithin (λ slot. slot.end ≤ from) xs 0 i → filter (is_hit from end) (take i xs) ≡ []
 none_before xs i from end ended =
     none_pass (is_hit from end) (take i xs) (λ k d inside.
@@ -40,7 +40,7 @@ none_before xs i from end ended =
     let P : Slot → Type 0 = λ y. is_hit from end y ≡ false in
     subst P (sym (get_or-take i xs k d within)) (ended_misses from end (get_or xs k d).from (get_or xs k d).end (ended k d (omega arith) within)))
 
--- after one that hasn't ended and is no hit, none is
+-- after a slot that hasn't ended and is no hit, there is no hit
 pub none_after : (xs : List Slot) (i from end : ℕ) (e : Slot) → AllPairs IsEarlier xs → All HasMinutes xs → i < length xs → AllWithin (λ slot. from < slot.end) xs i (length xs)
     → is_hit from end (get_or xs i e) ≡ false → filter (is_hit from end) (take i xs) ≡ filter (is_hit from end) xs
 none_after xs i from end e rise held inside after misses =

@@ -27,7 +27,7 @@ All-insert_by_start P slot [] here all = All-cons P slot [] here all
 All-insert_by_start P slot (x ∷ xs) here all =
     all_inserted_by P slot x xs (insert_by_start slot xs) (nat_le slot.from x.from) here (All-head P x xs all) (All-tail P x xs all) (All-insert_by_start P slot xs here (All-tail P x xs all))
 
--- what is earlier or later than a slot, and doesn't start before it, is later
+-- a slot that is earlier or later than another, and doesn't start before it, is later
 later : (slot x : Slot) → IsEarlier x slot ⊎ IsEarlier slot x → slot.from ≤ x.from → IsEarlier slot x
 later slot x (inl before) not_before = absurd (omega (arith, before.0))
 later slot x (inr after) not_before = after
@@ -54,7 +54,7 @@ insert_by_start_rises slot (x ∷ xs) rise apart =
     ]) in
     rise_by slot x xs (insert_by_start slot xs) (nat_le slot.from x.from) refl rise apart front rest
 
--- a slot put behind all that start earlier, and before the others, is inserted by its start
+-- a slot put after all that start earlier, and before the others, is inserted by its start
 pub insert_by_start_at : (slot : Slot) (xs : List Slot) (i : ℕ) → i ≤ length xs → AllWithin (λ other. other.from < slot.from) xs 0 i → AllWithin (λ other. slot.from ≤ other.from) xs i (length xs)
     → take i xs ++ slot ∷ drop i xs ≡ insert_by_start slot xs
 insert_by_start_at slot [] zero inside before after = refl

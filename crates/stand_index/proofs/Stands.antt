@@ -95,6 +95,6 @@ empty_index index none stand =
       | inr past ↦ subst (AreSlotsAt stand) (sym (get_or_past index stand.0 no_slots past)) (empty_stand stand no_slots (refl, refl))
     ]
 
--- each planned slot of a stand has a minute
+-- each planned slot of a stand has at least one minute
 pub planned_minutes : (stand : StandNo) (slots : StandSlots) → AreSlotsAt stand slots → All HasMinutes slots.planned
 planned_minutes stand slots own = λ k d inside. (own.planned k d inside).minutes

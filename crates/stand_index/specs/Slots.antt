@@ -18,11 +18,11 @@ no_slots = record { planned = []; actual = []; spare = 0 }
 abbrev pub HasNoSlots : StandSlots → Type 0
 HasNoSlots slots = (slots.planned ≡ []) × (slots.actual ≡ [])
 
--- the slots of a stand, none where there is no such stand
+-- the slots of a stand, none if there is no such stand
 abbrev pub at_stand : List StandSlots → StandNo → StandSlots
 at_stand index stand = slice_index_or index stand.0 no_slots
 
--- the slot has a minute
+-- the slot has at least one minute
 abbrev pub HasMinutes : Slot → Type 0
 HasMinutes slot = slot.from < slot.end
 
@@ -30,7 +30,7 @@ HasMinutes slot = slot.from < slot.end
 abbrev pub IsEarlier : Slot → Slot → Type 0
 IsEarlier slot other = (slot.from < other.from) × (slot.end < other.end)
 
--- a slot of this stand, planned or actual, that has a minute
+-- a slot of this stand, planned or actual, that has at least one minute
 pub record IsSlotAt (at : StandNo) (actual : Bool) (slot : Slot) : Type 0 where
   pub stand : slot.stand ≡ at
   pub kind : slot.actual ≡ actual
@@ -63,7 +63,7 @@ insert_by_start slot (first ∷ others) = if nat_le slot.from first.from then sl
 abbrev pub planned_with : Slot → List Slot → List Slot
 planned_with slot planned = if slot.actual then planned else insert_by_start slot planned
 
--- the actual slots with one more, if it is actual: it stands last
+-- the actual slots with one more, if it is actual: it comes last
 abbrev pub actual_with : Slot → List Slot → List Slot
 actual_with slot actual = if slot.actual then actual ++ slot ∷ [] else actual
 
@@ -75,7 +75,7 @@ KeepsOrder slot slots = slot.actual ≡ false → All (λ other. IsEarlier other
 abbrev pub is_of_part : PartId → Slot → Bool
 is_of_part part slot = (slot.part.visit.0 == part.visit.0) && (slot.part.part == part.part)
 
--- the slots but those of this part
+-- the slots except those of this part
 abbrev pub remove_part : PartId → List Slot → List Slot
 remove_part part slots = filter (λ slot. not (is_of_part part slot)) slots
 
@@ -97,7 +97,7 @@ pub record RemovesPart (before after : StandSlots) (part : PartId) : Type 0 wher
   pub actual : after.actual ≡ remove_part part before.actual
   pub spare : before.spare ≤ after.spare
 
--- there are as many stands, and all but this one are as they were
+-- there are as many stands as before, and all but this one are as they were
 pub record KeepsOtherStands (before after : List StandSlots) (stand : StandNo) : Type 0 where
   pub stands : length after ≡ length before
   pub others : (other : StandNo) → other.0 ≢ stand.0 → at_stand after other ≡ at_stand before other

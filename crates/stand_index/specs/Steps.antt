@@ -11,6 +11,7 @@ count_bits = 64
 abbrev pub binary_digits : ℕ → ℕ
 binary_digits number = count_bits - leading_zeros w64 number
 
--- the most steps of one look: the binary digits of the number of planned slots, one, one for each hit, and one for each actual slot
+-- the most steps of one look: as many as the number of planned slots has binary digits, one more,
+-- one for each hit, and one for each actual slot
 abbrev pub most_steps : StandSlots → ℕ → ℕ → ℕ
 most_steps slots from end = binary_digits (length slots.planned) + 1 + length (hits_of slots from end) + length slots.actual

@@ -9,9 +9,9 @@ use std::alloc::Global;
 use std::marker::Model;
 use std::sync::ledger::Ledger;
 
-/// The slots of each stand. Contracts see of each stand its planned slots, whose starts and ends both rise
-/// strictly, its actual slots in the order in which they came, and how many more of either kind can be
-/// added without memory.
+/// The slots of each stand. Contracts see of each stand its planned slots, whose starts and ends
+/// both rise strictly; its actual slots, in the order in which they came; and how many more of
+/// either kind can be added without taking memory.
 #[derive(Debug, Drop)]
 pub struct StandIndex {
     stands: Vec<OneStand>,
@@ -29,7 +29,7 @@ impl Model for StandIndex {
 }
 
 impl StandIndex {
-    /// So many stands, each without a slot. The only error is want of memory.
+    /// This many stands, each without a slot. The only error is a lack of memory.
     pub fn new(alloc: Global, stands: u16) -> Result<StandIndex, Memory>
         ensures stands { IfOk result (λ index. length index ≡ stands) }
         ensures none { IfOk result (All HasNoSlots) }
@@ -49,8 +49,8 @@ impl StandIndex {
         self.stands.len()
     }
 
-    /// Makes room for so many more slots of a stand, of either kind, by the allocator of `new`. At `Err` memory is wanting, and the
-    /// slots are as they were.
+    /// Makes room for this many more slots of a stand, of either kind, by the allocator of `new`.
+    /// `Err` if there is no memory; the slots are then as they were.
     pub fn reserve(&mut self, stand: StandNo, more: u32) -> Result<(), Memory>
         requires stand { stand.0 < length self.old }
         ensures slots { KeepsSlots (at_stand self.old stand) (at_stand self.new stand) }
@@ -60,7 +60,8 @@ impl StandIndex {
         self.stands[stand.0 as usize].reserve(more as usize)
     }
 
-    /// Adds a slot to its stand: a planned one by its start, an actual one last. It takes no memory.
+    /// Adds a slot to its stand: a planned one by its start, an actual one last. It takes no
+    /// memory.
     pub fn insert(&mut self, slot: Slot)
         requires stand { slot.stand.0 < length self.old }
         requires spare { 1 ≤ (at_stand self.old slot.stand).spare }
@@ -72,7 +73,8 @@ impl StandIndex {
         self.stands[slot.stand.0 as usize].insert(slot);
     }
 
-    /// Takes the slots of a part away from a stand, and leaves the others in their order. It takes no memory.
+    /// Removes the slots of a part from a stand, and leaves the others in their order. It takes no
+    /// memory.
     pub fn remove(&mut self, stand: StandNo, part: PartId)
         requires stand { stand.0 < length self.old }
         ensures slots { RemovesPart (at_stand self.old stand) (at_stand self.new stand) part }
@@ -81,8 +83,9 @@ impl StandIndex {
         self.stands[stand.0 as usize].remove(part);
     }
 
-    /// The slots of a stand that have a minute in `from <= m < end`: the planned ones by their start, then
-    /// the actual ones as they came. Each slot that is looked at is a step. The only error is want of memory.
+    /// The slots of a stand that have a minute in `from <= m < end`: the planned ones by their
+    /// start, then the actual ones as they came. Each slot that is looked at is a step. The only
+    /// error is a lack of memory.
     pub fn hits<L: Ledger>(
         &self,
         alloc: Global,

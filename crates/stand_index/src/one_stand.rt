@@ -9,8 +9,8 @@ use std::alloc::Global;
 use std::marker::Model;
 use std::sync::ledger::Ledger;
 
-/// Slots of one stand: the planned ones by their start, the actual ones as they came. Contracts see
-/// besides how many more can be added without memory, of either kind.
+/// Slots of one stand: the planned ones by their start, the actual ones as they came. Contracts
+/// also see how many more of either kind can be added without taking memory.
 #[derive(Debug, Drop)]
 pub(crate) struct OneStand {
     planned: Vec<Slot>,
@@ -41,7 +41,7 @@ impl OneStand {
         }
     }
 
-    /// Makes room for so many more, of either kind.
+    /// Makes room for this many more, of either kind.
     pub(crate) fn reserve(&mut self, more: usize) -> Result<(), Memory>
         ensures slots { KeepsSlots self.old self.new }
         ensures ok { OnOk result (more ≤ self.new.spare) }
@@ -64,7 +64,7 @@ impl OneStand {
         }
     }
 
-    /// Takes the slots of a part away. It takes no memory.
+    /// Removes the slots of a part. It takes no memory.
     pub(crate) fn remove(&mut self, part: PartId)
         ensures slots { RemovesPart self.old self.new part }
     {
@@ -104,7 +104,7 @@ fn insert_by_start(slots: &mut Vec<Slot>, slot: Slot)
     let _ = put.unwrap();
 }
 
-// Takes the slots of a part away, and leaves the others in their order.
+// Removes the slots of a part, and leaves the others in their order.
 fn remove_part(slots: &mut Vec<Slot>, part: PartId)
     ensures items { slots.new.items ≡ remove_part part slots.old.items }
     ensures len { vec_len slots.new ≤ vec_len slots.old }

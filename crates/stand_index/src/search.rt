@@ -1,4 +1,4 @@
-// The slots that have one of some minutes. Each slot that is looked at is a step.
+// Finding the slots that have a minute of a range. Each slot that is looked at is a step.
 ghost use Rattle.std.specs.Prelude.{◌≡◌, ◌≤◌, ◌<◌, ◌+◌, ◌++◌, All, AllPairs, IfOk, OnOk, filter, length};
 ghost use Rattle.std.specs.List.{AllWithin};
 ghost use Rattle.stand_index.specs.Slots.{HasMinutes, IsEarlier, is_hit};
@@ -8,7 +8,7 @@ use apron_base::{Memory, Minute, Slot, Steps};
 use std::alloc::Global;
 use std::sync::ledger::Ledger;
 
-/// The slots that have a minute in `from <= m < end`, of slots whose starts and ends rise.
+/// The slots that have a minute in `from <= m < end`, out of slots whose starts and ends rise.
 pub(crate) fn hits_of_rising<L: Ledger>(
     alloc: Global,
     slots: &[Slot],
@@ -55,7 +55,7 @@ fn count_ended<L: Ledger>(slots: &[Slot], minute: Minute, steps: &mut Steps<L>) 
     low
 }
 
-/// Puts those slots last that have a minute in `from <= m < end`.
+/// Adds at the end the slots that have a minute in `from <= m < end`.
 pub(crate) fn push_hits<L: Ledger>(
     hits: &mut Vec<Slot>,
     slots: &[Slot],

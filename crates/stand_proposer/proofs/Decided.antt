@@ -26,7 +26,7 @@ use Rattle.stand_proposer.proofs.Made.{IsTurn, clash_is, first_fit, made_with, w
 use Rattle.stand_proposer.proofs.Puts.{id_is}
 use Rattle.stand_proposer.proofs.OneMore.{at_stand}
 
--- one more part behind others
+-- one more part after others
 pub decided_push : (plan : PlanState) (before : Proposal) (parts : List PartId) (part : PartId) (between after : Proposal) → AreDecided plan before parts between
     → IsDecided plan between part after → AreDecided plan before (parts ++ part ∷ []) after
 decided_push plan before [] part between after h k = (after, subst (λ (p : Proposal). IsDecided plan p part after) h k, refl)
@@ -129,7 +129,7 @@ left_push plan edits slots others row visit lefts after reasons turn trials h mo
     (λ stand clash told. clash_is plan edits slots others row visit turn stand clash
     (at_stand (λ stand reason. IsTrial plan.airport others (slot_at plan.airport visit row stand) (Some reason)) (length plan.airport.stands) reasons stand (why.Clash clash) trials told)))
 
--- the clashes that are told of a part are with parts of the plan after the edits
+-- the clashes given for a part are with parts of the plan after the edits
 pub clashes_hold : (plan : PlanState) (edits : List Edit) (slots : List Slot) (lefts : List Left) → IsMade plan edits slots → All (ClashesAmong plan (slots_so_far plan slots)) lefts
     → All (ClashesHold plan edits) lefts
 clashes_hold plan edits slots lefts made h =

@@ -42,7 +42,8 @@ use Rattle.stand_proposer.proofs.OneMore.{with_it, zip_map}
 abbrev refused : ℕ → UnfitBy → Result (List Visit) EditFault
 refused n by = Err (fault.Unfit n by)
 
--- a part that waits beside edits that do not put it, and the slots that are there then, in whatever order
+-- a part that waits beside edits that do not put it on a stand, and the slots that there are then,
+-- in any order
 pub record IsTurn (plan : PlanState) (edits : List Edit) (slots others : List Slot) (row : PartRow) (visit : Visit) : Type 0 where
   pub made : IsMade plan edits slots
   pub kind : TypeNo
@@ -80,7 +81,7 @@ module _ (plan : PlanState) (edits : List Edit) (slots others : List Slot) (row 
       subst (λ (x : Slot). Contains (slots_of plan.airport turn.made.new ++ x ∷ []) y ↔ Contains (slots_of plan.airport (new_with stand)) y) (slot_is stand)
       (put_slots plan plan.airport turn.made.new turn.kind row stand now y)
 
-  -- the slots that are there then
+  -- the slots that there are then
   pub same_with : (stand : StandNo) (y : Slot) → Contains (others ++ slot_at plan.airport visit row stand ∷ []) y ↔ Contains (slots_of plan.airport (new_with stand)) y
   same_with stand y =
       let x = slot_at plan.airport visit row stand in
@@ -119,7 +120,7 @@ module _ (plan : PlanState) (edits : List Edit) (slots others : List Slot) (row 
   pub sound_others : IsSound plan.airport others
   sound_others = sound_within plan.airport (slots_of plan.airport turn.made.new) others (λ y h. (turn.made.adds y).0 ((turn.same y).0 h)) turn.made.sound
 
-  -- a trial that fails is a reason
+  -- a trial that fails gives a reason
   pub why_is : (stand : StandNo) (reason : Why) → IsTrial plan.airport others (slot_at plan.airport visit row stand) (Some reason) → IsWhy plan edits row.id stand reason
   why_is stand (why.Unfit by) h = refused_with stand by h
   why_is stand (why.Clash clash) h = (new_with stand, apply_with stand h.0, first_with stand (Some clash) h.1)
@@ -127,7 +128,7 @@ module _ (plan : PlanState) (edits : List Edit) (slots others : List Slot) (row 
   pub whys_are : (count : ℕ) (reasons : List Why) → AreTrials plan.airport others visit row count reasons → AreWhys plan edits row.id count reasons
   whys_are count reasons h = zip_map (λ stand reason. IsTrial plan.airport others (slot_at plan.airport visit row stand) (Some reason)) (IsWhy plan edits row.id) (first_stands count) reasons (λ stand reason k. why_is stand reason k) h
 
-  -- a clash that is found is one with a slot that is there
+  -- a clash that is found is with one of these slots
   pub clash_is : (stand : StandNo) (clash : Clash) → IsTrial plan.airport others (slot_at plan.airport visit row stand) (Some (why.Clash clash))
       → ClashesWith plan (slots_so_far plan slots) row.id stand clash
   clash_is stand clash h =

@@ -14,7 +14,7 @@ use Rattle.clash_check.specs.FirstWith.{IsClashOfBoth, IsFirstWith}
 use Rattle.clash_check.proofs.Among.{with_more}
 use Rattle.plan_core.proofs.IndexedVisits.{sound_within}
 
--- some of the slots clashes so with this one
+-- some of the slots have this clash with this one
 abbrev pub IsWithOne : AirportParts → Slot → List Slot → Clash → Type 0
 IsWithOne airport p xs c = (q : Slot) × Contains xs q × IsClashOfBoth airport p q c
 
@@ -47,7 +47,8 @@ among_it : (airport : AirportParts) (xs : List Slot) (p : Slot) (c : Clash) → 
 among_it airport xs p c (q, in_q, inl clash) = (p, Contains-push xs p, (q, Contains-append_left xs (p ∷ []) q in_q, clash))
 among_it airport xs p c (q, in_q, inr clash) = (q, Contains-append_left xs (p ∷ []) q in_q, (p, Contains-push xs p, clash))
 
--- the first clash with one more slot is the sooner of those with it among some of the slots and among the others
+-- the first clash with one more slot is the sooner of the first clashes with it among some of the
+-- slots and among the others
 pub first_added : (airport : AirportParts) (xs ys : List Slot) (p : Slot) (near among found : Option Clash) → IsSound airport (xs ++ ys)
     → IsFirstClash airport (xs ++ p ∷ []) near → IsFirstWith airport p ys among → IsSooner near among found
     → IsFirstClash airport ((xs ++ ys) ++ p ∷ []) found
@@ -98,7 +99,7 @@ stand_is (suc n) i s h = elim (at_push (first_stands n) (record { 0 = n }) i s h
   | inr last ↦ omega (arith, last.0, count_stands n, ap (λ (t : StandNo). t.0) last.1)
 ]
 
--- what stands beside a stand's place in a list is of that stand
+-- the item at a stand's place in a list belongs to that stand
 pub at_stand : {Y : Type 0} (R : StandNo → Y → Type 0) (n : ℕ) (ys : List Y) (s : StandNo) (y : Y) → AllZip R (first_stands n) ys → slice_get ys s.0 ≡ Some y → R s y
 at_stand R n ys s y h g =
     let found = zip_at R (first_stands n) ys s.0 y h g in

@@ -37,7 +37,7 @@ same_result : {T E : Type 0} (r : Result T E) → (r >>= λ x. Ok x) ≡ r
 same_result (Ok x) = refl
 same_result (Err e) = refl
 
--- one more edit behind edits that apply
+-- one more edit after edits that apply
 pub edits_push : (a : AirportParts) (base k : ℕ) (edits : List Edit) (edit : Edit) (visits new : List Visit) → after_edits a base k edits visits ≡ Ok new
     → after_edits a base k (edits ++ edit ∷ []) visits ≡ after_edit a base (k + length edits) edit new
 edits_push a base k [] edit visits new e =

@@ -1,4 +1,4 @@
--- The parts that wait, by rank: each waits in the plan, and no two are one part.
+-- The parts that wait, by rank: each waits in the plan, and no two are the same part.
 use Rattle.std.proofs.Common.{◌≡◌, ◌∙◌, ◌<◌, ◌≤◌, ◌+◌, ◌-◌, ℕ, zero, suc, Bool, true, false, cond, List, [], ◌∷◌, ◌++◌, refl, sym, ap, subst, arith, length, length-append, append_assoc, get_or, map, Option, None, Some}
 use Rattle.std.specs.Prelude.{All, filter, is_none, slice_get}
 use Rattle.std.specs.List.{AllByRecursion, flat_map}
@@ -23,7 +23,7 @@ use Rattle.plan_lists.specs.Unplaced.{by_rank, is_unplaced, ranks_before, unplac
 use Rattle.stand_proposer.specs.SoFar.{WaitsInPlan}
 use Rattle.stand_proposer.proofs.Puts.{place_part}
 
--- no two of the items are of one part
+-- no two of the items are of the same part
 abbrev pub Apart : {X : Type 0} → (X → PartId) → List X → Type 0
 Apart key [] = Unit {0}
 Apart key (x ∷ xs) = AllByRecursion (λ y. key x ≡ key y → ⊥) xs × Apart key xs
@@ -216,7 +216,7 @@ apart_at key (x ∷ xs) i zero d e h less inside same = omega (arith, less)
 apart_at key (x ∷ xs) zero (suc j) d e h less inside same = All-from_recursion (λ y. key x ≡ key y → ⊥) xs h.0 j e (omega (arith, inside)) same
 apart_at key (x ∷ xs) (suc i) (suc j) d e h less inside same = apart_at key xs i j d e h.1 (omega (arith, less)) (omega (arith, inside)) same
 
--- no two of them are one part
+-- no two of them are the same part
 pub rows_apart : (plan : PlanState) (rows : List PartRow) → IsPlan plan → rows ≡ unplaced plan → (i j : ℕ) (d e : PartRow) → i < j → j < length rows
     → (get_or rows i d).id ≡ (get_or rows j e).id → ⊥
 rows_apart plan rows is are i j d e less inside same =

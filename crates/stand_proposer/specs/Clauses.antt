@@ -1,4 +1,4 @@
--- What is true of a whole proposal.
+-- What holds of a whole proposal.
 use Rattle.std.specs.Prelude.{◌≡◌, Contains, List, Option, Some, Ok, slice_get}
 use Rattle.apron_base.specs.OptionChain.{◌>>=◌}
 use Rattle.apron_base.specs.declared.numbers.PartId.{PartId}
@@ -41,13 +41,13 @@ pub record ClashesWith (plan : PlanState) (slots : List Slot)
   pub among : Contains slots other
   pub clashes : IsClashOfBoth plan.airport slot other clash
 
--- each clash that is told of a left part is one with these slots
+-- each clash given for a part that was left out is with one of these slots
 abbrev pub ClashesAmong : PlanState → List Slot → Left → Type 0
 ClashesAmong plan slots left =
     (stand : StandNo) (clash : Clash) → slice_get left.why stand.0 ≡ Some (why.Clash clash)
     → ClashesWith plan slots left.part stand clash
 
--- each clash that is told of a left part is one with a part of the plan with all the edits
+-- each clash given for a part that was left out is with a part of the plan with all the edits
 abbrev pub ClashesHold : PlanState → List Edit → Left → Type 0
 ClashesHold plan edits left =
     (new : List Visit) → after_all_edits plan.airport plan.version edits plan.visits ≡ Ok new

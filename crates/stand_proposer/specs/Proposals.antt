@@ -31,7 +31,7 @@ draft_over plan edits = draft_of [] 0 plan.version edits
 abbrev pub draft_with : PlanState → List Edit → PartId → StandNo → Draft
 draft_with plan edits part stand = draft_over plan (edits ++ put part stand ∷ [])
 
--- the fault that a reason tells, where the edit of this number puts the part on the stand
+-- the fault for this reason, if the edit of this number puts the part on the stand
 abbrev pub fault_of : ℕ → Why → EditFault
 fault_of number (Unfit by) = fault.Unfit number by
 fault_of number (Clash clash) = fault.Clash clash
@@ -72,7 +72,7 @@ IsPut plan before part after =
     (stand : StandNo) × IsFirstFit plan before.edits part stand
     × (after ≡ with_edit before (put part stand))
 
--- no stand takes the part, each for its reason
+-- no stand takes the part, and each has its reason
 abbrev pub IsLeft : PlanState → Proposal → PartId → Proposal → Type 0
 IsLeft plan before part after =
     (whys : List Why) × AreWhys plan before.edits part (length plan.airport.stands) whys
@@ -99,6 +99,6 @@ nothing_proposed plan = record { base = plan.version; edits = []; left = []; ove
 abbrev pub waiting_parts : PlanState → List PartId
 waiting_parts plan = map (λ row. row.id) (unplaced plan)
 
--- what is proposed over the plan: all parts that wait are decided, by rank
+-- what is proposed over the plan: all waiting parts are decided, by rank
 abbrev pub IsProposal : PlanState → Proposal → Type 0
 IsProposal plan proposal = AreDecided plan (nothing_proposed plan) (waiting_parts plan) proposal

@@ -42,7 +42,7 @@ WaitsInPlan plan row =
 abbrev pub slots_so_far : PlanState → List Slot → List Slot
 slots_so_far plan slots = slots_of plan.airport plan.visits ++ slots
 
--- each clash that is told of these parts is one with the plan or with slots that edits add
+-- each clash given for these parts is with the plan or with slots that edits add
 abbrev pub AreTold : PlanState → List Slot → List Left → Type 0
 AreTold plan slots lefts = All (ClashesAmong plan (slots_so_far plan slots)) lefts
 

@@ -22,7 +22,7 @@ abbrev pub slot_at : AirportParts → Visit → PartRow → StandNo → Slot
 slot_at airport visit row stand =
     slot_on airport visit row.id.part (placed (Planned stand) row.part) stand
 
--- the type does not fit, or else the first clash once the slot is added to others, if there is one
+-- the type does not fit; or else the first clash after the slot is added to others, if there is one
 abbrev pub IsTrial : AirportParts → List Slot → Slot → Option Why → Type 0
 IsTrial airport others slot (Some (why.Unfit by)) = unfit_of airport slot.stand slot.kind ≡ Some by
 IsTrial airport others slot (Some (why.Clash clash)) =

@@ -1,4 +1,5 @@
-//! First-fit drafts: a stand for each part that waits, or why no stand takes it. It knows neither histories nor texts.
+//! First-fit drafts: a stand for each part that waits, or why no stand takes it. It knows nothing
+//! of histories and texts.
 #![tactic(auto)]
 
 mod proposals;

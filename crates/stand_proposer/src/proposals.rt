@@ -24,18 +24,19 @@ const MAX_EDITS: usize = 64;
 pub enum Why {
     /// The type of its visit doesn't fit the stand.
     Unfit(UnfitBy),
-    /// The type fits, and with the part there this is the first clash of the plan with the edits so far.
+    /// The type fits, but with the part there this is the first clash of the plan with the edits so
+    /// far.
     Clash(Clash),
 }
 
-/// A part that no stand takes, and for each stand, in order of number, why.
+/// A part that no stand takes, and the reason of each stand, in order of number.
 #[derive(Debug, Drop)]
 pub struct Left {
     pub part: PartId,
     pub why: Listed<Why>,
 }
 
-/// A draft that puts parts that wait on stands, what it leaves out, and why.
+/// A draft that puts waiting parts on stands, what it leaves out, and why.
 #[derive(Debug, Drop)]
 pub struct Proposal {
     /// The version of the plan over which it is made.
@@ -55,12 +56,13 @@ struct Proposing {
     slots: Listed<Slot>,
 }
 
-/// A first-fit draft for the parts of live visits that stand nowhere. They are taken by rank: the class of the visit,
-/// its scheduled minute on block, its number and the part decide, lower ones first. Each part is put on the first
-/// stand, in order of number, that its type fits and where it clashes neither with the plan nor with a part put before
-/// it. After 64 edits every further part is over, and can be tried in a later draft. The plan stays as it is. The desk
-/// and the number are those under which the edits can be sent. The only error is want of memory. The rule of first fit
-/// is this project's own.
+/// A first-fit draft for the parts of live visits that are on no stand. They are taken by rank: the
+/// class of the visit, its scheduled minute on block, its number and the part decide, lower ones
+/// first. Each part is put on the first stand, in order of number, that its type fits and where it
+/// clashes neither with the plan nor with a part put before it. After 64 edits the remaining parts
+/// are left over, and can be tried in a later draft. The plan stays as it is. The edits can be sent
+/// under the given desk and number. The only error is a lack of memory. The rule of first fit is
+/// this project's own.
 pub fn propose<L: Ledger>(
     alloc: Global,
     airport: &Airport,
@@ -94,7 +96,8 @@ pub fn propose<L: Ledger>(
     Ok(proposing.proposal)
 }
 
-// Puts the part on the first stand that takes it, or says why none does, or that there are too many edits.
+// Puts the part on the first stand that takes it, or says why none does, or that there are too many
+// edits.
 fn add_part<L: Ledger>(
     alloc: Global,
     airport: &Airport,

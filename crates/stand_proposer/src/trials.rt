@@ -1,8 +1,7 @@
-// Which stand takes a part first, and why the others don't.
+// Which stand is the first that takes a part, and why the others don't.
 ghost use Rattle.std.specs.Prelude.{◌≡◌, ◌<◌, ◌++◌, ◌∷◌, [], All, IfOk, Some, length};
 ghost use Rattle.apron_rules.specs.Clash.{IsFirstClash, IsSlotOf, IsSound};
 ghost use Rattle.clash_check.specs.Clear.{IsClear};
-ghost use Rattle.clash_check.specs.FirstWith.{IsFirstWith};
 ghost use Rattle.clash_check.specs.Indexed.{all_slots};
 ghost use Rattle.visit_book.specs.PartFields.{part_at};
 ghost use Rattle.visit_book.specs.WellFormed.{IsWellFormed};
@@ -10,8 +9,8 @@ ghost use Rattle.stand_proposer.specs.Trials.{IsTrial, IsTriedOn, slot_at};
 
 use crate::Why;
 use apron_base::{Listed, Memory, Slot, StandNo, Steps};
-use apron_rules::{Airport, Clash, clash_between, sooner};
-use clash_check::first_clash;
+use apron_rules::{Airport, Clash, sooner};
+use clash_check::{first_among, first_clash};
 use desk_words::replies::PartRow;
 use stand_index::StandIndex;
 use std::alloc::Global;
@@ -23,12 +22,12 @@ use visit_book::{Part, Place, Visit, slot_of};
 pub(crate) enum Tried {
     /// The slot of the part on the first stand that takes it.
     Fits(Slot),
-    /// No stand takes it. For each stand why.
+    /// No stand takes it: the reason of each stand.
     Refused(Listed<Why>),
 }
 
-/// Tries the stands in order of number for a part of the visit that stands nowhere, beside the slots of the index and
-/// some more.
+/// Tries the stands in order of number for a part of the visit that is on no stand, beside the
+/// slots of the index and some more.
 pub(crate) fn first_stand<L: Ledger>(
     alloc: Global,
     airport: &Airport,
@@ -72,7 +71,8 @@ fn slot_at(airport: &Airport, visit: &Visit, row: &PartRow, stand: StandNo) -> S
     slot_of(airport, visit, row.id.part, &part).unwrap()
 }
 
-// Why the slot can't be added, if it can't: whether the type fits is asked first, without a look at other slots.
+// Why the slot can't be added, if it can't. Whether the type fits is tested first, without a look
+// at other slots.
 fn why_not<L: Ledger>(
     alloc: Global,
     airport: &Airport,
@@ -114,35 +114,4 @@ fn first_clash_with<L: Ledger>(
 {
     let near = first_clash(alloc, airport, index, &[*slot], steps)?;
     Ok(sooner(near, first_among(airport, more, slot, steps)))
-}
-
-// The first clash of the slot with some others. A step is counted for each.
-fn first_among<L: Ledger>(
-    airport: &Airport,
-    others: &[Slot],
-    slot: &Slot,
-    steps: &mut Steps<L>,
-) -> Option<Clash>
-    requires others { All (IsSlotOf airport.now) others.now }
-    requires slot { IsSlotOf airport.now slot.now }
-    ensures first { IsFirstWith airport.now slot.now others.now result }
-{
-    let mut first = None;
-    for other in others {
-        steps.tick();
-        first = sooner(first, clash_of_both(airport, slot, other));
-    }
-    first
-}
-
-// The first clash of two slots, whichever part is the smaller.
-fn clash_of_both(airport: &Airport, slot: &Slot, other: &Slot) -> Option<Clash>
-    requires slot { IsSlotOf airport.now slot.now }
-    requires other { IsSlotOf airport.now other.now }
-    ensures first { IsFirstWith airport.now slot.now (other.now ∷ []) result }
-{
-    sooner(
-        clash_between(airport, slot, other),
-        clash_between(airport, other, slot),
-    )
 }

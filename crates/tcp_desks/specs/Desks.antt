@@ -8,10 +8,10 @@ pub record DesksState : Type 0 where
   pub ended : ℕ
   pub faults : ℕ
 
--- what is known of such a listener: it tells no connection
+-- what is known of such a listener: it exposes no connection
 abbrev pub listener_state : {In Out : Type 0} → DesksState → ListenerState In Out
 listener_state desks = record { to_come = None; finished = None; accepted = desks.accepted; ended = desks.ended; faults = desks.faults }
 
--- one at which nothing was accepted yet
+-- a listener at which nothing was accepted yet
 abbrev pub unused : DesksState
 unused = record { accepted = 0; ended = 0; faults = 0 }

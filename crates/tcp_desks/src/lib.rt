@@ -1,5 +1,5 @@
-//! Desks that come over TCP: the system's listener as a `Listener`. It knows nothing of what is read and written, and
-//! tells nothing of it.
+//! Desks that come over TCP: the system's listener as a `Listener`. It knows nothing of what is
+//! read and written, and exposes nothing of it.
 #![tactic(auto)]
 
 mod listening;

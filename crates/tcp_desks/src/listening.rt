@@ -9,16 +9,17 @@ use std::marker::Model;
 use std::net::{Net, SocketAddr, TcpListener, TcpStream};
 use std::sync::Wait;
 
-/// How often a connection that its peer gave up before it was accepted is passed over, before that counts as a fault.
+/// How many connections in a row, given up by their peers before they were accepted, are passed
+/// over before that counts as a fault.
 const MOST_RETRIES: u32 = 1_000;
 
-/// Connections over TCP, of which each reply is sent at once. It counts each accept that failed. Contracts see that count and
-/// how many connections were accepted and finished; it tells no connection.
+/// Connections over TCP. Each reply is sent at once. It counts each accept that failed. Contracts
+/// see that count, and how many connections were accepted and finished; it exposes no connection.
 #[derive(Drop)]
 pub struct TcpDesks {
-    // none where it listens nowhere
+    // `None` if it listens nowhere
     listener: Option<TcpListener>,
-    // why it can't accept, where it listens
+    // why it can't accept, if it listens
     cause: Option<io::Error>,
     accepted: u64,
     ended: u64,
@@ -37,8 +38,9 @@ impl Model for TcpDesks {
 }
 
 impl TcpDesks {
-    /// Listens at the address, as it is written: an IPv4 address, an IPv6 address in brackets or a host's name, a colon
-    /// and a port. An address that a server had a moment ago can be bound again. At `Err` it is told why it can't be bound.
+    /// Listens at the address, as it is written: an IPv4 address, an IPv6 address in brackets or a
+    /// host's name, then a colon and a port. An address that a server had a moment ago can be bound
+    /// again. `Err` says why it can't be bound.
     pub fn bind<N: Net<Listener = TcpListener, Stream = TcpStream>>(
         net: &N,
         address: &str,
@@ -55,13 +57,13 @@ impl TcpDesks {
         TcpDesks::over(None, None)
     }
 
-    /// The address that it listens at, with the port that the system chose where none was asked for.
+    /// The address that it listens at, with the port that the system chose if none was asked for.
     pub fn address(&self) -> Option<SocketAddr> {
         self.listener.as_ref()?.local_addr().ok()
     }
 
-    /// Another one that accepts at the same address, for another worker. Where the system gives none each of its
-    /// accepts fails.
+    /// Another listener at the same address, for another worker. If the system gives none, each of
+    /// its accepts fails.
     pub fn beside(&self) -> TcpDesks
         ensures unused { result ≡ unused }
     {
@@ -74,13 +76,13 @@ impl TcpDesks {
         }
     }
 
-    /// Why the last accept that failed did, or why the system gave no listener to accept at; none where
-    /// no accept has failed, and where it listens nowhere.
+    /// Why the last failed accept failed, or why the system gave no listener to accept at; `None`
+    /// if no accept has failed, or if it listens nowhere.
     pub fn cause(&self) -> Option<io::Error> {
         self.cause
     }
 
-    // Both ends of the next connection. Where there is none it keeps the cause.
+    // Both ends of the next connection. If there is none it keeps the cause.
     fn next_ends(&mut self) -> Option<(Reading<TcpStream>, Writing<TcpStream>)>
         ensures counts { self.new ≡ self.old }
     {
@@ -137,7 +139,7 @@ impl Listener for TcpDesks {
 // Both ends of the next connection.
 fn ends_at(listener: &TcpListener) -> io::Result<(Reading<TcpStream>, Writing<TcpStream>)> {
     let stream = next_stream(listener)?;
-    // A reply that waits for the next one is late, and no fault.
+    // If this fails, replies may be sent late, which is no fault.
     let _sent_at_once = stream.set_nodelay(true);
     let output = stream.try_clone()?;
     Ok((Reading::new(stream), Writing::new(output)))

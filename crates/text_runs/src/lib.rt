@@ -1,8 +1,9 @@
-//! Runs of the program on texts in memory, and sessions told line by line: what tests of whole inputs share.
+//! Runs of the program on texts in memory, and sessions written line by line: what tests of whole
+//! inputs share.
 #![tactic(auto)]
 
 mod lines;
 mod runs;
 
 pub use lines::{Session, all_hold, all_hold_at};
-pub use runs::{DEMO, Ended, Run, empty_journal};
+pub use runs::{DEMO, Ended, Run, empty_journal, former_journal};

@@ -4,7 +4,7 @@ use apron_base::Memory;
 use std::alloc::Global;
 use std::test::Fail;
 
-/// The input of a session, and what is to be written for it.
+/// The input of a session, and the output that is expected for it.
 #[derive(Drop)]
 pub struct Session {
     /// The requests.
@@ -22,8 +22,9 @@ impl Session {
         }
     }
 
-    /// A line `> METHOD TARGET BODY` is a request, with the fields of the lines `+ FIELD` before it in its head, and a line
-    /// `< CODE FIELD BODY` is a reply; others are empty. At `Err` memory is wanting, or a line is none of these.
+    /// A line `> METHOD TARGET BODY` is a request, with the fields of the lines `+ FIELD` before it
+    /// in its head. A line `< CODE FIELD BODY` is a reply. Other lines are empty. `Err` if a line
+    /// is none of these, or there is no memory.
     pub fn of(alloc: Global, lines: &str) -> Result<Session, Fail> {
         let mut session = Session::new(alloc);
         let mut fields = String::new(alloc);
@@ -49,8 +50,8 @@ impl Session {
         Ok(())
     }
 
-    /// Puts a request `METHOD TARGET BODY` behind the input, with these lines in its head. A bar in the body is the end of a line.
-    /// At `Err` memory is wanting, or the request has no target.
+    /// Adds a request `METHOD TARGET BODY` to the input, with these lines in its head. A bar in the
+    /// body is the end of a line. `Err` if the request has no target, or there is no memory.
     pub fn ask(&mut self, alloc: Global, words: &str, fields: &str) -> Result<(), Fail> {
         let (method, rest) = words.split_once(' ').ok_or("a request has a target")?;
         let (target, body) = rest.split_once(' ').unwrap_or((rest, ""));
@@ -64,8 +65,9 @@ impl Session {
         Ok(())
     }
 
-    /// Puts a reply `CODE FIELD BODY` behind the output: FIELD is the version that its head tells, or the one method that is
-    /// allowed, or `close`, or `-`. At `Err` memory is wanting, or the reply has no field or no body.
+    /// Adds a reply `CODE FIELD BODY` to the output. FIELD is the version that its head gives, or
+    /// the one method that is allowed, or `close`, or `-`. `Err` if the reply has no field or no
+    /// body, or there is no memory.
     pub fn tell(&mut self, alloc: Global, words: &str) -> Result<(), Fail> {
         let (code, rest) = words.split_once(' ').ok_or("a reply has a field")?;
         let (field, body) = rest.split_once(' ').ok_or("a reply has a body")?;
@@ -80,7 +82,8 @@ impl Session {
         Ok(())
     }
 
-    /// At `Err` the input is answered with another output, or the session ends with another status, or memory is wanting.
+    /// `Err` if the input is answered with another output, the session ends with another status, or
+    /// there is no memory.
     pub fn holds(&self, alloc: Global, shows: &str, status: u8) -> Result<(), Fail> {
         self.holds_at(alloc, DEMO.airport, shows, status)
     }
@@ -100,8 +103,8 @@ impl Session {
         run.gives(alloc, &shows, self.output.as_slice(), status)
     }
 
-    /// Whether a desk on this journal answers this other input with the output, and ends with status 0. At `Err` memory is
-    /// wanting.
+    /// Whether a desk on this journal answers this other input with the output, and ends with
+    /// status 0. `Err` if there is no memory.
     pub fn is_told_on<'a>(
         &self,
         alloc: Global,
@@ -125,7 +128,7 @@ fn put(bytes: &mut Vec<u8>, texts: &[&str]) -> Result<(), Memory> {
     Ok(())
 }
 
-// Puts the field that tells the length of this body.
+// Adds the field with the length of this body.
 fn put_length(alloc: Global, bytes: &mut Vec<u8>, body: &str) -> Result<(), Fail> {
     let length = body.len();
     let field = format!(in alloc; "Content-Length: {length}\r\n")?;
@@ -161,8 +164,9 @@ fn phrase_of(code: &str) -> &'static str {
     }
 }
 
-/// Looks whether each session is answered as its lines say, with status 0. One begins with a line `# WHAT IT SHOWS`. At `Err` one
-/// is not, which is told with what it shows, or a line is none, or memory is wanting.
+/// Checks that each session is answered as its lines say, with status 0. A session begins with a
+/// line `# WHAT IT SHOWS`. `Err` if one is not, with what it shows; if a line is of no such form;
+/// or if there is no memory.
 pub fn all_hold(alloc: Global, sessions: &str) -> Result<(), Fail> {
     all_hold_at(alloc, DEMO.airport, sessions)
 }

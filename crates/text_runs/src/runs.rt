@@ -20,17 +20,19 @@ pub struct Run<'a> {
     pub season: &'a [u8],
     /// The bytes that the source has.
     pub input: &'a [u8],
-    /// How many bytes of them the source gives at a time, and the rest at once.
+    /// How many bytes of them the source gives at a time; after the last of these it gives the rest
+    /// at once.
     pub pieces: &'a [usize],
-    /// The numbers of the looks at files that fail, from 0 on.
+    /// The numbers of the calls of the shelf that fail, from 0.
     pub failing_files: &'a [u64],
     /// The numbers of the reads that fail.
     pub failing_reads: &'a [u64],
     /// The numbers of the writes of output that fail.
     pub failing_puts: &'a [u64],
-    /// The disk has a journal of the two files with no entry; else it has the bytes that are stored.
+    /// Whether the disk has a journal of the two files with no entry; otherwise it has the stored
+    /// bytes.
     pub is_new: bool,
-    /// What the disk has where it is not new.
+    /// What the disk has if it is not new.
     pub stored: &'a [u8],
     /// The numbers of the calls of the disk that fail.
     pub failing_calls: &'a [u64],
@@ -77,8 +79,8 @@ impl Ended {
 }
 
 impl Run<'_> {
-    /// Runs the program. At `Err` it wrote another output or ended with another status, which is told with what it shows, or
-    /// memory is wanting.
+    /// Runs the program. `Err` if it wrote another output or ended with another status, with what
+    /// it shows, or if there is no memory.
     pub fn gives(
         &self,
         alloc: Global,
@@ -94,7 +96,7 @@ impl Run<'_> {
         }
     }
 
-    /// Runs the program. At `Err` memory is wanting.
+    /// Runs the program. `Err` if there is no memory.
     pub fn ends(&self, alloc: Global) -> Result<Ended, Memory> {
         let words = words(alloc, self.words)?;
         let mut shelf = self.shelf(alloc)?;
@@ -147,12 +149,25 @@ fn put_file(alloc: Global, files: &mut Vec<Kept>, name: &str, bytes: &[u8]) -> R
     Ok(())
 }
 
-/// A journal of these two files with no entry: what it begins with, the digests of both files, and a closed gate. At `Err`
-/// memory is wanting.
+/// A journal of these two files with no entry: a header and two closed gates. `Err` if there is no
+/// memory.
 pub fn empty_journal(alloc: Global, airport: &str, types: &str) -> Result<Vec<u8>, Memory> {
-    let mut journal = Vec::from_slice(alloc, b"APRNJ1\r\n")?;
-    journal.extend_from_slice(&digest_of(airport.as_bytes()))?;
-    journal.extend_from_slice(&digest_of(types.as_bytes()))?;
+    let mut journal = header(alloc, b"APRNJ2\r\n", airport, types)?;
+    journal.extend_from_slice(&[0, 0])?;
+    Ok(journal)
+}
+
+/// The same in format 1: a header and a closed gate. `Err` if there is no memory.
+pub fn former_journal(alloc: Global, airport: &str, types: &str) -> Result<Vec<u8>, Memory> {
+    let mut journal = header(alloc, b"APRNJ1\r\n", airport, types)?;
     journal.push(0)?;
     Ok(journal)
+}
+
+// What a journal begins with, and the digests of both files.
+fn header(alloc: Global, begins: &[u8], airport: &str, types: &str) -> Result<Vec<u8>, Memory> {
+    let mut header = Vec::from_slice(alloc, begins)?;
+    header.extend_from_slice(&digest_of(airport.as_bytes()))?;
+    header.extend_from_slice(&digest_of(types.as_bytes()))?;
+    Ok(header)
 }

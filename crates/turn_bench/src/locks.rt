@@ -1,4 +1,4 @@
-// Threads that ask a machine behind a mutex.
+// Threads that ask a machine protected by a mutex.
 ghost use Rattle.std.specs.Thread.{IsSync};
 
 use crate::machine::Worker;
@@ -8,7 +8,7 @@ use std::sync::{Mutex, Wait};
 use std::thread::{Threads, join_mut};
 use std::time::Clock;
 
-/// So many threads ask so often each, and take the lock for each ask.
+/// This many threads ask this often each, and take the lock for each ask.
 pub(crate) fn ask_by_locks<'r, R: Threads + Wait + Clock + Sync>(
     rt: &'r R,
     alloc: Global,

@@ -7,7 +7,7 @@ use std::marker::Model;
 use std::thread;
 use std::time::{Clock, Duration};
 
-/// Keeps no entry. Its act sleeps so many microseconds, or does nothing.
+/// Keeps no entry. Its act sleeps this many microseconds, or does nothing.
 #[derive(Drop)]
 pub(crate) struct Worker<'r, R: Clock> {
     clock: &'r R,

@@ -1,5 +1,5 @@
-//! Measures how many turns a board gives in a second to 1, 2, 4 and 16 seats in threads, beside a mutex round the same
-//! machine: `turn_bench 200000`.
+//! Measures how many turns a board gives in a second to 1, 2, 4 and 16 seats in threads, compared
+//! with a mutex around the same machine: `turn_bench 200000`.
 #![tactic(auto)]
 
 ghost use Rattle.std.specs.Prelude.{◌≤◌};
@@ -17,19 +17,20 @@ use std::thread::Threads;
 use std::time::{Clock, Duration, Instant};
 use std::{env, io};
 
-// How long an act of the slow machine takes, in microseconds, and how often it is asked for each ask of the other.
+// How long an act of the slow machine takes, in microseconds, and how many asks of the other
+// machine there are for one ask of it.
 const SLOW: u64 = 200;
 
 const FEWER: u64 = 100;
 
-// How many turns there are in a second, where so many took so long.
+// How many turns there are in a second, if this many took this long.
 fn rate(turns: u64, took: Duration) -> u64 {
     let micros = u64::try_from(took.as_micros()).unwrap_or(u64::MAX).max(1);
     turns.saturating_mul(1_000_000) / micros
 }
 
-// Has a machine whose act takes so many microseconds asked so often in so many threads, in turns and then by a lock,
-// and gives the rates of both; none where memory was wanting.
+// Asks a machine whose act takes this many microseconds this often in this many threads, in turns
+// and then by a lock, and gives the rates of both; `None` if memory ran out.
 fn rates<R: Threads + Wait + Clock + Sync>(
     rt: &R,
     alloc: Global,

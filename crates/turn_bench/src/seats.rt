@@ -12,7 +12,8 @@ use std::thread::{Threads, join_mut};
 use std::time::Clock;
 use turn_board::{Seat, TurnBoard};
 
-/// So many threads ask so often each, and all wait for one another's turns. It gives whether each ask got a reply.
+/// This many threads ask this often each, and all wait for one another's turns. It gives whether
+/// each ask got a reply.
 pub(crate) fn ask_by_turns<'r, R: Threads + Wait + Clock + Sync>(
     rt: &'r R,
     alloc: Global,
@@ -31,7 +32,7 @@ pub(crate) fn ask_by_turns<'r, R: Threads + Wait + Clock + Sync>(
     replied
 }
 
-// Asks so often, and gives whether each got a reply.
+// Asks this often, and gives whether each ask got a reply.
 fn ask_often<'r, R: Wait + Clock>(
     rt: &'r R,
     alloc: Global,

@@ -1,4 +1,4 @@
--- What the steps of a call say together.
+-- What the steps of a call show together.
 use Rattle.std.proofs.Common.{◌≡◌, ℕ, ◌+◌, ◌<◌, ◌≤◌, Bool, true, false, cond, List, [], ◌∷◌, ◌++◌, length, Option, Some, sym, refl, ap, ◌∙◌, subst, inl, inr, ⊎_elim, length-append, arith}
 use Rattle.atomic_table.specs.Seated.{TableId}
 use Rattle.apron_base.specs.Counts.{Counts}
@@ -36,14 +36,14 @@ module _ {E F : Type 0} (number : E → ℕ) where
   pub grown : (before after : MachineState E F) (call : ℕ) (answer : Acted) → Acts number before after call answer → Grows number call before.history after.history
   grown before after call answer acts = leaves_grown number call answer before.history after.history acts.history
 
-  -- where it failed, no entry was added
+  -- if it failed, no entry was added
   still : (before after : MachineState E F) (call : ℕ) (answer : Acted) → Acts number before after call answer → is_fault answer ≡ true → after.history ≡ before.history
   still before after call Fault acts is = acts.history
   still before after call (Reply bytes) acts is = absurd (cc)
   still before after call Memory acts is = absurd (cc)
   still before after call Spent acts is = absurd (cc)
 
-  -- what the act left at risk, as it is told of the seat that it acted for
+  -- what the act left at risk, as the seat that it acted for knows it
   pub left_at_risk : {M A : Type 0} (adds : A → E → Type 0) (ask : A) (mine : Mine M E F) (before after : MachineState E F) (call : ℕ) (answer : Acted) → Acts number before after call answer
       → ActsAtRisk (λ e. (number e ≡ call) × adds ask e) (is_fault answer) (standing before) (standing after)
       → mine.0.number ≡ call → mine.0.seen ≡ before.history → mine.0.at_risk ≡ before.at_risk → HasLeftAtRisk number mine after

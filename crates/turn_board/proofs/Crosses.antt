@@ -1,4 +1,5 @@
--- What crosses threads of a board and its seats where its machine does, as a set for `search` where the machine's type is large.
+-- What crosses threads of a board and its seats if its machine does, as a set for `search` if the
+-- machine's type is large.
 use Rattle.atomic_table.proofs.send_lease.SendLease.TheSendSync as lease
 use Rattle.atomic_table.proofs.shared.Seat.TheSendSync as seat
 use Rattle.atomic_table.proofs.shared.Shared.TheSendSync as shared

@@ -123,7 +123,7 @@ module _ {M E F : Type 0} (number : E → ℕ) (state : M → MachineState E F) 
   abbrev board_of : TableId → TurnBoardState F
   board_of z = record { table = z; start = start_of origin }
 
-  -- who has every share is the only one who has called, and the machine is at home
+  -- a seat that has every share is the only one that has called, and the machine is at home
   pub closes : (z z' : TableId) (id : ℕ) (v : V) (ws : List ℕ) (xs : List (Option M)) → v.share ≡ all_shares → v.stage ≡ Idle → Final (Seen (TurnRule number state origin) id v) ws xs → (m : M) × (get_elem? xs 0 ≡ some (Some m)) × Closes number (board_of z) (seat_of z' v) (state m)
   closes z z' id v ws xs all idle f =
       let s = f.0 in let h = f.1.0 in let at = f.1.1 in
@@ -167,7 +167,7 @@ module _ {M E F : Type 0} (number : E → ℕ) (state : M → MachineState E F) 
       ))
       (λ (out : IsOut s.homes views). absurd (let a = out.1 in omega arith)) r.slot
 
-  -- the same, by the value that stood in the slot
+  -- the same, by the value that was in the slot
   pub closes_with : (z z' : TableId) (id : ℕ) (v : V) (ws : List ℕ) (xs : List (Option M)) (slot : Option M) → v.share ≡ all_shares → v.stage ≡ Idle → Final (Seen (TurnRule number state origin) id v) ws xs → get_elem? xs 0 ≡ some slot
       → (m : M) × (slot ≡ Some m) × Closes number (board_of z) (seat_of z' v) (state m)
   closes_with z z' id v ws xs slot all idle f at = let c = closes z z' id v ws xs all idle f in (c.0, some-injective slot (Some c.0) (sym at ∙ c.1), c.2)

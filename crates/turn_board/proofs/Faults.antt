@@ -107,7 +107,7 @@ module _ {M E F : Type 0} (state : M → MachineState E F) (origin : MachineStat
     home = f.home;
   }
 
-  -- what the counts of one seat's calls say of each other
+  -- what the counts of one seat's calls say about one another
   pub apart : (k : ℕ) (homes : Homes) (views : List V) → AreFaults state origin k homes views → (id : ℕ) (v : V) → get_elem? views id ≡ some v → DoNotOverlap v.calls
   apart k homes views f id v at = let all = f.calls id v at in every_more (IsKnown f.found f.left k) (λ (c : Call E). Every (λ (d : Call E). c.number < d.number → c.left ≤ d.found) v.calls)
       (λ c h. every_more (IsKnown f.found f.left k) (λ (d : Call E). c.number < d.number → c.left ≤ d.found) (λ d g l. let a = f.order c.number d.number l g.0 in let b = h.2 in let e = g.1 in omega arith) v.calls all) v.calls all

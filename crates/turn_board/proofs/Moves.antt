@@ -44,7 +44,7 @@ module _ {M E F : Type 0} (number : E → ℕ) (state : M → MachineState E F) 
   abbrev stand : ℕ → ℕ → ℕ → List E → Standing E
   stand t k n log = record { ticket = t; serving = k; count = n; longest = log }
 
-  -- what a step on the word i owes, where the words, the slots at home and the views are these
+  -- what a step on the word i owes, if these are the words, the slots at home and the views
   abbrev Owed : List ℕ → Homes → List V → ℕ → Mine → ℕ → ℕ → (ℕ → Mine → Type 0) → Type 0
   Owed ws homes views id me i x then = (w : V) × (a : Act S) × Valid homes me.1 a
       × TurnRule number state origin (record { words = set ws i x; homes = homes_after homes me.1 a; views = set views id w })
@@ -96,7 +96,7 @@ module _ {M E F : Type 0} (number : E → ℕ) (state : M → MachineState E F) 
   idles : (x : ℕ) (v : V) → v.stage ≡ Idle → in_flight x v ≡ 0
   idles x v is = let a = flies x v Idle is in grind (arith, nat_tests)
 
-  -- nothing of the slot changes where the stage stays on its side of the turn
+  -- nothing changes for the slot if the stage stays on its side of the turn
   slot_stays : (k : ℕ) (log : List E) (homes : Homes) (views : List V) (id : ℕ) (v w : V) → get_elem? views id ≡ some v → has_turn w.stage ≡ has_turn v.stage
       → AtHome state origin k log homes views ⊎ IsOut homes views → AtHome state origin k log homes (set views id w) ⊎ IsOut homes (set views id w)
   slot_stays k log homes views id v w at same_side slot = let a = total_set turn_of views id v w at in
@@ -111,7 +111,7 @@ module _ {M E F : Type 0} (number : E → ℕ) (state : M → MachineState E F) 
   done_stays number k log views id v w at is r = let a = total_set acted_of views id v w at in let b : total acted_of (set views id w) ≡ total acted_of views = omega arith in
       subst (λ (z : ℕ). Rises number 1 (k + z) log) (sym b) r
 
-  -- the counts where the slot and the seat's calls, stage and counts stay
+  -- the counts stay if the slot and the seat's calls, stage and counts do
   faults_stay : (k : ℕ) (homes : Homes) (views : List V) (f : AreFaults state origin k homes views) (id : ℕ) (v w : V) → get_elem? views id ≡ some v → w.calls ≡ v.calls
       → has_turn w.stage ≡ has_turn v.stage → has_acted w.stage ≡ has_acted v.stage → w.found ≡ v.found → w.left ≡ v.left → AreFaults state origin k homes (set views id w)
   faults_stay k homes views f id v w at ended_is past_is done_is found_is left_is = kept state origin k homes homes views f id v w at (subst (Every (IsKnown f.found f.left k)) (sym ended_is) (f.calls id v at))
@@ -201,7 +201,7 @@ module _ {M E F : Type 0} (number : E → ℕ) (state : M → MachineState E F) 
   done_le_past Noted = omega arith
   done_le_past Counted = omega arith
 
-  -- where a seat that waits has the number served, no seat is past waiting
+  -- if a seat that waits has the number served, no seat is past waiting
   alone : (t k n : ℕ) (log : List E) (homes : Homes) (views : List V) → Facts number state origin (stand t k n log) homes views → (id : ℕ) (v : V) → get_elem? views id ≡ some v
       → v.stage ≡ Waiting → k ≡ v.number → total turn_of views ≡ 0
   alone t k n log homes views r id v at waits e =
@@ -294,7 +294,7 @@ module _ {M E F : Type 0} (number : E → ℕ) (state : M → MachineState E F) 
         ((λ h. absurd (ne h)), (λ _. refl)),
       )))
 
-  -- the slot is out where a seat is past waiting
+  -- the slot is out if a seat is past waiting
   out_with : (t k n : ℕ) (log : List E) (homes : Homes) (views : List V) → Facts number state origin (stand t k n log) homes views → (id : ℕ) (v : V) → get_elem? views id ≡ some v
       → has_turn v.stage ≡ 1 → IsOut homes views
   out_with t k n log homes views r id v at is = let a = total_at turn_of views id v at in
@@ -508,7 +508,7 @@ module _ {M E F : Type 0} (number : E → ℕ) (state : M → MachineState E F) 
   nothing_told : (log : List E) → Extends number log [] []
   nothing_told log = record { rest = log; is = refl; later = tt }
 
-  -- what stands before the whole history stands before each longer beginning of it
+  -- what comes before the whole history comes before each longer beginning of it
   stands : (log seen told : List E) (late : List (Call E)) (rest : List E) → log ≡ seen ++ rest → Extends number log told late → length told ≤ length seen → Extends number seen told late
   stands log seen told late rest is b h = let l = later_rest told seen b.rest rest (sym b.is ∙ is) h in record {
     rest = l.0;

@@ -20,7 +20,7 @@ use Rattle.turn_board.proofs.Totals.{every_append, every_more}
 abbrev pub IsLeft : {E : Type 0} → (ℕ → Option E) → ℕ → Call E → Type 0
 IsLeft left k c = (c.number < k) × (c.at_risk ≡ left c.number)
 
--- what holds of an option's value where it has one, by another fact of that value
+-- what holds of an option's value, if it has one, by another fact of that value
 pub if_some : {X : Type 0} (P Q : X → Type 0) → ((x : X) → P x → Q x) → (o : Option X) → IfSome o P → IfSome o Q
 if_some P Q f None h = tt
 if_some P Q f (Some x) h = f x h
@@ -47,7 +47,7 @@ module _ {M E F : Type 0} (number : E → ℕ) (state : M → MachineState E F) 
     home = home;
   }
 
-  -- nothing of it changes where the slot and the seat's calls, stage, history and risk stay
+  -- nothing changes in it if the slot and the seat's calls, stage, history and risk stay
   pub risks_stay : (k : ℕ) (homes : Homes) (views : List V) (f : AreRisks number state origin k homes views) (id : ℕ) (v w : V) → get_elem? views id ≡ some v → w.calls ≡ v.calls
       → Knows f.left k w → AreRisks number state origin k homes (set views id w)
   risks_stay k homes views f id v w at calls_are turn = keeps_risks k homes homes views f id w (subst (Every (IsLeft f.left k)) (sym calls_are) (f.calls id v at)) turn f.home

@@ -36,7 +36,7 @@ module _ {M E F : Type 0} (number : E → ℕ) (state : M → MachineState E F) 
   abbrev Homes : Type 0
   Homes = List (maybe.Option S)
 
-  -- an idle seat is in no total but those of its calls and its share
+  -- an idle seat is in no total except those of its calls and its share
   idle_in : (x : ℕ) (v : V) → v.stage ≡ Idle → v.owes ≤ may_owe v.stage → (in_flight x v ≡ 0) × (turn_of v ≡ 0) × (acted_of v ≡ 0) × (owes_of v ≡ 0)
   idle_in x v is few = let a : in_flight x v ≡ cond (x == v.number) 0 0 = ap (λ (z : Stage). cond (x == v.number) (is_flying z) 0) is in let d : has_acted v.stage ≡ 0 = ap has_acted is in let n : may_owe v.stage ≡ 0 = ap may_owe is in
       ((grind (arith, nat_tests)), ap has_turn is, d, omega arith)
@@ -113,7 +113,7 @@ module _ {M E F : Type 0} (number : E → ℕ) (state : M → MachineState E F) 
   short : (log xs ys : List E) → log ≡ xs ++ ys → length xs ≤ length log
   short log xs ys is = let a : length log ≡ length xs + length ys = ap length is ∙ length-append xs ys in omega arith
 
-  -- the calls of a seat whose history goes on stand before what the longer history leaves
+  -- the calls of a seat whose history goes on come before what the longer history leaves
   shorter_rest : (log xs ys : List E) (ended : List (Call E)) (b : Extends number log xs ended) (rest : List E) → log ≡ ys ++ rest → length xs ≤ length ys → Every (λ (c : Call E). Every (λ e. c.number < number e) rest) ended
   shorter_rest log xs ys ended b rest is h = let l = later_rest xs ys b.rest rest (sym b.is ∙ is) h in
       every_more (λ (c : Call E). Every (λ e. c.number < number e) b.rest) (λ (c : Call E). Every (λ e. c.number < number e) rest)
@@ -217,7 +217,8 @@ module _ {M E F : Type 0} (number : E → ℕ) (state : M → MachineState E F) 
             keeps_risks number state origin k s.homes s.homes (set views id w) joined other sp tt (λ p. absurd (omega arith)) joined.home);
       }
 
-  -- what the look after a join says: both histories stand before the longer one, each before its own calls
+  -- what the look after a join shows: both histories begin the longer one, each before its own
+  -- calls
   pub met : (v u : V) (met : V) → met ≡ both v u → (length met.told ≤ length met.seen → Extends number met.seen met.told met.late) → Extends number met.seen v.seen v.calls × Extends number met.seen u.seen u.calls
   met v u w is h = let known = subst (λ (z : V). length z.told ≤ length z.seen → Extends number z.seen z.told z.late) is h in
       subst (λ (z : V). Extends number z.seen v.seen v.calls × Extends number z.seen u.seen u.calls) (sym is) (cases (nat_lt (length v.seen) (length u.seen)) refl known)

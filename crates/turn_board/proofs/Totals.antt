@@ -40,7 +40,7 @@ pub times_append : {E : Type 0} (x : ℕ) (cs ds : List (Call E)) → times x (c
 times_append x [] ds = omega arith
 times_append x (c ∷ cs) ds = let h = times_append x cs ds in omega arith
 
--- where a number was called, one of the calls has it
+-- if a number was called, one of the calls has it
 pub called : {E : Type 0} (x : ℕ) (cs : List (Call E)) → 0 < times x cs → Any (λ (c : Call E). c.number ≡ x) cs
 called x [] more = absurd (omega arith)
 called x (c ∷ cs) more = dite (ℕ_discrete c.number x) (λ (e : c.number ≡ x). (0, c, omega arith, refl, e))
@@ -88,7 +88,7 @@ module _ {X : Type 0} where
   every_front P [] ys a = tt
   every_front P (x ∷ xs) ys a = (a.0, every_front P xs ys a.1)
 
-  -- P holds of every element where Q does, and what both say together
+  -- if P and Q hold of every element, so does what follows from both
   pub every_both : (P Q R : X → Type 0) → ((x : X) → P x → Q x → R x) → (xs : List X) → Every P xs → Every Q xs → Every R xs
   every_both P Q R f [] a b = tt
   every_both P Q R f (x ∷ xs) a b = (f x a.0 b.0, every_both P Q R f xs a.1 b.1)
@@ -119,7 +119,8 @@ module _ {V : Type 0} where
   set_at (x ∷ xs) zero v w e = refl
   set_at (x ∷ xs) (suc i) v w e = set_at xs i v w e
 
--- of two beginnings of one list the shorter begins the longer, and what follows the longer follows the shorter too
+-- of two beginnings of one list, the shorter begins the longer, and what follows the longer follows
+-- the shorter too
 pub later_rest : {E : Type 0} (xs ys a b : List E) → xs ++ a ≡ ys ++ b → length xs ≤ length ys → (mid : List E) × (ys ≡ xs ++ mid) × (a ≡ mid ++ b)
 later_rest [] ys a b e h = (ys, refl, e)
 later_rest (x ∷ xs) [] a b e h = absurd (omega arith)

@@ -13,12 +13,14 @@ use Rattle.turn_board.specs.Rule.{Extends}
 use Rattle.turn_board.specs.Totals.{AreBelow, below, times}
 use Rattle.turn_board.specs.Views.{all_shares, call_end, start_of}
 
--- a board: its table, which no other board has, and the machine's fixed part, first number and first count of faults
+-- a board: its table, which no other board has, and the machine's fixed part, first number and
+-- first count of faults
 pub record TurnBoardState (Fixed : Type 0) : Type 0 where
   pub table : TableId
   pub start : Start Fixed
 
--- a seat: the table of its board and what it knows of the board's start, the history that it has seen, its own calls in order, whether it found the numbers run out, and its share
+-- a seat: the table of its board, what it knows of the board's start, the history that it has seen,
+-- its own calls in order, whether it found the numbers run out, and its share
 pub record SeatState (Entry Fixed : Type 0) : Type 0 where
   pub table : TableId
   pub start : Option (Start Fixed)
@@ -47,7 +49,9 @@ module _ {Entry Fixed : Type 0} where
     pub start : board.start ≡ start_of machine
     pub first : seat ≡ record { table = board.table; start = Some board.start; seen = machine.history; calls = []; exhausted = false; share = all_shares }
 
--- a call that got its turn, with its ticket and the machine as it was found and left: the ticket is new, the machine was found with all that the seat had seen, it answered by its own relation, an entry that it put at risk is one that was asked for, and the seat has then seen what it left
+-- a call that got its turn, with its ticket and the machine as it was found and left: the ticket is
+-- new; the machine was found with all that the seat had seen; it answered by its own relation; an
+-- entry that it put at risk is one that was asked for; and the seat has then seen what it left
 pub record GotTurn {M Entry Fixed Ask : Type 0} (state : M → MachineState Entry Fixed) (number : Entry → ℕ) (adds : Ask → Entry → Type 0) (answers : Fixed → List Entry → ℕ → Ask → Acted → List Entry → Type 0)
     (before : SeatState Entry Fixed) (asked : Asked Ask) (after : SeatState Entry Fixed) : Type 0 where
   pub found : M
@@ -68,7 +72,8 @@ pub record GotTurn {M Entry Fixed Ask : Type 0} (state : M → MachineState Entr
   pub seen : after.seen ≡ (state left).history
   pub calls : after.calls ≡ before.calls ++ record { number = ticket; found = (state found).faults; left = (state left).faults; at_risk = (state left).at_risk } ∷ []
 
--- two seats in one: of their histories one goes on from the other, and is seen; all calls are the seat's own, with no number twice and counts that do not overlap
+-- two seats made one: one of their histories goes on from the other, and is seen; all calls are now
+-- the seat's own, with no number twice, and counts that do not overlap
 pub record Meets {Entry Fixed : Type 0} (number : Entry → ℕ) (before other after : SeatState Entry Fixed) : Type 0 where
   pub one : (after.seen ≡ before.seen) ⊎ (after.seen ≡ other.seen)
   pub mine : Extends number after.seen before.seen before.calls
@@ -79,13 +84,16 @@ pub record Meets {Entry Fixed : Type 0} (number : Entry → ℕ) (before other a
   pub note : after.exhausted ≡ (before.exhausted || other.exhausted)
   pub share : after.share ≡ before.share + other.share
 
--- an entry that one of these calls put at risk behind a history: it has the number of that call, which left it as the later ones did, and each entry of the history has a lower one
+-- an entry that one of these calls put at risk after a history: it has the number of that call,
+-- which left it as the later calls did, and each entry of the history has a lower number
 pub record IsPutAtRisk {Entry : Type 0} (number : Entry → ℕ) (calls : List (Call Entry)) (history : List Entry) (entry : Entry) : Type 0 where
   pub by : Any (λ (call : Call Entry). call.number ≡ number entry) calls
   pub stays : Every (λ (call : Call Entry). number entry ≤ call.number → call.at_risk ≡ Some entry) calls
   pub since : Rises number 1 (number entry) history
 
--- the machine that a closed board leaves to the seat that took all others in: its history is what the seat has seen, the seat's calls are each number once from the first one on, and all where they had run out, and an entry at risk was put there by one of them
+-- the machine that a closed board leaves to the seat that took all others in: its history is what
+-- the seat has seen; the seat's calls use each number exactly once from the first one on, and all
+-- numbers if they had run out; and an entry at risk was put there by one of the calls
 pub record Closes {Entry Fixed : Type 0} (number : Entry → ℕ) (board : TurnBoardState Fixed) (seat : SeatState Entry Fixed) (machine : MachineState Entry Fixed) : Type 0 where
   pub end : ℕ
   pub calls : (call : ℕ) → times call seat.calls + below call board.start.first ≡ below call end

@@ -1,4 +1,4 @@
--- What each step on the table tells the seat that takes it.
+-- What each step on the table shows the seat that takes it.
 use Rattle.std.specs.Prelude.{◌≡◌, ◌≢◌, ℕ, ◌<◌, ◌≤◌, false, List, [], ◌∷◌, length, Option, Some, IfSome}
 use Rattle.atomic_table.specs.Table.{Me, Step}
 use Rattle.apron_base.specs.Histories.{Every, Rises}
@@ -15,7 +15,9 @@ abbrev pub DoNotOverlap : {Entry : Type 0} → List (Call Entry) → Type 0
 DoNotOverlap {Entry} calls = Every (λ (call : Call Entry). Every (λ (later : Call Entry). call.number < later.number → call.left ≤ later.found) calls) calls
 
 module _ {Entry Fixed : Type 0} (number : Entry → ℕ) where
-  -- a machine that is taken for a ticket: it has all that the seat had seen, with lower numbers than the ticket, as an entry at risk has, and no count of the seat's calls is above its own
+  -- a machine that is taken for a ticket: it has all that the seat had seen; the numbers of its
+  -- entries, and of an entry at risk, are lower than the ticket; and no count of the seat's calls
+  -- is above its own
   pub record IsTaken (view : View Entry Fixed) (ticket : ℕ) (machine : MachineState Entry Fixed) : Type 0 where
     pub extends : Extends number machine.history view.seen view.calls
     pub rises : Rises number 1 ticket machine.history
@@ -29,7 +31,8 @@ abbrev pub Mine : Type 0 → Type 0 → Type 0 → Type 0
 Mine M Entry Fixed = Me (Option M) (View Entry Fixed)
 
 module _ {M Entry Fixed : Type 0} where
-  -- a draw finds the end of all numbers, or the number that it guessed, which it then has, or another one
+  -- a draw finds the end of all numbers, or the number that it guessed, which it then has, or
+  -- another number
   abbrev pub Draws : Step (Option M) → Mine M Entry Fixed → ℕ → Mine M Entry Fixed → Type 0
   Draws step before found after = (found ≡ call_end → after ≡ (run_out before.0, before.1))
       × (found ≢ call_end → found ≡ step.first → (found < call_end) × (after ≡ (drawn found before.0, before.1)) × AreBelow found before.0.calls × (before.0.exhausted ≡ false))
@@ -44,7 +47,7 @@ module _ {M Entry Fixed : Type 0} where
   Ends step before found after = after ≡ (ended before.0, [])
 
   module _ (state : M → MachineState Entry Fixed) where
-    -- the view after the act, where the machine lies in the slot that is held first
+    -- the view after the act, with the machine in the slot that is held first
     abbrev pub noted : View Entry Fixed → List (ℕ × Option M) → View Entry Fixed
     noted view ((slot, Some machine) ∷ _) = acted (state machine) view
     noted view _ = view
@@ -53,13 +56,15 @@ module _ {M Entry Fixed : Type 0} where
     abbrev pub Notes : Step (Option M) → Mine M Entry Fixed → ℕ → Mine M Entry Fixed → Type 0
     Notes step before found after = after ≡ (noted before.0 before.1, before.1)
 
-    -- a look finds the seat's own number, and it takes the machine; or another one, and nothing changes
+    -- a look finds the seat's own number, and it takes the machine; or another one, and nothing
+    -- changes
     abbrev pub Takes : (Entry → ℕ) → Step (Option M) → Mine M Entry Fixed → ℕ → Mine M Entry Fixed → Type 0
     Takes number step before found after =
         (found ≡ before.0.number → (machine : M) × (after.0 ≡ turned (state machine) before.0) × (after.1 ≡ (0, Some machine) ∷ before.1) × IsTaken number before.0 found (state machine))
         × (found ≢ before.0.number → after ≡ before)
 
-  -- a look after a meeting: the longer history goes on from the shorter one, no number was called twice, and the counts of the calls do not overlap
+  -- a look after a meeting: the longer history goes on from the shorter one, no number was called
+  -- twice, and the counts of the calls do not overlap
   abbrev pub Looks : (Entry → ℕ) → Step (Option M) → Mine M Entry Fixed → ℕ → Mine M Entry Fixed → Type 0
   Looks number step before found after = (after ≡ (looked before.0, before.1))
       × (length before.0.told ≤ length before.0.seen → Extends number before.0.seen before.0.told before.0.late)

@@ -1,4 +1,4 @@
--- The rule of the turns: what holds of the words, of the slot and of all seats between any two steps.
+-- The rule of the turns: what holds of the words, the slot and all seats between any two steps.
 use Rattle.std.specs.Prelude.{◌≡◌, ◌⊎◌, ℕ, ◌+◌, ◌<◌, ◌≤◌, true, List, [], ◌∷◌, ◌++◌, length, Option, Some, IfSome}
 use mathlib.Core.Option.{some, none}
 use mathlib.Core.Option as maybe
@@ -12,7 +12,8 @@ use Rattle.turn_board.specs.declared.view.View.{View}
 use Rattle.turn_board.specs.Totals.{AreBelow, below, total}
 use Rattle.turn_board.specs.Views.{acted_of, all_shares, call_end, calls_of, has_acted, has_turn, in_flight, may_owe, owes_of, share_of, start_of, turn_of}
 
--- what the words say, and the longest history that a seat has seen: the next ticket, the ticket that is served, and how many entries are counted
+-- what the words say, and the longest history that a seat has seen: the next ticket, the ticket
+-- that is served, and how many entries are counted
 pub record Standing (Entry : Type 0) : Type 0 where
   pub ticket : ℕ
   pub serving : ℕ
@@ -24,7 +25,8 @@ module _ {Entry : Type 0} (number : Entry → ℕ) where
   abbrev pub EndsAt : ℕ → List Entry → Type 0
   EndsAt call history = (front : List Entry) × (last : Entry) × (history ≡ front ++ last ∷ []) × (number last ≡ call)
 
-  -- a history goes on from what was seen, and each entry that was not seen has a number above these calls
+  -- a history goes on from what was seen, and each entry that was not seen has a number above those
+  -- of these calls
   pub record Extends (history seen : List Entry) (calls : List (Call Entry)) : Type 0 where
     pub rest : List Entry
     pub is : history ≡ seen ++ rest
@@ -34,14 +36,15 @@ module _ {Entry : Type 0} (number : Entry → ℕ) where
   abbrev pub IsNewAtRisk : {Fixed : Type 0} → View Entry Fixed → Entry → Type 0
   IsNewAtRisk view entry = (number entry ≡ view.number) × Rises number 1 (number entry) view.seen
 
--- a machine at home has the longest history, its next call is served or waited for, and its fixed part is that of the origin
+-- a machine at home has the longest history, its next call is served or waited for, and its fixed
+-- part is that of the origin
 pub record IsHome {Entry Fixed : Type 0} (origin : MachineState Entry Fixed) (serving : ℕ) (longest : List Entry) (machine : MachineState Entry Fixed) : Type 0 where
   pub history : machine.history ≡ longest
   pub next : machine.next ≤ serving
   pub fixed : machine.fixed ≡ origin.fixed
 
 module _ {M Entry Fixed : Type 0} where
-  -- the slot is out with the one seat that has its turn
+  -- the one seat that has its turn holds the slot
   abbrev pub IsOut : List (maybe.Option (Option M)) → List (View Entry Fixed) → Type 0
   IsOut homes views = (homes ≡ none ∷ []) × (total turn_of views ≡ 1)
 
@@ -51,7 +54,8 @@ module _ {M Entry Fixed : Type 0} (state : M → MachineState Entry Fixed) (orig
   AtHome serving longest homes views =
       (machine : M) × (homes ≡ some (Some machine) ∷ []) × (total turn_of views ≡ 0) × IsHome origin serving longest (state machine)
 
-  -- what the ended calls found and left: along their numbers no count falls, none is below the first one, and none is above that of the machine at home
+  -- what the ended calls found and left: along their numbers no count falls, none is below the
+  -- first one, and none is above that of the machine at home
   pub record AreFaults (serving : ℕ) (homes : List (maybe.Option (Option M))) (views : List (View Entry Fixed)) : Type 0 where
     pub found : ℕ → ℕ
     pub left : ℕ → ℕ
@@ -66,14 +70,16 @@ module _ {M Entry Fixed : Type 0} (state : M → MachineState Entry Fixed) (orig
     pub home : (machine : M) → homes ≡ some (Some machine) ∷ [] → top ≤ (state machine).faults
 
 module _ {Entry Fixed : Type 0} (number : Entry → ℕ) (origin : MachineState Entry Fixed) where
-  -- an entry at risk behind a history: it has the number of an ended call, which left it as the calls after it did, and each entry of the history has a lower one
+  -- an entry at risk after a history: it has the number of an ended call, which left it as the
+  -- calls after it did, and each entry of the history has a lower number
   pub record IsAtRisk (left : ℕ → Option Entry) (serving : ℕ) (history : List Entry) (entry : Entry) : Type 0 where
     pub from : origin.next ≤ number entry
     pub ended : number entry < serving
     pub stays : (call : ℕ) → number entry ≤ call → call < serving → left call ≡ Some entry
     pub since : Rises number 1 (number entry) history
 
-  -- what is known of one seat, where these are the next ticket, the ticket that is served, and the longest history
+  -- what is known of one seat, if these are the next ticket, the ticket that is served, and the
+  -- longest history
   pub record Fits (ticket serving : ℕ) (longest : List Entry) (view : View Entry Fixed) : Type 0 where
     pub start : 0 < view.share → view.start ≡ Some (start_of origin)
     pub seen : Extends number longest view.seen view.calls
@@ -87,7 +93,8 @@ module _ {Entry Fixed : Type 0} (number : Entry → ℕ) (origin : MachineState 
     pub spent : view.share ≡ 0 → (view.stage ≡ Idle) × (view.calls ≡ [])
 
 module _ {M Entry Fixed : Type 0} (number : Entry → ℕ) (state : M → MachineState Entry Fixed) (origin : MachineState Entry Fixed) where
-  -- what the ended calls left at risk, what a seat that has its turn knows at risk, and what a machine at home has at risk
+  -- what the ended calls left at risk, what a seat that has its turn knows at risk, and what a
+  -- machine at home has at risk
   pub record AreRisks (serving : ℕ) (homes : List (maybe.Option (Option M))) (views : List (View Entry Fixed)) : Type 0 where
     pub left : ℕ → Option Entry
     pub calls : (seat : ℕ) (view : View Entry Fixed) → get_elem? views seat ≡ some view
@@ -97,12 +104,15 @@ module _ {M Entry Fixed : Type 0} (number : Entry → ℕ) (state : M → Machin
     pub home : (machine : M) → homes ≡ some (Some machine) ∷ [] → IfSome (state machine).at_risk (IsAtRisk number origin left serving (state machine).history)
 
   -- order: the tickets that were drawn
-  -- flights: each number from the one served up to the next ticket is in flight once, and no other is
-  -- calls: each number from the first one up to the one served is an ended call once, and no other is
+  -- flights: each number from the one served up to the next ticket is in flight once, and no other
+  -- is
+  -- calls: each number from the first one up to the one served is an ended call once, and no other
+  -- is
   -- counted: the count has all entries but one that is owed
   -- rises: the entries' numbers are below the one served, or equal to it after its act
   -- shares: all shares are with seats
-  -- slot, seats, longest: where the machine is, what is known of each seat, and that one has seen the longest history
+  -- slot, seats, longest: where the machine is, what is known of each seat, and that one seat has
+  -- seen the longest history
   pub record Facts (standing : Standing Entry) (homes : List (maybe.Option (Option M))) (views : List (View Entry Fixed)) : Type 0 where
     pub order : (standing.serving ≤ standing.ticket) × (standing.ticket ≤ call_end)
     pub flights : (call : ℕ) → total (in_flight call) views + below call standing.serving ≡ below call standing.ticket

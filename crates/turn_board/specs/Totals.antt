@@ -8,11 +8,11 @@ abbrev pub total : {View : Type 0} → (View → ℕ) → List View → ℕ
 total amount [] = 0
 total amount (view ∷ views) = amount view + total amount views
 
--- 1 where two numbers are the same, and else 0
+-- 1 if two numbers are the same, and 0 otherwise
 abbrev pub same : ℕ → ℕ → ℕ
 same number other = cond (number == other) 1 0
 
--- 1 where a number is below an end, and else 0
+-- 1 if a number is below an end, and 0 otherwise
 abbrev pub below : ℕ → ℕ → ℕ
 below number end = cond (nat_lt number end) 1 0
 

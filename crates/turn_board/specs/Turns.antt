@@ -25,12 +25,14 @@ module _ {M Entry Fixed : Type 0} where
     pub grows : Grows number mine.0.number mine.0.seen machine.history
     pub faults : mine.0.found ≤ machine.faults
 
-  -- what the machine, which has acted, left at risk: nothing; or what the seat found, or an entry of this call, where none was added
+  -- what the machine, which has acted, left at risk: nothing; or, if no entry was added, what the
+  -- seat found, or an entry of this call
   abbrev pub HasLeftAtRisk : (Entry → ℕ) → Mine M Entry Fixed → MachineState Entry Fixed → Type 0
   HasLeftAtRisk number mine machine = ActsAtRisk (λ entry. (number entry ≡ mine.0.number) × (machine.history ≡ mine.0.seen)) true
       (record { entries = mine.0.seen; at_risk = mine.0.at_risk }) (standing machine)
 
-  -- the machine lies in the slot that the seat holds, and is as the seat noted it, and nothing is owed to the count
+  -- the machine lies in the slot that the seat holds, and is as the seat noted it, and nothing is
+  -- owed to the count
   pub record IsOver (state : M → MachineState Entry Fixed) (mine : Mine M Entry Fixed) (machine : M) : Type 0 where
     pub stage : has_acted mine.0.stage ≡ 1
     pub share : 0 < mine.0.share

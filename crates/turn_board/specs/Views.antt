@@ -15,24 +15,24 @@ call_end = 2 ^ 62
 abbrev pub all_shares : ℕ
 all_shares = 1000
 
--- 1 where a number is in flight, and else 0
+-- 1 if a number is in flight, and 0 otherwise
 abbrev pub is_flying : Stage → ℕ
 is_flying Idle = 0
 is_flying _ = 1
 
--- 1 where the machine was taken, and else 0
+-- 1 if the machine was taken, and 0 otherwise
 abbrev pub has_turn : Stage → ℕ
 has_turn Idle = 0
 has_turn Waiting = 0
 has_turn _ = 1
 
--- 1 where the machine has acted, and else 0
+-- 1 if the machine has acted, and 0 otherwise
 abbrev pub has_acted : Stage → ℕ
 has_acted Noted = 1
 has_acted Counted = 1
 has_acted _ = 0
 
--- 1 where an entry may be owed to the count, and else 0
+-- 1 if an entry may be owed to the count, and 0 otherwise
 abbrev pub may_owe : Stage → ℕ
 may_owe Noted = 1
 may_owe _ = 0
@@ -46,7 +46,7 @@ abbrev pub shorter : {Entry : Type 0} → List Entry → List Entry → List Ent
 shorter xs ys = cond (nat_lt (length xs) (length ys)) xs ys
 
 module _ {Entry Fixed : Type 0} where
-  -- 1 where the seat has this number in flight, and else 0
+  -- 1 if the seat has this number in flight, and 0 otherwise
   abbrev pub in_flight : ℕ → View Entry Fixed → ℕ
   in_flight number view = cond (number == view.number) (is_flying view.stage) 0
 
@@ -54,11 +54,11 @@ module _ {Entry Fixed : Type 0} where
   abbrev pub calls_of : ℕ → View Entry Fixed → ℕ
   calls_of number view = times number view.calls
 
-  -- 1 where it has its turn, and else 0
+  -- 1 if it has its turn, and 0 otherwise
   abbrev pub turn_of : View Entry Fixed → ℕ
   turn_of view = has_turn view.stage
 
-  -- 1 where the machine has acted for it, and else 0
+  -- 1 if the machine has acted for it, and 0 otherwise
   abbrev pub acted_of : View Entry Fixed → ℕ
   acted_of view = has_acted view.stage
 
@@ -130,7 +130,7 @@ module _ {Entry Fixed : Type 0} where
   abbrev pub less_one : View Entry Fixed → View Entry Fixed
   less_one view = record view { share = view.share - 1 }
 
-  -- a new seat, which has seen as much, has called nothing and has a share of one
+  -- a new seat with a share of one, which has seen as much and has called nothing
   abbrev pub split_off : View Entry Fixed → View Entry Fixed
   split_off view = record {
     start = view.start;
@@ -148,7 +148,8 @@ module _ {Entry Fixed : Type 0} where
     share = 1;
   }
 
-  -- two seats in one; what the seat with the shorter history had seen and called is kept until the next look
+  -- two seats made one; what the seat with the shorter history had seen and called is kept until
+  -- the next look
   abbrev pub both : View Entry Fixed → View Entry Fixed → View Entry Fixed
   both view other = record view {
     seen = longer view.seen other.seen;

@@ -16,8 +16,8 @@ use std::sync::Wait;
 /// The shares of all seats of a board together.
 pub const SHARES: u64 = 1_000;
 
-/// What one desk knows of a board: the history that it has seen, its own calls with the counts of faults
-/// that each found and left, whether the numbers had run out, and its share.
+/// What one desk knows of a board: the history that it has seen; its own calls, with the counts of
+/// faults that each found and left; whether the numbers had run out; and its share.
 pub struct Seat<M: Machine> {
     place: Place<M>,
 }
@@ -61,8 +61,9 @@ fn machine_of<M>(slot: Option<M>) -> M
 }
 
 impl<M: Machine> TurnBoard<M> {
-    /// A board over this machine, at which no entry is at risk, and its first seat, which has all shares.
-    /// Call numbers go on from the machine's next one. At `Err` memory is wanting, and the machine comes back as it was.
+    /// A board over this machine, which has no entry at risk, and its first seat, which has all
+    /// shares. Call numbers go on from the machine's next one. `Err` if there is no memory: the
+    /// machine then comes back as it was.
     pub fn new(alloc: Global, machine: M) -> Result<(TurnBoard<M>, Seat<M>), M>
         requires next { (M.state machine).next ≤ CALL_END }
         requires at_risk { (M.state machine).at_risk ≡ None }
@@ -89,9 +90,9 @@ impl<M: Machine> TurnBoard<M> {
         }
     }
 
-    /// Draws a number, waits until it is served, and gives the machine's answer. The answer is `Spent`
-    /// exactly where the numbers have run out, and then nothing was drawn or asked. Want of memory and
-    /// faults are the machine's.
+    /// Draws a number, waits until it is served, and gives the machine's answer. The answer is
+    /// `Spent` exactly if the numbers have run out, and then nothing was drawn or asked. A lack of
+    /// memory and faults are the machine's.
     pub fn ask<R: Wait>(&self, rt: &R, alloc: Global, seat: &mut Seat<M>, ask: &M::Ask) -> Acted
         requires sits { Sits self.now seat.old }
         requires valid { M.valid self.now.start.fixed ask.now }
@@ -114,7 +115,8 @@ impl<M: Machine> TurnBoard<M> {
         answer
     }
 
-    /// A new seat with a share of one, which has seen as much and has called nothing. It takes no memory.
+    /// A new seat with a share of one, which has seen as much as this one and has called nothing.
+    /// It takes no memory.
     pub fn split(&self, seat: &mut Seat<M>) -> Seat<M>
         requires sits { Sits self.now seat.old }
         requires share { 2 ≤ seat.old.share }
@@ -125,7 +127,7 @@ impl<M: Machine> TurnBoard<M> {
         Seat { place }
     }
 
-    /// Takes the other seat in, with its history, its calls and its share. It takes no memory.
+    /// Takes in the other seat, with its history, its calls and its share. It takes no memory.
     pub fn meet(&self, seat: &mut Seat<M>, other: Seat<M>)
         requires seat { Sits self.now seat.old }
         requires other { Sits self.now other }
@@ -139,7 +141,7 @@ impl<M: Machine> TurnBoard<M> {
         table.load::<Look>(place, SERVING);
     }
 
-    /// The machine, once one seat has all shares, so that every other one was taken in.
+    /// The machine, once one seat has all shares, so that every other seat was taken in.
     pub fn close(self, seat: Seat<M>) -> M
         requires sits { Sits self seat }
         requires share { seat.share ≡ SHARES }

@@ -5,8 +5,8 @@ ghost use Rattle.turn_board.specs.declared.view.Call.{Call};
 
 use apron_base::Machine;
 
-/// What a seat sees later goes on from all that it had seen before, and what it had not seen at a call of
-/// its own stays later than that call.
+/// What a seat sees later goes on from all that it had seen before. What it had not seen at a call
+/// of its own stays later than that call.
 #[tactic(auto, using(crate::proofs::Later::extends_on))]
 pub fn later_histories_go_on_from_earlier_ones<M: Machine>()
     ensures on { (early middle late : List M.Entry) (calls more : List (Call M.Entry))

@@ -1,4 +1,5 @@
-//! Turns between seats at one machine, in any number of threads. It knows nothing of what the machine is asked.
+//! Turns between seats at one machine, in any number of threads. It knows nothing of what the
+//! machine is asked.
 #![tactic(auto)]
 
 mod board;

@@ -1,4 +1,4 @@
-// The rule of the table, and what each step on it tells.
+// The rule of the table, and what each step on it shows.
 use crate::view::View;
 use apron_base::Machine;
 use atomic_table::{Join, Play, Split, TableRule};
@@ -61,7 +61,7 @@ impl<M: Machine> Play<Option<M>, View<M::Entry, M::Fixed>> for End {
     ghost then = { Ends };
 }
 
-/// A seat looks what it took in.
+/// A seat looks at what it took in.
 pub(crate) struct Look;
 
 impl<M: Machine> Play<Option<M>, View<M::Entry, M::Fixed>> for Look {

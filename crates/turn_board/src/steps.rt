@@ -45,7 +45,7 @@ fn after(ticket: u64) -> u64
     }
 }
 
-/// The next number, or none where they have run out.
+/// The next number; `None` if they have run out.
 pub(crate) fn draw<M: Machine, R: Wait>(
     rt: &R,
     table: &SharedTable<M>,
@@ -114,7 +114,7 @@ fn note<M: Machine>(table: &SharedTable<M>, place: &mut Place<M>, machine: M)
     table.load::<Note>(place, SERVING);
 }
 
-// Adds to the count where an entry was added.
+// Adds to the count if an entry was added.
 fn count<M: Machine>(table: &SharedTable<M>, place: &mut Place<M>, added: bool)
     requires table { IsSeatOf table.now.table_id place.old.table_id }
     requires acted { (place.old.me.0.stage ≡ Noted) × (0 < place.old.me.0.share) × (place.old.me.0.owes ≡ cond added 1 0) }
@@ -126,7 +126,8 @@ fn count<M: Machine>(table: &SharedTable<M>, place: &mut Place<M>, added: bool)
     }
 }
 
-// Gives the machine back to its slot, lets the next number be served, and wakes a seat behind that one.
+// Gives the machine back to its slot, lets the next number be served, and wakes a seat after that
+// one.
 fn end<M: Machine>(table: &SharedTable<M>, place: &mut Place<M>)
     requires table { IsSeatOf table.now.table_id place.old.table_id }
     requires over { (machine : _) × IsOver M.state place.old.me machine }

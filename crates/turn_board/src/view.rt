@@ -1,4 +1,4 @@
-// What a seat knows. Contracts alone read these types: no value of them is made.
+// What a seat knows. Only contracts read these types: no value of them is made.
 use std::collections::LinkedList;
 
 /// Where a seat is in a call.
@@ -15,8 +15,8 @@ pub enum Stage {
     Counted,
 }
 
-/// An ended call: its number, the machine's counts of faults that it found and left, and the entry at risk
-/// that it left.
+/// An ended call: its number, the machine's counts of faults that it found and left, and the entry
+/// at risk that it left.
 pub struct Call<E> {
     pub number: u64,
     pub found: u64,
@@ -24,7 +24,8 @@ pub struct Call<E> {
     pub at_risk: Option<E>,
 }
 
-/// The machine with which a board was made: its fixed part, the first number, and its count of faults.
+/// The machine with which a board was made: its fixed part, the first number, and its count of
+/// faults.
 pub struct Start<F> {
     pub fixed: F,
     pub first: u64,
@@ -37,9 +38,9 @@ pub struct View<E, F> {
     pub start: Option<Start<F>>,
     /// The history that the seat has seen.
     pub seen: LinkedList<E>,
-    /// What a seat that was taken in had seen, until the next look.
+    /// What the seat with the shorter history had seen, until the next look.
     pub told: LinkedList<E>,
-    /// The calls of the seat that had seen that.
+    /// The calls of the seat that had seen this.
     pub late: LinkedList<Call<E>>,
     /// The seat's ended calls.
     pub calls: LinkedList<Call<E>>,
@@ -52,7 +53,7 @@ pub struct View<E, F> {
     pub left: u64,
     /// The entry at risk that this call found, and then the one that it left.
     pub at_risk: Option<E>,
-    /// 1 where this call added an entry that is not counted yet.
+    /// 1 if this call added an entry that is not counted yet.
     pub owes: u64,
     /// The seat found the numbers run out.
     pub exhausted: bool,

@@ -10,13 +10,14 @@ use std::{hint, thread};
 
 /// How often the seat that is next pauses between two looks before it lets other threads run.
 const PAUSES: u32 = 20;
-/// The most microseconds that a seat further back sleeps before it looks again where no wake comes.
+/// The most microseconds that a seat further back sleeps before it looks again if no wake comes.
 const NAP: u64 = 1_000;
 
-/// A sleep is on the low half of a word: this is the least number above it.
+/// A sleep is on the low half of a word: this is the least number above that half.
 const LOW: u64 = 1 << 32;
 
-/// What a seat that waits remembers between two looks: the number served at which it last went to sleep.
+/// What a seat that waits remembers between two looks: the number served at which it last went to
+/// sleep.
 #[derive(Drop)]
 pub(crate) struct Patience {
     slept_at: Option<u64>,
@@ -27,9 +28,10 @@ impl Patience {
         Patience { slept_at: None }
     }
 
-    /// Lets time pass between two looks, where `serving` was found and the seat waits for `number`. The
-    /// seat that is next never sleeps. Those behind it sleep until the end of a turn wakes one of them, in
-    /// the order in which they went to sleep: so one that is woken before it is next wakes another.
+    /// Lets time pass between two looks, after one that found `serving` while the seat waits for
+    /// `number`. The seat that is next never sleeps. Those after it sleep until the end of a turn
+    /// wakes one of them, in the order in which they went to sleep. So a seat that is woken before
+    /// it is next wakes another.
     pub(crate) fn wait<M: Machine, R: Wait>(
         &mut self,
         rt: &R,

@@ -11,7 +11,7 @@ use std::test::Fail;
 use std::thread::{Threads, join_mut};
 use turn_board::{Seat, TurnBoard};
 
-// So many threads ask so often each.
+// How many threads ask, and how often each does.
 const THREADS: u32 = 16;
 
 const TIMES: u32 = 10_000;
@@ -36,7 +36,7 @@ impl Model for Tally {
 }
 
 impl Tally {
-    /// No call yet, and this least number of the next one.
+    /// No call yet, and the least number of the next one.
     fn new(alloc: Global, next: u64) -> Tally
         requires some { 1 ≤ next }
         requires end { next ≤ CALL_END }
@@ -48,7 +48,7 @@ impl Tally {
         }
     }
 
-    /// Whether the calls are so many numbers from 1 on, each once and in order.
+    /// Whether the calls have exactly the numbers from 1 on, this many, each once and in order.
     fn is_complete(&self, count: u32) -> bool {
         self.calls.len() == count as usize
             && self
@@ -102,7 +102,7 @@ fn is_spent(answer: &Acted) -> bool {
     matches!(answer, Acted::Spent)
 }
 
-// Asks so often, and gives whether each got a reply.
+// Asks this often, and gives whether each ask got a reply.
 fn ask_often<R: Wait>(
     rt: &R,
     alloc: Global,
@@ -121,7 +121,8 @@ fn ask_often<R: Wait>(
     replied
 }
 
-// So many threads, each with a seat of its own, ask so often each. It gives whether each ask got a reply.
+// This many threads, each with a seat of its own, ask this often each. It gives whether each ask
+// got a reply.
 fn ask_in_threads<'s, R: Threads + Wait + Sync>(
     rt: &'s R,
     alloc: Global,

@@ -36,7 +36,7 @@ fn airport(alloc: Global) -> Result<Airport, Fail> {
     )
 }
 
-// An A320 of this name is to be added, from 600 to 660.
+// An ask to add an A320 of this name, from 600 to 660.
 fn addition(airport: &Airport, name: Name) -> Result<Ask, Fail>
     ensures valid { IfOk result (IsAskOf airport.now) }
 {
@@ -107,8 +107,8 @@ fn is_told(answer: Acted, text: &[u8]) -> bool {
     }
 }
 
-// What two seats are told, asked one after the other, and then one that has met the other, of the version; and how
-// many entries the closed board has.
+// The replies to two seats, asked one after the other; then the reply about the version to one that
+// has met the other; and how many entries the closed board has.
 #[derive(Clone, Copy)]
 struct Want<'t> {
     first: &'t [u8],

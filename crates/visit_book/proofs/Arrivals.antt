@@ -1,4 +1,4 @@
--- The times of parts stay in order where a visit comes on block, is expected off block, and goes.
+-- The times of parts stay in order when a visit comes on block, is expected off block, or goes.
 use Rattle.std.proofs.Common.{◌≡◌, ◌≤◌, ◌<◌, ◌+◌, ◌-◌, ◌++◌, ◌∷◌, [], ℕ, zero, suc, Bool, true, false, List, None, length, take, drop, map, max, refl, sym, arith, inl, inr, subst, nat_lt}
 use Rattle.std.specs.Prelude.{Option, Some, IfSome, filter, slice_get}
 use Rattle.std.proofs.lemmas.Bool.Decides.{nat_tests}
@@ -37,12 +37,13 @@ abbrev pub IsTowable : ℕ → ℕ → List Part → ℕ → Type 0
 IsTowable tow zero parts at = Unit {0}
 IsTowable tow (suc place) parts at = IfSome (slice_get parts place) (λ part. part.from + 1 + tow ≤ at)
 
--- the minute is not before the start, where no part stands before this place
+-- if no part comes before this place, the minute is not before the start
 abbrev pub IsFrom : ℕ → ℕ → ℕ → Type 0
 IsFrom start zero at = start ≤ at
 IsFrom start (suc place) at = Unit {0}
 
--- the part in this place is on block at a minute of the plan, and the one before it ends a tow earlier
+-- the part in this place is on block at a minute of the plan, and the one before it ends a tow
+-- earlier
 pub arrive_follows : (pace : Pace) (start place at : ℕ) (given : Option StandNo) (parts : List Part) → 1 ≤ pace.least → at < pace.end → length parts ≤ 3
     → place < length parts → IsFrom start place at → IsTowable pace.tow place parts at → Follow pace start parts
     → Follow pace start (map made_actual (last_ended (at - pace.tow) (take place parts)) ++ pushed_from pace.tow pace.least at (first_on_block given (drop place parts)))

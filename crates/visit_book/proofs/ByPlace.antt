@@ -1,4 +1,4 @@
--- A visit stands in the place of its number.
+-- A visit has the place of its number.
 use Rattle.std.proofs.Common.{◌≡◌, ◌<◌, ◌≤◌, ◌+◌, ◌-◌, ◌∙◌, ℕ, suc, Bool, true, false, List, [], ◌∷◌, refl, sym, arith, length, nat_lt, None, Some}
 use Rattle.std.specs.Prelude.{slice_get, slice_index_or}
 use Rattle.std.proofs.lemmas.Option.{slice_get-get_or, slice_get_past}
@@ -34,20 +34,20 @@ at_first low visit visits number false is first above rest =
     let later : low + 1 < number.0 = grind (arith, nat_tests) in
     rw is (rest later ∙ sym (place_next visits visit (number.0 - (low + 1 + 1)) (number.0 - (low + 1)) (omega arith)))
 
--- the visit of a number stands as many places on as the number is above the one before the first
+-- the visit of a number is as many places on as the number is above the one before the first
 pub visit_at-place : (low : ℕ) (visits : List Visit) (number : VisitNo) → IsNumberedAbove low visits → low < number.0
     → visit_at visits number ≡ slice_get visits (number.0 - (low + 1))
 visit_at-place low [] number h above = refl
 visit_at-place low (visit ∷ visits) number h above =
     at_first low visit visits number (has_number number visit) refl h.0 above (λ later. visit_at-place (low + 1) visits number h.1 later)
 
--- there is a visit of each number from 1 to how many there are
+-- there is a visit of each number from 1 to the number of visits
 pub visit_at-within : (visits : List Visit) (number : VisitNo) (d : Visit) → IsNumbered visits → 1 ≤ number.0 → number.0 ≤ length visits
     → visit_at visits number ≡ Some (slice_index_or visits (number.0 - 1) d)
 visit_at-within visits number d h some within =
     visit_at-place 0 visits number h (omega arith) ∙ slice_get-get_or visits (number.0 - 1) d (omega arith)
 
--- there is none of another number
+-- there is none of any other number
 pub visit_at-outside : (visits : List Visit) (number : VisitNo) → IsNumbered visits → (1 ≤ number.0 → length visits < number.0) → visit_at visits number ≡ None
 visit_at-outside visits number h outside = first_or_later visits number h outside (nat_lt 0 number.0) refl
   where

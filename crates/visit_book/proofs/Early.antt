@@ -15,13 +15,13 @@ spaced_up : (tow start : ℕ) (parts : List Part) → IsSpaced tow start parts �
 spaced_up tow start [] h = tt
 spaced_up tow start (part ∷ parts) h = (h.1, spaced_up tow (part.to + tow) parts h.2)
 
--- a part that is read from a slice of the parts starts and ends early
+-- a part that is read from a slice of the parts starts and ends early enough
 pub part_early : (airport : AirportParts) (visit : Visit) (slice : List Part) (place : ℕ) → IsAirport airport → IsWellFormed airport visit
     → slice ≡ visit.parts → place < length visit.parts
-    → ((slice_index_or slice place no_part).from < 2 ^ 15) × ((slice_index_or slice place no_part).to < 2 ^ 15)
+    → ((slice_index_or slice place no_part).from < 2 ^ 16) × ((slice_index_or slice place no_part).to < 2 ^ 16)
 part_early airport visit slice place airports h same inside =
     let part : Part = slice_index_or visit.parts place no_part in
-    let days : airport.days ≤ 14 = airports.days in
+    let days : airport.days ≤ 28 = airports.days in
     let tow : airport.tow ≤ 240 = airports.tow in
     let least : least_of airport visit.kind ≤ 600 = least_of_few airport visit.kind airports in
     let end : part.to ≤ latest_end airport visit.kind = h.ends place no_part inside in

@@ -55,7 +55,8 @@ places_of airport visit h =
 each_place : (Holds : Place → Type 0) (parts : List Part) → AllPlaces Holds parts → All (λ part. Holds part.place) parts
 each_place Holds parts h = All-from_recursion (λ part. Holds part.place) parts h
 
--- a visit is well formed if its type and its class are such, and its one to three parts follow one another at places that it may have
+-- a visit is well formed if its type and its class are, and its one to three parts follow one
+-- another at places that it may have
 pub well_formed_by : (airport : AirportParts) (visit : Visit) → visit.kind.0 < length airport.types → visit.class ≤ greatest_class
     → 1 ≤ length visit.parts → length visit.parts ≤ most_parts → Follow (pace_of airport visit.kind) 0 visit.parts → AllPlaces (IsAllowed airport visit) visit.parts
     → IsWellFormed airport visit
@@ -72,7 +73,7 @@ well_formed_by airport visit kind class some few times places = record {
   cancelled = λ over. each_place (λ place. stand_of place ≡ None) visit.parts (places_by (IsAllowed airport visit) (λ place. stand_of place ≡ None) visit.parts (λ place h. h.cancelled over) places);
 }
 
--- a visit stays well formed with other parts of such a kind
+-- a visit stays well formed with other such parts
 pub with_parts_kept : (airport : AirportParts) (visit : Visit) (parts : List Part) → IsWellFormed airport visit → 1 ≤ length parts → length parts ≤ most_parts
     → Follow (pace_of airport visit.kind) 0 parts → AllPlaces (IsAllowed airport visit) parts → IsWellFormed airport (with_parts visit parts)
 with_parts_kept airport visit parts h some few times places =
@@ -113,7 +114,7 @@ cut_kept airport place at visit part airports h found room low high =
     (cut_follows (pace_of airport visit.kind) 0 place at visit.parts part (least_of_some airport visit.kind airports h.kind) found low high (times_of airport visit h))
     (cut_places (IsAllowed airport visit) airport.tow at place visit.parts (record { stand = tt; fact = λ off. refl; cancelled = λ over. refl }) (places_of airport visit h))
 
--- the part of a number stands in the place before
+-- the part of a number has the place before
 part_at-get : (parts : List Part) (number : ℕ) (part : Part) → part_at parts number ≡ Some part → slice_get parts (number - 1) ≡ Some part
 part_at-get parts zero part found = absurd (cc)
 part_at-get parts (suc place) part found =
@@ -125,14 +126,14 @@ pub made_where : {B : Type 0} (passed : Bool) (made new : B) (Holds : B → Type
 made_where true made new Holds is holds = let same : made ≡ new = cc in subst Holds same (holds refl)
 made_where false made new Holds is holds = absurd (cc)
 
--- what holds of something that is made where a part is found that passes a test holds of what is made
+-- what holds of what is made if a part is found and passes a test, holds of the result
 made_of : {B : Type 0} (found : Option Part) (test : Part → Bool) (made new : B) (Holds : B → Type 0)
     → option_and_then (λ part. if test part then Some made else None) found ≡ Some new
     → ((part : Part) → found ≡ Some part → test part ≡ true → Holds made) → Holds new
 made_of None test made new Holds is holds = absurd (cc)
 made_of (Some part) test made new Holds is holds = made_where (test part) made new Holds is (λ passed. holds part refl passed)
 
--- a visit of the airport stays well formed where a part is cut
+-- a visit of the airport stays well formed when a part is cut
 pub cut_keeps : (airport : AirportParts) (number at : ℕ) (visit new : Visit) → IsAirport airport → IsWellFormed airport visit
     → cut_of airport number at visit ≡ Some new → IsWellFormed airport new
 cut_keeps airport number at visit new airports h is =
@@ -153,17 +154,17 @@ join_kept airport place visit h =
     (join_follows (pace_of airport visit.kind) 0 place visit.parts (times_of airport visit h))
     (join_places (IsAllowed airport visit) place visit.parts (places_of airport visit h))
 
--- what is made of something that is found, if anything is
+-- what is made of what is found, if anything is
 made_some : {A B : Type 0} (found : Option A) (made new : B) → option_map (λ _. made) found ≡ Some new → made ≡ new
 made_some None made new is = absurd (cc)
 made_some (Some x) made new is = cc
 
--- a well-formed visit stays so where two parts are joined
+-- a well-formed visit stays so when two parts are joined
 pub join_keeps : (airport : AirportParts) (number : ℕ) (visit new : Visit) → IsWellFormed airport visit → join_of number visit ≡ Some new → IsWellFormed airport new
 join_keeps airport number visit new h is =
     subst (IsWellFormed airport) (made_some (part_at visit.parts (number + 1)) _ new is) (join_kept airport (number - 1) visit h)
 
--- a visit that is added with what can be said at the airport is well formed
+-- a visit that is added with data valid at the airport is well formed
 pub added_keeps : (airport : AirportParts) (number version : ℕ) (new : NewVisit) → IsAirport airport → IsNewVisitOf airport new
     → IsWellFormed airport (added_visit number version new)
 added_keeps airport number version new airports h =

@@ -30,7 +30,7 @@ limit_none airport none =
     let later = right_none _ (first_reason (unknown_of airport) (bad_half_of airport) (limit_of airport) (bad_span_of airport) (bad_fold_of airport)) none in
     unmapped _ (limit_of airport) (left_none _ _ (right_none _ _ (right_none _ _ later)))
 
--- nothing is there
+-- each of these is missing
 abbrev AllNone : {A : Type 0} → List (Option A) → Type 0
 AllNone [] = Unit {0}
 AllNone (found ∷ others) = (found ≡ None) × AllNone others
@@ -54,7 +54,7 @@ least_some (row ∷ rows) (suc i) inside h = least_some rows i (omega arith) (gr
 pub least_of_some : (airport : AirportParts) (kind : TypeNo) → IsAirport airport → kind.0 < length airport.types → 1 ≤ least_of airport kind
 least_of_some airport kind h inside = least_some airport.types kind.0 inside (least_from airport (all_none (passed_limits airport) (limit_none airport h.faultless)))
 
--- the same of its row
+-- the same for its row
 pub least_at_some : (airport : AirportParts) (kind : TypeNo) (row : TypeRow) → IsAirport airport → kind.0 < length airport.types
     → 1 ≤ (slice_index_or airport.types kind.0 row).least
 least_at_some airport kind row h inside =
@@ -67,6 +67,6 @@ least_few [] i h = omega arith
 least_few (row ∷ rows) zero h = h.0
 least_few (row ∷ rows) (suc i) h = least_few rows i h.1
 
--- and not more than the most least minutes
+-- and it is at most the greatest least minutes
 pub least_of_few : (airport : AirportParts) (kind : TypeNo) → IsAirport airport → least_of airport kind ≤ MAX_LEAST
 least_of_few airport kind h = least_few airport.types kind.0 (recursion_from_All (λ (row : TypeRow). row.least ≤ MAX_LEAST) airport.types h.least)

@@ -6,7 +6,7 @@ use Rattle.visit_book.specs.declared.visits.Part.{Part}
 use Rattle.visit_book.specs.Changes.{pushed_behind, pushed_from, starting}
 use Rattle.visit_book.specs.PartFields.{no_part}
 
--- the part in this place starts at a minute, and those behind it were pushed
+-- the part in this place starts at a minute, and those after it were delayed
 pub push_is : (tow least from place earliest : ℕ) (parts : List Part) (part : Part) → slice_get parts place ≡ Some part
     → earliest ≡ max part.to (from + least) + tow
     → slice_set (take (suc place) parts ++ pushed_behind tow least earliest (drop (suc place) parts)) place (starting least from part)
@@ -43,7 +43,7 @@ push_made tow least from number place earliest parts set behind part first next 
     let end : earliest ≡ max part.to (from + least) + tow = rw is at later in
     rw (put, made, next, is) (push_is tow least from place earliest parts part found end)
 
--- one more part is put behind those that were pushed
+-- one more part is put after those that were pushed
 pub pushed_next : (tow least earliest index : ℕ) (old new set : List Part) (part first : Part) → slice_get old index ≡ Some part → length new ≡ length old
     → first ≡ starting least (max earliest part.from) part → set ≡ slice_set new (index + 1 - 1) first
     → take (index + 1) set ++ pushed_behind tow least (first.to + tow) (drop (index + 1) old) ≡ take index new ++ pushed_behind tow least earliest (drop index old)

@@ -1,4 +1,4 @@
--- A visit stays well formed where it comes on block, is expected off block, and goes.
+-- A visit stays well formed when it comes on block, is expected off block, or goes.
 use Rattle.std.proofs.Common.{◌≡◌, ◌≤◌, ◌<◌, ◌+◌, ◌-◌, ◌∷◌, [], ◌&&◌, ℕ, zero, suc, Bool, true, List, None, length, map, not, refl, arith}
 use Rattle.std.specs.Prelude.{Option, Some, IfSome, filter, nat_le, slice_get}
 use Rattle.std.specs.Option.{option_map_or}
@@ -67,7 +67,7 @@ arrived_kept airport number at given visit airports h live some within early sta
     (arrive_places (IsPlaceOf airport) airport.tow (least_of airport visit.kind) (number - 1) (at - airport.tow) at given visit.parts (in_fact_of airport) stand
     (stands_of airport visit h)))
 
--- a live visit stays well formed where it comes on block at a minute of the plan
+-- a live visit stays well formed when it comes on block at a minute of the plan
 pub arrive_keeps : (airport : AirportParts) (number at : ℕ) (given : Option StandNo) (visit new : Visit) → IsAirport airport → IsWellFormed airport visit
     → visit.end ≡ Live → 1 ≤ number → number ≤ length visit.parts → at < plan_end airport → IfSome given (λ stand. stand.0 < length airport.stands)
     → arrive_of airport number at given visit ≡ Some new → IsWellFormed airport new
@@ -79,7 +79,7 @@ arrive_keeps airport number at given visit new airports h live some within early
     second_of : (a b : Bool) → (a && b) ≡ true → b ≡ true
     second_of a b h = grind (arith, nat_tests)
 
--- a visit stays well formed where it is expected off block at a minute of the plan
+-- a visit stays well formed when it is expected off block at a minute of the plan
 pub estimate_off_keeps : (airport : AirportParts) (at : ℕ) (visit : Visit) → IsAirport airport → IsWellFormed airport visit → at < plan_end airport
     → IsWellFormed airport (estimate_off_of airport at visit)
 estimate_off_keeps airport at visit airports h early =
@@ -116,7 +116,7 @@ departed_kept airport at visit h early first =
     (gone_follows (pace_of airport visit.kind) at visit.parts first early (times_of airport visit h))
     (allowed_on_block airport new new.parts refl (λ over. absurd (cc)) (depart_places (IsPlaceOf airport) at visit.parts (in_fact_of airport) (stands_of airport visit h)))
 
--- a visit stays well formed where it goes at a minute of the plan
+-- a visit stays well formed when it goes at a minute of the plan
 pub depart_keeps : (airport : AirportParts) (at : ℕ) (visit new : Visit) → IsWellFormed airport visit → at < plan_end airport
     → depart_of at visit ≡ Some new → IsWellFormed airport new
 depart_keeps airport at visit new h early is =

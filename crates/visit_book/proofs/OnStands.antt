@@ -1,4 +1,5 @@
--- Parts that come on block, are expected to end, or are left keep what is true of each stand, and how many they are.
+-- When parts come on block, are expected to end, or are left, what holds of each stand stays true,
+-- and so does the number of parts.
 use Rattle.std.proofs.Common.{◌≡◌, ◌+◌, ◌++◌, ◌∷◌, [], ℕ, zero, suc, Bool, true, false, cond, List, None, length, take, drop, map, refl, arith, length-append}
 use Rattle.std.specs.Prelude.{Option, Some, IfSome, filter}
 use Rattle.apron_base.specs.declared.numbers.StandNo.{StandNo}

@@ -1,4 +1,4 @@
--- Changes keep what is true of each place of a visit's parts, and how many parts there are.
+-- Changes keep what holds of each place of a visit's parts, and how many parts there are.
 use Rattle.std.proofs.Common.{◌≡◌, ◌≤◌, ◌+◌, ◌++◌, ◌∷◌, [], ℕ, zero, suc, List, None, length, take, drop, max, refl, arith}
 use Rattle.std.specs.List.{AllByRecursion}
 use Rattle.std.specs.Prelude.{Some, slice_get}
@@ -58,7 +58,7 @@ cut_length tow at place [] part found = absurd (cc)
 cut_length tow at zero (first ∷ parts) part found = omega arith
 cut_length tow at (suc place) (first ∷ parts) part found = omega (arith, cut_length tow at place parts part found)
 
--- some part is left where parts are joined
+-- some part is left when parts are joined
 pub join_length : (place : ℕ) (parts : List Part) → 1 ≤ length parts
     → (1 ≤ length (take place parts ++ join_first (drop place parts))) × (length (take place parts ++ join_first (drop place parts)) ≤ length parts)
 join_length zero [] some = absurd (omega arith)

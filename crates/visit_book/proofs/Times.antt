@@ -6,22 +6,23 @@ use Rattle.visit_book.specs.declared.visits.Part.{Part}
 use Rattle.visit_book.specs.Changes.{cut_first, join_first, pushed_behind, pushed_from}
 use Rattle.visit_book.specs.WellFormed.{IsSpaced}
 
--- what an airport and a type say of the times of parts: the minute after the plan's last, the tow minutes and the least minutes
+-- what an airport and a type give for the times of parts: the minute after the plan's last, the tow
+-- minutes and the least minutes
 pub record Pace : Type 0 where
   pub end : ℕ
   pub tow : ℕ
   pub least : ℕ
 
--- the minute after the plan's last, and the least minutes of three parts with two tows between
+-- the minute after the plan's last, plus the least minutes of three parts with two tows between
 abbrev pub latest : Pace → ℕ
 latest pace = pace.end + 3 * pace.least + 2 * pace.tow
 
--- a part ends in time, and before the plan does where it is short
+-- a part ends in time, and before the plan does if it is short
 pub record Fits (pace : Pace) (part : Part) : Type 0 where
   pub late : part.to ≤ latest pace
   pub short : part.to < part.from + pace.least → part.to < pace.end
 
--- parts follow one another, the first of them from this minute on at the earliest, and each ends in time
+-- parts follow one another, the first from this minute at the earliest, and each ends in time
 abbrev pub Follow : Pace → ℕ → List Part → Type 0
 Follow pace start [] = Unit {0}
 Follow pace start (part ∷ parts) = (start ≤ part.from) × (part.from < part.to) × Fits pace part × Follow pace (part.to + pace.tow) parts
@@ -66,7 +67,7 @@ max_cases m n = grind arith
 pub either : (m n : ℕ) → (m < n) ⊎ (n ≤ m)
 either m n = grind arith
 
--- a part ends in time, and its tow ends as before or within reach
+-- a part ends in time, and its tow ends no later than before, or within reach
 abbrev EndsWithin : Pace → ℕ → Part → ℕ → Type 0
 EndsWithin pace reach part to = (to ≤ latest pace) × ((to + pace.tow ≤ part.to + pace.tow) ⊎ (to + pace.tow ≤ reach + pace.least + pace.tow))
 
@@ -105,7 +106,8 @@ behind_follows pace first earliest reach (part ∷ parts) some over room within 
       behind_follows pace (part.to + pace.tow) (to + pace.tow) (reach + pace.least + pace.tow) parts some (omega arith) room.1 ends.1 h.3,
     )
 
--- the minute is not before the start, or, where parts stand before this place, not before a tow behind the last of them
+-- the minute is not before the start or, if parts come before this place, not before a tow after
+-- the last of them
 abbrev pub IsAfter : ℕ → ℕ → ℕ → List Part → ℕ → Type 0
 IsAfter tow start zero parts minute = start ≤ minute
 IsAfter tow start (suc place) [] minute = Unit {0}
@@ -117,7 +119,7 @@ towed_after tow start place minute [] h = tt
 towed_after tow start zero minute (part ∷ parts) h = h
 towed_after tow start (suc place) minute (part ∷ parts) h = towed_after tow (part.to + tow) place minute parts h
 
--- the part in this place is pushed to a minute of the plan, and the later ones behind it
+-- the part in this place is pushed to a minute of the plan, and the later ones are delayed after it
 pub push_follows : (pace : Pace) (start from place : ℕ) (parts : List Part) → 1 ≤ pace.least → from < pace.end → length parts ≤ 3
     → IsAfter pace.tow start place parts from → Follow pace start parts
     → Follow pace start (take place parts ++ pushed_from pace.tow pace.least from (drop place parts))

@@ -1,4 +1,4 @@
--- What an edit is of.
+-- What an edit changes.
 use Rattle.std.specs.Prelude.{◌<◌, ℕ, length}
 use Rattle.apron_base.specs.declared.numbers.VisitNo.{VisitNo}
 use Rattle.apron_rules.specs.declared.parts.AirportParts.{AirportParts}
@@ -9,14 +9,14 @@ use Rattle.visit_book.specs.declared.edits.Edit.TheVariants.{Put, Lift, Cut, Joi
 abbrev pub most_edits : ℕ
 most_edits = 64
 
--- the visit that an edit is of
+-- the visit that an edit changes
 abbrev pub visit_of : Edit → VisitNo
 visit_of (Put visit part stand) = visit
 visit_of (Lift visit part) = visit
 visit_of (Cut visit part at) = visit
 visit_of (Join visit part) = visit
 
--- the part that an edit is of, counted from 1
+-- the part that an edit changes, counted from 1
 abbrev pub part_of : Edit → ℕ
 part_of (Put visit part stand) = part
 part_of (Lift visit part) = part

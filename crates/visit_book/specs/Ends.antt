@@ -4,7 +4,7 @@ use Rattle.visit_book.specs.declared.visits.End.{End}
 use Rattle.visit_book.specs.declared.visits.End.TheVariants.{Live}
 use Rattle.visit_book.specs.declared.visits.Visit.{Visit}
 
--- a visit that has come to this can still be changed
+-- a visit with this end, or none, can still be changed
 abbrev pub is_open : End → Bool
 is_open Live = true
 is_open end = false

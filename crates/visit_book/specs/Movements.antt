@@ -12,7 +12,7 @@ use Rattle.visit_book.specs.declared.visits.Visit.{Visit}
 use Rattle.visit_book.specs.Changes.{before_part, from_part, has_actual_behind, pushed_from, with_parts}
 use Rattle.visit_book.specs.PartFields.{part_at}
 
--- the place, its stand held in fact
+-- the same place, with its stand held in fact
 abbrev pub in_fact : Place → Place
 in_fact (Planned stand) = Actual stand
 in_fact place = place
@@ -37,12 +37,14 @@ abbrev pub first_on_block : Option StandNo → List Part → List Part
 first_on_block given [] = []
 first_on_block given (part ∷ parts) = made_actual (on_given given part) ∷ parts
 
--- the part before the one of this number, if there is one, starts at least a minute and the tow minutes before this minute
+-- the part before the one of this number, if there is one, starts at least one minute plus the tow
+-- minutes before this minute
 abbrev pub has_time_to_tow : ℕ → ℕ → ℕ → List Part → Bool
 has_time_to_tow tow number at parts = option_map_or (λ part. nat_le (part.from + 1 + tow) at) (part_at parts (number - 1)) true
 
--- the visit on block at this minute with the part of this number: the part before it ends the tow minutes earlier, the parts up to it are on their stands in
--- fact, and the later ones start as much later as they must
+-- the visit on block at this minute with the part of this number: the part before it ends the tow
+-- minutes earlier, the parts up to it are on their stands in fact, and the later ones are delayed
+-- as far as needed
 abbrev pub arrived : AirportParts → ℕ → ℕ → Option StandNo → Visit → Visit
 arrived airport number at given visit = record visit {
   parts = map made_actual (last_ended (at - airport.tow) (before_part number visit.parts))
@@ -50,14 +52,15 @@ arrived airport number at given visit = record visit {
   on_block = true;
 }
 
--- the visit on block at this minute with the part of this number, where that can be: no later part is actual, and there is time to tow
+-- the visit on block at this minute with the part of this number, if that is possible: no later
+-- part is actual, and there is time to tow
 abbrev pub arrive_of : AirportParts → ℕ → ℕ → Option StandNo → Visit → Option Visit
 arrive_of airport number at given visit =
     if not (has_actual_behind number visit) && has_time_to_tow airport.tow number at visit.parts
     then Some (arrived airport number at given visit)
     else None
 
--- the last of these parts ends at this minute, or as much later as it must to have the least minutes
+-- the last of these parts ends at this minute, or as much later as needed to have the least minutes
 abbrev pub last_expected : ℕ → ℕ → List Part → List Part
 last_expected least at [] = []
 last_expected least at (part ∷ []) = record part { to = max at (part.from + least) } ∷ []
@@ -71,7 +74,8 @@ estimate_off_of airport at visit = with_parts visit (last_expected (least_of air
 abbrev pub starts_before : ℕ → Part → Bool
 starts_before at part = nat_lt part.from at
 
--- the visit gone at this minute: the parts that start before it are on their stands in fact, and the last of them ends then
+-- the visit gone at this minute: the parts that start before it are on their stands in fact, and
+-- the last of them ends at it
 abbrev pub departed : ℕ → Visit → Visit
 departed at visit = record visit {
   parts = map made_actual (last_ended at (filter (starts_before at) visit.parts));
@@ -84,6 +88,6 @@ abbrev pub first_starts_before : ℕ → List Part → Bool
 first_starts_before at [] = false
 first_starts_before at (part ∷ parts) = starts_before at part
 
--- the visit gone at this minute, where that can be: its first part starts before it
+-- the visit gone at this minute, if that is possible: its first part starts before it
 abbrev pub depart_of : ℕ → Visit → Option Visit
 depart_of at visit = if first_starts_before at visit.parts then Some (departed at visit) else None

@@ -19,26 +19,27 @@ HasFlight key = IsFlight key.flight
 abbrev pub is_key_in_time : AirportParts → Key → Bool
 is_key_in_time airport key = nat_le key.day airport.days
 
--- the times are such as a visit can have at the airport: on block before the plan ends, off block then at the latest, at least the least minutes of the
--- type later, and flights of days of the plan or the day before
+-- the times are valid at the airport: on block before the plan ends; off block by then, and at
+-- least the least minutes of the type later; and flights of days of the plan or the day before
 abbrev pub is_in_time : AirportParts → NewVisit → Bool
 is_in_time airport new =
     nat_lt new.on (plan_end airport) && nat_le new.off (plan_end airport) && nat_le (new.on + least_of airport new.kind) new.off
     && list_all (is_key_in_time airport) (option_to_list new.arr ++ option_to_list new.dep)
 
--- what can be said of a visit at any airport: a class, and flights
+-- what has to hold of a visit's data at any airport: a class, and flights
 pub record IsNewVisit (new : NewVisit) : Type 0 where
   pub class : new.class ≤ greatest_class
   pub arr : IfSome new.arr HasFlight
   pub dep : IfSome new.dep HasFlight
 
--- the same at this airport: its type is one of it, and its times are such as a visit can have there
+-- the same at this airport: the type is one of its types, and the times are valid there
 pub record IsNewVisitOf (airport : AirportParts) (new : NewVisit) : Type 0 where
   pub new_visit : IsNewVisit new
   pub kind : new.kind.0 < length airport.types
   pub in_time : is_in_time airport new ≡ true
 
--- the visit of this number that the entry adds which makes this version: it is expected, with one part that stands nowhere yet, and no commit edited it
+-- the visit of this number, added by the entry that makes this version: it is expected, with one
+-- part that is on no stand yet, and no commit edited it
 abbrev pub added_visit : ℕ → ℕ → NewVisit → Visit
 added_visit number version new = record {
   number = record { 0 = number };

@@ -17,7 +17,8 @@ abbrev pub IsEventOf : AirportParts → Event → Type 0
 IsEventOf airport (On part stand minute) = stand.0 < length airport.stands
 IsEventOf airport (Off minute) = Unit {0}
 
--- what the event makes of a live visit: it is refused if there is no such part, at a minute behind the plan, and at one that is too early
+-- what the event makes of a live visit: it is refused if there is no such part, or at a minute
+-- after the plan's end, or at one that is too early
 abbrev pub happened : AirportParts → Event → Visit → Result Visit ReportFault
 happened airport (On part stand minute) visit = do
   found ← ok_or (part_at visit.parts part) NoSuchPart
@@ -27,7 +28,7 @@ happened airport (Off minute) visit = do
   within ← refuse_if (not (nat_lt minute (plan_end airport))) Time
   ok_or (depart_of minute visit) Time
 
--- what the event makes of the visit: it is refused first if the visit is gone or cancelled
+-- what the event makes of the visit: it is refused first of all if the visit is gone or cancelled
 abbrev pub report_of : AirportParts → Event → Visit → Result Visit ReportFault
 report_of airport event visit = do
   live ← refuse_if (not (is_live visit)) Gone

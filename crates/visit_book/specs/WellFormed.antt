@@ -13,7 +13,8 @@ use Rattle.visit_book.specs.Places.{IsPlaceOf, is_actual, stand_of}
 abbrev pub greatest_class : ℕ
 greatest_class = 9
 
--- each part ends after it starts; the first starts at this minute or later, and each other one at least the tow minutes after the one before ends
+-- each part ends after it starts; the first starts at this minute or later, and each other one at
+-- least the tow minutes after the one before ends
 abbrev pub IsSpaced : ℕ → ℕ → List Part → Type 0
 IsSpaced tow start [] = Unit {0}
 IsSpaced tow start (part ∷ parts) = (start ≤ part.from) × (part.from < part.to) × IsSpaced tow (part.to + tow) parts
@@ -22,7 +23,8 @@ IsSpaced tow start (part ∷ parts) = (start ≤ part.from) × (part.from < part
 abbrev pub plan_end : AirportParts → ℕ
 plan_end airport = 1440 * airport.days
 
--- the minute after the plan's last, and the least minutes of three parts of the type with two tows between
+-- the minute after the plan's last, plus the least minutes of three parts of the type with two tows
+-- between
 abbrev pub latest_end : AirportParts → TypeNo → ℕ
 latest_end airport kind = plan_end airport + 3 * least_of airport kind + 2 * airport.tow
 
@@ -30,8 +32,10 @@ latest_end airport kind = plan_end airport + 3 * least_of airport kind + 2 * air
 abbrev pub IsEarlyIfShort : AirportParts → TypeNo → Part → Type 0
 IsEarlyIfShort airport kind part = part.to < part.from + least_of airport kind → part.to < plan_end airport
 
--- a type and stands of the airport, a class, one to three parts that follow one another, none ending later than three least parts of the type
--- with two tows after the plan, none short at the plan's end, none actual before the visit is on block, and none on a stand once it is cancelled
+-- a type and stands of the airport; a class; one to three parts that follow one another; none ends
+-- later after the plan than three parts of the type's least minutes with two tows take; none is
+-- short at the plan's end; none is actual before the visit is on block; and none is on a stand once
+-- the visit is cancelled
 pub record IsWellFormed (airport : AirportParts) (visit : Visit) : Type 0 where
   pub kind : visit.kind.0 < length airport.types
   pub class : visit.class ≤ greatest_class

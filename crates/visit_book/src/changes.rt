@@ -13,17 +13,18 @@ use crate::{Part, Parts, Place, Visit};
 use apron_base::{Minute, TypeNo};
 use apron_rules::{Airport, MAX_LEAST, MAX_TOW};
 
-/// The visit has three parts, or one of the two pieces would be shorter than the least minutes of its type.
+/// The visit has three parts already, or one of the two pieces would be shorter than the least
+/// minutes of its type.
 #[derive(Clone, Copy, Debug, PartialEq, Eq)]
 pub struct BadCut;
 
-/// There is no part behind this one.
+/// No part comes after this one.
 #[derive(Clone, Copy, Debug, PartialEq, Eq)]
 pub struct BadJoin;
 
-/// The visit with its part of this number, counted from 1, starting at this minute, and the later parts as much later
-/// as they must: each lasts at least the least minutes of the type, and starts at least the airport's tow minutes
-/// after the one before ends. It takes no memory.
+/// The visit with its part of this number, counted from 1, starting at this minute. The later parts
+/// are delayed as far as needed: each lasts at least the least minutes of the type, and starts at
+/// least the airport's tow minutes after the one before ends. It takes no memory.
 pub fn push(visit: &Visit, airport: &Airport, part: u8, from: Minute) -> Visit
     requires well_formed { IsWellFormed airport.now visit.now }
     requires least { 1 ≤ part }
@@ -41,8 +42,9 @@ pub fn push(visit: &Visit, airport: &Airport, part: u8, from: Minute) -> Visit
     with_parts(visit, pushed.with(part, first))
 }
 
-/// The visit with its part of this number, counted from 1, ending at this minute in its old place, and an unplaced
-/// part behind it, which starts the airport's tow minutes later and takes the old end. It takes no memory.
+/// The visit with its part of this number, counted from 1, ending at this minute in its old place,
+/// and an unplaced part after it, which starts the airport's tow minutes later and ends at the old
+/// end. It takes no memory.
 pub fn cut(visit: &Visit, airport: &Airport, part: u8, at: Minute) -> Result<Visit, BadCut>
     requires well_formed { IsWellFormed airport.now visit.now }
     requires least { 1 ≤ part }
@@ -57,8 +59,8 @@ pub fn cut(visit: &Visit, airport: &Airport, part: u8, at: Minute) -> Result<Vis
     }
 }
 
-/// The visit with its part of this number, counted from 1, and the one behind it as one part, which keeps the place of
-/// the first and takes the end of the second. It takes no memory.
+/// The visit with its part of this number, counted from 1, and the next one joined into one part,
+/// which keeps the place of the first and the end of the second. It takes no memory.
 pub fn join(visit: &Visit, part: u8) -> Result<Visit, BadJoin>
     requires least { 1 ≤ part }
     requires most { part ≤ length visit.now.parts }
@@ -72,7 +74,7 @@ pub fn join(visit: &Visit, part: u8) -> Result<Visit, BadJoin>
     }
 }
 
-/// Whether a part behind the one of this number, counted from 1, is actual.
+/// Whether a part after the one of this number, counted from 1, is actual.
 pub fn has_actual_behind(visit: &Visit, part: u8) -> bool
     ensures is { result ≡ has_actual_behind part visit.now }
 {
@@ -122,8 +124,8 @@ fn join_of(visit: &Visit, part: u8) -> Option<Visit>
     Some(with_parts(visit, parts))
 }
 
-// The parts, of which each behind the first ones, so many of them, starts at this minute at the earliest, and each
-// later one at least the airport's tow minutes after the one before ends.
+// Delays all parts after the first `kept`: the next one starts at this minute at the earliest, and
+// each later one at least the airport's tow minutes after the one before ends.
 pub(crate) fn push_behind(visit: &Visit, airport: &Airport, kept: usize, earliest: Minute) -> Parts
     requires well_formed { IsWellFormed airport.now visit.now }
     requires kept { kept ≤ length visit.now.parts }
@@ -144,7 +146,7 @@ pub(crate) fn push_behind(visit: &Visit, airport: &Airport, kept: usize, earlies
     parts
 }
 
-// The part from this minute on, with an end at least the least minutes later.
+// The part starting at this minute, with an end at least the least minutes later.
 pub(crate) fn starting(least: u32, from: Minute, part: Part) -> Part
     requires room { from + least < 2 ^ 32 }
     ensures is { result ≡ starting least from part }
@@ -156,14 +158,15 @@ pub(crate) fn starting(least: u32, from: Minute, part: Part) -> Part
     }
 }
 
-// Whether one more part is not too many.
+// Whether there is room for one more part.
 fn has_few(parts: &Parts) -> bool
     ensures is { result ≡ has_few parts.now }
 {
     parts.len() < MOST_PARTS
 }
 
-// Whether both pieces of the part have the least minutes, with the tow minutes between them.
+// Whether both pieces of the part have at least the least minutes, with the tow minutes between
+// them.
 fn is_long_enough(tow: u32, least: u32, at: Minute, part: &Part) -> bool
     requires tow { tow ≤ MAX_TOW }
     requires least { least ≤ MAX_LEAST }
@@ -172,7 +175,7 @@ fn is_long_enough(tow: u32, least: u32, at: Minute, part: &Part) -> bool
     are_apart(least, part.from, at) && are_apart(tow + least, at, part.to)
 }
 
-// Whether the second minute is at least so many minutes after the first.
+// Whether the second minute is at least this many minutes after the first.
 pub(crate) fn are_apart(minutes: u32, from: Minute, to: Minute) -> bool
     ensures is { result ≡ nat_le (from + minutes) to }
 {

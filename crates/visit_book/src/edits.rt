@@ -8,31 +8,33 @@ use apron_rules::{Clash, UnfitBy};
 /// One change that a commit asks for.
 #[derive(Clone, Copy, Debug, PartialEq, Eq)]
 pub enum Edit {
-    /// Plans a part, counted from 1, that is not actual on a stand.
+    /// Puts a part that is not actual on a stand by the plan. Parts count from 1.
     Put {
         visit: VisitNo,
         part: u8,
         stand: StandNo,
     },
-    /// Takes a part, counted from 1, that is not actual from its stand, and its record of what took a stand from it.
+    /// Takes a part that is not actual from its stand, and deletes its record of what took a stand
+    /// from it. Parts count from 1.
     Lift {
         visit: VisitNo,
         part: u8,
     },
-    /// Ends a part, counted from 1, at a minute, and lets an unplaced one follow it the airport's tow minutes later.
+    /// Ends a part at a minute, and adds an unplaced part after it, the airport's tow minutes
+    /// later. Parts count from 1.
     Cut {
         visit: VisitNo,
         part: u8,
         at: Minute,
     },
-    /// Makes a part, counted from 1, and the one behind it one part on the stand of the first.
+    /// Joins a part and the next one into one part, on the stand of the first. Parts count from 1.
     Join {
         visit: VisitNo,
         part: u8,
     },
 }
 
-/// The visit that an edit is of.
+/// The visit that an edit changes.
 pub fn visit_of(edit: &Edit) -> VisitNo
     ensures is { result ≡ visit_of edit.now }
 {
@@ -44,7 +46,7 @@ pub fn visit_of(edit: &Edit) -> VisitNo
     }
 }
 
-/// The part that an edit is of, counted from 1.
+/// The part that an edit changes, counted from 1.
 pub fn part_of(edit: &Edit) -> u8
     ensures is { result ≡ part_of edit.now }
 {
@@ -77,15 +79,16 @@ pub enum EditFault {
     NoSuchPart {
         edit: u8,
     },
-    /// The part is actual, where it is to be put or lifted; a later part is, where it is to be cut or joined.
+    /// For a put or a lift: the part is actual. For a cut or a join: a later part is actual.
     OnBlock {
         edit: u8,
     },
-    /// The visit has three parts, or one of the two pieces would be shorter than the least minutes of the type.
+    /// The visit has three parts already, or one of the two pieces would be shorter than the least
+    /// minutes of the type.
     BadCut {
         edit: u8,
     },
-    /// There is no part behind this one.
+    /// No part comes after this one.
     BadJoin {
         edit: u8,
     },
@@ -94,9 +97,9 @@ pub enum EditFault {
         edit: u8,
         by: UnfitBy,
     },
-    /// Each edit applies, and this is the first clash of the plan that they leave.
+    /// Each edit applies, and this is the first clash of the plan that they make.
     Clash(Clash),
-    /// Memory is wanting.
+    /// There is no memory.
     Memory,
 }
 

@@ -1,5 +1,5 @@
-//! Visits and their parts: what a well-formed one is, the stands that its parts hold, what may be asked of it, and what
-//! its changes and reports of it make of it. It knows no plan and no versions.
+//! Visits and their parts: what makes a visit well formed, the stands that its parts hold, what may
+//! be asked of it, and what changes and reports make of it. It knows no plan and no versions.
 #![tactic(auto)]
 
 mod changes;

@@ -11,14 +11,15 @@ use crate::{End, Part, Parts, Place, Visit};
 use apron_base::{Minute, StandNo};
 use apron_rules::Airport;
 
-/// A later part is actual, or the minute is too early: the part before needs one minute and the tow minutes, and a visit
-/// goes after the start of its first part.
+/// A later part is actual, or the minute is too early: the part before it needs at least one minute
+/// and then the tow minutes, and a visit goes after the start of its first part.
 #[derive(Clone, Copy, Debug, PartialEq, Eq)]
 pub struct BadTime;
 
-/// The visit on block at this minute with its part of this number, counted from 1, on this stand or, where none is
-/// given, where it stands. The part before ends the airport's tow minutes earlier, the parts up to this one are on their
-/// stands in fact, and the later ones start as much later as they must. It takes no memory.
+/// The visit on block at this minute with its part of this number, counted from 1, on this stand
+/// or, if none is given, on the one that the part has. The part before ends the airport's tow
+/// minutes earlier, the parts up to this one are on their stands in fact, and the later ones are
+/// delayed as far as needed. It takes no memory.
 pub fn arrive(
     visit: &Visit,
     airport: &Airport,
@@ -42,8 +43,8 @@ pub fn arrive(
     }
 }
 
-/// The visit, whose last part ends at this minute, or as much later as it must to have the least minutes of the type.
-/// It takes no memory.
+/// The visit with its last part ending at this minute, or as much later as needed to have the least
+/// minutes of the type. It takes no memory.
 pub fn estimate_off(visit: &Visit, airport: &Airport, at: Minute) -> Visit
     requires well_formed { IsWellFormed airport.now visit.now }
     requires at { at < plan_end airport.now }
@@ -57,8 +58,8 @@ pub fn estimate_off(visit: &Visit, airport: &Airport, at: Minute) -> Visit
     with_parts(visit, ended(visit.parts, parts.len(), end))
 }
 
-/// The visit gone at this minute: its parts that start earlier are on their stands in fact, the last of them ends then,
-/// and the others are no more. It takes no memory.
+/// The visit gone at this minute: its parts that start earlier are on their stands in fact, the
+/// last of them ends at this minute, and the later parts are removed. It takes no memory.
 pub fn depart(visit: &Visit, at: Minute) -> Result<Visit, BadTime>
     ensures ok { IfOk result (λ new. depart_of at visit.now ≡ Some new) }
     ensures well_formed { (airport : AirportParts) → IsWellFormed airport visit.now → at < plan_end airport → IfOk result (IsWellFormed airport) }
@@ -115,8 +116,8 @@ fn depart_of(visit: &Visit, at: Minute) -> Option<Visit>
     })
 }
 
-// Whether the part before the one of this number, if there is one, starts at least a minute and the tow minutes before
-// this minute.
+// Whether the part before the one of this number, if there is one, starts at least one minute plus
+// the tow minutes before this minute.
 fn has_time_to_tow(tow: u32, number: u8, at: Minute, parts: &Parts) -> bool
     requires least { 1 ≤ number }
     ensures is { result ≡ has_time_to_tow tow number at parts.now }
@@ -157,7 +158,8 @@ fn in_fact(place: Place) -> Place
     }
 }
 
-// The parts, of which so many first ones are on their stands in fact, the last of them up to this minute.
+// The parts, with the first `count` of them on their stands in fact, and the last of these ending
+// at this minute.
 fn left(parts: Parts, count: usize, end: Minute) -> Parts
     requires count { count ≤ length parts }
     ensures is { result ≡ map made_actual (last_ended end (take count parts)) ++ drop count parts }
@@ -165,7 +167,7 @@ fn left(parts: Parts, count: usize, end: Minute) -> Parts
     with_actual(ended(parts, count, end), count)
 }
 
-// The parts, of which so many first ones are on their stands in fact.
+// The parts, with the first `count` of them on their stands in fact.
 fn with_actual(parts: Parts, count: usize) -> Parts
     requires count { count ≤ length parts }
     ensures is { result ≡ map made_actual (take count parts) ++ drop count parts }
@@ -178,7 +180,7 @@ fn with_actual(parts: Parts, count: usize) -> Parts
     made
 }
 
-// The parts, of which the last of so many first ones ends at this minute.
+// The parts, with the last of the first `count` ending at this minute.
 fn ended(parts: Parts, count: usize, end: Minute) -> Parts
     requires count { count ≤ length parts }
     ensures is { result ≡ last_ended end (take count parts) ++ drop count parts }
@@ -190,7 +192,7 @@ fn ended(parts: Parts, count: usize, end: Minute) -> Parts
     parts.with(count as u8, Part { to: end, ..last })
 }
 
-// The parts that start before this minute, the first of which does.
+// The parts that start before this minute. The first part does.
 fn started_before(parts: &Parts, at: Minute) -> Parts
     requires first { first_starts_before at parts.now ≡ true }
     ensures is { result ≡ filter (starts_before at) parts.now }

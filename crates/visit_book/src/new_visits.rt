@@ -8,8 +8,8 @@ use crate::{End, Key, NewVisit, Part, Parts, Place, Visit};
 use apron_base::VisitNo;
 use apron_rules::Airport;
 
-/// The visit of this number that the entry adds which makes this version: expected, with one part from on block to off
-/// block that stands nowhere yet. It takes no memory.
+/// The visit of this number, added by the entry that makes this version: expected, with one part
+/// from on block to off block that is on no stand yet. It takes no memory.
 pub fn added_visit(number: VisitNo, version: u32, new: &NewVisit) -> Visit
     ensures is { result ≡ added_visit number.0 version new.now }
 {
@@ -34,8 +34,9 @@ pub fn added_visit(number: VisitNo, version: u32, new: &NewVisit) -> Visit
     }
 }
 
-/// Whether the times are such as a visit can have at the airport: on block before the plan ends, off block then at the
-/// latest and at least the least minutes of the type later, and flights of days of the plan or the day before.
+/// Whether the times are valid at the airport: on block before the plan ends; off block by then,
+/// and at least the least minutes of the type later; and flights of days of the plan or the day
+/// before.
 pub fn is_in_time(airport: &Airport, new: &NewVisit) -> bool
     requires kind { new.now.kind.0 < length airport.now.types }
     ensures is { result ≡ is_in_time airport.now new.now }

@@ -6,7 +6,7 @@ ghost use Rattle.visit_book.specs.Numbers.{IsNumbered, visit_at};
 use crate::Visit;
 use apron_base::VisitNo;
 
-/// The visit of a number: None for 0 and for a number above that of the last.
+/// The visit of a number: `None` for 0 and for a number above the last one's.
 pub fn visit_at(visits: &[Visit], number: VisitNo) -> Option<&Visit>
     requires numbered { IsNumbered visits.now }
     ensures is { option_copied result ≡ visit_at visits.now number }

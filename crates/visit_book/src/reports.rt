@@ -32,11 +32,12 @@ pub enum ReportFault {
     Gone,
     /// The visit has no part of this number.
     NoSuchPart,
-    /// The minute is behind the plan, or too early.
+    /// The minute is after the plan's end, or too early.
     Time,
 }
 
-/// The visit as the event leaves it. The stand may be one that the visit's type doesn't fit. It takes no memory.
+/// The visit as the event leaves it. The stand may be one that the visit's type doesn't fit. It
+/// takes no memory.
 pub fn report(visit: &Visit, airport: &Airport, event: &Event) -> Result<Visit, ReportFault>
     requires well_formed { IsWellFormed airport.now visit.now }
     requires event { IsEventOf airport.now event.now }

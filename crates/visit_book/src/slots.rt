@@ -8,8 +8,8 @@ use crate::visits::{Part, Place, Visit};
 use apron_base::{PartId, Slot, StandNo};
 use apron_rules::Airport;
 
-/// The slot of a part of the visit, counted from 1: the minutes that it holds its stand, the stand's buffer
-/// after its end among them. None where it stands nowhere.
+/// The slot of a part of the visit, counted from 1: the minutes for which it holds its stand, up to
+/// the stand's buffer after its end. `None` if it is on no stand.
 pub fn slot_of(airport: &Airport, visit: &Visit, number: u8, part: &Part) -> Option<Slot>
     requires place { IsPlaceOf airport.now part.now.place }
     requires to { part.now.to ≤ latest_end airport.now visit.now.kind }

@@ -7,7 +7,7 @@ holds_when : (Holds : ℕ → Type 0) (b : Bool) (day : ℕ) (earlier : Option �
 holds_when Holds true day earlier h k = h
 holds_when Holds false day earlier h k = k
 
--- what holds of each of so many days holds of the latest
+-- what holds of each of this many days holds of the latest
 pub latest_holds : (Holds : ℕ → Type 0) (test : ℕ → Bool) (first count : ℕ) → ((day : ℕ) → first ≤ day → day < first + count → Holds day)
     → IfSome (latest_day test first count) Holds
 latest_holds Holds test first zero h = tt

@@ -34,7 +34,7 @@ use Rattle.visit_effects.specs.declared.effects.Told.{Told}
 use Rattle.visit_effects.specs.Effects.{changed_at, changed_by, effect_of, is_meant, scheduled, told_of, visit_meant}
 use Rattle.visit_effects.specs.Happenings.{IsBumpOf, IsOneOf, IsOneVisit}
 
--- the record of what took a stand that a place has, if it has one, is one of these parts
+-- the record of what took a stand that a place has, if any, is one of these parts
 abbrev HasKnownBump : List Part → Place → Type 0
 HasKnownBump parts place = (bump : Bump) → place ≡ Unplaced (Some bump) → IsBumpOf parts bump
 
@@ -125,7 +125,7 @@ changed_is_one airport ExpectedOff at visit after is =
     made_where true (estimate_off_of airport at visit) after (IsOneVisit visit) is (λ passed. estimated_is_one airport at visit)
 changed_is_one airport OffBlock at visit after is = depart_is_one at visit after is
 
--- what comes of a value that may be wanting comes of one that is there
+-- if something is made of an optional value, the value exists
 had : {X Y : Type 0} (f : X → Option Y) (found : Option X) (y : Y) → option_and_then f found ≡ Some y → (x : X) × (found ≡ Some x) × (f x ≡ Some y)
 had f None y is = absurd (cc)
 had f (Some x) y is = (x, refl, is)
@@ -160,7 +160,7 @@ numbered_found test number [] visit numbered is = absurd (cc)
 numbered_found test number (first ∷ visits) visit numbered is =
     found_when number (test first) first visit visits (find test visits) numbered.0 (numbered_found test (number + 1) visits visit numbered.1) is
 
--- what a message makes of one of some visits is that visit
+-- what a message makes of one of some visits is still that visit
 pub effect_is_one : (airport : AirportParts) (visits : List Visit) (message : Mvt) (after : Visit) → IsNumbered visits
     → effect_of airport visits message ≡ Some after → IsOneOf visits after
 effect_is_one airport visits message after numbered is =
@@ -196,7 +196,7 @@ happened_is_one airport (Off minute) before after is =
     let within = done (refuse_if (not (nat_lt minute (plan_end airport))) Time) (λ within. ok_or (depart_of minute before) Time) after is in
     depart_is_one minute before after (was_some (depart_of minute before) Time after within.2)
 
--- what a report makes of a visit is that visit
+-- what a report makes of a visit is still that visit
 pub report_is_one : (airport : AirportParts) (event : Event) (before after : Visit) → report_of airport event before ≡ Ok after → IsOneVisit before after
 report_is_one airport event before after is =
     let live = done (refuse_if (not (is_live before)) Gone) (λ live. happened airport event before) after is in

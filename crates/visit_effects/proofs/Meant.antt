@@ -1,4 +1,5 @@
--- The visit that a message means is well formed and live, and none of its parts is actual before it is on block.
+-- The visit that a message means is well formed and live, and none of its parts is actual before it
+-- is on block.
 use Rattle.std.proofs.Common.{◌≡◌, ℕ, zero, suc, Bool, true, false, cond, List, [], ◌∷◌, drop, refl, arith}
 use Rattle.std.specs.Prelude.{◌&&◌, All, Option, Some, IfSome, find}
 use Rattle.std.specs.List.{AllByRecursion, list_any}

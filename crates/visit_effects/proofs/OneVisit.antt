@@ -17,7 +17,7 @@ alone : {X : Type 0} (test : X → Bool) (x : X) (later : Option X) (b : Bool) �
 alone test x later true is h = rw is refl
 alone test x later false is h = h
 
--- the first that passes a test is the first that passes it of itself alone
+-- the first that passes a test is also the first that passes it by itself
 found_alone : {X : Type 0} (test : X → Bool) (xs : List X) → find test xs ≡ option_and_then (λ y. find test (y ∷ [])) (find test xs)
 found_alone test [] = refl
 found_alone test (x ∷ xs) = alone test x (find test xs) (test x) refl (found_alone test xs)

@@ -27,30 +27,32 @@ use Rattle.visit_book.specs.WellFormed.{plan_end}
 abbrev pub told_at : Moment → Clock → Told
 told_at moment clock = record { moment = moment; clock = clock }
 
--- an arrival tells of the time on block where it has one, and else of the touchdown
+-- an arrival gives the time on block if it has one, and otherwise that of the touchdown
 abbrev pub told_by_arrival : Clock × Option Clock → Told
 told_by_arrival (touchdown, None) = told_at Touchdown touchdown
 told_by_arrival (touchdown, Some on) = told_at OnBlock on
 
--- the airport's own station tells of the arrival, else of the departure, else of the expected departure
+-- a message of the airport's own station gives the arrival, or else the departure, or else the
+-- expected departure
 abbrev pub told_here : Mvt → Option Told
 told_here message =
     option_or (option_map told_by_arrival message.aa)
     (option_or (option_map (λ times. told_at OffBlock times.0) message.ad) (option_map (told_at ExpectedOff) message.ed))
 
--- another station tells of the expected arrival, where that is at the airport
+-- a message of another station gives the expected arrival, if that is at the airport
 abbrev pub told_elsewhere : AirportParts → Mvt → Option Told
 told_elsewhere airport message = do
   estimate ← message.ea
   if bytes_eq estimate.1 airport.station then Some (told_at Touchdown estimate.0) else None
 
--- what the message tells at the airport
+-- what the message says at the airport
 abbrev pub told_of : AirportParts → Mvt → Option Told
 told_of airport message = if bytes_eq message.station airport.station then told_here message else told_elsewhere airport message
 
 -- Which visit is meant.
 
--- the flight of the visit that it is told of: the one that it comes by, or the one that it leaves by
+-- the flight of the visit that is meant at a moment: the one that it comes by, or the one that it
+-- leaves by
 abbrev pub key_of : Moment → Visit → Option Key
 key_of Touchdown visit = visit.arr
 key_of OnBlock visit = visit.arr
@@ -61,20 +63,22 @@ key_of OffBlock visit = visit.dep
 abbrev pub is_meant : Moment → Flight → ℕ → Visit → Bool
 is_meant moment flight day visit = is_live visit && option_map_or (is_key_of flight day) (key_of moment visit) false
 
--- the first visit that is meant, on the latest day of the plan, or the day before it, that has the message's day of the month
+-- the first visit that is meant, on the latest day of the plan, or the day before it, that has the
+-- message's day of the month
 abbrev pub visit_meant : AirportParts → List Visit → Moment → Mvt → Option Visit
 visit_meant airport visits moment message = do
   day ← latest_day (is_of_month airport message.day) 0 (airport.days + 1)
   find (is_meant moment message.flight day) visits
 
--- the flight that is told of at a moment: one that a visit comes by, or one that it leaves by
+-- the flight at a moment: one that a visit comes by, or one that it leaves by
 abbrev pub movement_of : Moment → Key → Movement
 movement_of Touchdown key = Arrival key
 movement_of OnBlock key = Arrival key
 movement_of ExpectedOff key = Departure key
 movement_of OffBlock key = Departure key
 
--- the flight that the message is of, on the latest day of the plan, or the day before it, that has its day of the month
+-- the flight that the message is about, on the latest day of the plan, or the day before it, that
+-- has its day of the month
 abbrev pub movement_meant : AirportParts → Mvt → Option Movement
 movement_meant airport message = do
   told ← told_of airport message
@@ -95,12 +99,14 @@ scheduled OnBlock visit = visit.on
 scheduled ExpectedOff visit = visit.off
 scheduled OffBlock visit = visit.off
 
--- the visit that is not on block yet, expected on block the taxi-in minutes after it has landed, which is a minute of the plan
+-- the visit, if it is not on block yet, expected on block the taxi-in minutes after it has landed,
+-- which is a minute of the plan
 abbrev pub landed : AirportParts → ℕ → Visit → Option Visit
 landed airport at visit =
     if not visit.on_block && nat_lt (at + airport.taxi_in) (plan_end airport) then Some (push_of airport 1 (at + airport.taxi_in) visit) else None
 
--- the visit that is not on block yet, on block at this minute where it stands by the plan
+-- the visit, if it is not on block yet, on block at this minute on the stand that it has by the
+-- plan
 abbrev pub on_block_at : AirportParts → ℕ → Visit → Option Visit
 on_block_at airport at visit = if visit.on_block then None else arrive_of airport 1 at None visit
 
@@ -111,13 +117,13 @@ changed_at airport OnBlock at visit = on_block_at airport at visit
 changed_at airport ExpectedOff at visit = Some (estimate_off_of airport at visit)
 changed_at airport OffBlock at visit = depart_of at visit
 
--- what is told does to the visit
+-- what the message says, done to the visit
 abbrev pub changed_by : AirportParts → Told → Visit → Option Visit
 changed_by airport told visit = do
   at ← minute_of airport (scheduled told.moment visit) told.clock
   changed_at airport told.moment at visit
 
--- the visit as the message changes it, or none where it does nothing
+-- the visit as the message changes it, or none if it does nothing
 abbrev pub effect_of : AirportParts → List Visit → Mvt → Option Visit
 effect_of airport visits message = do
   told ← told_of airport message

@@ -1,4 +1,5 @@
--- What happens to a visit, by a message or a report, changes no more of it than its parts, whether it is on block, and its end.
+-- What happens to a visit, by a message or a report, changes only its parts, whether it is on
+-- block, and its end.
 use Rattle.std.specs.Prelude.{◌≡◌, List, Contains, Some}
 use Rattle.visit_book.specs.declared.visits.Bump.{Bump}
 use Rattle.visit_book.specs.declared.visits.Part.{Part}
@@ -13,8 +14,9 @@ pub record IsBumpOf (parts : List Part) (bump : Bump) : Type 0 where
   pub among : Contains parts part
   pub place : part.place ≡ Unplaced (Some bump)
 
--- the visit after is the one before: it has its number, what that was added with, and the entries that added it and edited it last, and each record of what
--- took a stand of its parts is one of the parts before
+-- the visit after is the same as before: it has the same number, the data that it was added with,
+-- and the entries that added it and edited it last; and each record of what took a stand of its
+-- parts is one of the parts before
 pub record IsOneVisit (before after : Visit) : Type 0 where
   pub number : after.number ≡ before.number
   pub new : new_of after ≡ new_of before

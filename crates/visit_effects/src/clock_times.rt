@@ -12,8 +12,9 @@ const MINUTES_OF_DAY: u32 = 1_440;
 
 const MINUTES_OF_HALF_DAY: u32 = 720;
 
-/// The minute of the plan that a clock time names: on the day of the month that it has, or else on the day that brings
-/// it nearest to the scheduled minute, the later of two. None where that is no minute of the plan.
+/// The minute of the plan that a clock time names: on the day of the month that it has, or
+/// otherwise on the day that brings it nearest to the scheduled minute, the later of two. `None` if
+/// that is not a minute of the plan.
 pub(crate) fn minute_of(airport: &Airport, scheduled: Minute, clock: &Clock) -> Option<Minute>
     requires minute { clock.now.minute < 1440 }
     ensures is { result ≡ minute_of airport.now scheduled clock.now }
@@ -36,8 +37,8 @@ fn day_of(airport: &Airport, scheduled: Minute, clock: &Clock) -> Option<u32>
     }
 }
 
-/// The latest of so many days, from this one on, that has this day of the month. Day 1 is the first of the plan, and 0
-/// the one before.
+/// The latest of this many days, from this one on, that has this day of the month. Day 1 is the
+/// first of the plan, and 0 the one before.
 pub(crate) fn day_of_month(airport: &Airport, number: u8, first: u32, count: u32) -> Option<u32>
     requires few { first + count ≤ airport.now.days + 1 }
     requires room { first + count < 2 ^ 32 }

@@ -13,10 +13,10 @@ use apron_rules::Airport;
 use mvt_grammar::{Clock, Flight, Mvt};
 use visit_book::{Key, Visit, arrive, depart, estimate_off, is_live, push};
 
-/// What happens to a visit at the time that a message tells.
+/// What happens to a visit at the time that a message gives.
 #[derive(Clone, Copy, Debug, PartialEq, Eq)]
 enum Moment {
-    /// It lands, as is expected or in fact.
+    /// It lands, as expected or in fact.
     Touchdown,
     /// It comes on block.
     OnBlock,
@@ -40,12 +40,13 @@ pub enum Movement {
     Departure(Key),
 }
 
-/// The visit as the message changes it, or None where it changes nothing. A message of the airport's own station tells of
-/// the arrival, else of the departure, else of the expected departure; one of another station of the expected arrival,
-/// where that is at the airport. It is of a live visit that comes, or leaves, by its flight on the latest day with its
-/// day of the month: of several the first in the list, whatever their numbers are. Nothing changes without such a visit,
-/// at a time outside the plan, where a visit that lands or comes on block is on block, and where it would go before it
-/// came. It takes no memory.
+/// The visit as the message changes it, or `None` if it changes nothing. A message of the airport's
+/// own station is about the arrival, or else the departure, or else the expected departure; one of
+/// another station is about the expected arrival, if that is at the airport. It means a live visit
+/// that comes, or leaves, by its flight on the latest day with its day of the month; if there are
+/// several, the first in the list, whatever their numbers are. Nothing changes if there is no such
+/// visit, if the time is outside the plan, if a visit that lands or comes on block is on block
+/// already, or if it would go before it came. It takes no memory.
 pub fn effect_of(airport: &Airport, visits: &[Visit], message: &Mvt) -> Option<Visit>
     requires each { All (IsWellFormed airport.now) visits.now }
     requires readable { IsReadable message.now }
@@ -57,8 +58,9 @@ pub fn effect_of(airport: &Airport, visits: &[Visit], message: &Mvt) -> Option<V
     changed_by(airport, &told, visit)
 }
 
-/// The flight that the message is of, on the latest day with its day of the month. None where the message tells nothing
-/// at the airport, and where neither a day of the plan nor the day before has that day of the month.
+/// The flight that the message is about, on the latest day with its day of the month. `None` if the
+/// message says nothing about the airport, or if neither a day of the plan nor the day before has
+/// that day of the month.
 pub fn movement_meant(airport: &Airport, message: &Mvt) -> Option<Movement>
     requires readable { IsReadable message.now }
     ensures is { result ≡ movement_meant airport.now message.now }
@@ -175,7 +177,7 @@ fn is_meant(moment: Moment, flight: &Flight, day: u32, visit: &Visit) -> bool
     is_live(visit) && is_by(key_of(moment, visit), flight, day)
 }
 
-// Whether there is a key, of this flight and this day.
+// Whether there is a key, and it is of this flight and this day.
 fn is_by(key: Option<Key>, flight: &Flight, day: u32) -> bool
     ensures is { result ≡ option_map_or (is_key_of flight.now day) key false }
 {

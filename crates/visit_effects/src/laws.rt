@@ -10,15 +10,16 @@ ghost use Rattle.visit_book.specs.Reports.{report_of};
 ghost use Rattle.visit_effects.specs.Effects.{effect_of, live_of, movement_meant};
 ghost use Rattle.visit_effects.specs.Happenings.{IsOneOf, IsOneVisit};
 
-/// A message does to visits what it does to one of them alone: the first live one that comes, or leaves, by the
-/// flight that the message is of.
+/// A message does to visits what it does to one of them alone: the first live one that comes, or
+/// leaves, by the flight that the message is about.
 pub fn effects_are_of_one_visit()
     ensures one { (airport : AirportParts) (visits : List Visit) (message : Mvt)
         → effect_of airport visits message
         ≡ option_and_then (λ visit. effect_of airport (visit ∷ []) message) (option_and_then (live_of visits) (movement_meant airport message)) }
 {}
 
-/// What a message makes of one of some visits is that visit, and so is what a report makes of a visit.
+/// What a message makes of one of some visits is still that visit, and so is what a report makes of
+/// a visit.
 pub fn happenings_keep_visits()
     ensures messages { (airport : AirportParts) (visits : List Visit) (message : Mvt) (after : Visit)
         → IsNumbered visits → effect_of airport visits message ≡ Some after → IsOneOf visits after }

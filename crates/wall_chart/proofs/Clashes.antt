@@ -26,7 +26,7 @@ use Rattle.plan_lists.specs.Days.{day_length, day_start, minutes_of_day}
 use Rattle.wall_chart.specs.Alarms.{alarm, alarms, alarms_with, alarm_order, clash_on, is_actual_on, is_in_order}
 use Rattle.wall_chart.specs.Cells.{is_held_at_some}
 use Rattle.wall_chart.specs.Order.{in_order}
-use Rattle.wall_chart.proofs.OfDay.{span_of_day}
+use Rattle.plan_lists.proofs.Minutes.{overlap_of_day}
 
 and_no : (a b : Bool) → (a ≡ false) ⊎ (b ≡ false) → (a && b) ≡ false
 and_no false b e = refl
@@ -49,7 +49,7 @@ kept_more {Y} p (Some y) ys = cases (p y)
     cases true = refl
     cases false = refl
 
--- what is found of each item and passes a test, where another search finds just that
+-- what is found of each item and passes a test, if another search finds exactly that
 filter_mapped : {X Y : Type 0} (p : Y → Bool) (h g : X → Option Y) (xs : List X) → ((x : X) → Contains xs x → kept p (h x) ≡ g x) → filter p (filter_map h xs) ≡ filter_map g xs
 filter_mapped p h g [] same = refl
 filter_mapped {X} {Y} p h g (x ∷ xs) same =
@@ -77,7 +77,8 @@ alarm_by true false true found e none = none refl
 alarm_by true false false found e none = refl
 alarm_by false second order found e none = absurd (cc)
 
--- the clash of an actual slot of a sound plan with another on the day, if that is of a greater part, is their alarm
+-- the clash of an actual slot of a sound plan with another on the day is their alarm, if the other
+-- is of a greater part
 alarm_of : (airport : AirportParts) (day : ℕ) (slots : List Slot) (p q : Slot) → IsSound airport slots → Contains slots p → p.actual ≡ true → Contains slots q
     → kept is_in_order (clash_within airport p (day_start day) day_length q) ≡ alarm airport day p q
 alarm_of airport day slots p q sound in_p actual in_q =
@@ -110,7 +111,7 @@ no_alarm airport day p q off =
     no_alarm_by p.actual q.actual (is_smaller p.part q.part) (clash_on airport day p q) (elim (no_and p.actual (is_held_at_some (minutes_of_day day) p) off) [
       | inl planned ↦ inl planned
       | inr away ↦ inr (ap (option_map (clash_at p q)) (never_from airport p q start day_length (λ k low high. not_held airport p q k
-          (and_no (is_held p k) (is_held q k) (inl (off_day p.from p.end start day_length k (sym (span_of_day p.from p.end day) ∙ away) low high))))))
+          (and_no (is_held p k) (is_held q k) (inl (off_day p.from p.end start day_length k (sym (overlap_of_day p.from p.end day) ∙ away) low high))))))
     ])
 
 mapped_none : {X Y : Type 0} (h : X → Option Y) (xs : List X) → ((x : X) → h x ≡ None) → filter_map h xs ≡ []

@@ -15,25 +15,9 @@ use Rattle.visit_book.specs.Slots.{slots_of}
 use Rattle.plan_core.specs.Indexed.{IsIndexed}
 use Rattle.plan_core.specs.PlanState.{is_on}
 use Rattle.plan_lists.specs.Days.{day_length, day_start, minutes_from, minutes_of_day}
+use Rattle.plan_lists.proofs.Minutes.{overlap}
 use Rattle.wall_chart.specs.Cells.{cell, cells, cells_of_day, holds_by_plan, holds_in_fact, is_held_at_some, quarter_minutes, stand_line}
 use Rattle.wall_chart.specs.Rows.{stand_text}
-
-span_step : (m from end n : ℕ) → ((nat_le from m && nat_lt m end) || nat_lt (max from (m + 1)) (min end ((m + 1) + n))) ≡ nat_lt (max from m) (min end (m + suc n))
-span_step m from end n = grind (arith, nat_tests)
-
-span_none : (m from end : ℕ) → false ≡ nat_lt (max from m) (min end (m + 0))
-span_none m from end = grind (arith, nat_tests)
-
--- some of so many minutes from this one on lies in from <= m < end
-pub span_is : (from end m n : ℕ) → list_any (λ (k : ℕ). nat_le from k && nat_lt k end) (minutes_from m n) ≡ nat_lt (max from m) (min end (m + n))
-unfolding minutes_from
-span_is from end m zero = span_none m from end
-span_is from end m (suc n) = ap (λ (b : Bool). (nat_le from m && nat_lt m end) || b) (span_is from end (m + 1) n) ∙ span_step m from end n
-
--- the same of a day
-pub span_of_day : (from end day : ℕ) → list_any (λ (k : ℕ). nat_le from k && nat_lt k end) (minutes_of_day day) ≡ nat_lt (max from (day_start day)) (min end (day_start day + day_length))
-unfolding minutes_of_day
-span_of_day from end day = span_is from end (day_start day) day_length
 
 span_more : (from end m n start long : ℕ) → start ≤ m → m + n ≤ start + long → nat_lt (max from m) (min end (m + n)) ≡ true → nat_lt (max start from) (min (start + long) end) ≡ true
 span_more from end m n start long low high e = grind (arith, nat_tests)
@@ -42,7 +26,7 @@ span_more from end m n start long low high e = grind (arith, nat_tests)
 hit_in : (day quarter : ℕ) (slot : Slot) → quarter < cells_of_day → is_held_at_some (quarter_minutes day quarter) slot ≡ true → is_hit (day_start day) (day_start day + day_length) slot ≡ true
 hit_in day quarter slot inside e =
     span_more slot.from slot.end (day_start day + 15 * quarter) 15 (day_start day) day_length (omega arith) (omega (arith, inside))
-    (sym (span_is slot.from slot.end (day_start day + 15 * quarter) 15) ∙ e)
+    (sym (overlap slot.from slot.end (day_start day + 15 * quarter) 15) ∙ e)
 
 or_first : (a b : Bool) → a ≡ true → (a || b) ≡ true
 or_first true b e = refl
@@ -82,7 +66,7 @@ both_ways true b to from = sym (to refl)
 both_ways false true to from = from refl
 both_ways false false to from = refl
 
--- a test of some item where the lists have the same items that pass it
+-- a test of some item has one result if the lists have the same items that pass it
 any_same : {X : Type 0} (q : X → Bool) (xs ys : List X) → ((x : X) → q x ≡ true → Contains xs x → Contains ys x) → ((x : X) → q x ≡ true → Contains ys x → Contains xs x)
     → list_any q xs ≡ list_any q ys
 any_same q xs ys to from = both_ways (list_any q xs) (list_any q ys) (any_to q xs ys to) (any_to q ys xs from)
@@ -107,7 +91,7 @@ by_plan stand minutes xs ys has slot e h =
     let both = all_three (is_on stand slot) (not slot.actual) (is_held_at_some minutes slot) e in
     has slot both.0 both.1 h
 
--- a cell shows nothing but what is held on its stand at its minutes
+-- a cell shows only what is held on its stand at its minutes
 cell_same : (stand : StandNo) (minutes : List ℕ) (xs ys : List Slot) → HasHeld stand minutes xs ys → HasHeld stand minutes ys xs → cell xs stand minutes ≡ cell ys stand minutes
 cell_same stand minutes xs ys first second =
     let fact : list_any (holds_in_fact stand minutes) xs ≡ list_any (holds_in_fact stand minutes) ys =

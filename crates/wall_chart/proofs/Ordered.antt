@@ -26,7 +26,8 @@ sorted_alike : {X : Type 0} (lt before : X → X → Bool) → ((x y : X) → lt
 sorted_alike lt before same [] = refl
 sorted_alike lt before same (x ∷ xs) = insert_alike lt before same x (sorted_by lt xs) ∙ ap (insert_by before x) (sorted_alike lt before same xs)
 
--- a stable sort by an order that compares these numbers, as many of each item, leaves the list in order of them
+-- a stable sort by an order that compares these numbers, as many of each item, leaves the list in
+-- order of them
 pub sorted_in_order : {X : Type 0} (numbers : X → List ℕ) (n : ℕ) → ((x : X) → length (numbers x) ≡ n) → (lt : X → X → Bool) → ((x y : X) → lt x y ≡ is_lower (numbers x) (numbers y))
     → (xs ys : List X) → IsSortedBy lt ys → IsStableBy lt xs ys → ys ≡ in_order numbers xs
 unfolding in_order

@@ -1,4 +1,4 @@
--- A stable sort of a list is the list in order, whatever the order is.
+-- A stable sort of a list is the list in order, for any order.
 use Rattle.std.proofs.Common.{◌≡◌, ◌∙◌, ◌<◌, ◌≤◌, ◌⊎◌, inl, inr, ℕ, suc, Bool, true, false, not, ◌&&◌, cond, List, [], ◌∷◌, refl, sym, ap, subst, arith, length, get_or}
 use Rattle.std.specs.Prelude.{Contains, filter}
 use Rattle.std.specs.Cmp.{IsStrictWeakOrder}
@@ -70,7 +70,8 @@ module _ {X : Type 0} (lt : X → X → Bool) (o : IsStrictWeakOrder lt) where
       ]
       cases rest false k = listed_later x xs y (rest k)
 
-  -- an item that ties with itself at the head of the one list is at the head of the other, or before nothing there
+  -- an item that ties with itself and is at the head of one list is at the head of the other, or
+  -- before nothing there
   head_of : (y : X) (ys : List X) → filter (ties lt y) (y ∷ ys) ≡ y ∷ filter (ties lt y) ys
   head_of y ys = let own = tied_itself y in rw own refl
 
@@ -93,7 +94,7 @@ module _ {X : Type 0} (lt : X → X → Bool) (o : IsStrictWeakOrder lt) where
       let both : y ∷ filter (ties lt y) ys ≡ z ∷ filter (ties lt y) zs = rw tie at heads in
       cc
 
-  -- two lists that never fall, and in which those that tie stand alike, are one
+  -- two lists that never fall, and have the items that tie in the same order, are the same
   pub sorted_one : (ys zs : List X) → NeverFalls lt ys → NeverFalls lt zs → ((x : X) → filter (ties lt x) ys ≡ filter (ties lt x) zs) → ys ≡ zs
   sorted_one [] [] falls falls2 same = refl
   sorted_one [] (z ∷ zs) falls falls2 same = let none : [] ≡ z ∷ filter (ties lt z) zs = same z ∙ head_of z zs in absurd (cc)

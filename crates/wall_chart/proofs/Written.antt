@@ -12,7 +12,7 @@ use Rattle.plan_core.specs.PlanState.{PlanState}
 use Rattle.wall_chart.specs.Chart.{alarm_lines, chart_text, first_line, part_lines, stand_lines, unplaced_lines}
 use Rattle.wall_chart.specs.Rows.{filled_up}
 
--- a name and the spaces behind it
+-- a name and the spaces after it
 pub filled_by : (old name before after : List ℕ) (spaces : ℕ) → before ≡ old ++ name → spaces ≡ 6 - length name → after ≡ before ++ take spaces (replicate 6 32) → after ≡ old ++ filled_up name
 filled_by old name before after spaces named count then =
     let few : spaces ≤ 6 = omega (arith, count) in

@@ -16,11 +16,13 @@ use Rattle.wall_chart.specs.Times.{time_text}
 abbrev pub are_actual : Slot → Slot → Bool
 are_actual slot other = slot.actual && other.actual && is_smaller slot.part other.part
 
--- the clash of two slots at the first of the day's minutes at which they clash, with the rule of that minute
+-- the clash of two slots at the first of the day's minutes at which they clash, with the rule of
+-- that minute
 abbrev pub clash_on : AirportParts → ℕ → Slot → Slot → Option Clash
 clash_on airport day slot other = clash_within airport slot (day_start day) day_length other
 
--- the alarm of two actual parts, the first of which is the smaller: their clash on the day, if they clash on it
+-- the alarm of two actual parts, the first of which is the smaller: their clash on the day, if they
+-- clash on it
 abbrev pub alarm : AirportParts → ℕ → Slot → Slot → Option Clash
 alarm airport day slot other = if are_actual slot other then clash_on airport day slot other else None
 

@@ -33,7 +33,8 @@ holds_in_fact stand minutes slot = is_on stand slot && slot.actual && is_held_at
 abbrev pub holds_by_plan : StandNo → List ℕ → Slot → Bool
 holds_by_plan stand minutes slot = is_on stand slot && not slot.actual && is_held_at_some minutes slot
 
--- # where an actual part holds the stand at some of these minutes, else = where a planned part does, else a dot
+-- # if an actual part holds the stand at some of these minutes; otherwise = if a planned part does;
+-- otherwise a dot
 abbrev pub cell : List Slot → StandNo → List ℕ → ℕ
 cell slots stand minutes =
     if list_any (holds_in_fact stand minutes) slots then 35 else (if list_any (holds_by_plan stand minutes) slots then 61 else 46)

@@ -33,6 +33,7 @@ abbrev pub part_line : AirportParts → List Visit → PartRow → List ℕ
 part_line airport visits row =
     place_text airport (stand_of row.part.place) ++ codes " " ++ row_text airport visits row ++ codes " " ++ fact_text (is_actual row.part.place) ++ codes "\n"
 
--- the parts that hold their stand at a minute of the day, in order of stand, first minute, visit and part
+-- the parts that hold their stand at a minute of the day, in order of stand, first minute, visit
+-- and part
 abbrev pub parts_of_day : PlanState → ℕ → List PartRow
 parts_of_day plan day = in_order part_order (held_on plan day)

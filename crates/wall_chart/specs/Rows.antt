@@ -14,11 +14,11 @@ use Rattle.wall_chart.specs.Times.{span_text}
 abbrev pub name_places : ℕ
 name_places = 6
 
--- the name with spaces behind it, up to so many places
+-- the name with spaces after it, up to this many places
 abbrev pub filled_up : List ℕ → List ℕ
 filled_up name = name ++ replicate (name_places - length name) 32
 
--- the name, or nothing where there is none
+-- the name, or nothing if there is none
 abbrev pub name_or_none : Option (List ℕ) → List ℕ
 name_or_none None = []
 name_or_none (Some name) = name

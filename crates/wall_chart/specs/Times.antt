@@ -9,7 +9,7 @@ use Rattle.plan_lists.specs.Days.{day_length}
 abbrev pub clock_text : ℕ → List ℕ
 clock_text minute = two_text (minute / 60) ++ two_text (minute % 60)
 
--- DAY/HHMM, where day 1 is the plan's first
+-- DAY/HHMM; day 1 is the plan's first
 abbrev pub time_text : ℕ → List ℕ
 time_text minute = decimal (minute / day_length + 1) ++ codes "/" ++ clock_text (minute % day_length)
 

@@ -10,18 +10,10 @@ use Rattle.visit_book.specs.declared.visits.Visit.{Visit}
 use Rattle.plan_core.specs.PlanState.{PlanState}
 use Rattle.desk_words.specs.PartObjects.{rule_word}
 use Rattle.desk_words.specs.declared.replies.PartRow.{PartRow}
-use Rattle.plan_lists.specs.Days.{minutes_of_day}
+use Rattle.plan_lists.specs.OfDay.{is_of_day}
 use Rattle.plan_lists.specs.Unplaced.{unplaced}
 use Rattle.wall_chart.specs.Rows.{part_text, row_text}
 use Rattle.wall_chart.specs.Times.{time_text}
-
--- the minute is one of the part's own: no buffer is among them
-abbrev pub is_within : Part → ℕ → Bool
-is_within part minute = nat_le part.from minute && nat_lt minute part.to
-
--- the part has a minute of the day
-unfoldable pub is_of_day : ℕ → PartRow → Bool
-is_of_day day row = list_any (is_within row.part) (minutes_of_day day)
 
 -- the parts of live visits that wait for a stand and have a minute of the day, by rank
 abbrev pub unplaced_on : PlanState → ℕ → List PartRow

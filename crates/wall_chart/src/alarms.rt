@@ -7,11 +7,12 @@ ghost use Rattle.wall_chart.specs.Chart.{alarm_lines};
 
 use crate::rows::{push_part, push_rule};
 use crate::slots::actual_slots;
-use crate::times::{DAY_LENGTH, day_start, push_time};
+use crate::times::{day_start, push_time};
 use apron_base::{Memory, Slot, Steps};
 use apron_rules::{Airport, Clash};
 use clash_check::clashes_within;
 use plan_core::Plan;
+use plan_lists::DAY_LENGTH;
 use std::alloc::Global;
 use std::sync::ledger::Ledger;
 
@@ -52,7 +53,8 @@ fn push_alarm_line(text: &mut Vec<u8>, clash: &Clash) -> Result<(), Memory>
     Ok(())
 }
 
-// The actual slots come in order of the visits, and what clashes with each is looked for near it in the index.
+// The actual slots come in order of the visits. The slots that clash with each are looked for near
+// it in the index.
 fn alarms<L: Ledger>(
     alloc: Global,
     airport: &Airport,
@@ -74,7 +76,8 @@ fn alarms<L: Ledger>(
     Ok(found)
 }
 
-// Of two slots that clash the one of the smaller part tells it. None of them is planned, since the plan is sound.
+// Of two slots that clash, the one of the smaller part gives the alarm. Neither is planned, since
+// the plan is sound.
 fn push_alarms_with<L: Ledger>(
     alloc: Global,
     found: &mut Vec<Clash>,

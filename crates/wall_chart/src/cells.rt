@@ -9,10 +9,11 @@ ghost use Rattle.wall_chart.specs.Chart.{stand_lines};
 
 use crate::rows::push_stand;
 use crate::slots::is_held_at_some;
-use crate::times::{DAY_LENGTH, day_start};
+use crate::times::day_start;
 use apron_base::{Memory, Minute, Slot, StandNo, Steps};
 use apron_rules::AirportParts;
 use plan_core::Plan;
+use plan_lists::DAY_LENGTH;
 use std::alloc::Global;
 use std::sync::ledger::Ledger;
 
@@ -22,7 +23,7 @@ const CELL_LENGTH: u32 = 15;
 // The cells of a day.
 const CELLS_OF_DAY: u32 = 96;
 
-/// Writes the lines of all stands at the end. Each stand is looked at once.
+/// Writes the lines of all stands at the end. Each stand is looked up once.
 pub(crate) fn push_stand_lines<L: Ledger>(
     alloc: Global,
     text: &mut Vec<u8>,

@@ -8,7 +8,7 @@ use apron_base::Memory;
 use apron_dates::{Date, plan_date};
 use jiff::civil;
 
-/// Writes the date of a day of a plan at the end, where day 1 is the first.
+/// Writes the date of a day of a plan at the end. Day 1 is the first.
 pub(crate) fn push_date(text: &mut Vec<u8>, first: Date, day: u32) -> Result<(), Memory>
     requires first { IsFirstDay first }
     requires day { day ≤ 28 }

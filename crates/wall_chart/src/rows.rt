@@ -54,8 +54,8 @@ fn push_type(
     Ok(())
 }
 
-/// Writes the number of a part at the end.
-pub(crate) fn push_part(text: &mut Vec<u8>, part: PartId) -> Result<(), Memory>
+/// Writes the number of a part at the end, as `VISIT.PART`. At `Err` memory has run out.
+pub fn push_part(text: &mut Vec<u8>, part: PartId) -> Result<(), Memory>
     ensures text { OnOk result (text.new.items ≡ text.old.items ++ part_text part) }
 {
     push_number(text, part.visit.0)?;
@@ -79,8 +79,8 @@ pub(crate) fn push_row(
     push_span(text, row.part.from, row.part.to)
 }
 
-/// Writes the word of a rule at the end.
-pub(crate) fn push_rule(text: &mut Vec<u8>, rule: Rule) -> Result<(), Memory>
+/// Writes the word of a rule at the end. At `Err` memory has run out.
+pub fn push_rule(text: &mut Vec<u8>, rule: Rule) -> Result<(), Memory>
     ensures text { OnOk result (text.new.items ≡ text.old.items ++ rule_word rule) }
 {
     text.extend_from_slice(rule_word(rule).as_bytes())?;

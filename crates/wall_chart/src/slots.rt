@@ -7,14 +7,15 @@ ghost use Rattle.plan_lists.specs.Days.{minutes_from, minutes_of_day};
 ghost use Rattle.wall_chart.specs.Alarms.{is_actual_on};
 ghost use Rattle.wall_chart.specs.Cells.{is_held_at_some};
 
-use crate::times::{DAY_LENGTH, day_start};
+use crate::times::day_start;
 use apron_base::{Memory, Minute, Slot};
 use apron_rules::Airport;
+use plan_lists::DAY_LENGTH;
 use std::alloc::Global;
 use visit_book::{Visit, slot_of};
 
-/// The actual slots of the visits that are held at some minute of the day, in order of the visits and of their
-/// parts. The only error is want of memory.
+/// The actual slots of the visits that are held at some minute of the day, in order of the visits
+/// and of their parts. The only error is a lack of memory.
 pub(crate) fn actual_slots(
     alloc: Global,
     airport: &Airport,
@@ -77,7 +78,7 @@ fn push_some(slots: &mut Vec<Slot>, slot: Option<Slot>) -> Result<(), Memory>
     Ok(())
 }
 
-/// Whether the slot is held at some of so many minutes from this one on.
+/// Whether the slot is held at some of this many minutes from this one on.
 pub(crate) fn is_held_at_some(slot: &Slot, from: Minute, count: u32) -> bool
     requires fits { from + count < 2 ^ 32 }
     ensures is { result ≡ is_held_at_some (minutes_from from count) slot.now }

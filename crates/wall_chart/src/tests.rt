@@ -30,7 +30,8 @@ fn stand(name: Name, centre: u32) -> StandRow {
     }
 }
 
-// Three stands. Two A320 have room on the first two, and not on the last two, which are a centimetre nearer.
+// Three stands. Two A320 have room on the first two, but not on the last two, which are a
+// centimetre nearer.
 fn airport(alloc: Global) -> Result<Airport, Fail>
     ensures stands { IfOk result (λ airport. length airport.stands ≡ STANDS) }
     ensures types { IfOk result (λ airport. length airport.types ≡ TYPES) }
@@ -120,8 +121,8 @@ fn is_added(alloc: Global, airport: &Airport, plan: &mut Plan, new: &NewVisit) -
     true
 }
 
-// A plan of three visits that wait for stands: the first is of a higher class, the second comes before midnight and leaves
-// after it.
+// A plan of three visits that wait for stands: the first has a higher class; the second comes
+// before midnight and leaves after it.
 fn waiting(alloc: Global, airport: &Airport) -> Option<Plan>
     requires types { length airport.now.types ≡ TYPES }
     ensures airport { IfSome result (λ plan. plan.plan.airport ≡ airport.now) }
@@ -138,7 +139,7 @@ fn waiting(alloc: Global, airport: &Airport) -> Option<Plan>
     if added { Some(plan) } else { None }
 }
 
-// Whether the texts are the same, where a tilde stands for the cells of a free stand.
+// Whether the texts are the same, with a tilde for the cells of a free stand.
 fn is_text(text: &[u8], want: &str) -> bool {
     let mut at = 0usize;
     for byte in want.as_bytes() {

@@ -7,9 +7,7 @@ ghost use Rattle.wall_chart.specs.Times.{clock_text, span_text, time_text};
 
 use apron_base::{Memory, Minute};
 use itoa::Buffer;
-
-/// The minutes of a day.
-pub(crate) const DAY_LENGTH: u32 = 1440;
+use plan_lists::DAY_LENGTH;
 
 /// The first minute of a day of a plan.
 pub(crate) fn day_start(day: u32) -> Minute
@@ -21,8 +19,8 @@ pub(crate) fn day_start(day: u32) -> Minute
     DAY_LENGTH * (day - 1)
 }
 
-/// Writes a number at the end.
-pub(crate) fn push_number(text: &mut Vec<u8>, number: u32) -> Result<(), Memory>
+/// Writes a number at the end, in decimal digits. At `Err` memory has run out.
+pub fn push_number(text: &mut Vec<u8>, number: u32) -> Result<(), Memory>
     ensures text { OnOk result (text.new.items ≡ text.old.items ++ decimal number) }
 {
     text.extend_from_slice(Buffer::new().format(number).as_bytes())?;
@@ -48,8 +46,9 @@ fn push_clock(text: &mut Vec<u8>, minute: u32) -> Result<(), Memory>
     push_two(text, minute % 60)
 }
 
-/// Writes the day and the clock time of a minute at the end.
-pub(crate) fn push_time(text: &mut Vec<u8>, minute: Minute) -> Result<(), Memory>
+/// Writes the day, counted from 1, and the clock time of a minute at the end, as `DAY/HHMM`. The
+/// minute counts from 00:00 UTC of the plan's first day. At `Err` memory has run out.
+pub fn push_time(text: &mut Vec<u8>, minute: Minute) -> Result<(), Memory>
     ensures text { OnOk result (text.new.items ≡ text.old.items ++ time_text minute) }
 {
     push_number(text, minute / DAY_LENGTH + 1)?;

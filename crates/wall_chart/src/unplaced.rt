@@ -1,16 +1,15 @@
 // The lines of the parts that wait for a stand on a day.
 ghost use Rattle.std.specs.Prelude.{◌≡◌, ◌≤◌, ◌++◌, IfOk, OnOk};
-ghost use Rattle.apron_rules.specs.declared.limits.TheConstants.{MAX_DAYS};
 ghost use Rattle.wall_chart.specs.Chart.{unplaced_lines};
-ghost use Rattle.wall_chart.specs.Unplaced.{blocker_text, bump_text, is_of_day, place_bump_text, unplaced_line, unplaced_on};
+ghost use Rattle.wall_chart.specs.Unplaced.{blocker_text, bump_text, place_bump_text, unplaced_line, unplaced_on};
 
 use crate::rows::{push_part, push_row, push_rule};
-use crate::times::{DAY_LENGTH, day_start, push_number, push_time};
+use crate::times::{push_number, push_time};
 use apron_base::Memory;
 use apron_rules::AirportParts;
 use desk_words::replies::PartRow;
 use plan_core::Plan;
-use plan_lists::unplaced;
+use plan_lists::{is_of_day, unplaced};
 use std::alloc::Global;
 use visit_book::{Bump, Place};
 
@@ -23,7 +22,6 @@ pub(crate) fn push_unplaced_lines(
     day: u32,
 ) -> Result<(), Memory>
     requires first { 1 ≤ day }
-    requires last { day ≤ MAX_DAYS }
     ensures text { OnOk result (text.new.items ≡ text.old.items ++ unplaced_lines airport.now plan.now.plan day) }
 {
     text.extend_from_slice(b"UNPLACED\n")?;
@@ -36,21 +34,11 @@ pub(crate) fn push_unplaced_lines(
 
 fn unplaced_on(alloc: Global, plan: &Plan, day: u32) -> Result<Vec<PartRow>, Memory>
     requires first { 1 ≤ day }
-    requires last { day ≤ MAX_DAYS }
     ensures are { IfOk result (λ rows. rows.items ≡ unplaced_on plan.now.plan day) }
 {
     let mut rows = unplaced(alloc, plan)?.into_vec();
     rows.retain(|row| is_of_day(day, row));
     Ok(rows)
-}
-
-fn is_of_day(day: u32, row: &PartRow) -> bool
-    requires first { 1 ≤ day }
-    requires last { day ≤ MAX_DAYS }
-    ensures is { result ≡ is_of_day day row.now }
-{
-    let start = day_start(day);
-    row.part.from.max(start) < row.part.to.min(start + DAY_LENGTH)
 }
 
 pub(crate) fn push_unplaced_line(

@@ -16,9 +16,10 @@ use std::alloc::Global;
 use std::marker::Brand;
 use std::sync::ledger::{Blank, Ledger};
 
-/// The chart of a day of the plan, counted from 1, as a text whose lines all end with a line feed: the first
-/// line, a line with 96 cells for each stand, the parts that hold a stand on the day, those that wait for
-/// one, the alarms, and the end. The form is this project's own. The only error is want of memory.
+/// The chart of a day of the plan, counted from 1, as a text whose lines all end with a line feed:
+/// the first line, a line with 96 cells for each stand, the parts that hold a stand on the day,
+/// those that wait for one, the alarms, and the end. The form is this project's own. The only error
+/// is a lack of memory.
 pub fn chart(alloc: Global, airport: &Airport, plan: &Plan, day: u32) -> Result<Listed<u8>, Memory>
     requires airport { airport.now ≡ plan.now.plan.airport }
     requires first { 1 ≤ day }

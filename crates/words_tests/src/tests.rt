@@ -1,5 +1,5 @@
 // Each reply, byte for byte.
-ghost use Rattle.std.specs.Prelude.{IsTrue, IfSome};
+ghost use Rattle.std.specs.Prelude.{All, IsTrue, IfSome};
 ghost use Rattle.visit_book.specs.NewVisits.{HasFlight, IsNewVisit, new_of};
 
 use apron_base::Name;
@@ -11,6 +11,8 @@ use std::alloc::Global;
 use std::test::Fail;
 use visit_book::{EditFault, Key, Visit};
 
+mod airports;
+mod entries;
 mod fixed;
 mod movements;
 mod refusals;
@@ -19,11 +21,14 @@ mod visits;
 
 const OK: &str = "200 OK";
 
+const NOT_FOUND: &str = "404 Not Found";
+
 const CONFLICT: &str = "409 Conflict";
 
 const UNPROCESSABLE: &str = "422 Unprocessable Entity";
 
-// Whether the text of what is told at this version has this status, the lines that each reply has, and this body.
+// Whether the text of a reply with this news at this version has this status, the lines that each
+// reply has, and this body.
 fn has_text(
     alloc: Global,
     version: u32,
@@ -39,6 +44,7 @@ fn is_text(alloc: Global, airport: &Airport, reply: &Reply, status: &str, body: 
     let bytes = match &reply.told {
         Told::Edit(EditFault::Memory) => return false,
         Told::Visit(visit) if !is_new_visit(visit) => return false,
+        Told::Day { visits } if !are_new_visits(visits.as_slice()) => return false,
         Told::Plan { .. } | Told::Unplaced { .. } | Told::Chart { .. } => return false,
         Told::Added { .. }
         | Told::Committed { .. }
@@ -47,7 +53,11 @@ fn is_text(alloc: Global, airport: &Airport, reply: &Reply, status: &str, body: 
         | Told::Cancelled
         | Told::Version
         | Told::Visit(_)
+        | Told::Entry { .. }
+        | Told::Airport
+        | Told::Day { .. }
         | Told::NoVisit
+        | Told::NoEntry
         | Told::Ahead
         | Told::Full
         | Told::OtherName { .. }
@@ -78,11 +88,22 @@ fn airport(alloc: Global) -> Result<Airport, Fail> {
     )
 }
 
-// What the visit was added with can be said at any airport.
+// What the visit was added with is valid at any airport.
 fn is_new_visit(visit: &Visit) -> bool
     ensures new { IsTrue result → IsNewVisit (new_of visit.now) }
 {
     visit.class <= 9 && has_flight(&visit.arr) && has_flight(&visit.dep)
+}
+
+fn are_new_visits(visits: &[Visit]) -> bool
+    ensures new { IsTrue result → All (λ visit. IsNewVisit (new_of visit)) visits.now }
+{
+    for visit in visits {
+        if !is_new_visit(visit) {
+            return false;
+        }
+    }
+    true
 }
 
 fn has_flight(key: &Option<Key>) -> bool

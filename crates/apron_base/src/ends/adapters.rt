@@ -8,11 +8,11 @@ use std::io;
 use std::io::{ErrorKind, Read, Write};
 use std::marker::Model;
 
-/// How often a call that a signal interrupted is made again, before it counts as a fault.
+/// How often a call that a signal interrupted is made again before it counts as a fault.
 const MOST_RETRIES: u32 = 1_000;
 
-/// Any reader as a source. It tells what is left where the reader does, and counts each error. A read that
-/// a signal interrupted is made again and is no error.
+/// Any reader as a source. It exposes what is left if the reader does, and counts each error. A
+/// read that a signal interrupted is made again and is no error.
 #[derive(Drop)]
 pub struct Reading<R> {
     inner: R,
@@ -28,7 +28,7 @@ impl<R> Model for Reading<R> {
 }
 
 impl<R> Reading<R> {
-    /// The reader, of which no read has failed yet.
+    /// The reader. No read of it has failed yet.
     pub fn new(inner: R) -> Self
         ensures is { result ≡ record { inner = inner; faults = 0 } }
     {
@@ -50,7 +50,7 @@ impl<R: Read> Source for Reading<R> {
     }
 }
 
-// Reads, and again where a signal interrupted it.
+// Reads, and again if a signal interrupted it.
 fn read_some<R: Read>(inner: &mut R, into: &mut [u8]) -> io::Result<usize>
     ensures bound { ReadsAtMost result into.new }
     ensures bytes { ReadConsumes (R.remaining inner.old) (R.remaining inner.new) result into.new }
@@ -64,9 +64,9 @@ fn read_some<R: Read>(inner: &mut R, into: &mut [u8]) -> io::Result<usize>
     inner.read(into)
 }
 
-/// Any writer as a sink. It tells what was written where the writer does, and counts each error; a write
-/// of a piece that isn't empty and takes nothing of it is an error too. Each piece is flushed. A write or
-/// flush that a signal interrupted is made again and is no error.
+/// Any writer as a sink. It exposes what was written if the writer does, and counts each error. It
+/// is also an error if a write takes nothing of a piece that isn't empty. Each piece is flushed. A
+/// write or flush that a signal interrupted is made again and is no error.
 #[derive(Drop)]
 pub struct Writing<W> {
     inner: W,
@@ -82,7 +82,7 @@ impl<W> Model for Writing<W> {
 }
 
 impl<W> Writing<W> {
-    /// The writer, of which no write has failed yet.
+    /// The writer. No write to it has failed yet.
     pub fn new(inner: W) -> Self
         ensures is { result ≡ record { inner = inner; faults = 0 } }
     {
@@ -114,8 +114,8 @@ impl<W: Write> Sink for Writing<W> {
     }
 }
 
-// Writes a front of the piece, and again where a signal interrupted it: how many bytes, at least one, or
-// nothing at all.
+// Writes a front of the piece, and again if a signal interrupted it. It gives how many bytes, at
+// least one; `None` if nothing was written.
 fn write_some<W: Write>(inner: &mut W, piece: &[u8]) -> Option<usize>
     requires some { 0 < length piece.now }
     ensures bytes { MatchOption result (Keeps (W.contents inner.old) (W.contents inner.new))
@@ -132,7 +132,7 @@ fn write_some<W: Write>(inner: &mut W, piece: &[u8]) -> Option<usize>
     None
 }
 
-// Flushes, and again where a signal interrupted it.
+// Flushes, and again if a signal interrupted it.
 fn flush<W: Write>(inner: &mut W) -> io::Result<()>
     ensures kept { Keeps (W.contents inner.old) (W.contents inner.new) }
 {

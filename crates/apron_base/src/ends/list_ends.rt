@@ -1,4 +1,5 @@
-// Sources and sinks in memory, for tests: some whose calls fail as told, and some that never fail.
+// Sources and sinks in memory, for tests: some with calls that fail on command, and some that never
+// fail.
 ghost use Rattle.std.specs.Prelude.{◌≡◌, ◌-◌, ◌<◌, ◌≤◌, ◌++◌, [], Some, None, take, length, min, is_err, slice_get, OnErr, IfOk, IsOk, OnOk};
 ghost use Rattle.std.specs.Io.{ReadsAtMost};
 ghost use Rattle.apron_base.specs.Ends.{Puts, Reads};
@@ -15,7 +16,7 @@ use std::marker::Model;
 struct Pieces {
     bytes: Vec<u8>,
     at: usize,
-    // the greatest size of each piece; after the last size the rest comes whole
+    // the greatest size of each piece; after the last of them the rest comes whole
     sizes: Vec<usize>,
     // how many pieces were taken
     taken: usize,
@@ -44,7 +45,8 @@ impl Pieces {
         }
     }
 
-    // Takes the next piece, or as much of it as there is room for; 0 at the end, or where there is none.
+    // Takes the next piece, or as much of it as there is room for. It gives 0 at the end, or if
+    // there is no room.
     fn take(&mut self, into: &mut [u8]) -> usize
         ensures size { result ≡ next_length self.old (length into.new) }
         ensures bytes { self.old.left ≡ take result into.new ++ self.new.left }
@@ -61,7 +63,7 @@ impl Pieces {
     }
 }
 
-// At most the size of the piece, which is 1 at least; past the last size any number.
+// At most the size of the piece, which is at least 1; after the last size any number.
 fn within_size(sizes: &[usize], piece: usize, most: usize) -> usize
     ensures size { result ≡ within_size (slice_get sizes.now piece) most }
     ensures bound { result ≤ most }
@@ -80,8 +82,8 @@ fn copy_front(into: &mut [u8], from: &[u8])
     into[..from.len()].copy_from_slice(from);
 }
 
-/// A source of given bytes, which come in pieces of stated sizes, with calls that fail. Contracts see
-/// the pieces and the calls that fail.
+/// A source of given bytes, which come in pieces of stated sizes, with calls that fail. Contracts
+/// see the pieces and the calls that fail.
 #[derive(Drop)]
 pub struct ListSource {
     pieces: Pieces,
@@ -97,9 +99,9 @@ impl Model for ListSource {
 }
 
 impl ListSource {
-    /// `pieces` are the greatest sizes of the pieces, and 0 counts as 1; after the last of them the rest
-    /// comes whole. `fails` are the numbers of the reads that fail, from 0, in any order. A read that
-    /// fails takes nothing.
+    /// `pieces` are the greatest sizes of the pieces, where 0 counts as 1; after the last of them
+    /// the rest comes whole. `fails` are the numbers of the reads that fail, from 0, in any order.
+    /// A read that fails takes nothing.
     pub fn new(bytes: Vec<u8>, pieces: Vec<usize>, fails: Vec<u64>) -> Self
         ensures pieces { result.pieces ≡ record { left = bytes.items; sizes = pieces.items; taken = 0 } }
         ensures fails { result.fails ≡ fails_from fails.items }
@@ -119,7 +121,7 @@ impl Source for ListSource {
         ensures bound { ReadsAtMost result into.new }
         ensures reads { Reads (source_state self.old) (source_state self.new) result into.new }
 
-        // Exactly the calls that were told fail, and each piece has its size.
+        // Exactly the given calls fail, and each piece has its size.
         ensures refused { is_err result ≡ is_to_fail self.old.fails }
         ensures called { self.new.fails ≡ called (is_err result) self.old.fails }
         ensures size { IfOk result (λ count. count ≡ next_length self.old.pieces (length into.new)) }
@@ -148,8 +150,8 @@ impl Model for SteadySource {
 }
 
 impl SteadySource {
-    /// `pieces` are the greatest sizes of the pieces, and 0 counts as 1; after the last of them the rest
-    /// comes whole.
+    /// `pieces` are the greatest sizes of the pieces, where 0 counts as 1; after the last of them
+    /// the rest comes whole.
     pub fn new(bytes: Vec<u8>, pieces: Vec<usize>) -> Self
         ensures pieces { result ≡ record { left = bytes.items; sizes = pieces.items; taken = 0 } }
     {
@@ -174,7 +176,7 @@ impl Source for SteadySource {
     }
 }
 
-/// A sink that keeps what was written, with room for a number of bytes and with calls that fail.
+/// A sink that keeps what was written, with room for a number of bytes, and with calls that fail.
 /// Contracts see the bytes, the room that is left and the calls that fail.
 #[derive(Drop)]
 pub struct ListSink {
@@ -195,9 +197,9 @@ impl Model for ListSink {
 }
 
 impl ListSink {
-    /// `room` is the number of bytes that can be written: a put that passes it fails. `fails` are the
-    /// numbers of the puts that fail, from 0, in any order. A put that fails writes nothing. At `Err`
-    /// memory is wanting for so much room.
+    /// `room` is how many bytes can be written: a put that exceeds it fails. `fails` are the
+    /// numbers of the puts that fail, from 0, in any order. A put that fails writes nothing. `Err`
+    /// if there is no memory for this much room.
     pub fn new(alloc: Global, room: usize, fails: Vec<u64>) -> Result<Self, AllocError>
         ensures ok { IfOk result (λ sink. sink ≡ record { told = []; room = room; fails = fails_from fails.items }) }
     {
@@ -222,7 +224,7 @@ impl Sink for ListSink {
     fn put(&mut self, piece: &[u8]) -> Result<(), Failed>
         ensures puts { Puts (sink_state self.old) (sink_state self.new) result piece.now }
 
-        // Exactly the calls that were told, and those that pass the room, fail; they write nothing.
+        // Exactly the given calls, and those that exceed the room, fail; they write nothing.
         ensures refused { is_err result ≡ refuses_put self.old (length piece.now) }
         ensures called { self.new.fails ≡ called (is_err result) self.old.fails }
         ensures room { OnOk result (self.new.room ≡ self.old.room - length piece.now) }
@@ -239,7 +241,7 @@ impl Sink for ListSink {
     }
 }
 
-/// A sink that takes every piece, tells nothing and never fails.
+/// A sink that takes every piece, exposes nothing and never fails.
 #[derive(Clone, Copy, Debug, PartialEq, Eq)]
 pub struct NullSink;
 

@@ -1,4 +1,4 @@
-// Keepers in memory, for tests: one whose calls fail as told, and one that never fails.
+// Keepers in memory, for tests: one with calls that fail on command, and one that never fails.
 ghost use Rattle.std.specs.Prelude.{◌≡◌, ◌≤◌, ◌<◌, length, is_err, OnOk, OnErr, IsOk};
 ghost use Rattle.apron_base.specs.Fails.{called, fails_from, is_to_fail};
 ghost use Rattle.apron_base.specs.Keeper.{AddsEntry, FailsToAdd, with_last};
@@ -51,7 +51,7 @@ impl Entries {
         Ok(())
     }
 
-    // Puts an entry last, in the memory that there is room for.
+    // Puts an entry last, in the memory that was taken for it.
     fn push(&mut self, entry: &[u8])
         requires some { 0 < length entry.now }
         requires room { length entry.now ≤ self.old.room }
@@ -65,8 +65,8 @@ impl Entries {
     }
 }
 
-/// A keeper that has its entries in memory, with calls that fail. It never has an entry at risk. Contracts
-/// see the entries, the room and the calls that fail.
+/// A keeper with its entries in memory, and with calls that fail. It never has an entry at risk.
+/// Contracts see the entries, the room and the calls that fail.
 #[derive(Drop)]
 pub struct ListKeeper {
     entries: Entries,
@@ -82,8 +82,8 @@ impl Model for ListKeeper {
 }
 
 impl ListKeeper {
-    /// The keeper of these entries. `fails` are the numbers of the appends that fail, from 0, in any order.
-    /// An append that fails adds nothing.
+    /// The keeper of these entries. `fails` are the numbers of the appends that fail, from 0, in
+    /// any order. An append that fails adds nothing.
     pub fn new(alloc: Global, entries: Vec<Listed<u8>>, fails: Vec<u64>) -> Self
         ensures kept { result.kept ≡ record { entries = entries.items; room = 0 } }
         ensures fails { result.fails ≡ fails_from fails.items }
@@ -117,7 +117,7 @@ impl Keeper for ListKeeper {
         ensures ok { OnOk result (AddsEntry (keeper_state self.old) (keeper_state self.new) entry.now) }
         ensures err { OnErr result (FailsToAdd (keeper_state self.old) (keeper_state self.new) entry.now) }
 
-        // Exactly the calls that were told fail.
+        // Exactly the given calls fail.
         ensures refused { is_err result ≡ is_to_fail self.old.fails }
         ensures called { self.new.fails ≡ called (is_err result) self.old.fails }
     {
@@ -129,8 +129,8 @@ impl Keeper for ListKeeper {
     }
 }
 
-/// A keeper that has its entries in memory and never fails. It never has an entry at risk. Contracts see
-/// the entries and the room.
+/// A keeper with its entries in memory that never fails. It never has an entry at risk. Contracts
+/// see the entries and the room.
 #[derive(Drop)]
 pub struct SteadyKeeper {
     entries: Entries,

@@ -1,4 +1,4 @@
-// A listener in memory, for tests, whose calls fail as told.
+// A listener in memory, for tests, with calls that fail on command.
 ghost use Rattle.std.specs.Prelude.{◌≡◌, [], is_err, IfOk};
 ghost use Rattle.apron_base.specs.Fails.{called, fails_from};
 ghost use Rattle.apron_base.specs.Listener.{Accepts};
@@ -11,8 +11,8 @@ use std::collections::VecDeque;
 use std::marker::Model;
 use std::sync::Wait;
 
-/// A listener of given connections, with calls that fail. Contracts see the connections to come, the
-/// finished ones, how many were accepted and the calls that fail.
+/// A listener of given connections, with calls that fail. Contracts see the connections to come,
+/// the finished ones, how many were accepted and the calls that fail.
 #[derive(Drop)]
 pub struct ListListener<I, O> {
     to_come: VecDeque<(I, O)>,
@@ -32,9 +32,9 @@ impl<I, O> Model for ListListener<I, O> {
 }
 
 impl<I: Drop, O: Drop> ListListener<I, O> {
-    /// `fails` are the numbers of the accepts that fail, from 0, in any order. An accept that fails takes
-    /// no connection; one with none to come fails too. At `Err` memory is wanting for as many finished
-    /// connections as there are to come.
+    /// `fails` are the numbers of the accepts that fail, from 0, in any order. An accept that fails
+    /// takes no connection. An accept also fails if no connection is to come. `Err` if there is no
+    /// memory for as many finished connections as there are to come.
     pub fn new(alloc: Global, to_come: Vec<(I, O)>, fails: Vec<u64>) -> Result<Self, AllocError>
         ensures ok { IfOk result (λ listener. listener ≡ record { to_come = to_come.items; finished = []; accepted = 0; fails = fails_from fails.items }) }
     {
@@ -64,7 +64,7 @@ impl<I: Source + Drop, O: Sink + Drop> Listener for ListListener<I, O> {
     fn accept<R: Wait>(&mut self, _rt: &R) -> Result<(I, O), Failed>
         ensures accepts { Accepts (listener_state self.old) (listener_state self.new) result }
 
-        // Exactly the calls that were told, and those with no connection to come, fail.
+        // Exactly the given calls, and those with no connection to come, fail.
         ensures refused { is_err result ≡ refuses_accept self.old }
         ensures called { self.new.fails ≡ called (is_err result) self.old.fails }
     {

@@ -1,4 +1,4 @@
-// Shelves in memory, for tests: one whose calls fail as told, and one that never fails.
+// Shelves in memory, for tests: one with calls that fail on command, and one that never fails.
 ghost use Rattle.std.specs.Prelude.{◌≡◌, ◌≢◌, ◌≤◌, ◌<◌, Err, IfOk, length, option_copied, vec_len};
 ghost use Rattle.apron_base.specs.Fails.{called, fails_from};
 ghost use Rattle.apron_base.specs.Shelf.{Gives, is_failed};
@@ -16,8 +16,9 @@ pub struct Kept {
     pub bytes: Listed<u8>,
 }
 
-/// A shelf of given files, with calls that fail. A name that it doesn't hold is a fault, and of two files
-/// of one name it has the first. Contracts see the files, the calls that fail and the bytes read.
+/// A shelf of given files, with calls that fail. A name that it doesn't hold is a fault; of two
+/// files of one name it has the first. Contracts see the files, the calls that fail and the bytes
+/// read.
 #[derive(Drop)]
 pub struct MapShelf {
     files: Listed<Kept>,
@@ -52,7 +53,7 @@ impl Shelf for MapShelf {
     fn read_file(&mut self, alloc: Global, name: &str, limit: u32) -> Result<Vec<u8>, ShelfFault>
         ensures gives { Gives (shelf_state self.old) (shelf_state self.new) name.now limit result }
 
-        // Exactly the calls that were told, and those of a name that it doesn't hold, fail.
+        // Exactly the given calls, and those with a name that it doesn't hold, fail.
         ensures refused { is_failed result ≡ refuses_read self.old name.now }
         ensures called { self.new.fails ≡ called (is_failed result) self.old.fails }
         ensures files { self.new.files ≡ self.old.files }
@@ -71,8 +72,8 @@ impl Shelf for MapShelf {
     }
 }
 
-/// A shelf of given files that never fails: under each name that it doesn't hold there is an empty file,
-/// and of two files of one name it has the first. Contracts see the files and the bytes read.
+/// A shelf of given files that never fails. For each name that it doesn't hold it has an empty
+/// file; of two files of one name it has the first. Contracts see the files and the bytes read.
 #[derive(Drop)]
 pub struct SteadyShelf {
     files: Listed<Kept>,
@@ -88,7 +89,7 @@ impl Model for SteadyShelf {
 }
 
 impl SteadyShelf {
-    /// The shelf of these files, of which none has been asked for.
+    /// The shelf of these files. None has been asked for yet.
     pub fn new(files: Vec<Kept>) -> Self
         ensures is { result ≡ record { files = files.items; read = 0 } }
     {

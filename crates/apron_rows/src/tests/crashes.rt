@@ -11,8 +11,9 @@ const THREE: &[u8] =
 
 const VERSION: &[u8] = b"GET /version HTTP/1.1\r\n\r\n";
 
-// How many entries a desk begins with at least and at most, after a stop behind so many calls of the disk: three open the
-// journal, and then four belong to each entry, of which the third opens its gate and the fourth makes that safe.
+// How many entries a desk begins with, at least and at most, if it stopped after a number of calls
+// of the disk, one row for each number. Three calls open the journal, and then each entry has four:
+// the third opens its gate and the fourth makes that safe.
 const EACH_DONE: [(u32, u32); 16] = [
     (0, 0),
     (0, 0),
@@ -32,7 +33,7 @@ const EACH_DONE: [(u32, u32); 16] = [
     (3, 3),
 ];
 
-// The same of two entries.
+// The same for two entries.
 const TWO_DONE: [(u32, u32); 12] = [
     (0, 0),
     (0, 0),
@@ -48,7 +49,8 @@ const TWO_DONE: [(u32, u32); 12] = [
     (2, 2),
 ];
 
-// The same of three where the call failed that opens the first gate: the next two close it again and make that safe.
+// The same for three entries if the call failed that opens the first gate: the next two calls close
+// the gate again and make that safe.
 const GATE_FAILED: [(u32, u32); 17] = [
     (0, 0),
     (0, 0),
@@ -69,7 +71,7 @@ const GATE_FAILED: [(u32, u32); 17] = [
     (2, 2),
 ];
 
-// The same where the call failed that makes it safe.
+// The same if the call failed that makes it safe.
 const SYNC_FAILED: [(u32, u32); 18] = [
     (0, 0),
     (0, 0),
@@ -99,7 +101,7 @@ fn has_version(alloc: Global, stored: &[u8], version: u32) -> Result<bool, Fail>
     Ok(session.is_told_on(alloc, stored, VERSION)?)
 }
 
-// What becomes of that which is not safe.
+// What becomes of what is not safe.
 const EACH_UNSYNCED: [Unsynced; 4] = [
     Unsynced::LeftOut,
     Unsynced::Whole,
@@ -107,7 +109,8 @@ const EACH_UNSYNCED: [Unsynced; 4] = [
     Unsynced::Ones,
 ];
 
-// At `Err` a desk does not begin within these bounds after a stop at this moment, or memory is wanting.
+// `Err` if a desk that was stopped at this moment begins outside these bounds, or there is no
+// memory.
 fn is_within(
     alloc: Global,
     disk: &MemoryDisk,
@@ -125,7 +128,7 @@ fn is_within(
     Ok(())
 }
 
-// What the requests are, the call of the disk that fails, and the bounds behind each number of calls.
+// The requests, the call of the disk that fails, and the bounds after each number of calls.
 type Stops = (
     &'static str,
     &'static [u8],
@@ -140,7 +143,8 @@ const EACH_STOPS: [Stops; 4] = [
     ("a gate that is not made safe", THREE, &[6], &SYNC_FAILED),
 ];
 
-// At `Err` a desk does not begin as it has to after one of these stops, or there are others, or memory is wanting.
+// `Err` if a desk does not begin as it has to after one of these stops, if there are other stops,
+// or if there is no memory.
 fn all_within(alloc: Global, stops: Stops) -> Result<(), Fail> {
     let (shows, input, failing_calls, all_bounds) = stops;
     let run = Run {

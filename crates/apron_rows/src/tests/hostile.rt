@@ -1,4 +1,5 @@
-// Input that is cut, ends that fail, heads that don't end, and a history that takes no more.
+// Input that is cut, ends that fail, heads that don't end, and a history that takes no more
+// entries.
 use super::journals::{STANDS as STANDING, V1, journal_of};
 use apron_base::Memory;
 use run_inputs::{ADDED, FIRST, STANDS};
@@ -6,7 +7,8 @@ use std::alloc::Global;
 use std::test::Fail;
 use text_runs::{DEMO, Run, Session};
 
-// What is written for the first so many bytes of the two requests, of 123 and 129 bytes, and the status.
+// What is written for the first `length` bytes of the two requests, which end after 123 and 129
+// bytes, and the status.
 fn answer_to_front(length: usize) -> (&'static [u8], u8) {
     if length == 0 {
         (b"", 0)
@@ -34,8 +36,8 @@ fn two_requests_are_cut_after_each_byte(rt: HostRuntime) -> Result<(), Fail> {
     Ok(())
 }
 
-// The replies where the visit was not kept, and the commit was made over a version that there is not; and where the commit was not
-// kept.
+// The replies if the visit was not kept, and the commit was made over a version that doesn't exist;
+// and if the commit was not kept.
 const NOTHING_KEPT: &[u8] =
     b"HTTP/1.1 503 Service Unavailable\r\nContent-Type: application/json\r\nContent-Length: 18\r\n\r\n{\"error\":\"keeper\"}HTTP/1.1 409 Conflict\r\nContent-Type: application/json\r\nContent-Length: 29\r\nX-Version: 0\r\n\r\n{\"error\":\"ahead\",\"version\":0}";
 
@@ -51,7 +53,8 @@ enum Failing {
     Call,
 }
 
-// The two requests, where the call of this number fails: at the last number of each there is no such call any more.
+// The two requests, with the call of this number failing: the last number of each kind is one that
+// no call reaches.
 const FAILS: [(Failing, &[u64], &[u8], u8); 21] = [
     (Failing::File, &[0], b"shelf fault\n", 4),
     (Failing::File, &[1], b"shelf fault\n", 4),
@@ -76,7 +79,7 @@ const FAILS: [(Failing, &[u64], &[u8], u8); 21] = [
     (Failing::Call, &[11], STANDS, 0),
 ];
 
-// A run of the two requests in which that fails.
+// A run of the two requests in which this fails.
 fn run_failing(failing: Failing, numbers: &'static [u64]) -> Run<'static> {
     let run = Run {
         input: FIRST,
@@ -110,7 +113,8 @@ fn each_call_that_fails_has_its_status_or_reply(rt: HostRuntime) -> Result<(), F
     Ok(())
 }
 
-// As many bytes as a head may have at most, and one less and more, of a head that does not end; the replies, and the status.
+// How long a head is that does not end: one byte less than the limit, the limit, and one byte more;
+// the replies, and the status.
 const HEADS: [(usize, &str, u8); 3] = [(8191, "", 10), (8192, REFUSED, 13), (8193, REFUSED, 13)];
 
 const REFUSED: &str = "< 400 close {\"error\":\"head\"}";
@@ -146,15 +150,17 @@ fn a_head_without_an_end_is_refused(rt: HostRuntime) -> Result<(), Fail> {
     Ok(())
 }
 
-// A message of a flight that no visit has, as an entry behind its call number: it is kept, and changes nothing.
-const UNKNOWN: &[u8] = b"\x03\x1eMVT\nLH999/27.DAIQA.APR\nAD1000\n";
+// A message about a flight that no visit has, of no desk, as an entry after its call number: it is
+// kept, and changes nothing.
+const UNKNOWN: &[u8] = b"\x06\x01-\x1eMVT\nLH999/27.DAIQA.APR\nAD1000\n";
 
-// A journal of as many entries as a history takes: the visit and the commit of the two requests, and then such messages.
+// A journal of as many entries as a history takes: the visit and the commit of the two requests,
+// and then such messages.
 fn full_journal(alloc: Global) -> Result<Vec<u8>, Memory> {
     let mut journal = journal_of(alloc, &[V1, STANDING])?;
     let _ = journal.pop();
     for call in 3..200_001u64 {
-        journal.extend_from_slice(&[1, 40, 0])?;
+        journal.extend_from_slice(&[1, 42, 0])?;
         journal.extend_from_slice(&call.to_le_bytes())?;
         journal.extend_from_slice(UNKNOWN)?;
     }
@@ -162,7 +168,7 @@ fn full_journal(alloc: Global) -> Result<Vec<u8>, Memory> {
     Ok(journal)
 }
 
-// A message, the commit of the two requests again, and a new commit on a visit that there is not.
+// A message, the commit of the two requests again, and a new commit on a visit that doesn't exist.
 const AT_FULL: &[u8] =
     b"POST /mvt HTTP/1.1\r\nContent-Length: 30\r\n\r\nMVT\nLH999/27.DAIQA.APR\nAD1000\nPOST /commits HTTP/1.1\r\nContent-Length: 83\r\n\r\n{\"desk\":\"D\",\"draft\":1,\"base\":1,\"edits\":[{\"put\":{\"visit\":1,\"part\":1,\"stand\":\"N1\"}}]}POST /commits HTTP/1.1\r\nContent-Length: 88\r\n\r\n{\"desk\":\"D\",\"draft\":2,\"base\":200000,\"edits\":[{\"put\":{\"visit\":9,\"part\":1,\"stand\":\"N1\"}}]}";
 

@@ -1,4 +1,5 @@
-// Season files that are imported and exported. The worked-out texts are those of the format of season files.
+// Season files that are imported and exported. The expected texts were worked out by hand from the
+// format of season files.
 use apron_base::Memory;
 use run_inputs::{AIRPORT, TYPES};
 use std::alloc::Global;
@@ -8,18 +9,18 @@ use text_runs::{DEMO, Run, empty_journal};
 const TWO: &[u8] =
     b"name,type,class,on,off,arr,arrday,dep,depday\nV1,A320,3,600,660,LH123,1,LH124,1\nV2,AT76,5,700,760,,,,\n";
 
-// A visit of the first one's name with another class, and one behind it that is not asked.
+// A visit with the first one's name and another class, and one after it that is not tried.
 const OTHER: &[u8] =
     b"name,type,class,on,off,arr,arrday,dep,depday\nV1,A320,3,600,660,LH123,1,LH124,1\nV2,AT76,5,700,760,,,,\nV1,A320,4,600,660,LH123,1,LH124,1\nV3,A320,3,800,860,,,,\n";
 
-// What is run one after the other on one disk.
+// The runs, one after the other, on one disk.
 #[derive(Clone, Copy)]
 struct Step<'a> {
     words: &'a str,
     season: &'a [u8],
     output: &'a [u8],
     status: u8,
-    // whether the journal is another one then
+    // whether this changes the journal
     changes: bool,
 }
 
@@ -31,7 +32,7 @@ const STEPS: [Step; 13] = [
         status: 0,
         changes: false,
     },
-    // the visit without a flight is there already, whatever comes behind it
+    // the visit without a flight is there already, whatever comes after it
     Step {
         words: "import A T S",
         season: b"name,type,class,on,off,arr,arrday,dep,depday\nV1,A320,3,600,660,LH123,1,LH124,1\nV1,A320,3,600,660,LH123,1,LH124,2\n",
@@ -118,7 +119,7 @@ const STEPS: [Step; 13] = [
     },
 ];
 
-// The disk after a step, and whether it was as it has to be. No byte of the input is taken.
+// The disk after a step, and whether the step did what it has to do. No byte of the input is taken.
 fn stepped<'a>(alloc: Global, stored: &'a [u8], step: Step<'a>) -> Result<(Vec<u8>, bool), Memory> {
     let run = Run {
         words: step.words,
@@ -137,7 +138,7 @@ fn stepped<'a>(alloc: Global, stored: &'a [u8], step: Step<'a>) -> Result<(Vec<u
     ))
 }
 
-// At `Err` a step is not as it has to be, which is told by its number from 0 on, or memory is wanting.
+// `Err` if a step is not as it has to be, with its number, from 0, or if there is no memory.
 fn each_holds(alloc: Global, steps: &[Step]) -> Result<(), Fail> {
     let mut stored = empty_journal(alloc, AIRPORT, TYPES)?;
     for (number, step) in steps.iter().enumerate() {
@@ -155,7 +156,7 @@ fn seasons_are_imported_and_exported(rt: HostRuntime) -> Result<(), Fail> {
     each_holds(rt.alloc(), &STEPS)
 }
 
-// Whether an import of the two visits succeeds on this disk, which has both then.
+// Whether an import of the two visits succeeds on this disk, which then has both.
 fn is_done(alloc: Global, stored: &[u8]) -> Result<bool, Memory> {
     let import = Run {
         words: "import A T S",
@@ -174,7 +175,8 @@ fn is_done(alloc: Global, stored: &[u8]) -> Result<bool, Memory> {
     Ok(imported.status == 0 && exported.is(TWO, 0))
 }
 
-// Whether an import of two visits fails where this call of the disk does; and whether it tells so, and a second one has both.
+// Whether an import of two visits fails if this call of the disk does; and whether it says so, and
+// a second import leaves both there.
 fn import_failing(alloc: Global, call: u64) -> Result<(bool, bool), Memory> {
     let run = Run {
         words: "import A T S",
@@ -203,7 +205,7 @@ fn an_import_whose_disk_fails_is_done_by_a_second_one(rt: HostRuntime) -> Result
     Ok(())
 }
 
-// What an import of two visits ends with where a put fails: the line's own status, unless all was done.
+// The status of an import of two visits if a put fails: the line's own status, unless all was done.
 const UNWRITTEN: [(&str, &[u8], u8); 4] = [
     ("import A T S", TWO, 6),
     ("import A T S", b"", 9),
@@ -225,7 +227,7 @@ fn lines_of_imports_that_are_not_written(rt: HostRuntime) -> Result<(), Fail> {
     Ok(())
 }
 
-// A journal whose one entry adds V1 of TWO with the last but so many of the call numbers.
+// A journal whose one entry adds V1 of TWO with a call number that leaves only `left` after it.
 fn nearly_spent(alloc: Global, left: u8) -> Result<Vec<u8>, Memory> {
     let mut journal = empty_journal(alloc, AIRPORT, TYPES)?;
     let _ = journal.pop();
@@ -249,7 +251,8 @@ fn spends(alloc: Global, left: u8, output: &[u8], status: u8) -> Result<(), Fail
     run.gives(alloc, &left, output, status)
 }
 
-// With so many call numbers left: the first visit is there, and the second is added by the last number.
+// With this many call numbers left: the first visit is there, and the second is added by the last
+// number.
 const LEFT: [(u8, &[u8], u8); 3] = [(0, b"", 17), (1, b"", 17), (2, b"added 1 present 1\n", 0)];
 
 #[test]
@@ -260,7 +263,7 @@ fn an_import_ends_where_the_call_numbers_do(rt: HostRuntime) -> Result<(), Fail>
     Ok(())
 }
 
-// A season file of so many visits.
+// A season file of this many visits.
 fn season_of(alloc: Global, visits: u32) -> Result<Vec<u8>, Fail> {
     let mut text = Vec::from_slice(alloc, b"name,type,class,on,off,arr,arrday,dep,depday\n")?;
     for number in 0..visits {
@@ -303,7 +306,7 @@ fn two_thousand_visits_go_round(rt: HostRuntime) -> Result<(), Fail> {
     each_holds(rt.alloc(), &steps)
 }
 
-// Looks what an import prints of a file of this many bytes whose first record is not the header.
+// Checks what an import prints for a file of this many bytes whose first record is not the header.
 fn prints(alloc: Global, bytes: usize, line: &[u8]) -> Result<(), Fail> {
     let mut text = Vec::from_slice(alloc, b"x")?;
     text.resize(bytes, b'\n')?;
@@ -315,7 +318,7 @@ fn prints(alloc: Global, bytes: usize, line: &[u8]) -> Result<(), Fail> {
     run.gives(alloc, &bytes, line, 9)
 }
 
-// A file of 16 MiB, which is read, and of one byte more.
+// A file of 16 MiB, which is read, and one that is a byte longer.
 #[test]
 fn a_file_over_16_mib_is_too_long(rt: HostRuntime) -> Result<(), Fail> {
     prints(rt.alloc(), 16_777_216, b"season: record 1\n")?;

@@ -1,12 +1,13 @@
-// Journals: how they are made, what desks keep in them, and what is told of those that can't be used.
+// Journals: how they are made, what desks keep in them, and what is printed for those that can't be
+// used.
 use apron_base::Memory;
 use run_inputs::{AIRPORT, FIRST, TYPES};
 use std::alloc::Global;
 use std::test::Fail;
 use text_runs::{DEMO, Run, Session, empty_journal};
 
-// What is told of a journal whose type file's digest ends otherwise: the digests are those of the example's airport file and
-// type file, as `sha256sum` prints them.
+// What is printed for a journal whose type file's digest ends otherwise: the digests are those of
+// the example's airport file and type file, as `sha256sum` prints them.
 const OTHER: &str =
     "journal: other airport f4322cbd517c34ea64e3618053a31d3cebd8158e78f41df924c9cd7d7eebee27dd66539480850f9e7014ae931bdde5384de9e0a0808582f966878f70cca179ff f4322cbd517c34ea64e3618053a31d3cebd8158e78f41df924c9cd7d7eebee27dd66539480850f9e7014ae931bdde5384de9e0a0808582f966878f70cca17942\n";
 
@@ -27,7 +28,7 @@ pub(super) const STANDS: &[u8] =
 const THREE: &[u8] =
     b"POST /visits HTTP/1.1\r\nContent-Length: 56\r\n\r\n{\"name\":\"V1\",\"type\":\"A320\",\"class\":3,\"on\":600,\"off\":660}POST /visits HTTP/1.1\r\nContent-Length: 56\r\n\r\n{\"name\":\"V2\",\"type\":\"A320\",\"class\":3,\"on\":600,\"off\":660}POST /visits HTTP/1.1\r\nContent-Length: 56\r\n\r\n{\"name\":\"V3\",\"type\":\"A320\",\"class\":3,\"on\":600,\"off\":660}GET /version HTTP/1.1\r\n\r\n";
 
-// One for the version, the commit of FIRST, and one that adds V2.
+// A request for the version, the commit of FIRST, and a request that adds V2.
 const AGAIN: &[u8] =
     b"GET /version HTTP/1.1\r\n\r\nPOST /commits HTTP/1.1\r\nContent-Length: 83\r\n\r\n{\"desk\":\"D\",\"draft\":1,\"base\":1,\"edits\":[{\"put\":{\"visit\":1,\"part\":1,\"stand\":\"N1\"}}]}POST /visits HTTP/1.1\r\nContent-Length: 56\r\n\r\n{\"name\":\"V2\",\"type\":\"A320\",\"class\":3,\"on\":600,\"off\":660}";
 
@@ -44,7 +45,7 @@ pub(super) fn journal_of(alloc: Global, entries: &[&[u8]]) -> Result<Vec<u8>, Me
     Ok(journal)
 }
 
-// The two requests make these entries, 132 bytes with the header.
+// The two requests make these entries: 133 bytes with the header.
 fn keeps_two(alloc: Global) -> Result<bool, Memory> {
     let run = Run {
         input: FIRST,
@@ -52,7 +53,7 @@ fn keeps_two(alloc: Global) -> Result<bool, Memory> {
     };
     let ended = run.ends(alloc)?;
     let journal = journal_of(alloc, &[V1, STANDS])?;
-    Ok(journal.len() == 132 && ended.disk.bytes() == journal.as_slice())
+    Ok(journal.len() == 133 && ended.disk.bytes() == journal.as_slice())
 }
 
 // What a desk on that journal replies to AGAIN.
@@ -96,8 +97,8 @@ fn stored_before(alloc: Global, before: Before) -> Result<Vec<u8>, Memory> {
     }
 }
 
-// A disk, the calls of it that fail, and the puts that do; the line that `init` prints, its status, and whether the disk is an
-// empty journal then.
+// A disk, the calls of it that fail, and the puts that do; the line that `init` prints, its status,
+// and whether the disk then is an empty journal.
 type Making = (
     Before,
     &'static [u64],
@@ -118,7 +119,8 @@ const MAKINGS: [Making; 8] = [
     (Before::Nothing, &[2], &[0], b"", 7, true),
 ];
 
-// Whether `init` on a disk of these bytes prints this line and ends with this status, and whether that makes an empty journal.
+// Whether `init` on a disk of these bytes prints this line and ends with this status, and whether
+// the disk then is an empty journal.
 fn makes<'a>(
     alloc: Global,
     stored: &'a [u8],
@@ -138,7 +140,7 @@ fn makes<'a>(
     };
     let ended = run.ends(alloc)?;
     let empty = empty_journal(alloc, AIRPORT, TYPES)?;
-    let is_journal = empty.len() == 73 && ended.disk.bytes() == empty.as_slice();
+    let is_journal = empty.len() == 74 && ended.disk.bytes() == empty.as_slice();
     Ok((ended.is(line, status), is_journal))
 }
 
@@ -179,7 +181,8 @@ fn with(alloc: Global, length: usize, others: &[u8]) -> Result<Vec<u8>, Memory> 
     Ok(all)
 }
 
-// On a disk of these bytes this line is told with status 8, no byte of the input is taken, and the disk reads as before.
+// On a disk of these bytes this line is printed with status 8, no byte of the input is taken, and
+// the disk reads as before.
 fn is_told(alloc: Global, stored: &[u8], line: &str) -> Result<bool, Fail> {
     let run = Run {
         is_new: false,
@@ -192,14 +195,17 @@ fn is_told(alloc: Global, stored: &[u8], line: &str) -> Result<bool, Fail> {
     Ok(ended.is(line.as_bytes(), 8) && ended.disk.bytes() == stored)
 }
 
-const NO_HEADERS: [(usize, &[u8], &str); 7] = [
+const NO_HEADERS: [(usize, &[u8], &str); 10] = [
     (0, b"", "journal: not a journal\n"),
     (72, b"", "journal: not a journal\n"),
-    (72, b"\x01", "journal: record 1\n"),
-    (72, b"\x01\0\0\0", "journal: record 1\n"),
-    (72, b"\x01\x01\x04\0\0", "journal: record 1\n"),
-    (72, b"\x01\x01\0x\x01", "journal: record 2\n"),
-    (72, b"\x01\x01\0x\0", "journal: entry 1 unreadable\n"),
+    (72, b"\x01", "journal: record 0\n"),
+    (72, b"\x01\0\0\0\0", "journal: record 0\n"),
+    (73, b"", "journal: record 1\n"),
+    (73, b"\x01", "journal: record 1\n"),
+    (73, b"\x01\0\0\0", "journal: record 1\n"),
+    (73, b"\x01\x01\x04\0\0", "journal: record 1\n"),
+    (73, b"\x01\x01\0x\x01", "journal: record 2\n"),
+    (73, b"\x01\x01\0x\0", "journal: entry 1 unreadable\n"),
 ];
 
 #[test]
@@ -212,7 +218,14 @@ fn headers_that_are_none_are_told(rt: HostRuntime) -> Result<(), Fail> {
     Ok(())
 }
 
-const CHANGED: [(usize, u8, &str); 2] = [(5, b'2', "journal: not a journal\n"), (71, 255, OTHER)];
+const CHANGED: [(usize, u8, &str); 6] = [
+    (4, b'K', "journal: not a journal\n"),
+    (5, b'1', "journal: old format\n"),
+    (5, b'3', "journal: old format\n"),
+    (6, b'\n', "journal: not a journal\n"),
+    (7, b'\r', "journal: not a journal\n"),
+    (71, 255, OTHER),
+];
 
 #[test]
 fn headers_of_others_are_told(rt: HostRuntime) -> Result<(), Fail> {
@@ -245,7 +258,7 @@ fn entries_that_are_none_are_told(rt: HostRuntime) -> Result<(), Fail> {
     Ok(())
 }
 
-// With these calls of the disk failing these replies are sent, and so many calls are made.
+// If these calls of the disk fail, these replies are sent, and this many calls are made.
 fn is_answered(
     alloc: Global,
     failing_calls: &[u64],
@@ -275,8 +288,9 @@ const THIRD: &str = "200 3 {\"version\":3,\"visit\":3}";
 
 const AT_TWO: &str = "200 2 {\"version\":2}";
 
-// The calls that fail, the replies to the three visits and to the question, and how many calls of the disk were made. Opening
-// makes three, an append four, and two before them where the third or the fourth of the one before failed.
+// The calls that fail, the replies to the three visits and to the question, and how many calls of
+// the disk were made. Opening makes three, an append four, and two before them if the third or the
+// fourth of the append before failed.
 const APPENDS: [(&[u64], [&str; 4], usize); 14] = [
     (&[], [ONE, TWO, THIRD, "200 3 {\"version\":3}"], 15),
     (&[3], [FAILED, ONE, TWO, AT_TWO], 12),

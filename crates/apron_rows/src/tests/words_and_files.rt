@@ -5,9 +5,9 @@ use std::test::Fail;
 use text_runs::{DEMO, Run};
 
 const HELP: &[u8] =
-    b"apron: airport stand allocation\n\napron init AIRPORT TYPES JOURNAL   makes an empty journal for the airport of an airport file and a\n                                   type file\napron desk AIRPORT TYPES JOURNAL   answers HTTP requests from standard input on standard output at\n                                   that airport, and keeps in its journal what it accepts\napron serve AIRPORT TYPES CONNECTIONS ADDRESS WORKERS JOURNAL\n                                   does the same over TCP for many desks at once: 1 to 16 workers\n                                   take 1 to 1,000,000 connections each, one after the other\napron chart AIRPORT TYPES DAY JOURNAL\n                                   prints the wall chart of a day of the plan in that journal\napron import AIRPORT TYPES SEASON JOURNAL\n                                   adds the visits of a season file to the plan in that journal\napron export AIRPORT TYPES JOURNAL prints the season file of the visits in that journal\napron check AIRPORT TYPES          reads an airport file and a type file, and prints how much they\n                                   hold, or the first fault in them\napron make VISITS                  prints the summary of a generated day of 1 to 5,000 visits\napron --help                       prints this text\napron --version                    prints the version\n";
+    b"apron: airport stand allocation\n\napron init AIRPORT TYPES JOURNAL   makes an empty journal for the airport of an airport file and a\n                                   type file\napron desk AIRPORT TYPES JOURNAL   answers HTTP requests from standard input on standard output at\n                                   that airport, and keeps in its journal what it accepts\napron serve AIRPORT TYPES CONNECTIONS ADDRESS WORKERS JOURNAL\n                                   does the same over TCP for many desks at once: 1 to 16 workers\n                                   take 1 to 1,000,000 connections each, one after the other\napron chart AIRPORT TYPES DAY JOURNAL\n                                   prints the wall chart of a day of the plan in that journal\napron import AIRPORT TYPES SEASON JOURNAL\n                                   adds the visits of a season file to the plan in that journal\napron export AIRPORT TYPES JOURNAL prints the season file of the visits in that journal\napron propose AIRPORT TYPES DESK DRAFT JOURNAL\n                                   prints a draft that puts parts without a stand on the first stands\n                                   that take them, or why none does\napron upgrade AIRPORT TYPES JOURNAL\n                                   makes a journal of format 1 one of format 2\napron check AIRPORT TYPES          reads an airport file and a type file, and prints how much they\n                                   hold, or the first fault in them\napron make VISITS                  prints the summary of a generated day of 1 to 5,000 visits\napron --help                       prints this text\napron --version                    prints the version\n";
 
-// An airport whose one stand is on a frontage that there isn't.
+// An airport whose one stand is on a frontage that doesn't exist.
 const UNKNOWN_FRONTAGE: &str = r#"frontage = [{ name = "N", objects = [] }]
 stand = [{ name = "S1", frontage = "S", centre = 4000, letter = "C", buffer = 10 }]
 pair = []
@@ -22,8 +22,11 @@ tow = 20
 
 const USAGE: &[u8] = b"usage\n";
 
-// The words, what they print, and the status; and with a sink that fails at once.
-const WORDS: [(&str, &[u8], u8, u8); 42] = [
+// What is proposed on a journal with no entry.
+const NOTHING_WAITS: &[u8] = b"propose on version 0\nend\n";
+
+// The words, what they print, and the status; then the status with a sink that fails at once.
+const WORDS: [(&str, &[u8], u8, u8); 53] = [
     ("", USAGE, 2, 2),
     ("desk", USAGE, 2, 2),
     ("desk demo", USAGE, 2, 2),
@@ -44,6 +47,17 @@ const WORDS: [(&str, &[u8], u8, u8); 42] = [
     ("export A", USAGE, 2, 2),
     ("export A T S", USAGE, 2, 2),
     ("export T A", b"airport file: not toml\n", 3, 3),
+    ("propose A T P", USAGE, 2, 2),
+    ("propose A T P 1 1", USAGE, 2, 2),
+    ("propose A T p 1", USAGE, 2, 2),
+    ("propose A T ABCDEFGHIJKLM 1", USAGE, 2, 2),
+    ("propose A T P 01", USAGE, 2, 2),
+    ("propose A T P -1", USAGE, 2, 2),
+    ("propose A T P 4294967296", USAGE, 2, 2),
+    ("propose A T P 99999999999", USAGE, 2, 2),
+    ("propose T A P 1", b"airport file: not toml\n", 3, 3),
+    ("propose A T P 0", NOTHING_WAITS, 0, 6),
+    ("propose A T A-9 4294967295", NOTHING_WAITS, 0, 6),
     ("chart A T 0", USAGE, 2, 2),
     ("chart A T 4", USAGE, 2, 2),
     ("chart A T 01", USAGE, 2, 2),
@@ -71,14 +85,14 @@ const WORDS: [(&str, &[u8], u8, u8); 42] = [
         0,
         6,
     ),
-    ("--version", b"apron 0.1.0\n", 0, 6),
+    ("--version", b"apron 0.2.0\n", 0, 6),
     ("--help", HELP, 0, 6),
     ("check A T", b"ok: 13 stands, 7 types, 3 days\n", 0, 6),
     ("check T A", b"airport file: not toml\n", 3, 3),
     ("check A missing", b"shelf fault\n", 4, 4),
 ];
 
-// Looks what a run gives, and that with a sink that fails at once it ends with the other status.
+// Checks what a run gives, and that with a sink that fails at once it ends with the other status.
 fn gives(alloc: Global, run: Run, output: &[u8], status: u8, unwritten: u8) -> Result<(), Fail> {
     let shows = (run.words, output);
     run.gives(alloc, &shows, output, status)?;
@@ -105,7 +119,8 @@ fn words_that_print(rt: HostRuntime) -> Result<(), Fail> {
 // A type whose folded span is greater than its wing span.
 const WIDER_FOLDED: &str = "type,span,least,parked,fold\nFW72,7180,60,7181,5\n";
 
-// The two files, the failing calls of the shelf, the line and the status, of each word that begins with two files.
+// For each word that begins with two files: the two files, the failing calls of the shelf, the line
+// and the status.
 const FAULTY: [(&str, &str, &[u64], &[u8], u8); 7] = [
     (UNKNOWN_FRONTAGE, TYPES, &[], b"airport: unknown S\n", 3),
     (AIRPORT, WIDER_FOLDED, &[], b"airport: fold FW72\n", 3),
@@ -116,13 +131,14 @@ const FAULTY: [(&str, &str, &[u64], &[u8], u8); 7] = [
     (AIRPORT, TYPES, &[1], b"shelf fault\n", 4),
 ];
 
-const OF_TWO_FILES: [&str; 6] = [
+const OF_TWO_FILES: [&str; 7] = [
     "desk A T",
     "init A T",
     "check A T",
     "chart A T 1",
     "import A T S",
     "export A T",
+    "propose A T P 1",
 ];
 
 #[test]

@@ -138,7 +138,7 @@ fn whole_numbers_of_32_bits_are_numbers(rt: HostRuntime) {
     }
 }
 
-// Edits, and what is read of them, or nothing where they are refused.
+// Edits, and what is read of them, or nothing if they are refused.
 const EDITS: [(&str, &str); 21] = [
     (r#"{"put":{"visit":1,"part":2,"stand":"N1"}}"#, "put 1 2 N1"),
     (r#"{"put":{"visit":0,"part":0,"stand":""}}"#, "put 0 0 "),
@@ -218,7 +218,7 @@ fn joined(
     Ok(text)
 }
 
-// Whether a commit of so many edits is read.
+// Whether a commit of this many edits is read.
 fn is_read_with(alloc: Global, edits: usize) -> Option<bool> {
     let before = r#"{"desk":"D","draft":1,"base":2,"edits":["#;
     let piece = r#"{"lift":{"visit":1,"part":1}},"#;
@@ -234,7 +234,7 @@ fn a_commit_has_1_to_64_edits(rt: HostRuntime) {
     }
 }
 
-// Whether a commit is read that nests so deep: its object is the first level.
+// Whether a commit nested this deep is read: its object is the first level.
 fn is_read_nested(alloc: Global, deep: usize) -> Option<bool> {
     let before =
         r#"{"desk":"D","draft":1,"base":2,"edits":[{"lift":{"visit":1,"part":1}}],"more":"#;

@@ -2,7 +2,7 @@
 use desk_bodies::{EventText, ReportText, read_cancel, read_report};
 use std::alloc::{AllocError, Global};
 
-// Bodies, and what is read of them, or nothing where they are refused.
+// Bodies, and what is read of them, or nothing if they are refused.
 const REPORTS: [(&str, &str); 25] = [
     (
         r#"{"visit":1,"on":{"part":2,"stand":"N1","minute":600}}"#,

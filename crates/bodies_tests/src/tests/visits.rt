@@ -30,7 +30,7 @@ fn visit_of(alloc: Global, body: &str) -> Option<String> {
     words(alloc, &visit).ok()
 }
 
-// Bodies, and what is read of them, or nothing where they are refused.
+// Bodies, and what is read of them, or nothing if they are refused.
 const VISITS: [(&str, &str); 43] = [
     (
         r#"{"name":"V1","type":"A320","class":3,"on":600,"off":660}"#,

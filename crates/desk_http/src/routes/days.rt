@@ -1,4 +1,4 @@
-// What GET /plan/DAY and GET /chart/DAY ask.
+// What GET /plan/DAY, GET /chart/DAY and GET /day/DAY ask.
 ghost use Rattle.std.specs.Prelude.{◌≡◌, ◌≤◌, OnOk};
 ghost use Rattle.desk_http.specs.DaysRoute.{day_asked as day_asked_lem, is_day as is_day_lem};
 

@@ -4,17 +4,18 @@ ghost use Rattle.apron_rules.specs.declared.parts.AirportParts.{AirportParts};
 ghost use Rattle.history_core.specs.History.{IsWhatOf};
 ghost use Rattle.desk_http.specs.MessagesRoute.{message_asked as message_asked_lem};
 
+use apron_base::Name;
 use desk_words::asks::{Command, What};
 use desk_words::early::Early;
 use mvt_grammar::read_mvt;
 
-/// What is asked with this body, which is a text and no JSON. It takes no memory.
-pub(crate) fn message_asked(body: &[u8]) -> Result<What, Early>
-    ensures asked { result ≡ message_asked_lem body.now }
+/// What the desk asks with this body, which is a text and no JSON. It takes no memory.
+pub(crate) fn message_asked(desk: Name, body: &[u8]) -> Result<What, Early>
+    ensures asked { result ≡ message_asked_lem desk body.now }
     ensures valid { (airport : AirportParts) → IfOk result (IsWhatOf airport) }
 {
     match read_mvt(body) {
-        Ok(message) => Ok(What::Change(Command::Message { message })),
+        Ok(message) => Ok(What::Change(Command::Message { desk, message })),
         Err(fault) => Err(Early::NotMvt(fault)),
     }
 }

@@ -9,7 +9,7 @@ ghost use Rattle.desk_http.specs.ReportsRoute.{cancel_asked as cancel_asked_lem,
 
 use super::Unasked;
 use crate::names::stand_named;
-use apron_base::VisitNo;
+use apron_base::{Name, VisitNo};
 use apron_rules::Airport;
 use desk_bodies::{EventText, read_cancel, read_report};
 use desk_words::asks::{Command, What};
@@ -17,14 +17,20 @@ use desk_words::early::Early;
 use std::alloc::Global;
 use visit_book::Event;
 
-/// What is asked with the body of a report.
-pub(crate) fn report_asked(alloc: Global, airport: &Airport, body: &[u8]) -> Result<What, Unasked>
-    ensures asked { Finds (report_asked_lem airport.now body.now) result }
+/// What the desk asks with the body of a report.
+pub(crate) fn report_asked(
+    alloc: Global,
+    airport: &Airport,
+    desk: Name,
+    body: &[u8],
+) -> Result<What, Unasked>
+    ensures asked { Finds (report_asked_lem airport.now desk body.now) result }
     ensures valid { IfOk result (IsWhatOf airport.now) }
 {
     let report = read_report(alloc, body)?;
     let event = event_named(airport, &report.event)?;
     Ok(What::Change(Command::Report {
+        desk,
         visit: VisitNo(report.visit),
         event,
     }))

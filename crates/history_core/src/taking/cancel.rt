@@ -11,7 +11,8 @@ use plan_core::Plan;
 use std::alloc::Global;
 use visit_book::{Visit, is_live};
 
-/// What comes of cancelling the visit of this number at a plan whose history has so many entries.
+/// What cancelling the visit of this number comes to, at a plan whose history has this many
+/// entries.
 pub(super) fn take_cancel(
     alloc: Global,
     plan: &Plan,
@@ -32,7 +33,7 @@ pub(super) fn take_cancel(
     Ok(told_of(change, Told::Cancelled))
 }
 
-// The visit of this number, which can be cancelled, or why not.
+// The visit of this number if it can be cancelled, or why not.
 fn cancellable(plan: &Plan, number: VisitNo) -> Result<Visit, Denial>
     ensures is { result ≡ cancellable plan.now.plan number }
 {

@@ -16,7 +16,8 @@ use std::marker::Brand;
 use std::sync::ledger::{Blank, Ledger};
 use visit_book::{Edit, EditFault};
 
-/// A desk's draft as a commit has it: its desk, its number, the version over which it was made, and its edits.
+/// A desk's draft as its commit has it: the desk, the draft's number, the version over which it was
+/// made, and its edits.
 #[derive(Clone, Copy)]
 pub(super) struct Draft<'c> {
     pub(super) desk: &'c Name,
@@ -25,7 +26,7 @@ pub(super) struct Draft<'c> {
     pub(super) edits: &'c [Edit],
 }
 
-/// What comes of the commit of a draft at a plan whose history has so many entries.
+/// What the commit of a draft comes to, at a plan whose history has this many entries.
 pub(super) fn take_commit(
     alloc: Global,
     airport: &Airport,
@@ -76,7 +77,7 @@ fn committed(change: Change) -> Taken
     Taken::Accepted(change, reply)
 }
 
-// What is told of a fault; want of memory is no refusal.
+// What the reply says of a fault. A lack of memory is no refusal.
 fn refusal(fault: EditFault) -> Result<Told, Memory>
     ensures memory { IsErr result ↔ (fault ≡ EditFault.Memory) }
     ensures told { IfOk result (λ told. (told ≡ Told.Edit fault) × (fault ≢ EditFault.Memory)) }
@@ -87,7 +88,7 @@ fn refusal(fault: EditFault) -> Result<Told, Memory>
     }
 }
 
-// A rebase whose steps nobody counts.
+// A rebase without a count of its steps.
 fn rebase_uncounted(
     alloc: Global,
     airport: &Airport,

@@ -1,9 +1,9 @@
 // A movement message comes.
-ghost use Rattle.std.specs.Prelude.{◌≡◌, IfOk, IfSome, option_map};
+ghost use Rattle.std.specs.Prelude.{◌≡◌, IfOk, IfSome, List, ℕ, option_map};
 ghost use Rattle.std.specs.Option.{option_copied};
+ghost use Rattle.mvt_grammar.specs.Readable.{IsReadable};
 ghost use Rattle.visit_book.specs.Numbers.{IsNumbered};
 ghost use Rattle.visit_effects.specs.Effects.{live_of};
-ghost use Rattle.desk_words.specs.Commands.{IsCommandOf};
 ghost use Rattle.desk_words.specs.declared.asks.Command.TheVariants.{Message};
 ghost use Rattle.bump_core.specs.Settled.{IsChanged};
 ghost use Rattle.history_core.specs.Steps.{changed_by};
@@ -20,7 +20,8 @@ use std::alloc::Global;
 use visit_book::Visit;
 use visit_effects::{Movement, effect_of, movement_meant};
 
-/// What comes of a message at a plan whose history has so many entries.
+/// What a message comes to, at a plan whose history has this many entries, whichever desk passed it
+/// on.
 pub(super) fn take_message(
     alloc: Global,
     airport: &Airport,
@@ -29,10 +30,11 @@ pub(super) fn take_message(
     message: &Mvt,
 ) -> Result<Taken, Memory>
     requires airport { airport.now ≡ plan.now.plan.airport }
-    requires valid { IsCommandOf airport.now (Message message.now) }
+    requires readable { IsReadable message.now }
     requires numbered { IsNumbered plan.now.plan.visits }
     requires entries { plan.now.plan.version ≡ entries }
-    ensures finds { IfOk result (Finds plan.now.plan entries (Message message.now)) }
+    ensures finds { (desk : List ℕ)
+        → IfOk result (Finds plan.now.plan entries (Message desk message.now)) }
 {
     let changed = changed_by(airport, plan, message);
     if !takes_entry(entries) {
@@ -43,15 +45,15 @@ pub(super) fn take_message(
     Ok(told_of(change, Told::Message { bumped, visit }))
 }
 
-// The visit that is meant, as the message changes it: None where it does nothing.
+// The visit that the message is about, as the message changes it; `None` if it does nothing.
 fn changed_by(airport: &Airport, plan: &Plan, message: &Mvt) -> Option<Visit>
     requires airport { airport.now ≡ plan.now.plan.airport }
-    requires valid { IsCommandOf airport.now (Message message.now) }
+    requires readable { IsReadable message.now }
     requires numbered { IsNumbered plan.now.plan.visits }
     ensures is { result ≡ changed_by plan.now.plan message.now }
     ensures changed { IfSome result (IsChanged plan.now.plan) }
 {
-    // What is true of every plan makes its visits well formed.
+    // What holds of every plan shows that its visits are well formed.
     let _known = plan.visits();
     let movement = movement_meant(airport, message)?;
     let visit = live_of(plan, &movement)?;

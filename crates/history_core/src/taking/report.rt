@@ -1,7 +1,6 @@
 // A visit came on block or went off block.
-ghost use Rattle.std.specs.Prelude.{◌≡◌, IfOk};
+ghost use Rattle.std.specs.Prelude.{◌≡◌, IfOk, List, ℕ};
 ghost use Rattle.visit_book.specs.Reports.{IsEventOf};
-ghost use Rattle.desk_words.specs.Commands.{IsCommandOf};
 ghost use Rattle.desk_words.specs.declared.asks.Command.TheVariants.{Report};
 ghost use Rattle.bump_core.specs.Settled.{IsChanged};
 ghost use Rattle.history_core.specs.Steps.{denial_of, reported};
@@ -16,7 +15,8 @@ use plan_core::Plan;
 use std::alloc::Global;
 use visit_book::{Event, ReportFault, Visit, report};
 
-/// What comes of the report of an event of the visit of this number at a plan whose history has so many entries.
+/// What the report of an event of the visit of this number comes to, at a plan whose history has
+/// this many entries, whichever desk sent it.
 pub(super) fn take_report(
     alloc: Global,
     airport: &Airport,
@@ -26,9 +26,10 @@ pub(super) fn take_report(
     event: &Event,
 ) -> Result<Taken, Memory>
     requires airport { airport.now ≡ plan.now.plan.airport }
-    requires valid { IsCommandOf airport.now (Report number event.now) }
+    requires event { IsEventOf airport.now event.now }
     requires entries { plan.now.plan.version ≡ entries }
-    ensures finds { IfOk result (Finds plan.now.plan entries (Report number event.now)) }
+    ensures finds { (desk : List ℕ)
+        → IfOk result (Finds plan.now.plan entries (Report desk number event.now)) }
 {
     let visit = match reported(airport, plan, number, event) {
         Ok(visit) => visit,
@@ -41,14 +42,14 @@ pub(super) fn take_report(
     Ok(told_of(change, Told::Reported { bumped }))
 }
 
-// What the event makes of the plan's visit of this number, or why the report of it is refused.
+// What the event makes of the plan's visit of this number, or why its report is refused.
 fn reported(airport: &Airport, plan: &Plan, number: VisitNo, event: &Event) -> Result<Visit, Denial>
     requires airport { airport.now ≡ plan.now.plan.airport }
     requires event { IsEventOf airport.now event.now }
     ensures is { result ≡ reported plan.now.plan number event.now }
     ensures changed { IfOk result (IsChanged plan.now.plan) }
 {
-    // What is true of every plan makes its visits well formed.
+    // What holds of every plan shows that its visits are well formed.
     let _known = plan.visits();
     let Some(visit) = plan.visit(number) else {
         return Err(Denial::Unknown);

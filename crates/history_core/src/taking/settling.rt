@@ -1,4 +1,4 @@
-// A plan is settled by its next entry, which says what happened.
+// Settles a plan by its next entry, which says what happened.
 ghost use Rattle.std.specs.Prelude.{◌≡◌, ◌<◌, ◌+◌, IfOk, IfSome};
 ghost use Rattle.std.specs.Option.{option_copied};
 ghost use Rattle.plan_core.specs.PlanState.{IsInstallable, installed, version_limit};
@@ -14,8 +14,8 @@ use std::marker::Brand;
 use std::sync::ledger::{Blank, Ledger};
 use visit_book::Visit;
 
-/// The change of the plan's next entry, which puts in this visit changed, if one is changed, and the parts that lose
-/// their stands by it, in order of visit and part. At `Err` memory is wanting.
+/// The change of the plan's next entry: it puts in the changed visit, if there is one, and the
+/// parts that lose their stands by it, in order of visit and part. `Err` if there is no memory.
 pub(super) fn settled(
     alloc: Global,
     airport: &Airport,
@@ -34,7 +34,7 @@ pub(super) fn settled(
     Ok((change, bumped))
 }
 
-// A settling whose steps nobody counts.
+// A settling without a count of its steps.
 fn settle_uncounted(
     alloc: Global,
     airport: &Airport,

@@ -14,7 +14,7 @@ use plan_core::{Change, MAX_VISITS, Plan};
 use std::alloc::Global;
 use visit_book::{NewVisit, Visit, added_visit, new_of};
 
-/// What comes of adding a visit with this at a plan whose history has so many entries.
+/// What adding this visit comes to, at a plan whose history has this many entries.
 pub(super) fn take_visit(
     alloc: Global,
     airport: &Airport,
@@ -58,18 +58,19 @@ fn added(change: Change, visit: VisitNo) -> Taken
     Taken::Accepted(change, reply)
 }
 
-// The visit that an entry adds with what can be said at the airport.
+// The visit that an entry adds with these data, which are valid at the airport.
 fn well_formed_visit(airport: &Airport, number: VisitNo, version: u32, new: &NewVisit) -> Visit
     requires new { IsNewVisitOf airport.now new.now }
     ensures is { result ≡ added_visit number.0 version new.now }
     ensures well_formed { IsWellFormed airport.now result }
 {
-    // What is true of every airport, as the least minutes of its types, makes the visit well formed.
+    // What holds of every airport, such as the least minutes of its types, shows that the visit is
+    // well formed.
     let _known = airport.parts();
     added_visit(number, version, new)
 }
 
-// What is told where a visit has the name of the one to be added.
+// What the reply says if a visit already has the name of the one to be added.
 fn told_of_same_name(new: &NewVisit, visit: &Visit) -> Told
     ensures same { new_of visit.now ≡ new.now → result ≡ Told.Added visit.now.added visit.now.number }
     ensures other { new_of visit.now ≢ new.now → result ≡ Told.OtherName visit.now.number }

@@ -1,4 +1,4 @@
-// A reader as a source and a writer as a sink, which fail at some calls.
+// A reader as a source and a writer as a sink, some calls of which fail.
 ghost use Rattle.std.specs.Prelude.{◌≤◌, IfOk};
 
 use apron_base::{Failed, Reading, Sink, Source, Writing};
@@ -63,7 +63,7 @@ const NEW: Breaking = Breaking {
 // What reads of up to four bytes give, one after the other.
 const READS: [Result<usize, Failed>; 5] = [Ok(2), Err(Failed), Ok(2), Ok(1), Ok(0)];
 
-// Whether a source gives these.
+// Whether the reads of a source give these.
 fn gives<S: Source>(source: &mut S, reads: &[Result<usize, Failed>]) -> bool {
     let mut into = [0; 4];
     for want in reads {
@@ -94,7 +94,7 @@ const PUTS: [(&str, bool); 5] = [
     ("fg", false),
 ];
 
-// Whether a sink takes these.
+// Whether the puts of a sink do this.
 fn takes<S: Sink>(sink: &mut S, puts: &[(&str, bool)]) -> bool {
     for (piece, is_put) in puts {
         if sink.put(piece.as_bytes()).is_ok() != *is_put {

@@ -17,7 +17,7 @@ const ROOM: Room = Room {
     calls: 100,
 };
 
-// What makes an empty disk a journal and opens it makes so many calls.
+// How many calls it takes to make an empty disk a journal and to open it.
 const CALLS_BEFORE: usize = 6;
 
 fn memory_disk(alloc: Global, bytes: &[u8], failing: &[u64]) -> Result<MemoryDisk, JournalFault> {
@@ -26,7 +26,7 @@ fn memory_disk(alloc: Global, bytes: &[u8], failing: &[u64]) -> Result<MemoryDis
     MemoryDisk::new(alloc, bytes, ROOM, failing).map_err(|_| JournalFault::Memory)
 }
 
-// A journal that has at most so many entries: an append needs a place for one more.
+// A journal with a limit on its entries: an append needs a place for one more.
 #[derive(Drop)]
 struct Counted<D: Disk> {
     journal: Journal<D>,
@@ -68,7 +68,7 @@ impl<D: Disk> Counted<D> {
     }
 }
 
-// The disk of a new journal after as many of four appends, and whether the last of them was
+// The disk of a new journal after this many of four appends, and whether the last of them was
 // acknowledged.
 fn after_appends(
     alloc: Global,
@@ -99,16 +99,17 @@ fn a_digest_is_that_of_the_standard(rt: HostRuntime) {
     assert!(rt; digest_of(b"abc") == want);
 }
 
-// Whether the bytes are a header and a closed gate.
+// Whether the bytes are a header and two closed gates.
 fn are_new_journal(bytes: &[u8]) -> bool {
-    bytes.len() == 73
-        && bytes.starts_with(b"APRNJ1\r\n")
+    bytes.len() == 74
+        && bytes.starts_with(b"APRNJ2\r\n")
         && &bytes[8..72] == DIGESTS.as_slice()
         && bytes[72] == 0
+        && bytes[73] == 0
 }
 
 #[test]
-fn a_new_journal_is_a_header_and_a_closed_gate(rt: HostRuntime) -> Result<(), Fail> {
+fn a_new_journal_is_a_header_and_two_closed_gates(rt: HostRuntime) -> Result<(), Fail> {
     let mut disk = memory_disk(rt.alloc(), &[], &[])?;
     let made = init(&mut disk, &DIGESTS);
     assert!(rt; made == Ok(()) && disk.calls().len() == 3 && are_new_journal(disk.bytes()));
@@ -152,14 +153,14 @@ fn read_file<R: Files<File = File> + Eprint>(
 fn entries_in_a_file_are_found_again(rt: HostRuntime) -> Result<(), Fail> {
     assert!(rt; FileDisk::open(&rt, PATH).length() == Err(Failed));
     make_file(&rt, rt.alloc())?;
-    assert!(rt; read_file(&rt, rt.alloc()) == Ok((true, 132)));
+    assert!(rt; read_file(&rt, rt.alloc()) == Ok((true, 133)));
     fs::remove_file(&rt, PATH)?;
     Ok(())
 }
 
 const SHARED: &str = "shared.journal";
 
-// Whether the file at the path can be had by a reader, and whether by a writer.
+// Whether a reader can have the file at the path, and whether a writer can.
 fn can_be_had<R: Files<File = File> + Eprint>(rt: &R) -> (bool, bool) {
     let is_read = FileDisk::open_to_read(rt, SHARED).length().is_ok();
     let is_written = FileDisk::open(rt, SHARED).length().is_ok();
@@ -190,7 +191,7 @@ fn a_file_that_is_read_alone_is_synced_and_not_written(rt: HostRuntime) -> Resul
     Ok(())
 }
 
-// The call that fails, how many calls the first append makes then, and how many the second one.
+// The call that fails, how many calls the first append then makes, and how many the second one.
 const GATES: [(u64, usize, usize); 5] = [(99, 4, 4), (6, 1, 4), (7, 2, 4), (8, 3, 6), (9, 4, 6)];
 
 #[test]
@@ -249,7 +250,7 @@ const UNSYNCED: [Unsynced; 4] = [
     Unsynced::Ones,
 ];
 
-// What becomes of the writes where a crash at this moment loses what was acknowledged.
+// What becomes of the writes if a crash at this moment loses what was acknowledged.
 fn lost_at(
     alloc: Global,
     disk: &MemoryDisk,
@@ -264,7 +265,8 @@ fn lost_at(
     Ok(None)
 }
 
-// The first moment at which a crash may lose that, and what becomes of the writes then.
+// The first moment at which a crash may lose something acknowledged, and what then becomes of the
+// writes.
 fn first_lost(
     alloc: Global,
     disk: &MemoryDisk,
@@ -278,7 +280,7 @@ fn first_lost(
     Ok(None)
 }
 
-// The same of four appends to a new journal.
+// The same for four appends to a new journal.
 fn lost_of_four(alloc: Global, failing: u64) -> Result<Option<(usize, Unsynced)>, JournalFault> {
     let acknowledged = acknowledged(alloc, failing)?;
     let (disk, _) = after_appends(alloc, failing, 4)?;

@@ -27,7 +27,7 @@ fn reads_come_in_pieces_and_fail_as_told(rt: HostRuntime) -> Result<(), Fail> {
     Ok(())
 }
 
-// Pieces, one after the other, whether each is put, and what was written then.
+// Pieces, one after the other, whether each is put, and what was written by then.
 const PUTS: [(&str, bool, &str); 6] = [
     ("abc", true, "abc"),
     ("de", false, "abc"),

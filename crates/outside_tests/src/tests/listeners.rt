@@ -13,7 +13,7 @@ fn two_connections(alloc: Global) -> Result<ListListener<SteadySource, NullSink>
     Ok(listener)
 }
 
-// Accepts a connection and finishes it so; whether there was one.
+// Accepts a connection and finishes it with this outcome; whether there was one.
 fn is_finished<L: Listener, R: Wait>(rt: &R, listener: &mut L, outcome: Outcome) -> bool {
     match listener.accept(rt) {
         Ok((source, sink)) => {
@@ -24,7 +24,7 @@ fn is_finished<L: Listener, R: Wait>(rt: &R, listener: &mut L, outcome: Outcome)
     }
 }
 
-// Whether the connections were finished so.
+// Whether the connections were finished with these outcomes.
 fn have_outcomes(finished: &[Finished<SteadySource, NullSink>], want: &[Outcome]) -> bool {
     finished.len() == want.len()
         && finished
@@ -33,7 +33,7 @@ fn have_outcomes(finished: &[Finished<SteadySource, NullSink>], want: &[Outcome]
             .all(|(finished, want)| finished.outcome == *want)
 }
 
-// How each connection ends that is accepted, and whether one is.
+// How each accepted connection ends, and whether one is accepted.
 const CALLS: [(Outcome, bool); 4] = [
     (Outcome::Closed, true),
     (Outcome::Limit, false),

@@ -29,7 +29,7 @@ fn length<S: Shelf>(
     }
 }
 
-// A file's name, the most bytes that are asked for, and how many there are.
+// A file's name, the most bytes that are asked for, and how many it has.
 type Ask = (&'static str, u32, Result<usize, ShelfFault>);
 
 const TOLD: [Ask; 4] = [

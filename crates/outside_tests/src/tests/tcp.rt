@@ -30,7 +30,7 @@ fn sends<S: Source>(source: &mut S, bytes: &[u8]) -> bool {
     true
 }
 
-// Accepts a connection, answers it and closes it; whether it asked and could be told.
+// Accepts a connection, answers it and closes it; whether it asked and the answer could be sent.
 fn is_answered<L: Listener, R: Wait>(rt: &R, desks: &mut L) -> bool {
     let Ok((mut source, mut sink)) = desks.accept(rt) else {
         return false;
@@ -98,8 +98,8 @@ fn is_closed<L: Listener + Drop, R: Wait>(rt: &R, desks: L) -> bool {
     }
 }
 
-// A server that closed a connection first leaves the address in use for a while, which hinders none that listens there
-// next.
+// A server that closed a connection first leaves the address in use for a while. This doesn't stop
+// the next one from listening there.
 #[test]
 fn the_address_can_be_bound_again_at_once(rt: HostRuntime) -> Result<(), Fail> {
     let (first, address) = desks_at(&rt)?;

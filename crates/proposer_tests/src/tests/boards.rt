@@ -162,7 +162,8 @@ fn put_all(
     Ok(())
 }
 
-/// What is proposed for the plan of these visits, of which some are put on stands, to desk P for its draft 1.
+/// What is proposed to desk P, for its draft 1, over the plan of these visits, some of which are
+/// put on stands.
 pub(super) fn proposed(
     alloc: Global,
     airport: &Airport,

@@ -27,13 +27,14 @@ const T14: u16 = 11;
 
 const T15: u16 = 12;
 
-/// Why a stand does not take a part: the code letter, or the clash at this minute of the first parts of two visits.
+/// Why a stand does not take a part: the code letter, or the clash at this minute of the first
+/// parts of two visits.
 pub(super) enum Reason {
     Letter,
     Clash(Minute, u32, u32, Rule),
 }
 
-/// Visits, the stands that some of them are put on, and what is proposed then, over this version.
+/// Visits, the stands that some of them are put on, and what is then proposed, over this version.
 pub(super) struct Case {
     pub(super) name: &'static str,
     pub(super) visits: &'static [Added],
@@ -43,7 +44,7 @@ pub(super) struct Case {
     pub(super) left: &'static [(u32, &'static [Reason])],
 }
 
-// Of all stands 14 alone takes an A388.
+// Of all stands only 14 takes an A388.
 const FOR_THE_SECOND_A388: [Reason; 13] = [
     Reason::Letter,
     Reason::Letter,

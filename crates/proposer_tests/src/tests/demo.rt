@@ -7,7 +7,8 @@ use small_airports::{airport_of, empty_parts};
 use std::alloc::Global;
 use std::test::Fail;
 
-// A stand: its name, its frontage, its centreline in centimetres, its letter, and the stand of which it is a half.
+// A stand: its name, its frontage, its centreline in centimetres, its letter, and the stand that it
+// is a half of.
 type StandText = (&'static [u8], &'static [u8], u32, Letter, &'static [u8]);
 
 const STANDS: [StandText; 13] = [
@@ -33,7 +34,7 @@ const TYPES: [(&[u8], u32, u32); 3] = [
     (b"A388", 7_975, 90),
 ];
 
-// A frontage, and where an object stands beside it.
+// A frontage, and where objects are beside it.
 const FRONTAGES: [(&[u8], &[u32]); 4] = [
     (b"N", &[0]),
     (b"S", &[0]),

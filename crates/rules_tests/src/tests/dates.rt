@@ -12,6 +12,8 @@ fn days_of_a_plan_follow_the_calendar(rt: HostRuntime) -> Result<(), Fail> {
         ("2023-02-28", 2, 1),
         ("2000-01-01", 0, 31),
         ("2099-12-31", 28, 27),
+        ("2026-02-02", 0, 1),
+        ("2026-02-02", 28, 1),
     ] {
         match date_in(first.as_bytes()) {
             Some(first) if day <= 28 => assert_eq!(rt; month_day(first, day), want),

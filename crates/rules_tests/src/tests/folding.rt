@@ -1,4 +1,5 @@
-// Types that fold their wing tips: when they clash, what they fit, and which of them an airport takes.
+// Types that fold their wing tips: when they clash, what they fit, and which of them an airport
+// accepts.
 ghost use Rattle.std.specs.Prelude.{IfOk, IsTrue};
 ghost use Rattle.apron_dates.specs.Dates.{IsFirstDay};
 ghost use Rattle.apron_rules.specs.Names.{is_station};
@@ -120,7 +121,7 @@ fn wing_tips_exclude_while_they_are_unfolded(rt: HostRuntime) -> Result<(), Fail
     }
 }
 
-// How the wing tips of FW72 are on a stand from 600 to 700.
+// The state of the wing tips of FW72 on a stand from 600 to 700.
 fn wing_at(airport: &Airport, minute: u32) -> Option<Wing> {
     if FW72 as usize >= airport.parts().types.len() {
         return None;
@@ -190,7 +191,7 @@ fn parts_with(alloc: Global, kind: TypeRow) -> Result<AirportParts, Fail>
     })
 }
 
-// What an airport with an A320 and this type is refused for.
+// Why an airport with an A320 and this type is refused.
 fn refused_for(alloc: Global, kind: TypeRow) -> Result<&'static str, Fail> {
     let parts = parts_with(alloc, kind)?;
     match Airport::new(alloc, parts) {

@@ -1,7 +1,8 @@
-// Two aircraft that fold their wing tips beside each other. The wing tips of each are unfolded when it comes, then folded,
-// and unfolded again before it goes and in the stand's buffer of 10 minutes. One is on the stand HOME. The places of
-// the other stands are such that two aircraft of 7,180 and 7,000 cm, folded 6,480 and 6,400 cm, with 750 cm between
-// them, are 1 cm too near at the named wing tips and all that are wider.
+// Two aircraft that fold their wing tips beside each other. The wing tips of each are unfolded when
+// it comes, then folded, and unfolded again before it goes and in the stand's buffer of 10 minutes.
+// One is on the stand HOME. The places of the other stands are chosen for two aircraft of 7,180 and
+// 7,000 cm, folded 6,480 and 6,400 cm, with 750 cm between them: they are 1 cm too near with the
+// wing tips that the stand is named for, and with all that are wider.
 use super::stays::{Row, folding_type, stand, wrong_row};
 use apron_base::{Letter, Listed, Name, StandNo};
 use apron_rules::{Airport, AirportParts, Frontage, Rule};
@@ -11,16 +12,18 @@ use std::test::Fail;
 
 const HOME: u16 = 0;
 
-// Too near where both are unfolded: 7,180 + 7,000 + 1,500 is 15,680, twice the distance is 15,678.
+// Too near if both are unfolded: 7,180 + 7,000 + 1,500 is 15,680, twice the distance is 15,678.
 const BOTH: u16 = 1;
 
-// Too near where the wider one is unfolded: 7,180 + 6,400 + 1,500 is 15,080, twice the distance is 15,078.
+// Too near if the wider one is unfolded: 7,180 + 6,400 + 1,500 is 15,080, twice the distance is
+// 15,078.
 const WIDER: u16 = 2;
 
-// Too near where one of them is unfolded: 6,480 + 7,000 + 1,500 is 14,980, twice the distance is 14,978.
+// Too near if one of them is unfolded: 6,480 + 7,000 + 1,500 is 14,980, twice the distance is
+// 14,978.
 const EITHER: u16 = 3;
 
-// Too near when folded too: 6,480 + 6,400 + 1,500 is 14,380, twice the distance is 14,378.
+// Too near even if both are folded: 6,480 + 6,400 + 1,500 is 14,380, twice the distance is 14,378.
 const ALWAYS: u16 = 4;
 
 // Folds its wing tips in 5 minutes.
@@ -29,7 +32,7 @@ const FW72: u16 = 0;
 // Folds its wing tips in 10 minutes.
 const FW70: u16 = 1;
 
-// Comes and goes with folded wing tips, which are unfolded in the buffer alone.
+// Comes and goes with folded wing tips, which are unfolded only in the buffer.
 const FZ70: u16 = 2;
 
 fn airport(alloc: Global) -> Result<Airport, Fail> {
@@ -190,7 +193,8 @@ fn neighbours_of_home_are(airport: &Airport, want: &[StandNo]) -> bool {
     airport.neighbours(StandNo(HOME)) == want
 }
 
-// Two aircraft of 7,180 cm are too near at 7,929 cm and not at 7,930 cm: 7,180 + 7,180 + 1,500 is 15,860.
+// Two aircraft of 7,180 cm are too near at 7,929 cm but not at 7,930 cm: 7,180 + 7,180 + 1,500 is
+// 15,860.
 #[test]
 fn neighbours_are_found_with_unfolded_wing_tips(rt: HostRuntime) -> Result<(), Fail> {
     let airport = airport(rt.alloc())?;

@@ -56,7 +56,7 @@ fn is_slot_of(airport: &Airport, slot: &Slot) -> bool
         && (slot.kind.0 as usize) < airport.parts().types.len()
 }
 
-// Whether two parts clash so, where the first is of the smaller visit.
+// Whether two parts have this clash, if the first is of the smaller visit.
 fn clash_so(airport: &Airport, one: Stay, other: Stay, want: Option<(u32, Rule)>) -> bool {
     let p = slot(1, one);
     let q = slot(2, other);

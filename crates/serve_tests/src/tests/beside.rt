@@ -12,13 +12,13 @@ use std::test::Fail;
 use std::thread;
 use std::thread::Threads;
 
-/// How often a source looks whether the other connection has a reply, and how often it lets other threads run between two
-/// looks.
+/// How often a source checks whether the other connection has a reply, and how often it lets other
+/// threads run between two checks.
 const LOOKS: u32 = 10_000;
 
 const YIELDS: u32 = 1_000;
 
-/// What the sources, the sinks and the disk of a test have in common.
+/// What the sources, the sinks and the disk of a test share.
 #[derive(Drop)]
 struct Signals {
     /// whether the second connection was sent a reply
@@ -27,7 +27,8 @@ struct Signals {
     syncs: AtomicU64,
 }
 
-/// What a connection sends: one text, and another one only after the second connection was sent a reply.
+/// What a connection sends: one text, and another only after the second connection was sent a
+/// reply.
 #[derive(Drop)]
 struct Patient<'t> {
     signals: &'t Signals,
@@ -83,8 +84,9 @@ fn let_others_run() {
     }
 }
 
-/// What a connection is sent. It tells the second connection's replies, and looks at each piece whether the disk was synced so
-/// often that each entry of the version that was last shown was kept.
+/// What a connection is sent. It records that the second connection was sent a reply. At each piece
+/// it checks that the disk was synced often enough for each entry of the version that was last
+/// shown to be kept.
 #[derive(Drop)]
 struct Watching<'t> {
     signals: &'t Signals,
@@ -117,7 +119,8 @@ impl<'t> Sink for Watching<'t> {
     }
 }
 
-// How many syncs there were at least before this version is shown: one of the opening, and two for each entry.
+// How many syncs there were at least before this version is shown: one for the opening, and two for
+// each entry.
 fn fewest_syncs(version: u64) -> u64 {
     version.saturating_mul(2).saturating_add(1)
 }
@@ -165,7 +168,8 @@ impl<'t, D: Disk> Disk for Counting<'t, D> {
     }
 }
 
-// A listener of one connection, which sends the first text, and the second after the second connection was sent a reply.
+// A listener of one connection, which sends the first text, and the second only after the second
+// connection was sent a reply.
 fn listener<'t>(
     alloc: Global,
     signals: &'t Signals,
@@ -188,7 +192,8 @@ fn listener<'t>(
     Ok(ListListener::new(alloc, to_come, Vec::new(alloc))?)
 }
 
-// Whether the one connection of a listener was told one of these texts, and no reply before its entries were kept.
+// Whether the one connection of a listener was sent one of these texts, and no reply before its
+// entries were kept.
 fn is_told(listener: &ListListener<Patient<'_>, Watching<'_>>, texts: &[&[u8]]) -> bool {
     match listener.finished() {
         [only] => texts.contains(&only.sink.sink.bytes()) && !only.sink.is_late,
@@ -196,8 +201,8 @@ fn is_told(listener: &ListListener<Patient<'_>, Watching<'_>>, texts: &[&[u8]]) 
     }
 }
 
-// Whether the first connection, which waits for the second one's reply, and the second one got all their replies, each after
-// its entries were kept.
+// Whether the first connection, which waits for the second one's reply, and the second one got all
+// their replies, each after its entries were kept.
 fn are_told(listeners: &[ListListener<Patient<'_>, Watching<'_>>]) -> bool {
     match listeners {
         [one, two] => is_told(one, &[STANDS]) && is_told(two, &[AT_0, AT_1, AT_2]),
@@ -205,7 +210,7 @@ fn are_told(listeners: &[ListListener<Patient<'_>, Watching<'_>>]) -> bool {
     }
 }
 
-// Whether both connections are told so, and the journal has both entries.
+// Whether both connections get these replies, and the journal has both entries.
 fn both_are_served<R: Wait + Threads + Sync>(
     rt: &R,
     alloc: Global,

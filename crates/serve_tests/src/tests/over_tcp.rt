@@ -40,7 +40,7 @@ fn are_served<R: Wait + Threads + Sync>(
     Ok(is_done && is_at(alloc, &mut disk, AT_1)?)
 }
 
-// Whether each of as many connections as are taken is told the reply, and closed.
+// Whether each of as many connections as are accepted is sent the reply, and closed.
 fn are_told<N: Net<Listener = TcpListener, Stream = TcpStream>>(
     net: &N,
     alloc: Global,

@@ -8,8 +8,8 @@ use std::sync::Wait;
 use std::test::Fail;
 use std::thread::Threads;
 
-// The words and how many listeners there are, each with one connection; which calls of the shelf and of the disk fail, and
-// whether the disk has a journal of the files; and what comes of it.
+// The words and how many listeners there are, each with one connection; which calls of the shelf
+// and of the disk fail, and whether the disk has a journal of the files; and the result.
 #[derive(Clone, Copy)]
 struct Row {
     words: &'static str,
@@ -131,7 +131,7 @@ fn disk(alloc: Global, row: &Row) -> Result<MemoryDisk, Memory> {
     MemoryDisk::new(alloc, bytes, ROOM, row.failing_calls.to_vec(alloc)?)
 }
 
-// Whether it ends so.
+// Whether it ends as the row says.
 fn ends<R: Wait + Threads + Sync>(rt: &R, alloc: Global, row: &Row) -> Result<bool, Memory> {
     let mut listeners = Vec::new(alloc);
     for _ in 0..row.listeners {

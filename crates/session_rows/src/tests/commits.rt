@@ -1,5 +1,6 @@
-// What commits are answered, one after another: stands and the rules by which they exclude each other, each kind of edit and
-// each cause against it, and drafts over plans that are past, present and to come.
+// Replies to commits, one after another: stands and the rules by which they exclude each other;
+// each kind of edit and each cause against it; and drafts over versions of the plan that are past,
+// present and to come.
 use std::test::Fail;
 use text_runs::all_hold;
 

@@ -1,10 +1,12 @@
-// Aircraft that fold their wing tips on the stand: what commits are answered, and the alarms of a chart. A clash is at the
-// first minute at which the wing tips that are out then are too near, and not at the first that both parts hold.
+// Aircraft that fold their wing tips on the stand: replies to commits, and the alarms of a chart. A
+// clash is at the first minute at which the wing tips that are out then are too near, and not at
+// the first minute that both parts hold.
 use std::alloc::Global;
 use std::test::Fail;
 use text_runs::{DEMO, Run, Session};
 
-// Five stands of the demo airport, where S3 takes letter F, and only an aircraft of that letter on 14 restricts 15.
+// Five stands of the demo airport, where S3 takes letter F, and 15 is restricted only by an
+// aircraft of that letter on 14.
 const AIRPORT: &str =
     r#"frontage = [{ name = "S", objects = [0] }, { name = "T", objects = [27500] }]
 stand = [
@@ -24,7 +26,8 @@ taxi_in = 5
 tow = 20
 "#;
 
-// An A320 keeps its wing tips; the FW72 has a letter E between its first and its last five minutes, and else F.
+// An A320 keeps its wing tips; the FW72 has letter E between its first and its last five minutes,
+// and otherwise F.
 const TYPES: &str = "type,span,least,parked,fold
 A320,3580,40,3580,0
 FW72,7180,60,6480,5
@@ -118,7 +121,8 @@ const OVER_MIDNIGHT: &str = r#"
 < 200 4 {"bumped":[],"version":4}
 "#;
 
-// Each day's chart after these: the wing tips are out from 23:20 to 23:25, and again from 00:55 on.
+// Each day's chart after these sessions: the wing tips are out from 23:20 to 23:25, and again from
+// 00:55 on.
 const CHARTS: [(&str, &str); 2] = [
     (
         "GET /chart/1",
@@ -143,7 +147,7 @@ fn an_alarm_is_at_the_first_minute_of_the_day_at_which_wing_tips_clash(
     holds(alloc, "alarms on both sides of midnight", &session)
 }
 
-// Puts a reply with this chart of version 4 after the output.
+// Adds a reply with this chart of version 4 to the output.
 fn tell_chart(alloc: Global, session: &mut Session, chart: &str) -> Result<(), Fail> {
     let length = chart.len();
     let head = format!(in alloc;

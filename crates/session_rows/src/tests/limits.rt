@@ -1,4 +1,4 @@
-// Sessions that are long, and requests as great as they may be.
+// Sessions that are long, and requests as large as they may be.
 use apron_base::{Memory, NullSink, SteadyShelf, SteadySource};
 use apron_run::run;
 use journal_disk::MemoryDisk;
@@ -18,7 +18,8 @@ const ADD: &str = r#"
 < 200 1 {"version":1,"visit":1}
 "#;
 
-// A commit that puts visit 1 on one stand and the other in turn with so many edits, the last of which lifts it.
+// A commit that puts visit 1 on one stand and the other in turn with this many edits, the last of
+// which lifts it.
 fn commit_of(alloc: Global, number: u32, edits: u32) -> Result<String, Fail> {
     let mut commit = format!(in alloc;
         "POST /commits {{\"desk\":\"D\",\"draft\":{number},\"base\":{number},\"edits\":["
@@ -34,7 +35,7 @@ fn commit_of(alloc: Global, number: u32, edits: u32) -> Result<String, Fail> {
     Ok(commit)
 }
 
-// Puts a commit of two edits behind the session, which is accepted.
+// Adds a commit of two edits to the session, which is accepted.
 fn commit(alloc: Global, session: &mut Session, base: u32) -> Result<(), Fail> {
     let version = base.saturating_add(1);
     session.ask(alloc, &commit_of(alloc, base, 2)?, "")?;
@@ -42,7 +43,7 @@ fn commit(alloc: Global, session: &mut Session, base: u32) -> Result<(), Fail> {
     session.tell(alloc, &reply)
 }
 
-// Each of five hundred commits is accepted, and none wants memory.
+// Each of five hundred commits is accepted, and none runs out of memory.
 #[test]
 fn five_hundred_commits_are_accepted(rt: HostRuntime) -> Result<(), Fail> {
     let mut session = Session::of(rt.alloc(), ADD)?;
@@ -52,7 +53,7 @@ fn five_hundred_commits_are_accepted(rt: HostRuntime) -> Result<(), Fail> {
     session.holds(rt.alloc(), "five hundred commits", 0)
 }
 
-// The text, filled up to so many bytes.
+// The text, filled up to this many bytes.
 fn filled(alloc: Global, text: &str, fill: char, length: usize) -> Result<String, Fail> {
     let mut filled = String::from_str(alloc, text)?;
     for _ in text.len()..length {
@@ -61,8 +62,8 @@ fn filled(alloc: Global, text: &str, fill: char, length: usize) -> Result<String
     Ok(filled)
 }
 
-// The most edits of a commit and the greatest body are taken, and no more: the edits, the least bytes of the body, the reply, and
-// the status.
+// The most edits of a commit and the largest body are accepted, and no more: the edits, the least
+// bytes of the body, the reply, and the status.
 const COMMITS: [(&str, u32, usize, &str, u8); 4] = [
     ("64 edits", 64, 0, "200 2 {\"version\":2}", 0),
     ("65 edits", 65, 0, "400 - {\"error\":\"json\"}", 0),
@@ -76,7 +77,7 @@ const COMMITS: [(&str, u32, usize, &str, u8); 4] = [
     ),
 ];
 
-// The session of a commit of so many edits, whose body is filled up to so many bytes.
+// The session of a commit of this many edits, whose body is filled up to this many bytes.
 fn session_of(alloc: Global, edits: u32, length: usize, reply: &str) -> Result<Session, Fail> {
     let commit = commit_of(alloc, 1, edits)?;
     let length = length.saturating_add("POST /commits ".len());
@@ -96,7 +97,8 @@ fn the_greatest_commits_are_taken(rt: HostRuntime) -> Result<(), Fail> {
     Ok(())
 }
 
-// The greatest head is read, which comes in pieces, and one of one byte more is refused: its bytes, the reply, and the status.
+// The largest head, which comes in pieces, is read, and a head one byte longer is refused: its
+// bytes, the reply, and the status.
 const HEADS: [(usize, &str, u8); 2] = [
     (MOST_OF_A_HEAD, "< 200 0 {\"version\":0}", 0),
     (MOST_OF_A_HEAD + 1, "< 400 close {\"error\":\"head\"}", 13),
@@ -140,7 +142,7 @@ fn new_disk(alloc: Global) -> Result<MemoryDisk, Memory> {
     MemoryDisk::new(alloc, journal, ROOM, Vec::new(alloc))
 }
 
-// The status of a session of so many requests, each in as few bytes as there can be.
+// The status of a session of this many requests, each as short as possible.
 fn status_after(alloc: Global, requests: usize) -> Result<u8, Memory> {
     let input = b"G / HTTP/1.1\n\n".as_slice().repeat(alloc, requests)?;
     let words = words(alloc, DEMO.words)?;

@@ -1,4 +1,4 @@
-// Which visit a movement message is of, which minute it tells, and what makes it say nothing.
+// Which visit a movement message is about, which minute it gives, and what makes it have no effect.
 use std::test::Fail;
 use text_runs::{all_hold, all_hold_at};
 

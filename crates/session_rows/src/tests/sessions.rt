@@ -18,8 +18,8 @@ fn a_visit_is_added_and_stands_byte_for_byte(rt: HostRuntime) -> Result<(), Fail
     Ok(())
 }
 
-// The source gives 100 bytes at a time: four reads, of which the last finds the end. The reads and puts that fail, the output,
-// and the status.
+// The source gives 100 bytes at a time: four reads, of which the last finds the end. The reads and
+// puts that fail, the output, and the status.
 const FAULTS: [(&[u64], &[u64], &[u8], u8); 8] = [
     (&[0], &[], b"", 5),
     (&[1], &[], b"", 5),

@@ -1,4 +1,4 @@
-// What is answered to those who add visits.
+// The replies to those who add visits.
 use std::test::Fail;
 use text_runs::all_hold;
 

@@ -11,7 +11,7 @@ use std::alloc::Global;
 // The last call of a board.
 const LAST_CALL: u64 = 1_000_000;
 
-/// What changes the plan by this command.
+/// The ask to change the plan by this command.
 pub(super) fn changing(command: Command) -> Ask
     ensures is { result ≡ record { seen = 0; what = What.Change command } }
 {
@@ -28,7 +28,7 @@ pub(super) fn digit(visit: u32) -> u8
     b'0' + (visit % 10) as u8
 }
 
-/// The flight by which a visit comes.
+/// The flight that a visit comes by.
 pub(super) fn flight_of(visit: u32) -> Option<Flight> {
     read_flight(&[b'L', b'H', digit(visit)])
 }

@@ -1,4 +1,4 @@
-// The search for clashes among neighbours, beside the plain one over all minutes and pairs.
+// The search for clashes among neighbours, compared with the plain one over all minutes and pairs.
 ghost use Rattle.std.specs.Prelude.{◌≡◌, ◌<◌, ◌++◌, ◌∷◌, ◌⊎◌, [], All, AllPairs, IfOk, length};
 ghost use Rattle.apron_rules.specs.Clash.{IsSlotOf, IsSound};
 ghost use Rattle.clash_check.specs.Clear.{IsClear};
@@ -56,7 +56,8 @@ fn with_slot(
     Ok(made)
 }
 
-// Up to four slots of one visit each, which don't clash. Each starts and ends later than the one before.
+// Up to four slots, each of its own visit, which don't clash. Each starts and ends later than the
+// one before.
 fn sound_slots(alloc: Global, airport: &Airport, draws: &mut Draws) -> Result<Vec<Slot>, Memory>
     requires stands { length airport.now.stands ≡ STANDS }
     requires types { length airport.now.types ≡ TYPES }
@@ -80,7 +81,7 @@ fn sound_slots(alloc: Global, airport: &Airport, draws: &mut Draws) -> Result<Ve
     Ok(slots)
 }
 
-// One to three slots of other parts, at any time, of some visits that the others are of too.
+// One to three slots of other parts, at any time, also of visits that the others are of.
 fn changed_slots(alloc: Global, airport: &Airport, draws: &mut Draws) -> Result<Vec<Slot>, Memory>
     requires stands { length airport.now.stands ≡ STANDS }
     requires types { length airport.now.types ≡ TYPES }
@@ -118,7 +119,7 @@ fn index_of(alloc: Global, airport: &Airport, slots: &[Slot]) -> Result<StandInd
     Ok(index)
 }
 
-// What is found of changed slots.
+// What is found for changed slots.
 #[derive(Drop)]
 struct Found {
     // The first clash of all of them.

@@ -1,5 +1,5 @@
-// The demo airport: thirteen stands on four frontages, two of them halves of a third, and ten types, three of which fold
-// their wing tips.
+// The demo airport: thirteen stands on four frontages, two of them halves of a third, and ten
+// types, three of which fold their wing tips.
 ghost use Rattle.std.specs.Prelude.{◌≡◌, IfOk, length};
 
 use apron_base::{Letter, Listed, Name};
@@ -18,7 +18,7 @@ pub(super) const BUFFER: u32 = 10;
 /// The least minutes of each type.
 pub(super) const LEAST: u32 = 40;
 
-// A stand of the greatest letter: what fits is not looked at here.
+// A stand of the greatest letter: what fits is not tested here.
 fn stand(name: &[u8], frontage: &[u8], centre: u32) -> Option<StandRow> {
     Some(StandRow {
         name: Name::new(name)?,

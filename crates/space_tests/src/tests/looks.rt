@@ -113,7 +113,7 @@ fn slots_are_found_by_their_minutes(rt: HostRuntime) -> Result<(), Fail> {
     }
     assert!(rt; visits_at(alloc, &index, OTHER_STAND, (0, 900))?.is_empty());
 
-    // Memory may be wanting for so much room: either way the slots are as they were.
+    // There may be no memory for this much room: either way the slots are as they were.
     let _ = index.reserve(STAND, u32::MAX);
     assert_eq!(rt;
         visits_at(alloc, &index, STAND, (0, 900))?.as_slice(),

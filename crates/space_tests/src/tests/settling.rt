@@ -1,4 +1,5 @@
-// Settling near the changed visit, beside a settling of the whole plan by rank, minute by minute.
+// Settling near the changed visit, compared with a settling of the whole plan by rank, minute by
+// minute.
 ghost use Rattle.std.specs.Prelude.{◌≡◌, ◌<◌, IfOk, IfSome, length};
 ghost use Rattle.history_core.specs.History.{IsAskOf};
 ghost use Rattle.visit_book.specs.NewVisits.{HasFlight};
@@ -119,7 +120,10 @@ fn message_of(airport: &Airport, draws: &mut Draws, visit: u32) -> Option<Ask>
     if !is_readable(&message) {
         return None;
     }
-    Some(changing(Command::Message { message }))
+    Some(changing(Command::Message {
+        desk: Name::literal(b"OPS"),
+        message,
+    }))
 }
 
 // The visit is reported on a stand.
@@ -128,6 +132,7 @@ fn report_of(airport: &Airport, draws: &mut Draws, visit: u32) -> Ask
     ensures valid { IsAskOf airport.now result }
 {
     changing(Command::Report {
+        desk: Name::literal(b"OPS"),
         visit: VisitNo(visit),
         event: Event::On {
             part: 1 + draws.below(2) as u8,
@@ -137,7 +142,7 @@ fn report_of(airport: &Airport, draws: &mut Draws, visit: u32) -> Ask
     })
 }
 
-// What ranks a part on a stand: the lower is the better one.
+// What ranks a part on a stand: the lower one is better.
 #[derive(Clone, Copy, Debug, PartialEq, Eq, PartialOrd, Ord)]
 struct Rank {
     planned: bool,
@@ -222,7 +227,8 @@ fn blocked_by(airport: &Airport, slot: &Slot, other: &Slot) -> Option<Blocked> {
     })
 }
 
-// What takes its stand from a part: the best of those that are kept with which it clashes, if it is a planned one.
+// What takes its stand from a part, if it is a planned one: the best kept part that it clashes
+// with.
 fn what_blocks(airport: &Airport, kept: &[Held], one: &Held) -> Option<Blocked> {
     if one.slot.actual {
         return None;
@@ -236,7 +242,7 @@ fn what_blocks(airport: &Airport, kept: &[Held], one: &Held) -> Option<Blocked> 
     None
 }
 
-// Takes its stand from a part of these visits.
+// Takes a part's stand from it, among these visits.
 fn take_stand(visits: &mut [Visit], entry: u32, slot: &Slot, block: Blocked) {
     let number = slot.part.part;
     for visit in visits {
@@ -257,7 +263,8 @@ fn take_stand(visits: &mut [Visit], entry: u32, slot: &Slot, block: Blocked) {
     }
 }
 
-// The visits, settled by this entry: from the best part to the worst, each is kept that clashes with none that is.
+// The visits, settled by this entry: from the best part to the worst, each part is kept if it
+// clashes with no kept one.
 fn settled_by_rank(
     alloc: Global,
     airport: &Airport,
@@ -275,8 +282,8 @@ fn settled_by_rank(
     Ok(settled)
 }
 
-// The visit with the times that it has afterwards, and on the stands that it had before, but for those of parts that are on
-// theirs in fact.
+// The visit with the times that it has afterwards, and on the stands that it had before, except for
+// parts that are on their stands in fact.
 fn happened(before: &Visit, after: &Visit) -> Visit {
     let old = before.parts.as_slice();
     let mut parts = after.parts;
@@ -286,7 +293,8 @@ fn happened(before: &Visit, after: &Visit) -> Visit {
     Visit { parts, ..*after }
 }
 
-// The parts, with the one of this number at its old place if there is such and it is not on its stand in fact.
+// The parts, with the one of this number back at its old place, if there is such a part and it is
+// not on its stand in fact.
 fn on_old_stand(parts: Parts, number: u8, old: Place) -> Parts {
     if number == 0 || number as usize > parts.len() {
         return parts;
@@ -298,7 +306,8 @@ fn on_old_stand(parts: Parts, number: u8, old: Place) -> Parts {
     parts.with(number, Part { place: old, ..part })
 }
 
-// The visits with the one of this number as it is after what happened to it, and before anything is settled.
+// The visits, with the one of this number as it is after what happened to it, before anything is
+// settled.
 fn with_happened(
     alloc: Global,
     before: &[Visit],
@@ -318,7 +327,8 @@ fn with_happened(
     Ok(visits)
 }
 
-// Whether what is asked, which is of the visit of this number, leaves the board's plan settled as by rank.
+// Whether what is asked, which concerns the visit of this number, leaves the board's plan settled
+// as by rank.
 fn is_settled(
     alloc: Global,
     airport: &Airport,

@@ -18,7 +18,7 @@ use turn_board::TurnBoard;
 // How often the two desks are tried.
 const ROUNDS: u32 = 50;
 
-/// What a desk is told of its commit.
+/// The reply to a desk's commit.
 #[derive(Clone, Copy, Debug, Drop, PartialEq, Eq)]
 enum Verdict {
     Accepted,
@@ -61,8 +61,8 @@ fn ask_both<P: DeskPort + Send, R: Threads + Sync>(
     )
 }
 
-// Whether of two desks that ask at once one is accepted and the other is told of the clash, and a desk that has met
-// both is told the version of the accepted commit.
+// Whether, of two desks that ask at once, one is accepted and the other gets the clash, and a desk
+// that has met both gets the version of the accepted commit.
 fn one_is_accepted<R: Threads + Wait + Sync>(
     rt: &R,
     alloc: Global,

@@ -3,7 +3,7 @@ use desk_words::early::{Early, early_bytes};
 use desk_words::fixed::{bad_encoding, bad_head, keeper_fault, large_body, no_length, no_memory};
 use mvt_grammar::MvtFault;
 
-const EARLY: [(Early, &'static [u8]); 16] = [
+const EARLY: [(Early, &'static [u8]); 17] = [
     (
         Early::NoRoute,
         b"HTTP/1.1 404 Not Found\r\nContent-Type: application/json\r\nContent-Length: 17\r\n\r\n{\"error\":\"route\"}",
@@ -19,6 +19,10 @@ const EARLY: [(Early, &'static [u8]); 16] = [
     (
         Early::BadSeen,
         b"HTTP/1.1 400 Bad Request\r\nContent-Type: application/json\r\nContent-Length: 16\r\n\r\n{\"error\":\"seen\"}",
+    ),
+    (
+        Early::BadDesk,
+        b"HTTP/1.1 400 Bad Request\r\nContent-Type: application/json\r\nContent-Length: 16\r\n\r\n{\"error\":\"desk\"}",
     ),
     (
         Early::NoDay,

@@ -5,7 +5,8 @@ use desk_words::replies::{Denial, Told};
 use std::alloc::Global;
 use std::test::Fail;
 
-// The version, the parts that lost their stands by a message, the visit that it changed, and the body.
+// The version, the parts that lost their stands by a message, the visit that it changed, and the
+// body.
 const MESSAGES: [(u32, &'static [PartId], Option<VisitNo>, &'static str); 2] = [
     (
         9,

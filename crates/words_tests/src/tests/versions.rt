@@ -1,5 +1,5 @@
-// What tells a version and little else.
-use super::{CONFLICT, OK, has_text};
+// Replies that give a version and little else.
+use super::{CONFLICT, NOT_FOUND, OK, has_text};
 use apron_base::VisitNo;
 use desk_words::replies::Told;
 use std::alloc::Global;
@@ -21,7 +21,7 @@ fn replies_to_commits_tell_the_version_of_their_entry(rt: HostRuntime) -> Result
     Ok(())
 }
 
-// The version, its reply, and the reply where there is no visit of a number.
+// The version, its reply, and the reply if there is no visit of a number.
 const VERSIONS: [(u32, &'static str, &'static str); 2] = [
     (0, r#"{"version":0}"#, r#"{"error":"visit","version":0}"#),
     (
@@ -35,13 +35,7 @@ const VERSIONS: [(u32, &'static str, &'static str); 2] = [
 fn versions_are_told_and_that_there_is_no_visit(rt: HostRuntime) -> Result<(), Fail> {
     for (version, told, no_visit) in VERSIONS {
         let is = has_text(rt.alloc(), version, Told::Version, OK, told)?;
-        let is_none = has_text(
-            rt.alloc(),
-            version,
-            Told::NoVisit,
-            "404 Not Found",
-            no_visit,
-        )?;
+        let is_none = has_text(rt.alloc(), version, Told::NoVisit, NOT_FOUND, no_visit)?;
         assert!(rt; is && is_none, "at {version}");
     }
     Ok(())

@@ -1,6 +1,6 @@
 // Visits.
 use super::{OK, has_text};
-use apron_base::{Name, PartId, StandNo, TypeNo, VisitNo};
+use apron_base::{Listed, Name, PartId, StandNo, TypeNo, VisitNo};
 use apron_rules::Rule;
 use desk_words::replies::Told;
 use mvt_grammar::Flight;
@@ -99,7 +99,8 @@ fn nameless_visit() -> Visit {
     visit
 }
 
-// The version, the place of the one part, whether the visit is on block, how it ended, and the body.
+// The version, the place of the one part, whether the visit is on block, how it ended, and the
+// body.
 const ROWS: [(u32, Place, bool, End, &'static str); 6] = [
     (
         1,
@@ -154,6 +155,12 @@ const CONNECTING: &str =
 const NAMELESS: &str =
     r#"{"arr":null,"class":3,"dep":null,"edited":1,"name":"V1","off":660,"on":600,"parts":[{"actual":false,"bump":null,"from":600,"stand":null,"to":660}],"state":"expected","type":null,"version":1,"visit":1}"#;
 
+// A visit whose part lost its stand, and one on a stand.
+const DAY: &str =
+    r#"{"version":7,"visits":[{"arr":null,"class":3,"dep":null,"edited":1,"name":"V1","off":660,"on":600,"parts":[{"actual":false,"bump":{"blocker":{"part":2,"visit":40},"entry":8,"minute":615,"rule":"pair","stand":"N2"},"from":600,"stand":null,"to":660}],"state":"expected","type":"A320","visit":1},{"arr":null,"class":0,"dep":{"day":255,"flight":"AAL0Z"},"edited":4294967294,"name":"KL-0641-27-A","off":4319,"on":0,"parts":[{"actual":false,"bump":null,"from":1,"stand":"N2","to":4320}],"state":"expected","type":"A320","visit":4294967295}]}"#;
+
+const EMPTY_DAY: &str = r#"{"version":3,"visits":[]}"#;
+
 #[test]
 fn visits_are_these_bytes(rt: HostRuntime) -> Result<(), Fail> {
     for (version, place, on_block, end, body) in ROWS {
@@ -182,5 +189,17 @@ fn flights_and_the_greatest_numbers_are_told(rt: HostRuntime) -> Result<(), Fail
 fn a_stand_and_a_type_that_there_are_not_are_told_as_null(rt: HostRuntime) -> Result<(), Fail> {
     let is = has_text(rt.alloc(), 1, Told::Visit(nameless_visit()), OK, NAMELESS)?;
     assert!(rt; is);
+    Ok(())
+}
+
+#[test]
+fn days_are_these_bytes(rt: HostRuntime) -> Result<(), Fail> {
+    let alloc = rt.alloc();
+    let bumped = first_visit(Place::Unplaced(Some(BUMP)), false, End::Live);
+    let visits = Listed::from_vec(Vec::from_array(alloc, [bumped, last_visit()])?);
+    let full = has_text(alloc, 7, Told::Day { visits }, OK, DAY)?;
+    let visits = Listed::new(alloc);
+    let empty = has_text(alloc, 3, Told::Day { visits }, OK, EMPTY_DAY)?;
+    assert!(rt; full && empty, "full {full}, empty {empty}");
     Ok(())
 }

@@ -1,6 +1,6 @@
 use Rattle.std.specs.Prelude.{◌≡◌, length}
 use Rattle.apron.proofs.desks.all_beside.Given as goal
 
--- so many were pushed
+-- this many were pushed
 abbrev pub invariant-loop-made : goal.invariant-loop-made
 invariant-loop-made g l = length l.desks.items ≡ l.made

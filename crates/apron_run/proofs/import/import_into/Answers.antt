@@ -1,17 +1,17 @@
-use Rattle.std.proofs.Common.{ℕ, List, refl, sym, ap, subst}
+use Rattle.std.proofs.Common.{ℕ, List, Ok, refl, sym, ap, subst}
 use Rattle.history_core.specs.AtRisk.{entry_at_risk}
-use Rattle.apron_run.specs.Import.{ImportsSeason, Stores}
+use Rattle.apron_run.specs.Crash.{MeetsImportLeaving}
+use Rattle.apron_run.specs.Import.{ImportsSeason, Stores, stores_at}
 use Rattle.apron_run.specs.Journal.{KeepsHistory, journal_tells}
 use Rattle.apron_run.specs.Survival.{DiskStates, Survives}
-use Rattle.apron_run.specs.World.{seen_of}
 use Rattle.apron_run.proofs.Fronts.{stays_both}
 use Rattle.apron_run.proofs.Importing.{season_imported}
 use Rattle.apron_run.proofs.import.import_into.Goals as goal
 
 pub returns : goal.returns
 returns g c =
-    let before : Stores = record { shelf = g.F.Shelf.state c.args.shelf.now; disk = seen_of (g.D.Disk.state c.args.disk) } in
-    let after : Stores = record { shelf = g.F.Shelf.state c.add_season-imported.new.shelf; disk = seen_of (g.D.Disk.state c.close_board.result) } in
+    let before : Stores = stores_at (g.F.Shelf.state c.args.shelf.now) (g.D.Disk.state c.args.disk) in
+    let after : Stores = stores_at (g.F.Shelf.state c.add_season-imported.new.shelf) (g.D.Disk.state c.close_board.result) in
     let disk : DiskStates = record { before = g.N.OfFiles.begun; after = g.D.Disk.state c.close_board.result } in
     let left = c.add_season-imported.new.board in
     let imports : ImportsSeason c.args.files.now c.text.result.now before after c.add_season-imported.result =
@@ -23,12 +23,14 @@ returns g c =
     let survives : Survives c.args.files.now.digests imports.left.history imports.left.at_risk disk =
     subst (λ (digests : List ℕ). Survives digests left.history (entry_at_risk left.airport (journal_tells g.D.Disk.state left.keeper)) disk)
     (sym c.requires.digests) c.close_board.ensures.survives in
-    let both = subst (λ (season : List ℕ). (meets : ImportsSeason c.args.files.now season before after c.add_season-imported.result)
-    × Survives c.args.files.now.digests meets.left.history meets.left.at_risk disk) c.text.ensures.text (imports, survives) in
-    record { meets = both.0; crash = both }
+    record {
+      meets = subst (λ (season : List ℕ). MeetsImportLeaving disk c.args.files.now season before after (Ok c.add_season-imported.result)) c.text.ensures.text (imports, survives);
+    }
 
-pub returns-in-Err-clause-crash : goal.returns-in-Err-clause-crash
-returns-in-Err-clause-crash g c = (
-  record { shelf = refl; disk = c.in-Err.ensures.refused },
-  stays_both g.N.OfFiles.begun (g.D.Disk.state c.args.disk) (g.D.Disk.state c.in-Err.disk) c.requires.begun c.in-Err.ensures.unwritten,
-)
+pub returns-in-Err : goal.returns-in-Err
+returns-in-Err g c = record {
+  meets = (
+    record { shelf = refl; disk = c.in-Err.ensures.refused },
+    stays_both g.N.OfFiles.begun (g.D.Disk.state c.args.disk) (g.D.Disk.state c.in-Err.disk) c.requires.begun c.in-Err.ensures.unwritten,
+  );
+}

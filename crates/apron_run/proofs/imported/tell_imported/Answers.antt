@@ -5,9 +5,8 @@ use Rattle.apron_run.specs.Print.{Writes}
 use Rattle.apron_run.specs.Statuses.{code_of}
 use Rattle.apron_run.specs.Words.{ends_before_import}
 use Rattle.apron_run.specs.declared.imported.Imported.{Imported}
-use Rattle.apron_run.specs.declared.imported.Imported.TheVariants.{Whole, ShelfFault, TooLong, Refused, Full, DiskFault, Spent, Memory}
+use Rattle.apron_run.specs.declared.imported.Imported.TheVariants.{Whole, Spent, Memory}
 use Rattle.apron_run.specs.declared.status.Status.{Status}
-use Rattle.apron_run.specs.declared.status.Status.TheVariants as ending
 use Rattle.apron_run.proofs.imported.tell_imported.Goals as goal
 
 -- a line whose status stays where the sink fails at it
@@ -20,24 +19,13 @@ puts_told imported of before after (Err fault) cut = inr (refl, cut)
 line_told : {T E : Type 0} (imported : Imported) (before after : SinkState) (result : Result T E) → ((added present : ℕ) → imported ≡ Whole added present → ⊥)
     → (imported ≡ Spent → ⊥) → Puts before after result (imported_line imported) → TellsImported imported before after (status_of_imported imported)
 line_told (Whole added present) before after result whole spent puts = absurd (whole added present refl)
-line_told ShelfFault before after result whole spent puts = puts_told ShelfFault ending.ShelfFault before after result puts
-line_told TooLong before after result whole spent puts = puts_told TooLong ending.SeasonFault before after result puts
-line_told (Refused number) before after result whole spent puts = puts_told (Refused number) ending.SeasonFault before after result puts
-line_told (Full number) before after result whole spent puts = puts_told (Full number) ending.Full before after result puts
-line_told DiskFault before after result whole spent puts = puts_told DiskFault ending.DiskFault before after result puts
 line_told Spent before after result whole spent puts = absurd (spent refl)
-line_told Memory before after result whole spent puts = puts_told Memory ending.Memory before after result puts
+line_told imported before after result whole spent puts = puts_told imported (status_of_imported imported) before after result puts
 
 -- an import came to its journal
 comes_by : (imported : Imported) → ends_before_import (code_of (status_of_imported imported)) ≡ false
-comes_by (Whole added present) = refl
-comes_by ShelfFault = refl
-comes_by TooLong = refl
-comes_by (Refused number) = refl
-comes_by (Full number) = refl
-comes_by DiskFault = refl
-comes_by Spent = refl
 comes_by Memory = refl
+comes_by imported = refl
 
 pub returns-in_default : goal.returns-in_default
 returns-in_default g c =

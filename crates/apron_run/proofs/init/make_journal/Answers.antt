@@ -2,8 +2,8 @@ use Rattle.std.proofs.Common.{None, Some}
 use Rattle.apron_run.proofs.Disks.{is_made, is_refused}
 use Rattle.apron_run.proofs.init.make_journal.Goals as goal
 
-pub returns-in-Ok-clause-crash : goal.returns-in-Ok-clause-crash
-returns-in-Ok-clause-crash g c = (
+pub returns-in-Ok-clause-makes : goal.returns-in-Ok-clause-makes
+returns-in-Ok-clause-makes g c = (
   record {
     refused = None;
     makes = is_made c.args.files.now.digests (g.D.Disk.state c.args.disk.now) (g.D.Disk.state c.init.new.disk) c.in-Ok.ensures.empty c.in-Ok.ensures.made
@@ -13,11 +13,8 @@ returns-in-Ok-clause-crash g c = (
   c.in-Ok.ensures.made,
 )
 
-pub returns-in-Ok-clause-makes : goal.returns-in-Ok-clause-makes
-returns-in-Ok-clause-makes g c = (returns-in-Ok-clause-crash g c).0
-
-pub returns-in-Err-clause-crash : goal.returns-in-Err-clause-crash
-returns-in-Err-clause-crash g c = (
+pub returns-in-Err-clause-makes : goal.returns-in-Err-clause-makes
+returns-in-Err-clause-makes g c = (
   record {
     refused = Some c.in-Err.fault;
     makes = is_refused c.args.files.now.digests (g.D.Disk.state c.args.disk.now) (g.D.Disk.state c.init.new.disk) c.in-Err.fault c.in-Err.ensures.refused
@@ -26,6 +23,3 @@ returns-in-Err-clause-crash g c = (
   },
   c.init.ensures.spares,
 )
-
-pub returns-in-Err-clause-makes : goal.returns-in-Err-clause-makes
-returns-in-Err-clause-makes g c = (returns-in-Err-clause-crash g c).0

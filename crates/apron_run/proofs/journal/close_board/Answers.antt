@@ -11,8 +11,8 @@ use Rattle.apron_run.proofs.Fronts.{history_survives}
 use Rattle.apron_run.proofs.Serving.{disk_keeps}
 use Rattle.apron_run.proofs.journal.close_board.Goals as goal
 
-pub returns-clause-keeps : goal.returns-clause-keeps
-returns-clause-keeps g c =
+pub returns : goal.returns
+returns g c =
     let board = c.args.board in
     let disk = c.into_disk.result in
     let extent = c.into_keeper.result.extent in
@@ -22,21 +22,14 @@ returns-clause-keeps g c =
     subst (λ d. IsKept board.airport board.history (keeper_of extent (state d))) (sym c.into_disk.ensures.disk) c.into_keeper.ensures.kept in
     let same : keeper_of extent (state disk) ≡ journal_tells state board.keeper =
     ap (λ d. keeper_of extent (state d)) c.into_disk.ensures.disk ∙ ap (journal_tells state) c.into_keeper.ensures.keeper in
-    subst (λ (keeper : KeeperState). KeepsHistory files board.history (entry_at_risk board.airport keeper) (seen_of (state disk))) same
-    (disk_keeps files board.history extent (state disk) c.into_keeper.ensures.legal kept (g.met.D.Disk.reads disk) c.into_disk.ensures.entries
-    c.into_disk.ensures.digests)
-
-pub returns-clause-survives : goal.returns-clause-survives
-returns-clause-survives g c =
-    let board = c.args.board in
-    let disk = c.into_disk.result in
-    let extent = c.into_keeper.result.extent in
-    let state = g.D.Disk.state in
-    let kept : IsKept board.airport board.history (keeper_of extent (state disk)) =
-    subst (λ d. IsKept board.airport board.history (keeper_of extent (state d))) (sym c.into_disk.ensures.disk) c.into_keeper.ensures.kept in
-    let same : keeper_of extent (state disk) ≡ journal_tells state board.keeper =
-    ap (λ d. keeper_of extent (state d)) c.into_disk.ensures.disk ∙ ap (journal_tells state) c.into_keeper.ensures.keeper in
-    subst (λ (keeper : KeeperState). Survives g.N.OfFiles.digests board.history (entry_at_risk board.airport keeper)
-    (record { before = g.N.OfFiles.begun; after = state disk })) same
-    (history_survives board.airport g.N.OfFiles.digests board.history extent g.N.OfFiles.begun (state disk) c.into_disk.ensures.fronts kept
-    c.into_disk.ensures.entries c.into_disk.ensures.digests)
+    record {
+      keeps = subst (λ (keeper : KeeperState). KeepsHistory files board.history (entry_at_risk board.airport keeper) (seen_of (state disk))) same
+          (disk_keeps files board.history extent (state disk) c.into_keeper.ensures.legal kept (g.met.D.Disk.reads disk) c.into_disk.ensures.entries
+          c.into_disk.ensures.digests);
+      survives = subst (λ (keeper : KeeperState). Survives g.N.OfFiles.digests board.history (entry_at_risk board.airport keeper)
+          (record { before = g.N.OfFiles.begun; after = state disk })) same
+          (history_survives board.airport g.N.OfFiles.digests board.history extent g.N.OfFiles.begun (state disk) c.into_disk.ensures.fronts kept
+          c.into_disk.ensures.entries c.into_disk.ensures.digests);
+      disk = c.into_disk.ensures.disk ∙ ap (λ k. k.disk) c.into_keeper.ensures.keeper;
+      legal = c.into_keeper.ensures.legal;
+    }

@@ -1,4 +1,5 @@
-use Rattle.std.proofs.Common.{List, ℕ, Ok, subst}
+use Rattle.std.proofs.Common.{List, ℕ, Ok, Err, arith, refl, subst}
+use Rattle.journal_disk.specs.Disk.{DiskState, Stays}
 use Rattle.apron_check.specs.Files.{Finds}
 use Rattle.apron_serve.proofs.program.serve_files.Goals as goal
 
@@ -12,4 +13,30 @@ returns-in-Ok-clause-crash g c =
     c.text-2.ensures.text found in (
       record { found = Ok c.in-Ok.files; finds = finds; serves = c.serve_journal.ensures.crash.0 },
       c.serve_journal.ensures.crash.1,
+    )
+
+-- a disk stays as it is
+stays_same : (disk : DiskState) → Stays disk disk
+stays_same disk = record {
+  contents = refl;
+  crash = record {
+    clock = record { later = omega arith; past = λ moment image early is. is; kept = λ moment image early is. is };
+    since = λ moment image later early is. absurd (omega (arith, later, early));
+  };
+}
+
+pub returns-in-Err-clause-crash : goal.returns-in-Err-clause-crash
+returns-in-Err-clause-crash g c =
+    let before = g.F.Shelf.state c.args.shelf.now in
+    let after = g.F.Shelf.state c.airport_of.new.shelf in
+    let found = subst (λ (airport : List ℕ). Finds before after airport c.text-2.result.now (Err c.in-Err.fault))
+    c.text.ensures.text c.in-Err.ensures.finds in
+    let finds = subst (λ (types : List ℕ). Finds before after c.args.order.now.airport.now types (Err c.in-Err.fault))
+    c.text-2.ensures.text found in (
+      record {
+        found = Err c.in-Err.fault;
+        finds = finds;
+        serves = record { listeners = refl; disk = refl; tells = c.tell_fault.ensures.tells };
+      },
+      stays_same (g.D.Disk.state c.args.disk),
     )

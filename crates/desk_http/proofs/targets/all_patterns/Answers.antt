@@ -6,6 +6,9 @@ pub returns : goal.returns
 unfolding table
 returns c = record {
   all = rw (
+    c.in_ok-add-13.ensures.added,
+    c.in_ok-add-12.ensures.added,
+    c.in_ok-add-11.ensures.added,
     c.in_ok-add-10.ensures.added,
     c.in_ok-add-9.ensures.added,
     c.in_ok-add-8.ensures.added,

@@ -20,6 +20,10 @@ pub returns-in-BadSeen : goal.returns-in-BadSeen
 unfolding digits serde_json_on_literals early_text
 returns-in-BadSeen c = record { text = c.of-in-BadSeen.ensures.bytes ∙ ap early_text (sym c.in-BadSeen.is) }
 
+pub returns-in-BadDesk : goal.returns-in-BadDesk
+unfolding digits serde_json_on_literals early_text
+returns-in-BadDesk c = record { text = c.of-in-BadDesk.ensures.bytes ∙ ap early_text (sym c.in-BadDesk.is) }
+
 pub returns-in-NoDay : goal.returns-in-NoDay
 unfolding digits serde_json_on_literals early_text
 returns-in-NoDay c = record { text = c.of-in-NoDay.ensures.bytes ∙ ap early_text (sym c.in-NoDay.is) }

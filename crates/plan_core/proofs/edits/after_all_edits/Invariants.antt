@@ -4,7 +4,7 @@ use Rattle.visit_book.specs.WellFormed.{IsWellFormed}
 use Rattle.plan_core.specs.Edits.{after_all_edits, after_edits}
 use Rattle.plan_core.proofs.edits.after_all_edits.Given as goal
 
--- what is left to apply to what there is now gives what all edits give to what there was
+-- applying the remaining edits to what there is now gives what all edits give on what there was
 abbrev pub invariant-loop-edit : goal.invariant-loop-edit
 invariant-loop-edit l = record {
   number : l.number ≡ l.edit-index + 1;

@@ -28,7 +28,7 @@ after_ok a base k edit visits i d after at makes =
     ap (λ (n : VisitNo). n.0) (visit_number a base k edit (slice_index_or visits i d) after makes) ∙ found_number visits (visit_of edit) (slice_index_or visits i d) found in
     rw (found, makes) (ap (λ vs. Ok vs) (with_visit_found visits (visit_of edit) after i number at))
 
--- and where it is refused, so is the edit
+-- and if that is refused, so is the edit
 after_err : (a : AirportParts) (base k : ℕ) (edit : Edit) (visits : List Visit) (i : ℕ) (d : Visit) (fault : EditFault) → position (has_number (visit_of edit)) visits ≡ Some i
     → edit_visit a base k edit (slice_index_or visits i d) ≡ Err fault → after_edit a base k edit visits ≡ Err fault
 after_err a base k edit visits i d fault at refused = rw ((found_at visits (visit_of edit) i d at).1, refused) refl

@@ -14,7 +14,7 @@ within c = omega (arith, c.loop-index-test.true, c.len-index-end.ensures.is)
 ends_early : (c : goal.After-struct_known-1) → c.starting-pushed.result.to + c.parts.result.now.tow ≤ 2 ^ 16 + 2 ^ 10 * (c.loop-index.index + 1)
 ends_early c =
     let old : Part = slice_index_or c.as_slice.result.now c.loop-index.index no_part in
-    let early : (old.from < 2 ^ 15) × (old.to < 2 ^ 15) =
+    let early : (old.from < 2 ^ 16) × (old.to < 2 ^ 16) =
     part_early c.args.airport.now c.args.visit.now c.as_slice.result.now c.loop-index.index c.parts.ensures.airport c.requires.well_formed c.as_slice.ensures.is
     (within c) in
     let tow : c.parts.result.now.tow ≡ c.args.airport.now.tow = ap (λ (a : AirportParts). a.tow) c.parts.ensures.value in

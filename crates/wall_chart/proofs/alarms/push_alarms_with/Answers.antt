@@ -6,7 +6,7 @@ use Rattle.clash_check.specs.Indexed.{all_slots}
 use Rattle.clash_check.specs.Meetings.{by_part, clashes_within}
 use Rattle.wall_chart.specs.Alarms.{is_in_order}
 use Rattle.wall_chart.proofs.Clashes.{alarms_more, plan_slot_of}
-use Rattle.wall_chart.specs.declared.times.TheConstants.{DAY_LENGTH}
+use Rattle.plan_lists.specs.declared.days.TheConstants.{DAY_LENGTH}
 use Rattle.wall_chart.proofs.alarms.push_alarms_with.Goals as goal
 
 pub clashes_within-requires-clause-slot : goal.clashes_within-requires-clause-slot

@@ -1,7 +1,7 @@
 use Rattle.std.proofs.Common.{◌∙◌, ap, rules}
 use Rattle.std.specs.Prelude.{filter}
 use Rattle.std.proofs.lemmas.Fn.{filter_same}
-use Rattle.wall_chart.specs.Unplaced.{is_of_day}
+use Rattle.plan_lists.specs.OfDay.{is_of_day}
 use Rattle.wall_chart.proofs.unplaced.unplaced_on.Goals as goal
 
 pub returns : goal.returns

@@ -24,5 +24,5 @@ returns-clause-shows g c =
     subst (λ (a : AloneHeld g.row.K.Denot). ShowsAsk AloneAsks a.board.airport (alone_port tells a) c.args.ask.now c.ask.result
     (alone_port tells (record { board = after; first = c.self.inside.first })))
     c.self.view_is
-    (alone_shows tells before after c.self.inside.first c.args.ask.now c.ask.result c.self.invariant
+    (alone_shows before.airport (machine_state tells before) (machine_state tells after) c.self.inside.first c.args.ask.now c.ask.result c.self.invariant
     (subst (λ airport. IsLegal airport after.history) c.ask.ensures.airport c.ask.ensures.legal) last acts (c.ask.ensures.next ∙ ap (λ n. n + 1) call) c.ask.ensures.faults risk)

@@ -24,3 +24,8 @@ pub chart_told-requires-clause-airport : goal.chart_told-requires-clause-airport
 chart_told-requires-clause-airport g c =
     let inside = c.self.inside in
     sym (ap (λ (plan : PlanState). plan.airport) c.self.invariant.plan_is ∙ replay-airport inside.airport.now inside.history.items)
+
+pub day_told-requires-clause-airport : goal.day_told-requires-clause-airport
+day_told-requires-clause-airport g c =
+    let inside = c.self.inside in
+    sym (ap (λ (plan : PlanState). plan.airport) c.self.invariant.plan_is ∙ replay-airport inside.airport.now inside.history.items)

@@ -27,17 +27,17 @@ returns-clause-found g c =
     let inside = c.self.inside in
     let old = c.args.self.now in
     let plan = replay old.airport old.history in
-    let gives = subst (λ (b : BoardHeld g.row.K.Denot). GivesText plan old.history c.args.call (sought plan c.args.ask.now) c.answer-answered.result b.history)
+    let gives = subst (λ (b : BoardHeld g.row.K.Denot). GivesText plan old.history c.args.call (sought plan old.history c.args.ask.now) c.answer-answered.result b.history)
     (sym c.self.view_is) c.answer-answered.ensures.gives in
     let airport = subst (λ (b : BoardHeld g.row.K.Denot). b.airport ≡ old.airport) (sym c.self.view_is) c.answer-answered.ensures.airport in
-    found_legal old.airport plan old.history c.args.call (sought plan c.args.ask.now) c.answer-answered.result inside.history.items gives
+    found_legal old.airport plan old.history c.args.call (sought plan old.history c.args.ask.now) c.answer-answered.result inside.history.items gives
     (subst (λ a. IsLegal a inside.history.items) airport c.self.invariant.legal)
 
 pub returns-clause-acts : goal.returns-clause-acts
 returns-clause-acts g c =
     let old = c.args.self.now in
     let plan = replay old.airport old.history in
-    let gives = subst (λ (b : BoardHeld g.row.K.Denot). GivesText plan old.history c.args.call (sought plan c.args.ask.now) c.answer-answered.result b.history)
+    let gives = subst (λ (b : BoardHeld g.row.K.Denot). GivesText plan old.history c.args.call (sought plan old.history c.args.ask.now) c.answer-answered.result b.history)
     (sym c.self.view_is) c.answer-answered.ensures.gives in
     rw c.acted_of.ensures.is
     (text_acts old.airport old.history c.args.call c.args.ask.now c.answer-answered.result c.self.inside.history.items gives)

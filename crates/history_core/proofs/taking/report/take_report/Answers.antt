@@ -8,8 +8,8 @@ pub returns-in-Err : goal.returns-in-Err
 returns-in-Err c =
     let plan = c.args.plan.now.plan in
     record {
-      finds = subst (Finds plan c.args.entries (Report c.args.number c.args.event.now)) (sym c.answered.ensures.is)
-          (report_denied plan c.args.entries c.args.number c.args.event.now c.in-Err.why (sym c.reported.ensures.is ∙ c.in-Err.is));
+      finds = λ desk. subst (Finds plan c.args.entries (Report desk c.args.number c.args.event.now)) (sym c.answered.ensures.is)
+          (report_denied plan c.args.entries desk c.args.number c.args.event.now c.in-Err.why (sym c.reported.ensures.is ∙ c.in-Err.is));
     }
 
 pub returns-then-not-takes_entry : goal.returns-then-not-takes_entry
@@ -17,7 +17,7 @@ returns-then-not-takes_entry c =
     let plan = c.args.plan.now.plan in
     let none = c.if-not-takes_entry.true in
     record {
-      finds = subst (Finds plan c.args.entries (Report c.args.number c.args.event.now)) (sym c.answered-then-not-takes_entry.ensures.is)
-          (report_full plan c.args.entries c.args.number c.args.event.now c.in-Ok.visit (sym c.reported.ensures.is ∙ c.in-Ok.is)
+      finds = λ desk. subst (Finds plan c.args.entries (Report desk c.args.number c.args.event.now)) (sym c.answered-then-not-takes_entry.ensures.is)
+          (report_full plan c.args.entries desk c.args.number c.args.event.now c.in-Ok.visit (sym c.reported.ensures.is ∙ c.in-Ok.is)
           (λ has. let takes = c.takes_entry.ensures.is.1 has in absurd (cc)));
     }

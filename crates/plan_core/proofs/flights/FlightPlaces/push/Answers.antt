@@ -6,7 +6,7 @@ use Rattle.plan_core.proofs.LastPlaces.{places_with, places_without}
 use Rattle.plan_core.proofs.flights.FlightPlaces.push.Goals as goal
 use Rattle.plan_core.proofs.flights.FlightPlaces.push.Goals.{in-Some, in-None}
 
--- the places that there are then are those with the one more
+-- the places afterwards are those with one more
 pushed_by : (now made : Inside) (entries : List FlightEntry) (entry : FlightEntry) → now ≡ made → entries ≡ now.entries.items ++ entry ∷ []
     → AreFlightPlaces made.last (made.entries.items ++ entry ∷ []) → AreFlightPlaces now.last entries
 pushed_by now made entries entry same put h =

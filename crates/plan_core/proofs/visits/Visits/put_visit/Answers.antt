@@ -11,7 +11,7 @@ use Rattle.plan_core.proofs.Results.{on_ok}
 use Rattle.plan_core.proofs.visits.Visits.put_visit.Goals as goal
 use Rattle.plan_core.proofs.visits.Visits.put_visit.Goals.{then-visit-len, else-visit-len}
 
--- the index that there is then is that of the visits with the one put in
+-- the index afterwards is that of the visits with this one put in
 listed_by : (v : Visit) (now made : Inside) (visits : List Visit) → now ≡ made → visits ≡ put_one now.kept.items v
     → AreListed made.places made.arrivals.keys made.departures.keys (put_one made.kept.items v)
     → AreListed now.places now.arrivals.keys now.departures.keys visits
@@ -19,7 +19,7 @@ listed_by v now made visits same put h =
     let P : Inside → Type 0 = λ inside. AreListed inside.places inside.arrivals.keys inside.departures.keys (put_one inside.kept.items v) in
     subst (AreListed now.places now.arrivals.keys now.departures.keys) (sym put) (subst P (sym same) h)
 
--- and the keys that there are then are those of the visits
+-- and the keys afterwards are those of the visits
 next_by : {S : Type 0} (places : HashMap (List ℕ) ℕ S) (visits : List Visit) (arrivals departures next_arrivals next_departures : List (Option Key))
     → next_arrivals ≡ arrivals → next_departures ≡ departures → AreListed places arrivals departures visits
     → AreListed places next_arrivals next_departures visits

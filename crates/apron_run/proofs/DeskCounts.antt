@@ -1,0 +1,137 @@
+-- What a run of the word `desk` counts at each end.
+use Rattle.std.proofs.Common.{◌≡◌, ◌≤◌, ◌∙◌, ℕ, List, Bool, refl, sym, ap, subst, arith, Result, Ok, Err, false}
+use Rattle.apron_base.specs.Counts.{Counts}
+use Rattle.apron_base.specs.Ends.{SinkState, SourceState}
+use Rattle.apron_base.specs.declared.outside.Outcome.{Outcome}
+use Rattle.apron_base.specs.declared.outside.Outcome.TheVariants as came
+use Rattle.desk_http.specs.Session.{is_read_fault as is_read_outcome, is_write_fault as is_write_outcome}
+use Rattle.journal_disk.specs.Disk.{DiskState}
+use Rattle.apron_check.specs.Files.{is_shelf_fault as is_shelf_found}
+use Rattle.apron_check.specs.Lines.{fault_line}
+use Rattle.apron_check.specs.declared.files.AirportFiles.{AirportFiles}
+use Rattle.apron_check.specs.declared.faults.FilesFault.{FilesFault}
+use Rattle.apron_run.specs.Crash.{MeetsDeskLeaving, RunsOnJournalLeaving}
+use Rattle.apron_run.specs.Desk.{MeetsDesk, RunsDesk, RunsFound, ServedCounts, ServesDesk, TellsMet, TellsOutcome}
+use Rattle.apron_run.specs.Run.{RunsAs, SinkCounts}
+use Rattle.apron_run.specs.Print.{Writes}
+use Rattle.apron_run.specs.Statuses.{code_of, is_read_fault, is_shelf_fault, status_of_fault, status_of_outcome}
+use Rattle.apron_run.specs.Unusable.{TellsUnusable, status_of_unusable, unusable_line}
+use Rattle.apron_run.specs.Words.{desk as desk_asked}
+use Rattle.apron_run.specs.World.{Ends, World, ends_at, ends_of}
+use Rattle.apron_run.specs.declared.status.Status.{Status}
+use Rattle.apron_run.specs.declared.status.Status.TheVariants.{Memory}
+use Rattle.apron_run.specs.declared.unusable.Unusable.{Unusable}
+use Rattle.apron_run.proofs.Counting.{Lines, OfLine, fault_disk, fault_status, lines_of, still, told_sink, unusable_status}
+use Rattle.apron_run.proofs.Serving.{session_counts, why_counts}
+
+-- what is counted at each end, by the status: of the shelf it says whether it failed
+record CountsDesk (failed : Bool) (status : Status) (before after : Ends) : Type 0 where
+  pub shelf : is_shelf_fault status ≡ failed
+  pub source : Counts (is_read_fault status) before.source.faults after.source.faults
+  pub sink : SinkCounts status before.sink.faults after.sink.faults
+  pub disk : ServedCounts status before.disk.faults after.disk.faults
+
+-- what an outcome's status says of the shelf and of the source
+record OfOutcome (outcome : Outcome) : Type 0 where
+  pub shelf : is_shelf_fault (status_of_outcome outcome) ≡ false
+  pub read : is_read_fault (status_of_outcome outcome) ≡ is_read_outcome outcome
+
+outcome_status : (outcome : Outcome) → OfOutcome outcome
+outcome_status came.ReadFault = record { shelf = refl; read = refl }
+outcome_status outcome = record { shelf = refl; read = refl }
+
+-- the sink after a session, of which this was told
+record Behind (outcome : Outcome) (status : Status) (before after : SinkState) : Type 0 where
+  pub is : status ≡ status_of_outcome outcome
+  pub sink : SinkCounts status before.faults after.faults
+
+silent : (outcome : Outcome) (status : Status) (before mid after : SinkState) → SinkCounts (status_of_outcome outcome) before.faults mid.faults
+    → (after ≡ mid) × (status ≡ status_of_outcome outcome) → Behind outcome status before after
+silent outcome status before mid after counts (same, is) = record {
+  is = is;
+  sink = subst (λ (s : Status). SinkCounts s before.faults after.faults) (sym is)
+      (subst (λ (s : SinkState). SinkCounts (status_of_outcome outcome) before.faults s.faults) (sym same) counts);
+}
+
+behind : (outcome : Outcome) (status : Status) (before mid after : SinkState) → Counts (is_write_outcome outcome) before.faults mid.faults → TellsOutcome outcome mid after status
+    → Behind outcome status before after
+behind came.Memory status before mid after counts tells =
+    let lines : Lines status Memory mid after = lines_of _ Memory mid after status tells in
+    let all : Lines status Memory before after =
+    record { is = lines.is; least = let same : mid.faults ≡ before.faults = counts in let more : mid.faults ≤ after.faults = lines.least in omega arith } in
+    record { is = lines.is; sink = told_sink status Memory before after refl all }
+behind outcome status before mid after counts tells = silent outcome status before mid after counts tells
+
+-- a session
+session_as : (files : AirportFiles) (before after : Ends) (mid : SinkState) (outcome : Outcome) (status : Status)
+    → ServesDesk files before (record { source = after.source; sink = mid; disk = after.disk }) outcome → TellsOutcome outcome mid after.sink status
+    → CountsDesk false status before after
+session_as files before after mid outcome status serves tells =
+    let session = serves.session in
+    let took = session.took in
+    let wrote = session.wrote in
+    let says : OfOutcome outcome = outcome_status outcome in
+    let told : Behind outcome status before.sink after.sink = behind outcome status before.sink mid after.sink wrote.faults tells in
+    record {
+      shelf = ap is_shelf_fault told.is ∙ says.shelf;
+      source = subst (λ (b : Bool). Counts b before.source.faults after.source.faults) (sym (ap is_read_fault told.is ∙ says.read)) took.faults;
+      sink = told.sink;
+      disk = session_counts files before (record { source = after.source; sink = mid; disk = after.disk }) outcome status serves told.is;
+    }
+
+-- a line in place of one
+line_as : (before after : Ends) (status : Status) (text : List ℕ) (of : Status) (failed : Bool) → OfLine failed of → after.source ≡ before.source
+    → ServedCounts of before.disk.faults after.disk.faults → Writes text of of before.sink after.sink status → CountsDesk failed status before after
+line_as before after status text of failed says source counts tells =
+    let lines : Lines status of before.sink after.sink = lines_of text of before.sink after.sink status tells in
+    record {
+      shelf = ap is_shelf_fault lines.is ∙ says.shelf;
+      source = still (is_read_fault status) before.source.faults after.source.faults (ap is_read_fault lines.is ∙ says.read) (ap (λ s. s.faults) source);
+      sink = told_sink status of before.sink after.sink says.told lines;
+      disk = subst (λ (s : Status). ServedCounts s before.disk.faults after.disk.faults) (sym lines.is) counts;
+    }
+
+-- what was met
+met_as : (files : AirportFiles) (before after : Ends) (mid : SinkState) (met : Result Outcome Unusable) (status : Status)
+    → MeetsDesk files before (record { source = after.source; sink = mid; disk = after.disk }) met → TellsMet met mid after.sink status
+    → CountsDesk false status before after
+met_as files before after mid (Ok outcome) status meets tells = session_as files before after mid outcome status meets tells
+met_as files before after mid (Err why) status meets tells =
+    let not_opened = meets.disk in
+    line_as before after status (unusable_line why) (status_of_unusable why) false (unusable_status why) meets.source
+    (why_counts files before.disk after.disk why not_opened.cause) (subst (λ (s : SinkState). TellsUnusable why s after.sink status) meets.sink tells)
+
+-- what was found in the files
+found_as : (found : Result AirportFiles FilesFault) (before after : Ends) (status : Status) → RunsFound found before after status
+    → CountsDesk (is_shelf_found found) status before after
+found_as (Ok files) before after status runs = met_as files before after runs.sink runs.met status runs.meets runs.tells
+found_as (Err fault) before after status (source, disk, tells) =
+    line_as before after status (fault_line fault) (status_of_fault fault) (is_shelf_found (Err fault)) (fault_status fault) source
+    (fault_disk fault before.disk.faults after.disk.faults (ap (λ d. d.faults) disk)) tells
+
+-- a run of the word
+pub desk_as : (airport types : List ℕ) (before after : World) (status : Status) → RunsDesk airport types before after status
+    → RunsAs (desk_asked airport types) before after (code_of status)
+desk_as airport types before after status runs =
+    let counts : CountsDesk (is_shelf_found runs.found) status (ends_of before) (ends_of after) =
+    found_as runs.found (ends_of before) (ends_of after) status runs.runs in
+    let finds = runs.finds in
+    record {
+      status = status;
+      code_is = refl;
+      does = runs;
+      shelf = subst (λ (b : Bool). Counts b before.shelf.faults after.shelf.faults) (sym counts.shelf) finds.counts;
+      source = counts.source;
+      sink = counts.sink;
+      disk = counts.disk;
+    }
+
+-- a session after which it was told how it ended, and its disk given back
+pub told_leaving : {D : Type 0} (state : D → DiskState) {files : AirportFiles} {source now : SourceState} {before after : SinkState} {old left new : D}
+    {status : Status} (mid : SinkState) (met : Result Outcome Unusable)
+    → MeetsDeskLeaving (record { before = state old; after = state left }) files (ends_at source before (state old)) (ends_at now mid (state left)) met
+    → TellsMet met mid after status → left ≡ new
+    → RunsOnJournalLeaving (record { before = state old; after = state new }) files (ends_at source before (state old)) (ends_at now after (state new)) status
+told_leaving {D} state {files} {source} {now} {before} {after} {old} {left} {new} {status} mid met meets tells same =
+    subst (λ d. RunsOnJournalLeaving (record { before = state old; after = state d }) files (ends_at source before (state old)) (ends_at now after (state d)) status) same
+    (record { met = met; sink = mid; meets = meets.0; tells = tells }, meets.1)

@@ -1,0 +1,95 @@
+-- Entries that are lifted one after another.
+use Rattle.std.proofs.Common.{◌≡◌, ◌∙◌, ◌+◌, ℕ, List, [], ◌∷◌, ◌++◌, length, map, refl, sym, ap, ap₂, subst, Result, Ok, Err}
+use Rattle.std.specs.Result.{result_map_both}
+use Rattle.std.proofs.lemmas.List.{map-append, length-map}
+use Rattle.apron_base.specs.Histories.{Every}
+use Rattle.apron_rules.specs.declared.parts.AirportParts.{AirportParts}
+use Rattle.desk_words.specs.declared.asks.Entry.{Entry}
+use Rattle.entry_bytes.specs.Entries.{decoded, entry_text}
+use Rattle.entry_bytes.specs.Former.{former_decoded, lifted}
+use Rattle.entry_bytes.specs.declared.faults.EntryFault.{EntryFault}
+use Rattle.history_core.specs.Board.{entry_texts}
+use Rattle.history_core.specs.declared.opening.OpenFault.{OpenFault}
+use Rattle.history_core.specs.declared.opening.OpenFault.TheVariants as entries
+use Rattle.journal_disk.specs.Entries.{IsEntry}
+use Rattle.apron_run.specs.Upgrade.{CannotLift, HasLifted, Lifts, LiftsNext, NotLifted}
+
+-- what holds of each of some things, and of one more
+every_push : {E : Type 0} (P : E → Type 0) (es : List E) (e : E) → Every P es → P e → Every P (es ++ e ∷ [])
+every_push P [] e each is = (is, tt)
+every_push P (x ∷ es) e each is = (each.0, every_push P es e each.1 is)
+
+-- two maps that agree, with one more that agrees
+map_push : {A B C : Type 0} (f : A → C) (g : B → C) (xs : List A) (x : A) (ys : List B) (y : B) → map f xs ≡ map g ys → f x ≡ g y
+    → map f (xs ++ x ∷ []) ≡ map g (ys ++ y ∷ [])
+map_push f g xs x ys y same is = map-append f xs (x ∷ []) ∙ (ap₂ (λ a b. a ++ b ∷ []) same is ∙ sym (map-append g ys (y ∷ [])))
+
+-- none was lifted yet
+pub none_lifted : (airport : AirportParts) → HasLifted airport [] []
+none_lifted airport = record { lifts = refl; reads = refl; sizes = tt }
+
+-- one more was lifted
+pub next_lifted : (airport : AirportParts) (front : List (List ℕ)) (bytes : List ℕ) (before after : List (List ℕ)) → HasLifted airport front before
+    → LiftsNext airport bytes before after → HasLifted airport (front ++ bytes ∷ []) after
+next_lifted airport front bytes before after has next =
+    subst (HasLifted airport (front ++ bytes ∷ [])) (sym next.after_is) (record {
+      lifts = map_push (lifted airport) Ok front bytes before next.new has.lifts next.lifts;
+      reads = map_push (decoded airport) (former_decoded airport) before next.new front bytes has.reads next.reads;
+      sizes = every_push IsEntry before next.new has.sizes next.size;
+    })
+
+-- as many were lifted as there were
+pub lifted_count : (airport : AirportParts) (old new : List (List ℕ)) → Lifts airport old new → length new ≡ length old
+lifted_count airport old new lifts = sym (length-map new Ok) ∙ (sym (ap length lifts) ∙ length-map old (lifted airport))
+
+-- an entry that is not lifted stops the others
+pub stops_lifting : (airport : AirportParts) (old front : List (List ℕ)) (bytes : List ℕ) (back new : List (List ℕ)) (fault : OpenFault) → old ≡ front ++ bytes ∷ back
+    → Lifts airport front new → NotLifted airport (length new + 1) bytes fault → CannotLift airport old fault
+stops_lifting airport old front bytes back new (entries.BadEntry number) are lifts (is, (fault, fails)) = record {
+  front = front;
+  new = new;
+  bytes = bytes;
+  back = back;
+  fault = fault;
+  are = are;
+  number_is = is ∙ ap (λ (n : ℕ). n + 1) (lifted_count airport front new lifts);
+  lifts = lifts;
+  fails = fails;
+}
+stops_lifting airport old front bytes back new (entries.WrongEntry number) are lifts why = absurd why
+stops_lifting airport old front bytes back new entries.Memory are lifts why = tt
+
+-- none of the entries that are lifted stops them
+pub none_stops : (airport : AirportParts) (front : List (List ℕ)) (bytes : List ℕ) (back new : List (List ℕ)) (fault : EntryFault) → Lifts airport (front ++ bytes ∷ back) new
+    → lifted airport bytes ≡ Err fault → ⊥
+none_stops airport [] bytes back [] fault lifts fails = absurd cc
+none_stops airport [] bytes back (n ∷ new) fault lifts fails =
+    let both : lifted airport bytes ∷ map (lifted airport) back ≡ Ok n ∷ map Ok new = lifts in
+    let is : lifted airport bytes ≡ Ok n = cc in
+    let same : Ok n ≡ Err fault = sym is ∙ fails in
+    cc
+none_stops airport (f ∷ front) bytes back [] fault lifts fails = absurd cc
+none_stops airport (f ∷ front) bytes back (n ∷ new) fault lifts fails =
+    let both : lifted airport f ∷ map (lifted airport) (front ++ bytes ∷ back) ≡ Ok n ∷ map Ok new = lifts in
+    let rest : map (lifted airport) (front ++ bytes ∷ back) ≡ map Ok new = cc in
+    none_stops airport front bytes back new fault rest fails
+
+-- the bytes to which entries that were read as these are lifted are theirs
+pub texts_are : (airport : AirportParts) (old new : List (List ℕ)) (history : List Entry) → Lifts airport old new
+    → map (former_decoded airport) old ≡ map Ok history → new ≡ entry_texts history
+texts_are airport [] [] [] lifts is = refl
+texts_are airport [] [] (e ∷ history) lifts is = absurd cc
+texts_are airport [] (n ∷ new) history lifts is = absurd cc
+texts_are airport (o ∷ old) [] history lifts is = absurd cc
+texts_are airport (o ∷ old) (n ∷ new) [] lifts is = absurd cc
+texts_are airport (o ∷ old) (n ∷ new) (e ∷ history) lifts is =
+    let both : lifted airport o ∷ map (lifted airport) old ≡ Ok n ∷ map Ok new = lifts in
+    let one : lifted airport o ≡ Ok n = cc in
+    let rest : map (lifted airport) old ≡ map Ok new = cc in
+    let read : former_decoded airport o ∷ map (former_decoded airport) old ≡ Ok e ∷ map Ok history = is in
+    let first : former_decoded airport o ≡ Ok e = cc in
+    let others : map (former_decoded airport) old ≡ map Ok history = cc in
+    let spelt : lifted airport o ≡ Ok (entry_text e) =
+    ap (λ (r : Result Entry EntryFault). result_map_both entry_text (λ fault. fault) r) first in
+    let text : n ≡ entry_text e = cc in
+    ap₂ (λ b bs. b ∷ bs) text (texts_are airport old new history rest others)

@@ -1,0 +1,124 @@
+-- A journal that was upgraded: what its disk reads as, and what a crash leaves of it.
+use Rattle.std.proofs.Common.{◌≡◌, ◌∙◌, inl, inr, ℕ, Bool, true, false, not, List, length, refl, sym, ap, subst, None, Some, Result, Ok}
+use Rattle.std.specs.Prelude.{IfSome, cond, ◌||◌}
+use Rattle.std.specs.Str.{bytes_eq}
+use Rattle.std.proofs.lemmas.Slice.Eq.{bytes_eq-Decides}
+use Rattle.apron_base.specs.Counts.{Counts}
+use Rattle.history_core.specs.Board.{Spells, entry_texts}
+use Rattle.journal_disk.specs.Disk.{Continues, DiskState, Stays, Told}
+use Rattle.journal_disk.specs.Faults.{OldOpenFails, OldTextFails}
+use Rattle.journal_disk.specs.Found.{disk_found, old_found}
+use Rattle.journal_disk.specs.Header.{as_old, digests_in, has_magic, is_new, old_opening_of, opening_of, unless}
+use Rattle.journal_disk.specs.Switch.{HasSwitched, IsEither, SwitchesSafely, switched}
+use Rattle.journal_disk.specs.declared.fault.JournalFault.{JournalFault}
+use Rattle.journal_disk.specs.declared.fault.JournalFault.TheVariants as journal
+use Rattle.journal_disk.specs.declared.upgrade.Found.{Found}
+use Rattle.apron_check.specs.declared.files.AirportFiles.{AirportFiles}
+use Rattle.apron_run.specs.Journal.{IsOf}
+use Rattle.apron_run.specs.Survival.{DiskStates}
+use Rattle.apron_run.specs.Upgrade.{HasLifted, HasUpgraded, NotUpgraded}
+use Rattle.apron_run.specs.UpgradeCrash.{IsOldOrNew, LeavesEither, LeavesFailed, LeavesUpgraded}
+use Rattle.apron_run.specs.World.{seen_of}
+use Rattle.apron_run.specs.declared.unusable.Unusable.TheVariants.{Journal}
+use Rattle.apron_run.proofs.Disks.{if_told}
+use Rattle.apron_run.proofs.Fronts.{alike_both, alike_same, stays_from}
+use Rattle.apron_run.proofs.Headers.{told_before}
+use Rattle.apron_run.proofs.Lifts.{lifted_count, texts_are}
+
+-- a journal of format 1 has passed the test of its digests, and its format byte is not that of format 2
+old_passed : (short starts same new : Bool) (one two : JournalFault) (read : Result (List (List ℕ)) JournalFault) (old : List (List ℕ))
+    → unless (cond (short || not starts) (Some one) (cond (not same) (Some two) None)) (cond new (Ok None) (as_old read)) ≡ Ok (Some old) → (same ≡ true) × (new ≡ false)
+old_passed true starts same new one two read old is = absurd cc
+old_passed false false same new one two read old is = absurd cc
+old_passed false true false new one two read old is = absurd cc
+old_passed false true true true one two read old is = absurd cc
+old_passed false true true false one two read old is = (refl, refl)
+
+old_header : (digests bytes : List ℕ) (old : List (List ℕ)) → old_opening_of digests bytes ≡ Ok (Some old) → IsOf digests bytes × (is_new bytes ≡ false)
+old_header digests bytes old is =
+    let (same, format) = old_passed _ (has_magic bytes) (bytes_eq (digests_in bytes) digests) (is_new bytes) _ _ _ old is in
+    ((bytes_eq-Decides (digests_in bytes) digests).0 same, format)
+
+-- a journal that was not opened
+pub not_opened : (files : AirportFiles) (before after : DiskState) (fault : JournalFault) → OldOpenFails files.digests before after fault → Stays before after
+    → NotUpgraded files (seen_of before) (seen_of after) (Journal fault)
+not_opened files before after journal.DiskFault fails stays = fails
+not_opened files before after journal.NotEmpty fails stays = absurd fails
+not_opened files before after journal.OldFormat fails stays = absurd fails
+not_opened files before after fault (counts, told) stays =
+    (record { contents = stays.contents; counts = counts }, if_told before.contents (λ bytes. OldTextFails files.digests bytes fault) told)
+
+-- and a crash leaves what it could leave before
+pub leaves_unopened : (files : AirportFiles) (fault : JournalFault) (disk : DiskStates) → Stays disk.before disk.after → LeavesFailed files (Journal fault) disk
+leaves_unopened files journal.DiskFault disk stays = inl stays
+leaves_unopened files fault disk stays = stays
+
+-- what is known of a disk whose journal was opened, and of what was found on it
+abbrev pub IsFound : {D : Type 0} → (D → DiskState) → List ℕ → D → Found D → Type 0
+IsFound state digests disk found =
+    Told (state disk) (λ bytes. old_opening_of digests bytes ≡ Ok (old_found found))
+    × Stays (state disk) (state (disk_found found)) × Counts false (state disk).faults (state (disk_found found)).faults
+
+-- a journal of format 1 that was opened and then switched
+module _ (files : AirportFiles) (before opened after : DiskState) (size : ℕ) (old new : List (List ℕ))
+    (was : Told before (λ bytes. old_opening_of files.digests bytes ≡ Ok (Some old))) (stays : Stays before opened) (goes : Continues opened after)
+    (safe : SwitchesSafely size old new opened after) where
+  digests_are : (bytes : List ℕ) → before.contents ≡ Some bytes → digests_in bytes ≡ files.digests
+  digests_are bytes is = (old_header files.digests bytes old (was bytes is)).0
+
+  -- what a crash leaves of it at any moment
+  pub leaves_either : LeavesEither files.digests old new (record { before = before; after = after })
+  leaves_either = record {
+    tells = alike_both before.contents opened.contents after.contents (alike_same before.contents opened.contents stays.contents) goes.tells;
+    moment = opened.moment;
+    order = (stays.crash.clock.later, goes.clock.later);
+    earlier = λ moment image low high left. stays_from before opened stays moment image low high (goes.clock.past moment image high left);
+    later = λ bytes is moment image low high left.
+        let either : IsEither size old new bytes image = safe bytes (stays.contents ∙ is) moment image low high left in
+        subst (λ (ds : List ℕ). IsOldOrNew ds old new image) (digests_are bytes is) either.opens;
+  }
+
+  -- the disk failed
+  pub stopped : (fault : JournalFault) → fault ≡ journal.DiskFault → HasLifted files.airport old new → Counts false before.faults opened.faults
+      → Counts true opened.faults after.faults
+      → NotUpgraded files (seen_of before) (seen_of after) (Journal fault) × LeavesFailed files (Journal fault) (record { before = before; after = after })
+  stopped fault is lifted first second =
+      subst (λ (f : JournalFault). NotUpgraded files (seen_of before) (seen_of after) (Journal f) × LeavesFailed files (Journal f) (record { before = before; after = after }))
+      (sym is) (subst (λ (n : ℕ). Counts true n after.faults) first second, inr (old, new, lifted.lifts, was, leaves_either))
+
+  module _ (done : Told opened (λ bytes. HasSwitched size new bytes after)) where
+    -- once it was switched
+    switched_opens : (bytes : List ℕ) → before.contents ≡ Some bytes → (image : List ℕ) → after.images after.moment image → opening_of files.digests image ≡ Ok new
+    switched_opens bytes is image left =
+        let has : HasSwitched size new bytes after = done bytes (stays.contents ∙ is) in
+        ap (opening_of files.digests) (has.safe image left)
+        ∙ subst (λ (ds : List ℕ). opening_of ds (switched size new bytes) ≡ Ok new) (digests_are bytes is) has.opens
+
+    -- it has the lifted entries, in what its disk reads as and in what a crash leaves
+    pub upgraded : (count : ℕ) → HasLifted files.airport old new → Told after (after.images after.moment) → Counts false before.faults after.faults → count ≡ length new
+        → (has : HasUpgraded files (seen_of before) (seen_of after) count)
+        × LeavesUpgraded files.digests has.old has.new (record { before = before; after = after })
+    upgraded count lifted reads counts count_is =
+        let Has : List ℕ → Type 0 = λ bytes. opening_of files.digests bytes ≡ Ok new in
+        let has : IfSome after.contents Has = if_told after.contents Has (λ now here.
+        let (mid, there) = told_before opened.contents after.contents now goes.tells here in
+        switched_opens mid (sym stays.contents ∙ there) now (reads now here)) in (
+          record {
+            old = old;
+            new = new;
+            format = if_told before.contents (λ bytes. is_new bytes ≡ false) (λ bytes is. (old_header files.digests bytes old (was bytes is)).1);
+            was = if_told before.contents (λ bytes. old_opening_of files.digests bytes ≡ Ok (Some old)) was;
+            lifts = lifted.lifts;
+            has = has;
+            same = λ history reads_as.
+                let texts : new ≡ entry_texts history = texts_are files.airport old new history lifted.lifts reads_as.spells in
+                record {
+                  legal = reads_as.legal;
+                  entries = subst (λ (es : List (List ℕ)). IfSome after.contents (λ bytes. opening_of files.digests bytes ≡ Ok es)) texts has;
+                  spells = subst (λ (es : List (List ℕ)). Spells files.airport es history) texts (lifted.reads ∙ reads_as.spells);
+                };
+            count_is = count_is ∙ lifted_count files.airport old new lifted.lifts;
+            counts = counts;
+          },
+          record { either = leaves_either; last = switched_opens },
+        )

@@ -1,0 +1,25 @@
+-- What the target of a request for a feed names: /feeds/, the name of a watch, a slash and a version.
+use Rattle.std.specs.Prelude.{ℕ, List, [], ◌∷◌, codes, Option, None, Some, if◌then◌else◌}
+use Rattle.std.specs.Option.{option_map, option_and_then}
+use Rattle.std.specs.Str.{bytes_eq}
+use Rattle.desk_bodies.specs.Commits.{if_name}
+use Rattle.desk_http.specs.Targets.{pieces, plain_number}
+use Rattle.desk_http.specs.declared.port.Feed.{Feed}
+
+-- the number of 32 bits that is written as 0, or by 1 to 10 digits of which the first is no zero
+abbrev pub version_written : List ℕ → Option ℕ
+version_written text = if bytes_eq text (codes "0") then Some 0 else plain_number text
+
+-- the feed of the watch of this name after this version, where they are a name and a version
+abbrev pub feed_named : List ℕ → List ℕ → Option Feed
+feed_named name version =
+    option_and_then (λ watch. option_map (λ after. record { watch = watch; after = after }) (version_written version)) (if_name name)
+
+-- the feed that the pieces of a target name
+abbrev pub feed_of_pieces : List (List ℕ) → Option Feed
+feed_of_pieces ([] ∷ word ∷ name ∷ version ∷ []) = if bytes_eq word (codes "feeds") then feed_named name version else None
+feed_of_pieces _ = None
+
+-- the feed that a target names
+abbrev pub feed_of : List ℕ → Option Feed
+feed_of target = feed_of_pieces (pieces target)

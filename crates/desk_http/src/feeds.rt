@@ -1,0 +1,134 @@
+// A session with feeds: one more route, and one more way to ask.
+ghost use Rattle.std.specs.Prelude.{◌≡◌, ◌==◌, ◌<◌, IfSome, length, position};
+ghost use Rattle.desk_http.specs.Complete.{IsCompleteBy};
+ghost use Rattle.desk_http.specs.FedSession.{FedAnswers, FedSessionOf, feed_asked as feed_asked_lem, feed_asked_of as feed_asked_of_lem};
+ghost use Rattle.desk_http.specs.FeedTargets.{feed_named as feed_named_lem, feed_of as feed_of_lem, version_written as version_written_lem};
+ghost use Rattle.desk_http.specs.Finding.{said_by};
+ghost use Rattle.desk_http.specs.Replies.{IsFeedReply};
+ghost use Rattle.desk_http.specs.Targets.{slash};
+
+use crate::answering::{Answerer, PreparedReply, Unanswered};
+use crate::names::name_told;
+use crate::port::{Feed, FeedAsk, FeedPort};
+use crate::routes::seen_of;
+use crate::serving::session_by;
+use crate::targets::{DeskRoutes, plain_number};
+use apron_base::{Acted, Name, Outcome, Sink, Source};
+use desk_words::early::Early;
+use desk_words::fixed;
+use http_framing::RequestParts;
+use std::alloc::Global;
+
+/// One session of one desk that also answers feeds, at GET `/feeds/NAME/VERSION`. All else is as in `session`.
+pub fn session_fed<P: FeedPort, S: Source, W: Sink>(
+    alloc: Global,
+    port: &mut P,
+    source: &mut S,
+    sink: &mut W,
+) -> Outcome
+    ensures of { FedSessionOf P.asks (P.feeds (P.place port.old)) (P.airport_of port.old)
+        (record { source = S.state source.old; sink = W.state sink.old; port = P.port port.old })
+        (record { source = S.state source.new; sink = W.state sink.new; port = P.port port.new }) result }
+    ensures complete { IsCompleteBy (FedAnswers P.asks (P.feeds (P.place port.old)) (P.airport_of port.old)) (P.airport_of port.old)
+        (record { source = S.state source.old; sink = W.state sink.old; port = P.port port.old })
+        (record { source = S.state source.new; sink = W.state sink.new; port = P.port port.new }) result }
+    ensures airport { P.airport_of port.new ≡ P.airport_of port.old }
+    ensures place { P.place port.new ≡ P.place port.old }
+{
+    let Ok(desk) = DeskRoutes::new(alloc) else {
+        return Outcome::Memory;
+    };
+    session_by(alloc, &FedRoutes { desk }, port, source, sink)
+}
+
+/// The routes of a desk, and that of feeds.
+#[derive(Drop)]
+struct FedRoutes {
+    desk: DeskRoutes,
+}
+
+impl<P: FeedPort> Answerer<P> for FedRoutes {
+    ghost use Rattle.desk_http.specs.FedSession.{FedAnswers};
+
+    ghost comes = { λ place. FedAnswers P.asks (P.feeds place) };
+
+    fn answer(
+        &self,
+        alloc: Global,
+        port: &mut P,
+        parts: &RequestParts<'_>,
+    ) -> Result<PreparedReply, Unanswered> {
+        match feed_asked(parts) {
+            None => self.desk.answer(alloc, port, parts),
+            Some(Err(early)) => Ok(PreparedReply::Early(early)),
+            Some(Ok(ask)) => answer_feed(alloc, port, &ask).ok_or(Unanswered::Exhausted),
+        }
+    }
+}
+
+// The reply to a feed; none where the port's call numbers are exhausted.
+fn answer_feed<P: FeedPort>(alloc: Global, port: &mut P, ask: &FeedAsk) -> Option<PreparedReply>
+    ensures airport { P.airport_of port.new ≡ P.airport_of port.old }
+    ensures place { P.place port.new ≡ P.place port.old }
+    ensures came { IsFeedReply (P.feeds (P.place port.old) (P.airport_of port.old)) (P.port port.old) ask.now result (P.port port.new) }
+{
+    let Feed { watch, after } = ask.feed;
+    match port.feed(alloc, ask.seen, &watch, after) {
+        Acted::Reply(text) => Some(PreparedReply::Told(text)),
+        Acted::Memory => Some(PreparedReply::Fixed(fixed::no_memory())),
+        Acted::Fault => unreachable!(),
+        Acted::Spent => None,
+    }
+}
+
+// The feed that a request with these parts asks for, where its target names one. Its body is passed over.
+fn feed_asked(request: &RequestParts<'_>) -> Option<Result<FeedAsk, Early>>
+    ensures asked { result ≡ feed_asked_lem (said_by request.now) }
+{
+    Some(feed_asked_of(request, feed_of(request.target)?))
+}
+
+fn feed_asked_of(request: &RequestParts<'_>, feed: Feed) -> Result<FeedAsk, Early>
+    ensures asked { result ≡ feed_asked_of_lem (said_by request.now) feed }
+{
+    if request.method != b"GET".as_slice() {
+        return Err(Early::OnlyGet);
+    }
+    let seen = seen_of(request.seen).ok_or(Early::BadSeen)?;
+    Ok(FeedAsk { seen, feed })
+}
+
+// The feed that a target names.
+fn feed_of(target: &[u8]) -> Option<Feed>
+    ensures is { result ≡ feed_of_lem target.now }
+{
+    let named = target.strip_prefix(b"/feeds/")?;
+    let end = slash_at(named)?;
+    feed_named(&named[..end], &named[end + 1..])
+}
+
+// The place of the first slash.
+fn slash_at(text: &[u8]) -> Option<usize>
+    ensures place { result ≡ position (λ byte. byte == slash) text.now }
+    ensures inside { IfSome result (λ at. at < length text.now) }
+{
+    text.iter().position(|byte| *byte == b'/')
+}
+
+fn feed_named(name: &[u8], version: &[u8]) -> Option<Feed>
+    ensures is { result ≡ feed_named_lem name.now version.now }
+{
+    let watch = name_told(name)?;
+    let after = version_written(version)?;
+    Some(Feed { watch, after })
+}
+
+// The number of 32 bits that is written as 0, or by 1 to 10 digits of which the first is no zero.
+fn version_written(text: &[u8]) -> Option<u32>
+    ensures is { result ≡ version_written_lem text.now }
+{
+    match text {
+        b"0" => Some(0),
+        _ => plain_number(text),
+    }
+}

@@ -1,0 +1,22 @@
+-- What a machine answers to feeds, and what the port of a seat gives for them.
+use Rattle.std.specs.Prelude.{◌≡◌, ◌≢◌, ℕ, List}
+use Rattle.apron_base.specs.declared.outside.Acted.{Acted}
+use Rattle.apron_base.specs.declared.outside.Acted.TheVariants.{Reply, Fault}
+use Rattle.apron_rules.specs.declared.parts.AirportParts.{AirportParts}
+use Rattle.desk_words.specs.declared.asks.Entry.{Entry}
+use Rattle.history_core.specs.History.{IsLegal}
+use Rattle.desk_http.specs.FeedPorts.{FeedGiven, FeedTurn}
+use Rattle.desk_http.specs.Ports.{PortState}
+use Rattle.desk_http.specs.declared.port.FeedAsk.{FeedAsk}
+
+-- A feed, where `text` says what its reply is at each history: it found a history that is legal at the airport, was answered no reply but its own there,
+-- did not fail, and left the history.
+pub record FeedsLegally (airport : AirportParts) (text : List Entry → List ℕ) (before : List Entry) (answer : Acted) (after : List Entry) : Type 0 where
+  pub found : IsLegal airport before
+  pub fed : (bytes : List ℕ) → answer ≡ Reply bytes → bytes ≡ text before
+  pub fine : answer ≢ Fault
+  pub left : after ≡ before
+
+-- what a port gives for a feed and becomes, where `text` says what the reply to each feed is at each history: the feed got its turn
+abbrev pub FeedTurns : (FeedAsk → List Entry → List ℕ) → AirportParts → PortState → FeedAsk → FeedGiven → PortState → Type 0
+FeedTurns text airport before ask given after = FeedTurn airport (text ask) before given after

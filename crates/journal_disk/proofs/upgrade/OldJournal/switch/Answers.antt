@@ -1,0 +1,42 @@
+use Rattle.journal_disk.specs.Disk.{Told}
+use Rattle.journal_disk.specs.Switch.{HasSwitched, IsEither, IsSwitching, SwitchesSafely}
+use Rattle.journal_disk.proofs.Moments.{since_map}
+use Rattle.journal_disk.proofs.Switching.{either_is, has_switched}
+use Rattle.journal_disk.proofs.upgrade.OldJournal.switch.Goals as goal
+
+pub switch_parts-requires-clause-inside : goal.switch_parts-requires-clause-inside
+switch_parts-requires-clause-inside g c = λ bytes is. let part = c.self.invariant.part bytes is in part.inside
+
+pub returns-in-Ok-clause-crash : goal.returns-in-Ok-clause-crash
+returns-in-Ok-clause-crash g c =
+    let size = c.self.inside.size in
+    let old = c.self.inside.entries.items in
+    let new = c.args.entries.now in
+    let before = g.D.Disk.state c.self.inside.disk in
+    let now = g.D.Disk.state c.switch_parts.new.disk in
+    let safely : SwitchesSafely size old new before now = λ bytes is.
+    since_map before now (IsSwitching size new bytes) (IsEither size old new bytes) (c.switch_parts.ensures.crash bytes is (c.self.invariant.safe bytes is))
+    (either_is size old bytes (c.self.invariant.part bytes is) new c.requires.sizes c.requires.few) in
+    rw (← c.self.view_is) safely
+
+pub returns-in-Ok-clause-switched : goal.returns-in-Ok-clause-switched
+returns-in-Ok-clause-switched g c =
+    let size = c.self.inside.size in
+    let old = c.self.inside.entries.items in
+    let new = c.args.entries.now in
+    let now = g.D.Disk.state c.switch_parts.new.disk in
+    let switched : Told (g.D.Disk.state c.self.inside.disk) (λ bytes. HasSwitched size new bytes now) = λ bytes is.
+    has_switched size old bytes (c.self.invariant.part bytes is) new c.requires.sizes c.requires.few now (c.in-Ok.ensures.switched bytes is) in
+    rw (← c.self.view_is) switched
+
+pub returns-clause-crash : goal.returns-clause-crash
+returns-clause-crash g c =
+    let size = c.self.inside.size in
+    let old = c.self.inside.entries.items in
+    let new = c.args.entries.now in
+    let before = g.D.Disk.state c.self.inside.disk in
+    let now = g.D.Disk.state c.switch_parts.new.disk in
+    let safely : SwitchesSafely size old new before now = λ bytes is.
+    since_map before now (IsSwitching size new bytes) (IsEither size old new bytes) (c.switch_parts.ensures.crash bytes is (c.self.invariant.safe bytes is))
+    (either_is size old bytes (c.self.invariant.part bytes is) new c.requires.sizes c.requires.few) in
+    rw (← c.self.view_is) safely

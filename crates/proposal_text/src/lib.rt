@@ -1,0 +1,9 @@
+//! What is printed of a first-fit draft for a desk: that its number is used, or the lines of a
+//! proposal. It knows nothing of histories and words of the command line.
+#![tactic(auto)]
+
+mod drafts;
+mod lines;
+mod reasons;
+
+pub use drafts::draft_text;

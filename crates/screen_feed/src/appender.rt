@@ -1,0 +1,136 @@
+// What adds entries to a writer's book.
+ghost use Rattle.std.specs.Prelude.{◌≡◌, ◌+◌, ◌<◌, ◌^◌, [], ◌∷◌, ◌++◌, length, true, Some, None, IfOk};
+ghost use Rattle.logbook.specs.Pages.{may_write};
+ghost use Rattle.screen_feed.specs.Logs.{begun_after, shown_in};
+ghost use Rattle.screen_feed.specs.Rules.{IsAdded, head_of};
+
+use crate::book::{Add, AddFirst, BookRule, Entry, Head, Log, MakePen, Nothing};
+use crate::sheet::Sheet;
+use apron_base::Memory;
+use logbook::{Offer, Pen, Seen, Start, Word};
+use std::marker::Model;
+
+/// The one value that may add entries to its book, and so knows all of them. Contracts see the book and its log.
+#[derive(Drop)]
+pub(crate) struct Appender {
+    head: Head,
+    pen: Pen,
+    seen: Log,
+    round: u64,
+}
+
+impl Model for Appender {
+    ghost use Rattle.screen_feed.specs.Appenders.{AppenderState, IsAppender};
+
+    ghost Value = { AppenderState };
+
+    ghost view = { λ a. record { book = a.seen.book; log = a.seen.log } };
+
+    ghost invariant = { λ a. IsAppender (record { book = a.seen.book; log = a.seen.log }) a.head a.pen a.round };
+}
+
+// The pen for a later entry. The step wants some entry, and does nothing with it.
+fn new_pen(head: &Head, seen: &Log, entry: &Entry) -> Pen
+    requires head { head.now ≡ head_of seen.now.book }
+    ensures book { result.book ≡ seen.now.book }
+    ensures right { result.nib.right ≡ may_write }
+{
+    let mut log = seen.again();
+    let mut offer: Offer<Entry, u64, BookRule, Nothing> = log.plain::<Nothing, Entry, Nothing>(
+        entry,
+    );
+    let mut pen = log.no_pen();
+    head.compare_exchange::<MakePen, Nothing>(1, 1, &mut log, &mut offer, &mut pen);
+    let _word: Head = Word::tracked(0, &mut pen);
+    pen
+}
+
+impl Appender {
+    /// A new book, in which this sheet is begun. `Err` never comes, since nobody else has the book; but no clause of `logbook`
+    /// says so before there is an entry.
+    pub fn open(sheet: &Sheet) -> Result<Appender, Memory>
+        ensures shown { IfOk result (λ appender. shown_in appender.log ≡ []) }
+        ensures begun { IfOk result (λ appender. begun_after None appender.log ≡ Some sheet.now) }
+        ensures count { IfOk result (λ appender. length appender.log ≡ 1) }
+    {
+        let (mut seen, mut first, _second) = Seen::open(Start::alone(), 0, 0);
+        let head = Word::tracked(0, &mut first);
+        let pen = new_pen(&head, &seen, &Entry::of(sheet, false, &first));
+        let entry = Entry::of(sheet, false, &pen);
+        let mut offer: Offer<Entry, u64, BookRule, Nothing> = seen.plain::<Nothing, Entry, Nothing>(
+            &entry,
+        );
+        let mut no_pen = seen.no_pen();
+        let found = head.compare_exchange::<AddFirst, Nothing>(
+            0,
+            1,
+            &mut seen,
+            &mut offer,
+            &mut no_pen,
+        );
+        if found != 0 {
+            return Err(Memory);
+        }
+        Ok(Appender {
+            head,
+            pen,
+            seen,
+            round: 1,
+        })
+    }
+
+    /// How many entries there are.
+    pub fn round(&self) -> u64
+        ensures count { result ≡ length self.now.log }
+    {
+        self.round
+    }
+
+    /// What it knows.
+    pub fn seen(&self) -> Log
+        ensures book { result.book ≡ self.now.book }
+        ensures log { result.log ≡ self.now.log }
+    {
+        self.seen.again()
+    }
+
+    // Adds an entry.
+    fn add(&mut self, sheet: &Sheet, shown: bool)
+        requires room { length self.old.log < 2 ^ 62 }
+        requires legal { shown ≡ true → begun_after None self.old.log ≡ Some sheet.now }
+        ensures book { self.new.book ≡ self.old.book }
+        ensures log { IsAdded self.old.log (sheet.now, shown) self.new.log }
+    {
+        let next = new_pen(&self.head, &self.seen, &Entry::of(sheet, shown, &self.pen));
+        let entry = Entry::of(sheet, shown, &next);
+        let mut offer: Offer<Entry, u64, BookRule, Nothing> = self
+            .seen
+            .plain::<Nothing, Entry, Nothing>(&entry);
+        self.head
+            .compare_exchange::<Add, Nothing>(1, 1, &mut self.seen, &mut offer, &mut self.pen);
+        self.pen = next;
+        self.round += 1;
+    }
+
+    /// Begins to show this sheet.
+    pub fn begin(&mut self, sheet: &Sheet)
+        requires room { length self.old.log < 2 ^ 62 }
+        ensures book { self.new.book ≡ self.old.book }
+        ensures shown { shown_in self.new.log ≡ shown_in self.old.log }
+        ensures begun { begun_after None self.new.log ≡ Some sheet.now }
+        ensures count { length self.new.log ≡ length self.old.log + 1 }
+    {
+        self.add(sheet, false);
+    }
+
+    /// Says that the sheet which was begun last is shown.
+    pub fn confirm(&mut self, sheet: &Sheet)
+        requires room { length self.old.log < 2 ^ 62 }
+        requires begun { begun_after None self.old.log ≡ Some sheet.now }
+        ensures book { self.new.book ≡ self.old.book }
+        ensures shown { shown_in self.new.log ≡ shown_in self.old.log ++ sheet.now ∷ [] }
+        ensures count { length self.new.log ≡ length self.old.log + 1 }
+    {
+        self.add(sheet, true);
+    }
+}

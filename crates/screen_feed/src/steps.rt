@@ -1,0 +1,129 @@
+// What the two ends do with their pair of copies.
+ghost use Rattle.std.specs.Prelude.{◌≡◌, ◌+◌, ◌<◌, ◌^◌, ◌∷◌, ◌++◌, [], length, IfOk, IsSome, IsTrue, None, OnErr, OnOk, Some};
+ghost use Rattle.std.specs.Option.{ForSome};
+ghost use Rattle.left_right.specs.Sides.{view};
+ghost use Rattle.screen_feed.specs.Ends.{HasLookedAt};
+ghost use Rattle.screen_feed.specs.Logs.{begun_after, shown_in};
+ghost use Rattle.screen_feed.specs.Pages.{Follows, sheets_seen, sheets_with};
+ghost use Rattle.screen_feed.specs.Sheets.{AreSheets, Begins, IsLast};
+
+use crate::appender::Appender;
+use crate::book::Log;
+use crate::page::{Look, Page, Pair, Tell};
+use crate::sheet::Sheet;
+use apron_base::Memory;
+use core::mem::replace_with;
+use left_right::reader::Reader;
+use left_right::writer::Writer;
+use std::alloc::Global;
+use std::sync::Wait;
+
+/// The writer's side of a pair of copies.
+pub(crate) type WriterSide = Writer<Page, Page, Option<Page>, Pair>;
+
+/// The screen's side.
+pub(crate) type ScreenSide = Reader<Page, Option<Page>, Pair>;
+
+/// The page of the sheet that was begun last.
+pub(crate) fn page_of(appender: &Appender, sheet: Sheet) -> Page
+    requires begun { begun_after None appender.now.log ≡ Some sheet }
+    requires sheets { AreSheets sheet.shown (shown_in appender.now.log ++ sheet ∷ []) }
+    ensures page { result ≡ record { sheet = sheet; book = appender.now.book; log = appender.now.log } }
+{
+    Page {
+        sheet,
+        round: appender.round(),
+        seen: appender.seen(),
+    }
+}
+
+/// A pair of copies of this page. The screen's side has seen it. The only error is a lack of memory.
+pub(crate) fn pair_of<R: Wait>(
+    rt: &R,
+    alloc: Global,
+    page: Page,
+) -> Result<(WriterSide, ScreenSide), Memory>
+    ensures desk { IfOk result (λ ends. ends.0.desk.shown.value ≡ page) }
+    ensures front { IfOk result (λ ends. view ends.1.place ≡ Some page) }
+{
+    let second = page.again()?;
+    let end = WriterSide::new(alloc, page, second, 1)?;
+    let (mut end, published) = end.publish_as::<Look, R>(rt);
+    let Ok(()) = published else {
+        end.take(rt);
+        return Err(Memory);
+    };
+    let Ok(mut front) = end.factory().reader() else {
+        end.take(rt);
+        return Err(Memory);
+    };
+    front.learn::<Tell>(end.tell::<Tell>());
+    Ok((end, front))
+}
+
+// The writer's side once the page is published.
+fn published<R: Wait>(rt: &R, end: WriterSide, page: Page) -> (WriterSide, Result<(), Memory>)
+    requires follows { Follows end.desk.shown.value page }
+    ensures ok { OnOk result.1 (result.0.desk.shown.value ≡ page) }
+    ensures err { OnErr result.1 (result.0.desk.shown.value ≡ end.desk.shown.value) }
+{
+    let mut end = end;
+    let Ok(()) = end.append(page) else {
+        return (end, Err(Memory));
+    };
+    let (end, published) = end.publish_as::<Look, R>(rt);
+    match published {
+        Ok(()) => (end, Ok(())),
+        Err(_) => (end, Err(Memory)),
+    }
+}
+
+/// Puts the page before the screen. At `Err` there is no memory, and the screen sees what it saw. It may wait for a screen
+/// that is looking.
+pub(crate) fn publish<R: Wait>(rt: &R, end: &mut WriterSide, page: Page) -> Result<(), Memory>
+    requires follows { Follows end.old.desk.shown.value page }
+    ensures ok { OnOk result (end.new.desk.shown.value ≡ page) }
+    ensures err { OnErr result (end.new.desk.shown.value ≡ end.old.desk.shown.value) }
+{
+    replace_with(end, page, |end, page| published(rt, end, page))
+}
+
+// Whether the page is late enough to show all that was told. It always is, since a writer publishes a page before it tells
+// of it. But no clause of `left_right` says so of a reader that has looked before.
+fn covers(page: &Page, told: &Log, round: u64) -> bool
+    requires book { page.now.book ≡ told.now.book }
+    requires round { round ≡ length told.now.log }
+    ensures sheets { AreSheets page.now.sheet.shown (sheets_with page.now) }
+    ensures told { IsTrue result → Begins (sheets_with page.now) (shown_in told.now.log) }
+{
+    let mut both = page.seen.again();
+    both.learn(told);
+    round.saturating_sub(1) <= page.round
+}
+
+/// The sheet that is shown. At `Err` the writer is closed, or the sheet can have no more owners.
+pub(crate) fn look_at(
+    front: ScreenSide,
+    told: &Log,
+    round: u64,
+) -> (ScreenSide, Result<Sheet, Memory>)
+    requires there { IsSome (view front.place) }
+    requires book { ForSome (view front.place) (λ page. page.book ≡ told.now.book) }
+    requires round { round ≡ length told.now.log }
+    ensures seen { HasLookedAt (view front.place) (view result.0.place) }
+    ensures last { IfOk result.1 (IsLast (sheets_seen (view result.0.place))) }
+    ensures told { IfOk result.1 (λ sheet. Begins (sheets_seen (view result.0.place)) (shown_in told.now.log)) }
+{
+    match front.enter_as::<Look>() {
+        Ok(reading) => {
+            let page = reading.get();
+            let answer = if covers(page, told, round) {
+                page.sheet.another()
+            } else {
+                Err(Memory)
+            };
+            (reading.leave(), answer)
+        }
+        Err(front) => (front, Err(Memory)),
+    }
+}

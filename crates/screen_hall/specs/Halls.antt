@@ -1,0 +1,63 @@
+-- A board whose plan is shown on screens, as contracts see it and as a machine.
+use Rattle.std.specs.Prelude.{◌≡◌, ◌≤◌, ◌⊎◌, ◌↔◌, ℕ, Bool, false, List, [], ◌∷◌, ◌++◌, length}
+use Rattle.apron_base.specs.Histories.{Every}
+use Rattle.apron_base.specs.Keeper.{KeeperState}
+use Rattle.apron_base.specs.Machine.{MachineState}
+use Rattle.apron_rules.specs.declared.parts.AirportParts.{AirportParts}
+use Rattle.plan_core.specs.PlanState.{PlanState}
+use Rattle.desk_words.specs.declared.asks.Entry.{Entry}
+use Rattle.history_core.specs.History.{replay}
+use Rattle.watch_list.specs.declared.watch_asks.WatchFixed.{WatchFixed}
+use Rattle.watch_list.specs.WatchBoards.{WatchHeld, watch_state}
+use Rattle.screen_feed.specs.Sheets.{SheetState, last_version, sheet_of}
+use Rattle.screen_feed.specs.Screens.{WriterState, after_show}
+
+-- the chart of a day of the plan that a front of the history makes; the front has as many entries as the sheet's version says
+pub record IsOfFront (airport : AirportParts) (history : List Entry) (day : ℕ) (sheet : SheetState) : Type 0 where
+  pub front : List Entry
+  pub rest : List Entry
+  pub is : history ≡ front ++ rest
+  pub count : length front ≡ sheet.version
+  pub chart : sheet ≡ sheet_of (replay airport front) day
+
+-- a writer for the airport, each of whose sheets is the chart of a front of the history
+pub record IsWriterOf (airport : AirportParts) (history : List Entry) (writer : WriterState) : Type 0 where
+  pub airport_is : writer.shown.airport ≡ airport
+  pub sheets : Every (IsOfFront airport history writer.shown.day) writer.sheets
+
+-- a writer for the airport, which has shown the plan of the history and nothing else
+abbrev pub IsNewWriter : AirportParts → List Entry → WriterState → Type 0
+IsNewWriter airport history writer =
+    (writer.shown.airport ≡ airport) × (writer.sheets ≡ sheet_of (replay airport history) writer.shown.day ∷ [])
+
+-- the last sheet of the writer has this version
+abbrev pub ShowsVersion : ℕ → WriterState → Type 0
+ShowsVersion version writer = last_version writer.sheets ≡ version
+
+-- the writer may be shown the plan
+abbrev pub CanShow : PlanState → WriterState → Type 0
+CanShow plan writer = (writer.shown.airport ≡ plan.airport) × (last_version writer.sheets ≤ plan.version)
+
+-- a writer before and after it was to show a plan: it showed it, or is as it was
+abbrev pub IsShown : PlanState → WriterState → WriterState → Type 0
+IsShown plan before after = (after ≡ after_show before (sheet_of plan before.shown.day)) ⊎ (after ≡ before)
+
+-- a board, its writers, and whether the last act missed to show a writer the plan
+pub record HallHeld (K R : Type 0) : Type 0 where
+  pub board : WatchHeld K R
+  pub writers : List WriterState
+  pub missed : Bool
+
+module _ {K R : Type 0} where
+  -- the plan of the board
+  abbrev pub plan_of : HallHeld K R → PlanState
+  plan_of hall = replay hall.board.board.airport hall.board.board.history
+
+  -- each writer shows fronts of the board's history, and no show was missed exactly if each writer shows the plan's version
+  pub record IsHall (hall : HallHeld K R) : Type 0 where
+    pub writers : Every (IsWriterOf hall.board.board.airport hall.board.board.history) hall.writers
+    pub missed : hall.missed ≡ false ↔ Every (ShowsVersion (plan_of hall).version) hall.writers
+
+  -- as a machine it is its board
+  abbrev pub hall_state : (K → KeeperState) → HallHeld K R → MachineState Entry (WatchFixed R)
+  hall_state tells hall = watch_state tells hall.board

@@ -1,0 +1,142 @@
+// A board whose plan is shown on screens, as a machine.
+ghost use Rattle.std.specs.Prelude.{◌≡◌, ◌≤◌, ◌<◌, false};
+ghost use Rattle.std.specs.List.{AllZip};
+ghost use Rattle.apron_base.specs.Histories.{Every};
+ghost use Rattle.apron_base.specs.Machine.{Acts, ActsAtRisk, is_fault, standing};
+ghost use Rattle.history_core.specs.History.{call_limit, call_of};
+ghost use Rattle.watch_list.specs.WatchBoards.{CanAdd, IsWatchAskOf, WatchAnswers, watch_fixed, watch_state};
+ghost use Rattle.screen_hall.specs.Halls.{IsHall, IsNewWriter, IsShown, plan_of};
+
+use crate::charts::Charts;
+use crate::show::{close_all, show_all};
+use apron_base::{Acted, Keeper, Machine};
+use desk_words::asks::Entry;
+use screen_feed::ScreenWriter;
+use std::alloc::Global;
+use std::marker::Model;
+use std::sync::Wait;
+use watch_list::{NoteTest, Stated, WatchAsk, WatchBoard, WatchFixed};
+
+/// A board with watches, and the writers of screens, on which its plan is shown after each act.
+///
+/// Contracts see the board, what each writer has shown, and whether the last act missed a show. Each sheet of a writer is the
+/// chart of the plan that a front of the board's history makes, with as many entries as the sheet's version says. It is not
+/// `Drop`: end it by `into_board`.
+pub struct Hall<'s, 'w, 'a, W, K: Keeper, R: Stated, T: NoteTest> {
+    rt: &'s W,
+    board: WatchBoard<'w, 'a, K, R, T>,
+    writers: Vec<ScreenWriter>,
+    missed: bool,
+}
+
+impl<'s, 'w, 'a, W, K: Keeper, R: Stated, T: NoteTest> Model for Hall<'s, 'w, 'a, W, K, R, T> {
+    ghost use Rattle.screen_hall.specs.Halls.{HallHeld, IsHall};
+
+    ghost Value = { HallHeld K R };
+
+    ghost view = { λ h. record { board = h.board; writers = h.writers.items; missed = h.missed } };
+
+    ghost invariant = { λ h. IsHall (record { board = h.board; writers = h.writers.items; missed = h.missed }) };
+}
+
+impl<'s, 'w, 'a, W: Wait, K: Keeper, R: Stated, T: NoteTest> Hall<'s, 'w, 'a, W, K, R, T> {
+    /// The board with these writers, which have shown its plan and nothing else. It takes no memory.
+    pub fn new(
+        rt: &'s W,
+        board: WatchBoard<'w, 'a, K, R, T>,
+        writers: Vec<ScreenWriter>,
+    ) -> Hall<'s, 'w, 'a, W, K, R, T>
+        requires writers { Every (IsNewWriter board.board.airport board.board.history) writers.items }
+        ensures board { result.board ≡ board.entry }
+        ensures writers { result.writers ≡ writers.items }
+        ensures missed { result.missed ≡ false }
+    {
+        // It is legal, so that it has as many entries as its plan's version says.
+        let _history = board.board().history();
+        Hall {
+            rt,
+            board,
+            writers,
+            missed: false,
+        }
+    }
+
+    /// Whether a show of the last act wanted memory: exactly where some writer does not show the version of the board's plan.
+    /// False before the first act. It takes no memory.
+    pub fn missed(&self) -> bool
+        ensures value { result ≡ self.now.missed }
+        ensures shows { IsHall self.now }
+    {
+        self.missed
+    }
+
+    /// Ends the writers, and gives the board back. It may wait for screens that are looking, and takes no memory.
+    pub fn into_board(self) -> WatchBoard<'w, 'a, K, R, T>
+        ensures board { result ≡ self.entry.board }
+    {
+        let Hall {
+            rt,
+            board,
+            writers,
+            missed: _,
+        } = self;
+        close_all(rt, writers);
+        board
+    }
+
+    /// What the board answers. Then each writer shows the board's plan, where that has another version. The answer is the same
+    /// whether they do or want memory. It may wait for screens that are looking.
+    pub fn ask(&mut self, alloc: Global, call: u64, ask: &WatchAsk) -> Acted
+        requires valid { IsWatchAskOf (watch_fixed self.old.board) ask.now }
+        requires next { self.old.board.next ≤ call }
+        requires last { call < call_limit }
+        ensures acts { Acts call_of (watch_state K.state self.old.board) (watch_state K.state self.new.board) call result }
+        ensures at_risk { ActsAtRisk (λ entry. (call_of entry ≡ call) × CanAdd ask.now entry) (is_fault result)
+            (standing (watch_state K.state self.old.board)) (standing (watch_state K.state self.new.board)) }
+        ensures answers { WatchAnswers R.tells (watch_fixed self.old.board) self.old.board.board.history call ask.now result self.new.board.board.history }
+        ensures shown { AllZip (IsShown (plan_of self.new)) self.old.writers self.new.writers }
+    {
+        let acted = self.board.act(alloc, call, ask);
+        let board = self.board.board();
+        // It is legal, so that it has as many entries as its plan's version says.
+        let _history = board.history();
+        let mut charts = Charts::of(board.airport(), board.plan());
+        self.missed = show_all(self.rt, alloc, &mut charts, self.writers.as_mut_slice());
+        acted
+    }
+}
+
+impl<'s, 'w, 'a, W: Wait, K: Keeper, R: Stated, T: NoteTest> Machine
+    for Hall<'s, 'w, 'a, W, K, R, T> {
+    ghost use Rattle.history_core.specs.History.{call_of};
+    ghost use Rattle.watch_list.specs.WatchBoards.{CanAdd, IsWatchAskOf, WatchAnswers};
+    ghost use Rattle.screen_hall.specs.Halls.{hall_state};
+
+    type Ask = WatchAsk;
+
+    type Entry = Entry;
+
+    type Fixed = WatchFixed<R>;
+
+    ghost state = { hall_state K.state };
+
+    ghost number = { call_of };
+
+    ghost valid = { IsWatchAskOf };
+
+    ghost adds = { CanAdd };
+
+    ghost answers = { WatchAnswers R.tells };
+
+    fn next_call(&self) -> u64 {
+        self.board.next_call()
+    }
+
+    fn length(&self) -> u64 {
+        self.board.length()
+    }
+
+    fn act(&mut self, alloc: Global, call: u64, ask: &WatchAsk) -> Acted {
+        self.ask(alloc, call, ask)
+    }
+}

@@ -1,0 +1,40 @@
+// One plan on several writers.
+ghost use Rattle.std.specs.Prelude.{◌≡◌, ◌↔◌, false};
+ghost use Rattle.std.specs.List.{AllZip};
+ghost use Rattle.apron_base.specs.Histories.{Every};
+ghost use Rattle.screen_hall.specs.Halls.{CanShow, IsShown, ShowsVersion};
+
+use crate::charts::Charts;
+use screen_feed::ScreenWriter;
+use std::alloc::Global;
+use std::sync::Wait;
+
+/// Shows a plan on each of these. It gives whether a show wanted memory: exactly where some writer does not show the plan's
+/// version. Writers of one day that follow each other share a chart. It may wait for screens that are looking.
+pub(crate) fn show_all<W: Wait>(
+    rt: &W,
+    alloc: Global,
+    charts: &mut Charts<'_>,
+    writers: &mut [ScreenWriter],
+) -> bool
+    requires writers { Every (CanShow charts.old) writers.old }
+    ensures shown { AllZip (IsShown charts.old) writers.old writers.new }
+    ensures missed { result ≡ false ↔ Every (ShowsVersion charts.old.version) writers.new }
+{
+    if writers.is_empty() {
+        return false;
+    }
+    let (first, rest) = writers.split_at_mut(1);
+    let missed = charts.show_on(rt, alloc, &mut first[0]).is_err();
+    let others = show_all(rt, alloc, charts, rest);
+    missed || others
+}
+
+/// Ends each of these. It may wait for screens that are looking, and takes no memory.
+pub(crate) fn close_all<W: Wait>(rt: &W, writers: Vec<ScreenWriter>) {
+    let mut writers = writers;
+    while let Some(writer) = writers.pop() {
+        writer.close(rt);
+    }
+    writers.destroy_empty();
+}

@@ -1,0 +1,11 @@
+pub mod Named
+pub mod EntryNotes
+pub mod FeedNumbers
+pub mod Grown
+pub mod Quiet
+pub mod HistoryNotes
+pub mod LaterNotes
+pub mod Repeated
+pub mod OrderedNotes
+pub mod Feeds
+pub mod Crosses

@@ -1,0 +1,21 @@
+//! Watches: which of the parts that lost their stands a reader is shown. It knows nothing of requests.
+#![tactic(auto)]
+
+mod entry_notes;
+mod fed;
+mod feed_words;
+mod later;
+mod note;
+mod noted_board;
+mod watch;
+mod watch_asks;
+mod watch_board;
+mod watches;
+
+pub use fed::feed;
+pub use note::{Note, Shown, Stated};
+pub use noted_board::notes_of;
+pub use watch::{NoteTest, TestBy, Watch, Watched};
+pub use watch_asks::{WatchAsk, WatchFixed};
+pub use watch_board::WatchBoard;
+pub use watches::{MAX_WATCHES, WatchFault, Watches, limit_of_watches_is_as_defined};

@@ -1,0 +1,181 @@
+// A board with the notes of its history.
+ghost use Rattle.std.specs.Prelude.{◌≡◌, ◌≤◌, ◌<◌, ◌+◌, ◌++◌, ◌&&◌, [], IfOk, OnOk, if◌then◌else◌};
+ghost use Rattle.apron_base.specs.Counts.{Counts};
+ghost use Rattle.apron_base.specs.Keeper.{with_last};
+ghost use Rattle.apron_base.specs.Machine.{is_fault, standing};
+ghost use Rattle.plan_core.specs.PlanState.{IsPlan};
+ghost use Rattle.history_core.specs.Answer.{ActsAs};
+ghost use Rattle.history_core.specs.AtRisk.{LeavesAtRisk};
+ghost use Rattle.history_core.specs.Board.{machine_state};
+ghost use Rattle.history_core.specs.History.{IsAskOf, IsLegal, call_limit};
+ghost use Rattle.watch_list.specs.HistoryNotes.{HasNoteRoom, may_bump, notes_of};
+ghost use Rattle.watch_list.specs.Notes.{notes_by};
+
+use crate::entry_notes::push_notes;
+use crate::note::Note;
+use apron_base::{Acted, Keeper, Memory, SteadyKeeper};
+use apron_rules::Airport;
+use desk_words::asks::{Ask, Command, Entry, What};
+use history_core::Board;
+use plan_core::Plan;
+use std::alloc::Global;
+use std::marker::Model;
+
+// The most notes of a visit by one entry: one of each part.
+const MOST_NOTES: usize = 3;
+
+/// A board with the notes of its history. Contracts see it as the board.
+#[derive(Drop)]
+pub(crate) struct NotedBoard<'a, K: Keeper> {
+    board: Board<'a, K>,
+    notes: Vec<Note>,
+}
+
+impl<'a, K: Keeper> Model for NotedBoard<'a, K> {
+    ghost use Rattle.std.specs.Prelude.{◌≡◌};
+    ghost use Rattle.history_core.specs.Board.{BoardHeld};
+    ghost use Rattle.watch_list.specs.HistoryNotes.{notes_of};
+
+    ghost Value = { BoardHeld K };
+
+    ghost view = { λ n. n.board };
+
+    ghost invariant = { λ n. n.notes.items ≡ notes_of n.board.airport n.board.history };
+}
+
+impl<'a, K: Keeper> NotedBoard<'a, K> {
+    /// The board with the notes of its history.
+    pub(crate) fn of(board: Board<'a, K>, notes: Vec<Note>) -> NotedBoard<'a, K>
+        requires notes { notes.items ≡ notes_of board.airport board.history }
+        ensures board { result ≡ board.entry }
+    {
+        NotedBoard { board, notes }
+    }
+
+    /// The board.
+    pub(crate) fn board(&self) -> &Board<'a, K>
+        ensures value { result.now ≡ self.now }
+    {
+        &self.board
+    }
+
+    /// The notes of the board's history.
+    pub(crate) fn notes(&self) -> &[Note]
+        ensures notes { result.now ≡ notes_of self.now.airport self.now.history }
+    {
+        self.notes.as_slice()
+    }
+
+    /// The board without its notes.
+    pub(crate) fn into_board(self) -> Board<'a, K>
+        ensures value { result ≡ self.entry }
+    {
+        self.board
+    }
+
+    /// Asks the board. All memory for the notes is taken before, so that an ask that finds none adds nothing.
+    pub(crate) fn ask(&mut self, alloc: Global, call: u64, ask: &Ask) -> Acted
+        requires valid { IsAskOf self.old.airport ask.now }
+        requires next { self.old.next ≤ call }
+        requires last { call < call_limit }
+        ensures acts { ActsAs self.old.airport self.old.history call ask.now result self.new.history }
+        ensures airport { self.new.airport ≡ self.old.airport }
+        ensures next { self.new.next ≤ call + 1 }
+        ensures found { IsLegal self.old.airport self.old.history }
+        ensures legal { IsLegal self.new.airport self.new.history }
+        ensures faults { Counts (is_fault result) (K.state self.old.keeper).faults (K.state self.new.keeper).faults }
+        ensures at_risk { LeavesAtRisk (standing (machine_state K.state self.old)) call ask.now.what (is_fault result) (standing (machine_state K.state self.new)) }
+    {
+        let entries = self.board.history().len();
+        if make_room(&mut self.notes, self.board.plan(), &ask.what).is_err() {
+            return Acted::Memory;
+        }
+        let acted = self.board.ask(alloc, call, ask);
+        let grown = self.board.history().len() > entries;
+        add_notes(&mut self.notes, self.board.plan(), &ask.what, grown);
+        acted
+    }
+}
+
+impl<'a> NotedBoard<'a, SteadyKeeper> {
+    // A board with no entry.
+    fn empty(alloc: Global, airport: &'a Airport) -> Result<NotedBoard<'a, SteadyKeeper>, Memory>
+        ensures airport { IfOk result (λ board. board.airport ≡ airport.entry.now) }
+        ensures none { IfOk result (λ board. board.history ≡ []) }
+        ensures next { IfOk result (λ board. board.next ≡ 1) }
+    {
+        let keeper = SteadyKeeper::new(alloc, Vec::new(alloc));
+        match Board::open(alloc, airport, keeper, Vec::new(alloc)) {
+            Ok(board) => Ok(NotedBoard::of(board, Vec::new(alloc))),
+            // There is no entry that could not stand.
+            Err(_) => Err(Memory),
+        }
+    }
+
+    // Takes the next entry of a legal history.
+    fn repeat(&mut self, alloc: Global, entry: &Entry) -> Result<(), Memory>
+        requires legal { IsLegal self.old.airport (with_last entry.now self.old.history) }
+        requires next { self.old.next ≤ entry.now.call }
+        ensures airport { self.new.airport ≡ self.old.airport }
+        ensures next { self.new.next ≤ entry.now.call + 1 }
+        ensures last { OnOk result (self.new.history ≡ with_last entry.now self.old.history) }
+    {
+        let ask = Ask {
+            seen: 0,
+            what: What::Change(entry.command.copy(alloc)?),
+        };
+        match self.ask(alloc, entry.call, &ask) {
+            Acted::Reply(_) => Ok(()),
+            Acted::Memory => Err(Memory),
+            // The keeper never fails, and no board wants numbers.
+            Acted::Fault | Acted::Spent => unreachable!(),
+        }
+    }
+}
+
+// Takes the memory for the notes of what is asked, if it can have some.
+fn make_room(notes: &mut Vec<Note>, plan: &Plan, what: &What) -> Result<(), Memory>
+    ensures items { notes.new.items ≡ notes.old.items }
+    ensures room { OnOk result (HasNoteRoom notes.new plan.now.plan what.now) }
+    ensures plan { IsPlan plan.now.plan }
+{
+    let visits = plan.visits().len();
+    if may_bump(what) {
+        let most = visits.checked_mul(MOST_NOTES).ok_or(Memory)?;
+        notes.reserve(most)?;
+    }
+    Ok(())
+}
+
+// Puts the notes of the plan's last entry last, if what was asked made it and can have some.
+fn add_notes(notes: &mut Vec<Note>, plan: &Plan, what: &What, grown: bool)
+    requires room { HasNoteRoom notes.old plan.now.plan what.now }
+    ensures notes { notes.new.items ≡ notes.old.items
+        ++ (if may_bump what.now && grown then notes_by plan.now.plan.version plan.now.plan.visits else []) }
+{
+    if may_bump(what) && grown {
+        push_notes(notes, plan.version(), plan.visits());
+    }
+}
+
+fn may_bump(what: &What) -> bool
+    ensures is { result ≡ may_bump what.now }
+{
+    matches!(
+        what,
+        What::Change(Command::Message { .. } | Command::Report { .. })
+    )
+}
+
+/// The notes of a legal history of the airport, in order. It replays the history. The only error is a lack of memory.
+pub fn notes_of(alloc: Global, airport: &Airport, history: &[Entry]) -> Result<Vec<Note>, Memory>
+    requires legal { IsLegal airport.now history.now }
+    ensures notes { IfOk result (λ notes. notes.items ≡ notes_of airport.now history.now) }
+{
+    let mut board = NotedBoard::empty(alloc, airport)?;
+    for entry in history {
+        board.repeat(alloc, entry)?;
+    }
+    let NotedBoard { board: _, notes } = board;
+    Ok(notes)
+}
