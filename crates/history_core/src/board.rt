@@ -266,6 +266,7 @@ impl<'a> Opening<'a> {
         requires number { (K.state keeper).number ≡ length (entry_texts self.history) }
         requires at_risk { (K.state keeper).at_risk ≡ None }
         ensures opened { Opens self.entry.airport keeper (entry_texts self.entry.history) result }
+        ensures history { result.history ≡ self.entry.history }
     {
         Board {
             airport: self.airport,
