@@ -1,5 +1,5 @@
 -- Which failures of an accept are tried again, and how a row of them ends.
-use Rattle.std.specs.Prelude.{◌≡◌, ◌==◌, ◌||◌, if◌then◌else◌, ℕ, ℤ, pos, negsuc, Bool, true, false, List, [], ◌∷◌, Option, Some, None, Result, IsOk, IsErrAnd, MatchResult}
+use Rattle.std.specs.Prelude.{◌≡◌, ◌==◌, ◌||◌, ◌++◌, if◌then◌else◌, ℕ, ℤ, pos, negsuc, Bool, true, false, List, [], ◌∷◌, Option, Some, None, IfSome, Result, IsOk, IsErrAnd, MatchResult, is_none}
 use Rattle.std.specs.declared.io.ErrorKind.{ErrorKind}
 use Rattle.std.specs.declared.io.ErrorKind.TheVariants.{Interrupted}
 use Rattle.std.specs.declared.io.Error.{Error}
@@ -44,3 +44,24 @@ Gives (cause ∷ causes) after result = IsErrAnd result (λ failure. failure ≡
 -- with these failures to come it ends at the first lasting one, or with a connection if there is none
 abbrev pub EndsAt : {Ends : Type 0} → List Error → Result Ends Error → Type 0
 EndsAt causes result = MatchResult result (λ _. first_lasting causes ≡ None) (λ cause. first_lasting causes ≡ Some cause)
+
+-- what is told: that it waits, for which cause, and that a connection was taken again
+pub data Notice : Type 0 where
+  Waits : Error → Notice
+  TakenAgain : Notice
+
+-- this was told after all that was told before, if that is exposed
+abbrev pub IsTold : Option (List Notice) → Option (List Notice) → List Notice → Type 0
+IsTold before after notices = IfSome before (λ said. after ≡ Some (said ++ notices))
+
+-- what is told at the end of a row of which these failures are left
+abbrev pub end_of_row : List Error → List Notice
+end_of_row causes = if is_none (first_lasting causes) then TakenAgain ∷ [] else []
+
+-- what is told of these failures: the first that passes, and the end of its row if a connection is taken then
+abbrev pub notices : List Error → List Notice
+notices [] = []
+notices (cause ∷ causes) =
+    if is_signal (error_kind cause) then notices causes
+    else if is_passing (raw_os_error cause) then Waits cause ∷ end_of_row causes
+    else []

@@ -1,7 +1,7 @@
 // How a connection is taken, also after a time at which none could be.
 ghost use Rattle.std.specs.Prelude.{◌≡◌, IfErr, IfSome, false};
 ghost use Rattle.std.specs.IoError.{error_kind, raw_os_error};
-ghost use Rattle.tcp_desks.specs.Taking.{EndsAt, is_cut, is_passing, is_signal, is_tried_again, is_want};
+ghost use Rattle.tcp_desks.specs.Taking.{EndsAt, IsTold, is_cut, is_passing, is_signal, is_tried_again, is_want, notices};
 
 use std::io;
 use std::io::ErrorKind;
@@ -28,11 +28,19 @@ pub trait Doorway {
 
 /// Who is told that no connection could be taken for a time.
 pub trait Told {
+    ghost use Rattle.std.specs.Prelude.{List, Option, [], ◌∷◌};
+    ghost use Rattle.tcp_desks.specs.Taking.{IsTold, Notice, TakenAgain, Waits};
+
+    /// What it was told, if it exposes that.
+    ghost told: { Self → Option (List Notice) };
+
     /// None could be taken, for this cause, and it is tried again until it succeeds.
-    fn waiting(&mut self, cause: &io::Error);
+    fn waiting(&mut self, cause: &io::Error)
+        ensures told { IsTold (told self.old) (told self.new) (Waits cause.now ∷ []) };
 
     /// One was taken again.
-    fn taken_again(&mut self);
+    fn taken_again(&mut self)
+        ensures told { IsTold (told self.old) (told self.new) (TakenAgain ∷ []) };
 }
 
 /// Nobody is told.
@@ -40,6 +48,10 @@ pub trait Told {
 pub(crate) struct Nobody;
 
 impl Told for Nobody {
+    ghost use Rattle.std.specs.Prelude.{None};
+
+    ghost told = { λ _. None };
+
     fn waiting(&mut self, _cause: &io::Error) {}
 
     fn taken_again(&mut self) {}
@@ -55,6 +67,7 @@ pub fn taken<R: Wait, D: Doorway, T: Told>(
 ) -> io::Result<D::Ends>
     ensures lasting { IfErr result (λ cause. is_tried_again cause ≡ false) }
     ensures ends { IfSome (D.failures doorway.old) (λ causes. EndsAt causes result) }
+    ensures tells { IfSome (D.failures doorway.old) (λ causes. IsTold (T.told told.old) (T.told told.new) (notices causes)) }
 {
     let mut is_told = false;
     for _ in rt.forever() {
