@@ -28,6 +28,10 @@ struct Notices<'a, R> {
 
 // If standard error fails too, there is no other place to say it.
 impl<'a, R: Eprint> Told for Notices<'a, R> {
+    ghost use Rattle.std.specs.Prelude.{None};
+
+    ghost told = { λ _. None };
+
     fn waiting(&mut self, cause: &io::Error) {
         let address = self.address;
         let _ = eprintln!(self.rt; "apron: {address}: {cause}; accepting is tried again");

@@ -149,7 +149,11 @@ impl Listener for TcpDesks {
 }
 
 impl Doorway for TcpListener {
+    ghost use Rattle.std.specs.Prelude.{None};
+
     type Ends = (Reading<TcpStream>, Writing<TcpStream>);
+
+    ghost failures = { λ _. None };
 
     // If the system has no descriptor for the second end, the connection is cut.
     fn take(&mut self) -> io::Result<Self::Ends> {

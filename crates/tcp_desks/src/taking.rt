@@ -1,7 +1,7 @@
 // How a connection is taken, also after a time at which none could be.
-ghost use Rattle.std.specs.Prelude.{◌≡◌, IfErr, false};
-ghost use Rattle.std.specs.IoError.{raw_os_error};
-ghost use Rattle.tcp_desks.specs.Taking.{is_cut, is_passing, is_want};
+ghost use Rattle.std.specs.Prelude.{◌≡◌, IfErr, IfSome, false};
+ghost use Rattle.std.specs.IoError.{error_kind, raw_os_error};
+ghost use Rattle.tcp_desks.specs.Taking.{EndsAt, IsTold, is_cut, is_passing, is_signal, is_tried_again, is_want, notices};
 
 use std::io;
 use std::io::ErrorKind;
@@ -11,20 +11,36 @@ use std::time::Duration;
 
 /// Where connections are taken: at the system's listener, or at one that a test makes.
 pub trait Doorway {
+    ghost use Rattle.std.specs.Prelude.{IfSome, List, Option};
+    ghost use Rattle.std.specs.declared.io.Error.{Error};
+    ghost use Rattle.tcp_desks.specs.Taking.{Gives};
+
     /// The two ends of a connection.
     type Ends;
 
+    /// The failures to come before the next connection, if it exposes them.
+    ghost failures: { Self → Option (List Error) };
+
     /// Takes the next connection. If there is none it waits. `Err` says why none could be taken.
-    fn take(&mut self) -> io::Result<Self::Ends>;
+    fn take(&mut self) -> io::Result<Self::Ends>
+        ensures gives { IfSome (failures self.old) (λ causes. Gives causes (failures self.new) result) };
 }
 
 /// Who is told that no connection could be taken for a time.
 pub trait Told {
+    ghost use Rattle.std.specs.Prelude.{List, Option, [], ◌∷◌};
+    ghost use Rattle.tcp_desks.specs.Taking.{IsTold, Notice, TakenAgain, Waits};
+
+    /// What it was told, if it exposes that.
+    ghost told: { Self → Option (List Notice) };
+
     /// None could be taken, for this cause, and it is tried again until it succeeds.
-    fn waiting(&mut self, cause: &io::Error);
+    fn waiting(&mut self, cause: &io::Error)
+        ensures told { IsTold (told self.old) (told self.new) (Waits cause.now ∷ []) };
 
     /// One was taken again.
-    fn taken_again(&mut self);
+    fn taken_again(&mut self)
+        ensures told { IsTold (told self.old) (told self.new) (TakenAgain ∷ []) };
 }
 
 /// Nobody is told.
@@ -32,6 +48,10 @@ pub trait Told {
 pub(crate) struct Nobody;
 
 impl Told for Nobody {
+    ghost use Rattle.std.specs.Prelude.{None};
+
+    ghost told = { λ _. None };
+
     fn waiting(&mut self, _cause: &io::Error) {}
 
     fn taken_again(&mut self) {}
@@ -45,7 +65,9 @@ pub fn taken<R: Wait, D: Doorway, T: Told>(
     doorway: &mut D,
     told: &mut T,
 ) -> io::Result<D::Ends>
-    ensures lasting { IfErr result (λ cause. is_passing (raw_os_error cause) ≡ false) }
+    ensures lasting { IfErr result (λ cause. is_tried_again cause ≡ false) }
+    ensures ends { IfSome (D.failures doorway.old) (λ causes. EndsAt causes result) }
+    ensures tells { IfSome (D.failures doorway.old) (λ causes. IsTold (T.told told.old) (T.told told.new) (notices causes)) }
 {
     let mut is_told = false;
     for _ in rt.forever() {
@@ -57,7 +79,7 @@ pub fn taken<R: Wait, D: Doorway, T: Told>(
                 return Ok(ends);
             }
             // A signal came meanwhile, which is no failure.
-            Err(cause) if cause.kind() == ErrorKind::Interrupted => {}
+            Err(cause) if is_signal(cause.kind()) => {}
             Err(cause) if passes(&cause) => {
                 if !is_told {
                     told.waiting(&cause);
@@ -71,7 +93,14 @@ pub fn taken<R: Wait, D: Doorway, T: Told>(
     unreachable!()
 }
 
-// Whether it is worth trying again after this cause.
+// Whether a signal came meanwhile.
+fn is_signal(kind: ErrorKind) -> bool
+    ensures { result ≡ is_signal kind }
+{
+    matches!(kind, ErrorKind::Interrupted)
+}
+
+// Whether a failure with this cause passes.
 fn passes(cause: &io::Error) -> bool
     ensures { result ≡ is_passing (raw_os_error cause.now) }
 {

@@ -3,6 +3,11 @@ use std::io;
 use std::sync::Wait;
 use tcp_desks::{Doorway, Told, taken};
 
+// The failure with this number of the system.
+fn failure(number: i32) -> io::Error {
+    io::Error::from_raw_os_error(number)
+}
+
 const EINTR: i32 = 4;
 
 const EBADF: i32 = 9;
@@ -21,22 +26,25 @@ const ENOBUFS: i32 = 105;
 
 const EHOSTUNREACH: i32 = 113;
 
-// A doorway at which these numbers of the system are the causes of the first failures. Then there
-// is a connection.
+// A doorway with these failures to come. Then there is a connection.
 #[derive(Drop)]
 struct LateDoorway<'a> {
-    causes: &'a [i32],
+    causes: &'a [io::Error],
 }
 
 impl<'a> Doorway for LateDoorway<'a> {
+    ghost use Rattle.std.specs.Prelude.{Some};
+
     type Ends = ();
+
+    ghost failures = { λ d. Some d.causes.now };
 
     fn take(&mut self) -> io::Result<()> {
         let Some((first, rest)) = self.causes.split_first() else {
             return Ok(());
         };
         self.causes = rest;
-        Err(io::Error::from_raw_os_error(*first))
+        Err(*first)
     }
 }
 
@@ -49,6 +57,10 @@ struct Heard {
 }
 
 impl Told for Heard {
+    ghost use Rattle.std.specs.Prelude.{None};
+
+    ghost told = { λ _. None };
+
     fn waiting(&mut self, cause: &io::Error) {
         self.last = cause.raw_os_error();
         self.waited = self.waited.saturating_add(1);
@@ -60,7 +72,7 @@ impl Told for Heard {
 }
 
 // The number of the cause for which none was taken after these failures, and what was told.
-fn after<R: Wait>(rt: &R, causes: &[i32]) -> (Option<i32>, Heard) {
+fn after<R: Wait>(rt: &R, causes: &[io::Error]) -> (Option<i32>, Heard) {
     let mut heard = Heard {
         last: None,
         waited: 0,
@@ -75,9 +87,9 @@ fn after<R: Wait>(rt: &R, causes: &[i32]) -> (Option<i32>, Heard) {
 
 // Whether a connection is taken after these failures, with one line for the first of them and one
 // for the end.
-fn is_taken_again<R: Wait>(rt: &R, causes: &[i32]) -> bool {
+fn is_taken_again<R: Wait>(rt: &R, causes: &[io::Error]) -> bool {
     let (failed, heard) = after(rt, causes);
-    let first = causes.first().copied();
+    let first = causes.first().and_then(io::Error::raw_os_error);
     failed.is_none() && heard.last == first && heard.waited == 1 && heard.taken_again == 1
 }
 
@@ -85,17 +97,18 @@ fn is_taken_again<R: Wait>(rt: &R, causes: &[i32]) -> bool {
 fn an_accept_that_fails_once_is_tried_again(rt: HostRuntime) {
     let causes = [EMFILE, ENFILE, ENOBUFS, ENOMEM, ECONNABORTED, EHOSTUNREACH];
     for cause in causes {
-        assert!(rt; is_taken_again(&rt, &[cause]));
+        assert!(rt; is_taken_again(&rt, &[failure(cause)]));
     }
 }
 
 #[test]
 fn of_a_row_of_failures_the_first_and_the_end_are_told(rt: HostRuntime) {
-    assert!(rt; is_taken_again(&rt, &[EMFILE, EMFILE, ENFILE, EINTR, ECONNABORTED]));
+    let row = [EMFILE, EMFILE, ENFILE, EINTR, ECONNABORTED].map(failure);
+    assert!(rt; is_taken_again(&rt, &row));
 }
 
 // Whether nothing is told of these failures, of which the last has this number, if it ends the worker.
-fn is_silent<R: Wait>(rt: &R, causes: &[i32], last: Option<i32>) -> bool {
+fn is_silent<R: Wait>(rt: &R, causes: &[io::Error], last: Option<i32>) -> bool {
     let (failed, heard) = after(rt, causes);
     failed == last && heard.waited == 0 && heard.taken_again == 0
 }
@@ -103,14 +116,14 @@ fn is_silent<R: Wait>(rt: &R, causes: &[i32], last: Option<i32>) -> bool {
 #[test]
 fn without_a_failure_and_at_a_signal_nothing_is_told(rt: HostRuntime) {
     assert!(rt; is_silent(&rt, &[], None));
-    assert!(rt; is_silent(&rt, &[EINTR, EINTR], None));
+    assert!(rt; is_silent(&rt, &[failure(EINTR), failure(EINTR)], None));
 }
 
 #[test]
 fn another_cause_is_not_tried_again(rt: HostRuntime) {
     for cause in [EBADF, EINVAL] {
-        assert!(rt; is_silent(&rt, &[cause], Some(cause)));
-        let (failed, heard) = after(&rt, &[EMFILE, cause]);
+        assert!(rt; is_silent(&rt, &[failure(cause)], Some(cause)));
+        let (failed, heard) = after(&rt, &[failure(EMFILE), failure(cause)]);
         assert!(rt; failed == Some(cause) && heard.waited == 1 && heard.taken_again == 0);
     }
 }
