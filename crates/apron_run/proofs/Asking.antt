@@ -304,7 +304,7 @@ module _ (airport : AirportParts) where
   stops_same number at new after Memory visits there (same, faults, risk) = (same, tt)
   stops_same number at new after imported visits there stops = absurd stops
 
-  -- what holds of all holds of those in front, and of the one behind them
+  -- what holds of all holds of those in front, and of the one after them
   in_front : (P : NewVisit → Type 0) (front : List NewVisit) (new : NewVisit) (back : List NewVisit) → Every P (front ++ new ∷ back) → Every P front × P new
   in_front P [] new back all = (tt, all.0)
   in_front P (first ∷ front) new back all = let (more, last) = in_front P front new back all.1 in ((all.0, more), last)

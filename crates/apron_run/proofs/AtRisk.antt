@@ -1,5 +1,5 @@
--- The entry at risk after a run of requests: that of one which was told that its entry could not be kept.
-use Rattle.std.proofs.Common.{◌≡◌, ◌∙◌, ◌⊎◌, ◌+◌, ℕ, suc, List, [], ◌∷◌, length, length-append, refl, sym, ap, subst, arith, inl, inr, Option, None, Some, Result, Ok, Err}
+-- The entry at risk after a run of requests: that of one whose reply says that its entry could not be kept.
+use Rattle.std.proofs.Common.{◌≡◌, ◌∙◌, ◌⊎◌, ◌+◌, ℕ, suc, Bool, List, [], ◌∷◌, length, length-append, refl, sym, ap, subst, arith, inl, inr, Option, None, Some, Result, Ok, Err}
 use Rattle.std.specs.Prelude.{IfSome, cond, count_by}
 use Rattle.std.proofs.lemmas.List.Sums.{sum_by-cons}
 use Rattle.apron_base.specs.Histories.{Rises}
@@ -17,14 +17,16 @@ use Rattle.desk_http.specs.Answers.{Sent, SendsFor, at_once, fed, given}
 use Rattle.desk_http.specs.Ports.{PortState}
 use Rattle.desk_http.specs.Routes.{routed}
 use Rattle.desk_http.specs.Runs.{Runs}
+use Rattle.desk_turns.specs.Watched.{FeedTexts}
 use Rattle.apron_run.specs.Desk.{begun}
-use Rattle.apron_run.specs.Headline.{Exchange, IsUnkept, Sends, is_given}
+use Rattle.apron_run.specs.Headline.{Exchange, IsUnkept, Sends, is_given, takes_number}
+use Rattle.apron_run.proofs.Feeding.{AsPlain, as_plain}
 
 -- the number of the next call of a port whose calls have no gap
 abbrev next_of : PortState → ℕ
 next_of port = port.first + length port.calls
 
--- what is asked could not be kept, and was told so: this is its entry, which no entry came behind
+-- what is asked could not be kept, and its reply says so: this is its entry, after which no entry came
 record IsToldOf (before : PortState) (asked : Result Ask Early) (sent : Sent) (mid : PortState) (entry : Entry) : Type 0 where
   pub sent_is : sent ≡ given keeper_fault
   pub ask : Ask
@@ -81,7 +83,22 @@ module _ (airport : AirportParts) where
   after_one before mid (Ok ask) (fed answer) h = absurd h
   after_one before mid (Ok ask) (given answer) asked = record { number = number_one before mid ask answer asked; risk = risk_one before mid ask answer asked }
 
-  module _ (rest : List ℕ) where
+  -- the same of what is sent for a request, which is like this
+  after_like : (before mid : PortState) (request : Request) (sent : Sent) → (plain : AsPlain airport (takes_number airport request) (routed airport request) before sent mid)
+      → AfterOne before plain.asked plain.like mid → AfterOne before (routed airport request) sent mid
+  after_like before mid request sent plain one = record {
+    number = one.number ∙ ap (λ (b : Bool). next_of before + cond {A = ℕ} b 1 0) plain.gives;
+    risk = stands one.risk;
+  }
+    where
+      stands : Stands before mid (IsToldOf before plain.asked plain.like mid) → Stands before mid (IsToldOf before (routed airport request) sent mid)
+      stands (inl none) = inl none
+      stands (inr (inl same)) = inr (inl same)
+      stands (inr (inr (entry, is, told))) =
+          let (faults, same) = plain.fault told.sent_is in
+          inr (inr (entry, is, record { sent_is = faults; ask = told.ask; asks = same ∙ told.asks; of = told.of; since = told.since }))
+
+  module _ (rest : List ℕ) (feeds : FeedTexts) where
     abbrev exchange : List Request → List Sent → Exchange
     exchange requests sents = record { requests = requests; sents = sents; rest = rest }
 
@@ -139,10 +156,12 @@ module _ (airport : AirportParts) where
           },
         ))
 
-    after_run : (before after : PortState) (requests : List Request) (sents : List Sent) → Runs (Sends airport) before requests sents after → AfterRun before requests sents after
+    after_run : (before after : PortState) (requests : List Request) (sents : List Sent) → Runs (Sends feeds airport) before requests sents after → AfterRun before requests sents after
     after_run before after [] [] same = inr (inl (ap (λ (port : PortState). port.at_risk) (sym same), ap (λ (port : PortState). port.seen) (sym same)))
     after_run before after (request ∷ requests) (sent ∷ sents) (mid, one, rest) =
-        join before mid after request sent requests sents (after_one before mid (routed airport request) sent one) (after_run mid after requests sents rest)
+        let plain = as_plain feeds airport before request sent mid one in
+        join before mid after request sent requests sents (after_like before mid request sent plain (after_one before mid plain.asked plain.like plain.sends_like))
+        (after_run mid after requests sents rest)
     after_run before after [] (sent ∷ sents) h = absurd h
     after_run before after (request ∷ requests) [] h = absurd h
 
@@ -159,7 +178,7 @@ module _ (airport : AirportParts) where
       (subst (λ (first : ℕ). IsUnkept airport first exchange new.seen entry) zero unkept)
 
   -- the entry at risk after a session that began with none
-  pub unkept_at_risk : (opened : List Entry) (faults : ℕ) (exchange : Exchange) (new : PortState) → Runs (Sends airport) (begun opened faults) exchange.requests exchange.sents new
+  pub unkept_at_risk : (feeds : FeedTexts) (opened : List Entry) (faults : ℕ) (exchange : Exchange) (new : PortState) → Runs (Sends feeds airport) (begun opened faults) exchange.requests exchange.sents new
       → IfSome new.at_risk (IsUnkept airport (next_after opened) exchange new.seen)
-  unkept_at_risk opened faults exchange new runs =
-      at_end opened faults exchange new (after_run exchange.rest (begun opened faults) new exchange.requests exchange.sents runs)
+  unkept_at_risk feeds opened faults exchange new runs =
+      at_end opened faults exchange new (after_run exchange.rest feeds (begun opened faults) new exchange.requests exchange.sents runs)

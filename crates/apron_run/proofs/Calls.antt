@@ -1,5 +1,5 @@
 -- What a run of requests leaves of a desk alone.
-use Rattle.std.proofs.Common.{◌≡◌, ◌∙◌, ◌≤◌, ◌+◌, ℕ, suc, List, [], ◌∷◌, ◌++◌, length, append-nil, refl, sym, ap, subst, arith, Result, Ok, Err}
+use Rattle.std.proofs.Common.{◌≡◌, ◌∙◌, ◌≤◌, ◌+◌, ℕ, suc, Bool, List, [], ◌∷◌, ◌++◌, length, append-nil, sym, ap, subst, arith, Result, Ok, Err}
 use Rattle.std.specs.Prelude.{cond, count_by}
 use Rattle.std.proofs.lemmas.List.{append_assoc}
 use Rattle.std.proofs.lemmas.List.Sums.{sum_by-cons}
@@ -14,10 +14,11 @@ use Rattle.history_core.specs.History.{IsLegal, replay}
 use Rattle.desk_http.specs.Alone.{AloneAsks, numbers_from}
 use Rattle.desk_http.specs.Answers.{Sent, SendsFor, at_once, fed, given}
 use Rattle.desk_http.specs.Ports.{CountsGiven, PortState}
-use Rattle.desk_http.specs.Routes.{routed}
 use Rattle.desk_http.specs.Runs.{Runs}
+use Rattle.desk_turns.specs.Watched.{FeedTexts}
 use Rattle.desk_http.proofs.OneDesk.{length-numbers_from, numbers_from-push}
 use Rattle.apron_run.specs.Headline.{GoesOnFrom, Sends, is_given}
+use Rattle.apron_run.proofs.Feeding.{as_plain}
 
 -- no entry came
 none_came : (opened history : List Entry) → history ≡ opened → GoesOnFrom opened history
@@ -42,7 +43,7 @@ more_came : (opened mid history : List Entry) → GoesOnFrom opened mid → Goes
 more_came opened mid history (first, one) (more, rest) = (first ++ more, rest ∙ (ap (λ m. m ++ more) one ∙ append_assoc opened first more))
 
 module _ (airport : AirportParts) where
-  -- a port after so many more calls: its first number and what it has seen, and the numbers of its calls without a gap
+  -- a port after this many more calls: its first number and what it has seen, and the numbers of its calls without a gap
   pub record Leaves (before after : PortState) (count : ℕ) : Type 0 where
     pub first : after.first ≡ before.first
     pub begins : GoesOnFrom before.seen after.seen
@@ -60,8 +61,8 @@ module _ (airport : AirportParts) where
     calls = λ made are. let none : made + 0 ≡ made = omega arith in ap (λ (port : PortState). port.calls) same ∙ (are ∙ ap (numbers_from before.first) (sym none));
   }
 
-  -- one answer
-  pub sent_leaves : (before after : PortState) (asked : Result Ask Early) (sent : Sent) → SendsFor AloneAsks airport before asked sent after → Leaves before after (cond (is_given sent) 1 0)
+  -- one answer to an ask
+  sent_leaves : (before after : PortState) (asked : Result Ask Early) (sent : Sent) → SendsFor AloneAsks airport before asked sent after → Leaves before after (cond (is_given sent) 1 0)
   sent_leaves before after (Err reply) (at_once sent) (is, same) = leaves_none before after same
   sent_leaves before after (Err reply) (given answer) h = absurd h
   sent_leaves before after (Err reply) (fed answer) h = absurd h
@@ -94,18 +95,20 @@ module _ (airport : AirportParts) where
         rest.calls (made + first) begun ∙ (ap (λ n. numbers_from n (made + first + more)) one.first ∙ ap (numbers_from before.first) sum);
   }
 
-  -- a run of requests
-  pub run_leaves : (before after : PortState) (requests : List Request) (sents : List Sent) → Runs (Sends airport) before requests sents after → Leaves before after (count_by is_given sents)
-  run_leaves before after [] [] same = leaves_none before after (sym same)
-  run_leaves before after (request ∷ requests) (sent ∷ sents) (mid, one, rest) =
-      subst (Leaves before after) (sym (sum_by-cons (λ (x : Sent). cond (is_given x) 1 0) sent sents))
-      (leaves_both before mid after _ _ (sent_leaves before mid (routed airport request) sent one) (run_leaves mid after requests sents rest))
-  run_leaves before after [] (sent ∷ sents) h = absurd h
-  run_leaves before after (request ∷ requests) [] h = absurd h
+  module _ (feeds : FeedTexts) where
+    -- what is sent for one request
+    pub comes_leaves : (before after : PortState) (request : Request) (sent : Sent) → Sends feeds airport before request sent after
+        → Leaves before after (cond (is_given sent) 1 0)
+    comes_leaves before after request sent comes =
+        let plain = as_plain feeds airport before request sent after comes in
+        subst (λ (b : Bool). Leaves before after (cond {A = ℕ} b 1 0)) plain.gives (sent_leaves before after plain.asked plain.like plain.sends_like)
 
-  -- each request of a run has its answer
-  pub runs_length : (before after : PortState) (requests : List Request) (sents : List Sent) → Runs (Sends airport) before requests sents after → length sents ≡ length requests
-  runs_length before after [] [] h = refl
-  runs_length before after (request ∷ requests) (sent ∷ sents) (mid, one, rest) = ap suc (runs_length mid after requests sents rest)
-  runs_length before after [] (sent ∷ sents) h = absurd h
-  runs_length before after (request ∷ requests) [] h = absurd h
+    -- a run of requests
+    pub run_leaves : (before after : PortState) (requests : List Request) (sents : List Sent) → Runs (Sends feeds airport) before requests sents after
+        → Leaves before after (count_by is_given sents)
+    run_leaves before after [] [] same = leaves_none before after (sym same)
+    run_leaves before after (request ∷ requests) (sent ∷ sents) (mid, one, rest) =
+        subst (Leaves before after) (sym (sum_by-cons (λ (x : Sent). cond (is_given x) 1 0) sent sents))
+        (leaves_both before mid after _ _ (comes_leaves before mid request sent one) (run_leaves mid after requests sents rest))
+    run_leaves before after [] (sent ∷ sents) h = absurd h
+    run_leaves before after (request ∷ requests) [] h = absurd h

@@ -5,6 +5,7 @@ use Rattle.apron_base.specs.Ends.{SinkState}
 use Rattle.apron_check.specs.Files.{is_shelf_fault as is_shelf_found}
 use Rattle.apron_check.specs.declared.files.AirportFiles.{AirportFiles}
 use Rattle.apron_check.specs.declared.faults.FilesFault.{FilesFault}
+use Rattle.desk_turns.specs.Watched.{FeedTexts}
 use Rattle.apron_run.specs.Causes.{FaultsHaveCause, NoFaultIsTold}
 use Rattle.apron_run.specs.Chart.{ChartsNamed}
 use Rattle.apron_run.specs.Check.{TellsFound}
@@ -105,9 +106,9 @@ day_speaks visits before after status (inr tells) = line_speaks _ Memory before 
 usage_speaks : (before after : SinkState) (status : Status) → Writes usage_text Usage Usage before after status → SpeaksOfSink status
 usage_speaks before after status tells = line_speaks usage_text Usage before after status (record { shelf = refl; read = refl; disk = refl }) tells
 
-module _ (before after : World) (status : Status) where
+module _ (feeds : FeedTexts) (before after : World) (status : Status) where
   -- a word that reads no file
-  speaks : (asked : Asked) → uses_shelf asked ≡ false → Does asked before after status → SpeaksOfSink status
+  speaks : (asked : Asked) → uses_shelf asked ≡ false → Does feeds asked before after status → SpeaksOfSink status
   speaks (make visits) none does = day_speaks visits before.sink after.sink status does
   speaks help none does = print_speaks _ before.sink after.sink status does
   speaks version none does = print_speaks _ before.sink after.sink status does
@@ -115,7 +116,7 @@ module _ (before after : World) (status : Status) where
   speaks asked none does = absurd cc
 
   -- the word uses the shelf where that fails
-  shelf_used : (asked : Asked) → Does asked before after status → is_shelf_fault status ≡ true → uses_shelf asked ≡ true
+  shelf_used : (asked : Asked) → Does feeds asked before after status → is_shelf_fault status ≡ true → uses_shelf asked ≡ true
   shelf_used asked does is = by_use (uses_shelf asked) refl
     where
       by_use : (used : Bool) → uses_shelf asked ≡ used → uses_shelf asked ≡ true
@@ -132,7 +133,7 @@ module _ (before after : World) (status : Status) where
       absurd (not_both (is_read_fault status) counts.read is)
 
   -- and the source where that does
-  source_used : (asked : Asked) → Does asked before after status → is_read_fault status ≡ true → uses_source asked (code_of ReadFault) ≡ true
+  source_used : (asked : Asked) → Does feeds asked before after status → is_read_fault status ≡ true → uses_source asked (code_of ReadFault) ≡ true
   source_used (desk airport types) does is = refl
   source_used (init airport types) does is = unread MakesJournal (λ files. makes_counted files (outs_of before) (outs_of after) status) does is
   source_used (check airport types) does is = absurd (not_both (is_read_fault status) (found_read does.found before.sink after.sink status does.tells) is)
@@ -146,7 +147,7 @@ module _ (before after : World) (status : Status) where
   source_used asked does is = let says : SpeaksOfSink status = speaks asked refl does in absurd (not_both (is_read_fault status) says.read is)
 
   -- and the disk
-  disk_used : (asked : Asked) → Does asked before after status → is_disk_fault status ≡ true → uses_disk asked (code_of DiskFault) ≡ true
+  disk_used : (asked : Asked) → Does feeds asked before after status → is_disk_fault status ≡ true → uses_disk asked (code_of DiskFault) ≡ true
   disk_used (check airport types) does is = absurd (not_both (is_disk_fault status) (found_disk does.found before.sink after.sink status does.tells) is)
   disk_used (desk airport types) does is = refl
   disk_used (init airport types) does is = refl
@@ -158,24 +159,24 @@ module _ (before after : World) (status : Status) where
   disk_used asked does is = let says : SpeaksOfSink status = speaks asked refl does in absurd (not_both (is_disk_fault status) says.disk is)
 
 -- the faults that a run tells have their causes
-pub faults_have_cause : (asked : Asked) (before after : World) (code : ℕ) → RunsAs asked before after code → FaultsHaveCause asked before after code
-faults_have_cause asked before after code runs =
+pub faults_have_cause : (feeds : FeedTexts) (asked : Asked) (before after : World) (code : ℕ) → RunsAs feeds asked before after code → FaultsHaveCause asked before after code
+faults_have_cause feeds asked before after code runs =
     let status : Status = runs.status in
     record {
       shelf = λ is.
           let told : is_shelf_fault status ≡ true = shelf_code status (sym runs.code_is ∙ is) in (
-            shelf_used before after status asked runs.does told,
+            shelf_used feeds before after status asked runs.does told,
             rose_by (is_shelf_fault status) before.shelf.faults after.shelf.faults told runs.shelf,
           );
       source = λ is.
           let told : is_read_fault status ≡ true = read_code status (sym runs.code_is ∙ is) in (
-            subst (λ (n : ℕ). uses_source asked n ≡ true) (sym is) (source_used before after status asked runs.does told),
+            subst (λ (n : ℕ). uses_source asked n ≡ true) (sym is) (source_used feeds before after status asked runs.does told),
             rose_by (is_read_fault status) before.source.faults after.source.faults told runs.source,
           );
       sink = λ is. sink_rose status before.sink.faults after.sink.faults (write_code status (sym runs.code_is ∙ is)) runs.sink;
       disk = λ is.
           let told : is_disk_fault status ≡ true = disk_code status (sym runs.code_is ∙ is) in (
-            subst (λ (n : ℕ). uses_disk asked n ≡ true) (sym is) (disk_used before after status asked runs.does told),
+            subst (λ (n : ℕ). uses_disk asked n ≡ true) (sym is) (disk_used feeds before after status asked runs.does told),
             disk_rose asked status before.disk.faults after.disk.faults told runs.disk,
           );
     }
@@ -185,8 +186,8 @@ never_zero : (before now : ℕ) → now ≡ 0 → Rose before now → ⊥
 never_zero before now none rose = let least : min (before + 1) last_count ≤ now = rose in absurd (omega arith)
 
 pub no_fault_told : NoFaultIsTold
-no_fault_told asked before after code runs shelf source sink =
-    let causes : FaultsHaveCause asked before after code = faults_have_cause asked before after code runs in (
+no_fault_told feeds asked before after code runs shelf source sink =
+    let causes : FaultsHaveCause asked before after code = faults_have_cause feeds asked before after code runs in (
       λ is. let fails = causes.shelf is in never_zero before.shelf.faults after.shelf.faults shelf fails.1,
       λ is. let fails = causes.source is in never_zero before.source.faults after.source.faults source fails.1,
       λ is. never_zero before.sink.faults after.sink.faults sink (causes.sink is),

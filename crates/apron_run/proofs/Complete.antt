@@ -1,5 +1,6 @@
 -- Every run is complete.
 use Rattle.std.proofs.Common.{◌≡◌, ◌∙◌, ℕ, inl, inr, ap}
+use Rattle.desk_turns.specs.Watched.{FeedTexts}
 use Rattle.apron_run.specs.Complete.{EndsWell, IsComplete, IsValid, NoneFails}
 use Rattle.apron_run.specs.Export.{IsSeason}
 use Rattle.apron_run.specs.Propose.{IsProposed}
@@ -13,31 +14,31 @@ use Rattle.apron_run.proofs.Sessions.{desk_well}
 use Rattle.apron_run.proofs.Upgrading.{upgrade_well}
 
 -- each word
-does_well : (asked : Asked) (before after : World) (status : Status) → IsValid asked before → NoneFails before after → Does asked before after status → Well status
-does_well (desk airport types) before after status (made, has, (history, journal, input)) free does =
-    desk_well made history airport types before after status has journal input free does
-does_well (init airport types) before after status (made, has, empty) free does =
+does_well : (feeds : FeedTexts) (asked : Asked) (before after : World) (status : Status) → IsValid asked before → NoneFails before after → Does feeds asked before after status → Well status
+does_well feeds (desk airport types) before after status (made, has, (history, journal, input)) free does =
+    desk_well feeds made history airport types before after status has journal input free does
+does_well feeds (init airport types) before after status (made, has, empty) free does =
     init_well made airport types before after status has empty free.shelf free.sink free.disk does
-does_well (check airport types) before after status (made, has, rest) free does = check_well made airport types before after status has free.shelf free.sink does
-does_well (chart airport types day) before after status (made, has, (history, journal, named)) free does =
+does_well feeds (check airport types) before after status (made, has, rest) free does = check_well made airport types before after status has free.shelf free.sink does
+does_well feeds (chart airport types day) before after status (made, has, (history, journal, named)) free does =
     chart_well made history airport types before after status has journal free.shelf free.sink free.disk day named does
-does_well (import airport types season) before after status (made, has, (history, journal, valid)) free does =
+does_well feeds (import airport types season) before after status (made, has, (history, journal, valid)) free does =
     import_well made history airport types season before after status has journal valid free.shelf free.sink free.disk does
-does_well (export airport types) before after status (made, has, (history, journal, rest)) free does =
+does_well feeds (export airport types) before after status (made, has, (history, journal, rest)) free does =
     prints_well made history airport types before after status has journal free.shelf free.sink free.disk IsSeason does
-does_well (upgrade airport types) before after status (made, has, can) free does =
+does_well feeds (upgrade airport types) before after status (made, has, can) free does =
     upgrade_well made airport types before after status has can free.shelf free.sink free.disk does
-does_well (propose airport types name draft) before after status (made, has, (history, journal, rest)) free does =
+does_well feeds (propose airport types name draft) before after status (made, has, (history, journal, rest)) free does =
     prints_well made history airport types before after status has journal free.shelf free.sink free.disk (IsProposed name draft) does
-does_well (make visits) before after status valid free does = make_well visits before.sink after.sink status free.sink does
-does_well help before after status valid free does = print_well _ before.sink after.sink status free.sink does
-does_well version before after status valid free does = print_well _ before.sink after.sink status free.sink does
-does_well faulty before after status valid free does = absurd valid
+does_well feeds (make visits) before after status valid free does = make_well visits before.sink after.sink status free.sink does
+does_well feeds help before after status valid free does = print_well _ before.sink after.sink status free.sink does
+does_well feeds version before after status valid free does = print_well _ before.sink after.sink status free.sink does
+does_well feeds faulty before after status valid free does = absurd valid
 
 ends_well : (status : Status) (code : ℕ) → code ≡ code_of status → Well status → EndsWell code
 ends_well status code is (inl done) = inl (is ∙ ap code_of done)
 ends_well status code is (inr wanting) = inr (is ∙ ap code_of wanting)
 
-pub run_complete : (asked : Asked) (before after : World) (code : ℕ) → RunsAs asked before after code → IsComplete asked before after code
-run_complete asked before after code runs =
-    record { well = λ valid free. ends_well runs.status code runs.code_is (does_well asked before after runs.status valid free runs.does) }
+pub run_complete : (feeds : FeedTexts) (asked : Asked) (before after : World) (code : ℕ) → RunsAs feeds asked before after code → IsComplete asked before after code
+run_complete feeds asked before after code runs =
+    record { well = λ valid free. ends_well runs.status code runs.code_is (does_well feeds asked before after runs.status valid free runs.does) }

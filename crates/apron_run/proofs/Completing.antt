@@ -38,7 +38,7 @@ use Rattle.apron_run.proofs.Counting.{Lines, lines_of}
 use Rattle.apron_run.proofs.Importing.{all_faults}
 use Rattle.apron_run.proofs.Valid.{both_told, found_well, opened_once, same_bytes, unopened_wants}
 
--- all was done, or memory was wanting
+-- all was done, or memory ran out
 abbrev pub Well : Status → Type 0
 Well status = (status ≡ Done) ⊎ (status ≡ Memory)
 
@@ -48,11 +48,11 @@ module _ (before after : SinkState) (still : ¬ (Rose before.faults after.faults
   printed_well text status (inl (is, wrote)) = inl is
   printed_well text status (inr (is, (count, wrote))) = let rose = wrote.faults in absurd (still rose.1)
 
--- the line that tells want of memory
+-- the line that says that memory has run out
 pub memory_well : (before after : SinkState) (status : Status) → TellsFault files.Memory before after status → Well status
 memory_well before after status tells = let lines : Lines status Memory before after = lines_of _ Memory before after status tells in inr lines.is
 
--- the line of an import that wanted memory
+-- the line of an import that ran out of memory
 wanting_well : (before after : SinkState) (status : Status) → TellsImported how.Memory before after status → Well status
 wanting_well before after status tells =
     let lines : Lines status Memory before after = lines_of (imported_line how.Memory) Memory before after status tells in inr lines.is
@@ -65,12 +65,12 @@ all_next airport (new ∷ visits) before after (mid, one, rest) =
     let later : after.next ≡ mid.next + length visits = all_next airport visits mid after rest in
     omega arith
 
--- there is no journal to work on since memory is wanting
+-- there is no journal to work on since memory has run out
 pub unopened_well : (why : Unusable) (before after : SinkState) (status : Status) → status_of_unusable why ≡ Memory → TellsUnusable why before after status → Well status
 unopened_well why before after status is tells =
     let lines : Lines status (status_of_unusable why) before after = lines_of (unusable_line why) (status_of_unusable why) before after status tells in inr (lines.is ∙ is)
 
--- what was found in the two files is their airport, or memory is wanting
+-- what was found in the two files is their airport, or memory has run out
 module _ (made : AirportFiles) (before after : ShelfState) (airport types : List ℕ) (has : HasFiles before airport types made) (still : ¬ (Rose before.faults after.faults)) where
   pub found_or_wanting : (found : Result AirportFiles FilesFault) → Finds before after airport types found → (found ≡ Ok made) ⊎ (found ≡ Err files.Memory)
   found_or_wanting found finds = found_well before after airport types made has found finds.cause (λ failed. fails found finds failed)
@@ -81,7 +81,7 @@ module _ (made : AirportFiles) (before after : ShelfState) (airport types : List
           (let failing : Finds before after airport types (Err files.ShelfFault) = subst (Finds before after airport types) failed finds in failing.counts) in
           still counts.1
 
-  -- where it is done with what was found, that goes well where it does with the airport, and where memory is wanting
+  -- where it is done with what was found, that goes well where it does with the airport, and where memory has run out
   pub goes_well : (Does : Result AirportFiles FilesFault → Type 0) (status : Status) → (Does (Ok made) → Well status) → (Does (Err files.Memory) → Well status)
       → (found : Result AirportFiles FilesFault) → Finds before after airport types found → Does found → Well status
   goes_well Does status with_airport wanting found finds does = by_case (found_or_wanting found finds)
@@ -167,7 +167,7 @@ print_well text before after status sink tells = printed_well before after sink 
 -- visits that are admitted one after another are asked
 module _ (airport : AirportParts) (visits : List NewVisit) (before after : Reached) (admits : AdmitsEach airport visits before)
     (numbers : before.next + length visits ≤ call_limit) (still : ¬ (Rose before.faults after.faults)) where
-  -- the asks stop only where memory is wanting
+  -- the asks stop only where memory has run out
   stops_well : (imported : Imported) → StopsAmong airport visits before after imported → imported ≡ how.Memory
   stops_well imported stops = well imported stops.stops
     where
@@ -187,14 +187,14 @@ module _ (airport : AirportParts) (visits : List NewVisit) (before after : Reach
       well how.Memory stops = refl
       well other stops = absurd stops
 
-  -- so all were asked, or that is told
+  -- so all were asked, or the line says that memory has run out
   asked_well : (imported : Imported) (sink now : SinkState) (status : Status) → AsksSeason airport visits before after imported → ¬ (Rose sink.faults now.faults)
       → TellsImported imported sink now status → Well status
   asked_well (how.Whole added present) sink now status asks wrote tells = printed_well sink now wrote _ status tells
   asked_well other sink now status asks wrote tells =
       wanting_well sink now status (subst (λ (i : Imported). TellsImported i sink now status) (stops_well other asks) tells)
 
--- the season file's visits are found, or memory is wanting
+-- the season file's visits are found, or memory has run out
 module _ (airport : AirportParts) (season : List ℕ) (before after : ShelfState) (visits : List NewVisit) (told : IsSome (before.file season))
     (tells : Tells airport (before.file season) (Ok visits)) (still : ¬ (Rose before.faults after.faults)) where
   season_once : (found : Result (List NewVisit) ℕ) → Tells airport (before.file season) found → Ok visits ≡ found

@@ -2,6 +2,7 @@
 use Rattle.std.proofs.Common.{◌≡◌, ◌≤◌, ◌∙◌, ℕ, List, Bool, true, false, inl, inr, refl, sym, ap, subst, arith, Result, Ok, Err}
 use Rattle.apron_base.specs.Counts.{Counts}
 use Rattle.apron_base.specs.Ends.{SinkState}
+use Rattle.desk_turns.specs.Watched.{FeedTexts}
 use Rattle.journal_disk.specs.declared.fault.JournalFault.TheVariants as journal
 use Rattle.history_core.specs.declared.opening.OpenFault.TheVariants as entries
 use Rattle.apron_check.specs.Files.{is_shelf_fault as is_shelf_found}
@@ -144,9 +145,9 @@ why_disk files before after (Entries entries.Memory) (found, vain, why) = vain.c
 why_disk files before after (Entries fault) (found, vain, why) = vain.counts
 
 -- a run that is counted so
-pub runs_counted : (asked : Asked) (failed : Bool) (before after : World) (status : Status) → after.source ≡ before.source
-    → Counts failed before.shelf.faults after.shelf.faults → Counted failed status (outs_of before) (outs_of after) → Does asked before after status
-    → DiskCounts asked status before.disk.faults after.disk.faults → RunsAs asked before after (code_of status)
+pub runs_counted : {feeds : FeedTexts} (asked : Asked) (failed : Bool) (before after : World) (status : Status) → after.source ≡ before.source
+    → Counts failed before.shelf.faults after.shelf.faults → Counted failed status (outs_of before) (outs_of after) → Does feeds asked before after status
+    → DiskCounts asked status before.disk.faults after.disk.faults → RunsAs feeds asked before after (code_of status)
 runs_counted asked failed before after status source shelf counted does disk = record {
   status = status;
   code_is = refl;
@@ -165,11 +166,11 @@ module _ (OnFiles : AirportFiles → Outs → Outs → Status → Type 0) where
   found_counted before after status counted (Err fault) (disk, tells) = fault_counted before after status fault (ap (λ (d : DiskSeen). d.faults) disk) tells
 
   -- a run of a word that does so
-  pub files_as : (asked : Asked) (airport types : List ℕ) (before after : World) (status : Status)
+  pub files_as : {feeds : FeedTexts} (asked : Asked) (airport types : List ℕ) (before after : World) (status : Status)
       → ((files : AirportFiles) → OnFiles files (outs_of before) (outs_of after) status → Counted false status (outs_of before) (outs_of after))
-      → (DoesWithFiles OnFiles airport types before after status → Does asked before after status)
+      → (DoesWithFiles OnFiles airport types before after status → Does feeds asked before after status)
       → (Counts (is_disk_fault status) before.disk.faults after.disk.faults → DiskCounts asked status before.disk.faults after.disk.faults)
-      → after.source ≡ before.source → DoesWithFiles OnFiles airport types before after status → RunsAs asked before after (code_of status)
+      → after.source ≡ before.source → DoesWithFiles OnFiles airport types before after status → RunsAs feeds asked before after (code_of status)
   files_as asked airport types before after status counted does disk source with_files =
       let finds = with_files.finds in
       let counts : Counted (is_shelf_found with_files.found) status (outs_of before) (outs_of after) =

@@ -1,5 +1,6 @@
 -- What a crash leaves of a run, by its word.
 use Rattle.std.proofs.Common.{◌≡◌, ℕ, Bool, true, false, subst}
+use Rattle.desk_turns.specs.Watched.{FeedTexts}
 use Rattle.apron_run.specs.Crash.{CrashesAs, LeavesAll}
 use Rattle.apron_run.specs.Run.{RunsAs}
 use Rattle.apron_run.specs.Survival.{DiskStates}
@@ -15,8 +16,8 @@ may_write (upgrade airport types) = true
 may_write asked = false
 
 -- a run of a word that writes nothing there
-pub unwritten : (disk : DiskStates) (asked : Asked) (before after : World) (code : ℕ) → may_write asked ≡ false → RunsAs asked before after code → LeavesAll disk
-    → CrashesAs disk asked before after code
+pub unwritten : {feeds : FeedTexts} (disk : DiskStates) (asked : Asked) (before after : World) (code : ℕ) → may_write asked ≡ false → RunsAs feeds asked before after code → LeavesAll disk
+    → CrashesAs feeds disk asked before after code
 unwritten disk (desk airport types) before after code is runs stays = absurd cc
 unwritten disk (init airport types) before after code is runs stays = absurd cc
 unwritten disk (import airport types season) before after code is runs stays = absurd cc
@@ -24,9 +25,9 @@ unwritten disk (upgrade airport types) before after code is runs stays = absurd 
 unwritten disk asked before after code is runs stays = record { status = runs.status; code_is = runs.code_is; does = runs.does; leaves = stays }
 
 -- what is asked by other words
-pub asked_runs : {asked words : Asked} {before after : World} {code : ℕ} → asked ≡ words → RunsAs asked before after code → RunsAs words before after code
-asked_runs {asked} {words} {before} {after} {code} is runs = subst (λ (a : Asked). RunsAs a before after code) is runs
+pub asked_runs : {feeds : FeedTexts} {asked words : Asked} {before after : World} {code : ℕ} → asked ≡ words → RunsAs feeds asked before after code → RunsAs feeds words before after code
+asked_runs {feeds} {asked} {words} {before} {after} {code} is runs = subst (λ (a : Asked). RunsAs feeds a before after code) is runs
 
-pub asked_crashes : {disk : DiskStates} {asked words : Asked} {before after : World} {code : ℕ} → asked ≡ words → CrashesAs disk asked before after code
-    → CrashesAs disk words before after code
-asked_crashes {disk} {asked} {words} {before} {after} {code} is crashes = subst (λ (a : Asked). CrashesAs disk a before after code) is crashes
+pub asked_crashes : {feeds : FeedTexts} {disk : DiskStates} {asked words : Asked} {before after : World} {code : ℕ} → asked ≡ words → CrashesAs feeds disk asked before after code
+    → CrashesAs feeds disk words before after code
+asked_crashes {feeds} {disk} {asked} {words} {before} {after} {code} is crashes = subst (λ (a : Asked). CrashesAs feeds disk a before after code) is crashes

@@ -5,6 +5,7 @@ use Rattle.apron_base.specs.Ends.{SinkState, SourceState}
 use Rattle.apron_base.specs.declared.outside.Outcome.{Outcome}
 use Rattle.apron_base.specs.declared.outside.Outcome.TheVariants as came
 use Rattle.desk_http.specs.Session.{is_read_fault as is_read_outcome, is_write_fault as is_write_outcome}
+use Rattle.desk_turns.specs.Watched.{FeedTexts}
 use Rattle.journal_disk.specs.Disk.{DiskState}
 use Rattle.apron_check.specs.Files.{is_shelf_fault as is_shelf_found}
 use Rattle.apron_check.specs.Lines.{fault_line}
@@ -63,10 +64,10 @@ behind came.Memory status before mid after counts tells =
 behind outcome status before mid after counts tells = silent outcome status before mid after counts tells
 
 -- a session
-session_as : (files : AirportFiles) (before after : Ends) (mid : SinkState) (outcome : Outcome) (status : Status)
-    → ServesDesk files before (record { source = after.source; sink = mid; disk = after.disk }) outcome → TellsOutcome outcome mid after.sink status
+session_as : (feeds : FeedTexts) (files : AirportFiles) (before after : Ends) (mid : SinkState) (outcome : Outcome) (status : Status)
+    → ServesDesk feeds files before (record { source = after.source; sink = mid; disk = after.disk }) outcome → TellsOutcome outcome mid after.sink status
     → CountsDesk false status before after
-session_as files before after mid outcome status serves tells =
+session_as feeds files before after mid outcome status serves tells =
     let session = serves.session in
     let took = session.took in
     let wrote = session.wrote in
@@ -76,7 +77,7 @@ session_as files before after mid outcome status serves tells =
       shelf = ap is_shelf_fault told.is ∙ says.shelf;
       source = subst (λ (b : Bool). Counts b before.source.faults after.source.faults) (sym (ap is_read_fault told.is ∙ says.read)) took.faults;
       sink = told.sink;
-      disk = session_counts files before (record { source = after.source; sink = mid; disk = after.disk }) outcome status serves told.is;
+      disk = session_counts feeds files before (record { source = after.source; sink = mid; disk = after.disk }) outcome status serves told.is;
     }
 
 -- a line in place of one
@@ -92,29 +93,29 @@ line_as before after status text of failed says source counts tells =
     }
 
 -- what was met
-met_as : (files : AirportFiles) (before after : Ends) (mid : SinkState) (met : Result Outcome Unusable) (status : Status)
-    → MeetsDesk files before (record { source = after.source; sink = mid; disk = after.disk }) met → TellsMet met mid after.sink status
+met_as : (feeds : FeedTexts) (files : AirportFiles) (before after : Ends) (mid : SinkState) (met : Result Outcome Unusable) (status : Status)
+    → MeetsDesk feeds files before (record { source = after.source; sink = mid; disk = after.disk }) met → TellsMet met mid after.sink status
     → CountsDesk false status before after
-met_as files before after mid (Ok outcome) status meets tells = session_as files before after mid outcome status meets tells
-met_as files before after mid (Err why) status meets tells =
+met_as feeds files before after mid (Ok outcome) status meets tells = session_as feeds files before after mid outcome status meets tells
+met_as feeds files before after mid (Err why) status meets tells =
     let not_opened = meets.disk in
     line_as before after status (unusable_line why) (status_of_unusable why) false (unusable_status why) meets.source
     (why_counts files before.disk after.disk why not_opened.cause) (subst (λ (s : SinkState). TellsUnusable why s after.sink status) meets.sink tells)
 
 -- what was found in the files
-found_as : (found : Result AirportFiles FilesFault) (before after : Ends) (status : Status) → RunsFound found before after status
+found_as : (feeds : FeedTexts) (found : Result AirportFiles FilesFault) (before after : Ends) (status : Status) → RunsFound feeds found before after status
     → CountsDesk (is_shelf_found found) status before after
-found_as (Ok files) before after status runs = met_as files before after runs.sink runs.met status runs.meets runs.tells
-found_as (Err fault) before after status (source, disk, tells) =
+found_as feeds (Ok files) before after status runs = met_as feeds files before after runs.sink runs.met status runs.meets runs.tells
+found_as feeds (Err fault) before after status (source, disk, tells) =
     line_as before after status (fault_line fault) (status_of_fault fault) (is_shelf_found (Err fault)) (fault_status fault) source
     (fault_disk fault before.disk.faults after.disk.faults (ap (λ d. d.faults) disk)) tells
 
 -- a run of the word
-pub desk_as : (airport types : List ℕ) (before after : World) (status : Status) → RunsDesk airport types before after status
-    → RunsAs (desk_asked airport types) before after (code_of status)
-desk_as airport types before after status runs =
+pub desk_as : (feeds : FeedTexts) (airport types : List ℕ) (before after : World) (status : Status) → RunsDesk feeds airport types before after status
+    → RunsAs feeds (desk_asked airport types) before after (code_of status)
+desk_as feeds airport types before after status runs =
     let counts : CountsDesk (is_shelf_found runs.found) status (ends_of before) (ends_of after) =
-    found_as runs.found (ends_of before) (ends_of after) status runs.runs in
+    found_as feeds runs.found (ends_of before) (ends_of after) status runs.runs in
     let finds = runs.finds in
     record {
       status = status;
@@ -126,12 +127,12 @@ desk_as airport types before after status runs =
       disk = counts.disk;
     }
 
--- a session after which it was told how it ended, and its disk given back
-pub told_leaving : {D : Type 0} (state : D → DiskState) {files : AirportFiles} {source now : SourceState} {before after : SinkState} {old left new : D}
+-- a session after which a line said how it ended, and its disk was given back
+pub told_leaving : {D : Type 0} {feeds : FeedTexts} (state : D → DiskState) {files : AirportFiles} {source now : SourceState} {before after : SinkState} {old left new : D}
     {status : Status} (mid : SinkState) (met : Result Outcome Unusable)
-    → MeetsDeskLeaving (record { before = state old; after = state left }) files (ends_at source before (state old)) (ends_at now mid (state left)) met
+    → MeetsDeskLeaving feeds (record { before = state old; after = state left }) files (ends_at source before (state old)) (ends_at now mid (state left)) met
     → TellsMet met mid after status → left ≡ new
-    → RunsOnJournalLeaving (record { before = state old; after = state new }) files (ends_at source before (state old)) (ends_at now after (state new)) status
-told_leaving {D} state {files} {source} {now} {before} {after} {old} {left} {new} {status} mid met meets tells same =
-    subst (λ d. RunsOnJournalLeaving (record { before = state old; after = state d }) files (ends_at source before (state old)) (ends_at now after (state d)) status) same
+    → RunsOnJournalLeaving feeds (record { before = state old; after = state new }) files (ends_at source before (state old)) (ends_at now after (state new)) status
+told_leaving {D} {feeds} state {files} {source} {now} {before} {after} {old} {left} {new} {status} mid met meets tells same =
+    subst (λ d. RunsOnJournalLeaving feeds (record { before = state old; after = state d }) files (ends_at source before (state old)) (ends_at now after (state d)) status) same
     (record { met = met; sink = mid; meets = meets.0; tells = tells }, meets.1)

@@ -10,7 +10,7 @@ use Rattle.journal_disk.specs.declared.fault.JournalFault.TheVariants as journal
 use Rattle.apron_run.specs.Init.{IsMade, Makes}
 use Rattle.apron_run.specs.World.{seen_of}
 
--- what holds of what is told, if it is
+-- what holds of what is exposed, if it is
 pub if_told : (contents : Option (List ℕ)) (P : List ℕ → Type 0) → ((bytes : List ℕ) → contents ≡ Some bytes → P bytes) → IfSome contents P
 if_told None P holds = tt
 if_told (Some bytes) P holds = holds bytes refl

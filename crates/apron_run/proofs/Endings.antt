@@ -1,28 +1,27 @@
 -- How a session stops, and what that is to its input.
-use Rattle.std.proofs.Common.{◌≡◌, ◌<◌, ◌≤◌, ◌+◌, ◌∙◌, inl, inr, ℕ, List, [], ◌∷◌, ◌++◌, Option, None, Some, true, refl, sym, ap, subst, append-nil, length, length-append, take, arith, Result, Ok, Err}
+use Rattle.std.proofs.Common.{◌≡◌, ◌<◌, ◌≤◌, ◌+◌, ◌∙◌, inl, inr, ℕ, List, [], ◌∷◌, ◌++◌, Option, None, Some, true, refl, sym, ap, subst, append-nil, length, length-append, take, arith}
 use Rattle.std.specs.Prelude.{All}
 use Rattle.std.specs.Io.KnownBytes.{Consumes}
 use Rattle.apron_base.specs.declared.outside.Outcome.{Outcome}
 use Rattle.apron_base.specs.declared.outside.Outcome.TheVariants as came
 use Rattle.apron_rules.specs.declared.parts.AirportParts.{AirportParts}
-use Rattle.desk_words.specs.declared.asks.Ask.{Ask}
-use Rattle.desk_words.specs.declared.early.Early.{Early}
 use Rattle.http_framing.specs.Requests.{Request, HasRequest}
 use Rattle.http_framing.specs.Streams.{ended, cut, closed, malformed, IsOpen, Requests, Splits}
 use Rattle.http_framing.proofs.StreamLaws.{malformed_more, requests_closed, requests_of, splits_more, splits_push, whole_more}
-use Rattle.desk_http.specs.Alone.{AloneAsks}
-use Rattle.desk_http.specs.Answers.{Answered, Answers, FindsExhausted, Sent, exhausted, sends, sent_text}
+use Rattle.desk_http.specs.Answers.{Answered, Sent, exhausted, sends, sent_text}
 use Rattle.desk_http.specs.Ports.{IsExhausted, PortState}
-use Rattle.desk_http.specs.Routes.{routed}
 use Rattle.desk_http.specs.Runs.{Runs}
 use Rattle.desk_http.specs.Session.{ComesFirst, EndsAfter, IsCount, IsRead, Last, Progress, WritesLast, last_text, most_requests, no_progress, nothing, refusal, refusal_text, reply, texts_of}
 use Rattle.desk_http.proofs.SoFar.{runs_push, texts_of-push}
 use Rattle.apron_check.specs.Lines.{fault_line}
 use Rattle.apron_check.specs.declared.faults.FilesFault.TheVariants as files
+use Rattle.desk_turns.specs.Watched.{FeedTexts}
+use Rattle.apron_run.specs.Desk.{DeskAnswers}
 use Rattle.apron_run.specs.Headline.{Carried, Exchange, Sends, StopsWith}
 use Rattle.apron_run.specs.Statuses.{status_of_outcome}
 use Rattle.apron_run.specs.declared.status.Status.{Status}
 use Rattle.apron_run.specs.declared.status.Status.TheVariants.{Done, ReadFault, WriteFault, Cut, Memory, Malformed, Limit, Spent}
+use Rattle.apron_run.proofs.Feeding.{finds_spent, not_read}
 
 -- what a source that tells its bytes has left, and what was taken before it
 pub record HasLeft (input taken : List ℕ) (left : Option (List ℕ)) : Type 0 where
@@ -34,7 +33,7 @@ pub has_left : (input taken : List ℕ) (left : Option (List ℕ)) → Consumes 
 has_left input taken None h = absurd h
 has_left input taken (Some rest) h = record { rest = rest; is = refl; front = h }
 
--- what is written, where nothing is written last and nothing behind it
+-- what is written, where nothing is written last and nothing after it
 bare : (texts written tail : List ℕ) → written ≡ [] → tail ≡ [] → (texts ++ written) ++ tail ≡ texts
 bare texts written tail none end =
     ap (λ w. (texts ++ w) ++ tail) none ∙ (ap (λ t. (texts ++ []) ++ t) end ∙ (append-nil (texts ++ []) ∙ append-nil texts))
@@ -44,7 +43,7 @@ ending_with : (texts written tail last : List ℕ) → written ≡ last → tail
 ending_with texts written tail last is end =
     ap (λ w. (texts ++ w) ++ tail) is ∙ (ap (λ t. (texts ++ last) ++ t) end ∙ append-nil (texts ++ last))
 
--- the line that tells want of memory, or a front of it; nothing behind other outcomes
+-- the line that says that memory has run out, or a front of it; nothing after other outcomes
 abbrev pub IsTail : Outcome → List ℕ → Type 0
 IsTail came.Memory tail = (count : ℕ) × (tail ≡ take count (fault_line files.Memory))
 IsTail other tail = tail ≡ []
@@ -72,31 +71,21 @@ same_alike : (one other : PortState) → other ≡ one → AreAlike one other
 same_alike one other same = subst (AreAlike one) (sym same) (record { first = refl; seen = refl; at_risk = refl; calls = refl; faults = refl })
 
 -- what a session that began with this port answered of its input, how it stopped, and the port after it
-pub record Meets (airport : AirportParts) (start : PortState) (carried : Carried) (status : Status) (after : PortState) : Type 0 where
+pub record Meets (feeds : FeedTexts) (airport : AirportParts) (start : PortState) (carried : Carried) (status : Status) (after : PortState) : Type 0 where
   pub exchange : Exchange
   pub new : PortState
   pub alike : AreAlike new after
   pub spent : status ≡ Spent → after.spent ≡ true
   pub splits : Splits carried.input exchange.requests exchange.rest
   pub few : length exchange.requests ≤ most_requests
-  pub runs : Runs (Sends airport) start exchange.requests exchange.sents new
+  pub runs : Runs (Sends feeds airport) start exchange.requests exchange.sents new
   pub stops : StopsWith airport status carried exchange
 
-module _ (airport : AirportParts) (start : PortState) (input taken more : List ℕ) (front : input ≡ taken ++ more) (done : Progress) (served after : PortState)
-    (splits : Splits taken done.requests done.rest) (stay : All IsOpen done.requests) (runs : Runs (Sends airport) start done.requests done.sents served) where
+module _ (feeds : FeedTexts) (airport : AirportParts) (start : PortState) (input taken more : List ℕ) (front : input ≡ taken ++ more) (done : Progress) (served after : PortState)
+    (splits : Splits taken done.requests done.rest) (stay : All IsOpen done.requests) (runs : Runs (Sends feeds airport) start done.requests done.sents served) where
   -- what comes of a request at the airport
   abbrev Comes : PortState → Request → Answered → PortState → Type 0
-  Comes = Answers AloneAsks airport
-
-  -- an ask found the port exhausted
-  record FoundSpent (asked : Result Ask Early) : Type 0 where
-    pub ask : Ask
-    pub asks : asked ≡ Ok ask
-    pub exhausted : IsExhausted served after
-
-  found_spent : (asked : Result Ask Early) → FindsExhausted AloneAsks airport served asked after → FoundSpent asked
-  found_spent (Err early) h = absurd h
-  found_spent (Ok ask) h = record { ask = ask; asks = refl; exhausted = h }
+  Comes = DeskAnswers feeds airport
 
   -- the bytes of the session, with this output
   abbrev carrying : List ℕ → Carried
@@ -110,7 +99,7 @@ module _ (airport : AirportParts) (start : PortState) (input taken more : List �
   abbrev open_exchange : Exchange
   open_exchange = record { requests = done.requests; sents = done.sents; rest = done.rest ++ more }
 
-  -- the same and one more, with what is behind it
+  -- the same and one more, with what is after it
   abbrev one_more : Request → Sent → List ℕ → Exchange
   one_more request sent behind = record { requests = done.requests ++ request ∷ []; sents = done.sents ++ sent ∷ []; rest = behind ++ more }
 
@@ -121,9 +110,9 @@ module _ (airport : AirportParts) (start : PortState) (input taken more : List �
   more_splits request behind first =
       splits_more taken more behind (done.requests ++ request ∷ []) (splits_push taken done.rest behind done.requests request splits first)
 
-  -- the session stopped behind those requests
+  -- the session stopped after those requests
   open_stops : (output : List ℕ) (status : Status) → AreAlike served after → (status ≡ Spent → after.spent ≡ true) → length done.requests ≤ most_requests
-      → StopsWith airport status (carrying output) open_exchange → Meets airport start (carrying output) status after
+      → StopsWith airport status (carrying output) open_exchange → Meets feeds airport start (carrying output) status after
   open_stops output status alike spent few stops = record {
     exchange = open_exchange;
     new = served;
@@ -137,12 +126,12 @@ module _ (airport : AirportParts) (start : PortState) (input taken more : List �
 
   -- the same, with the port as it was
   open_meets : (output : List ℕ) (status : Status) → after ≡ served → (status ≡ Spent → ⊥) → length done.requests ≤ most_requests
-      → StopsWith airport status (carrying output) open_exchange → Meets airport start (carrying output) status after
+      → StopsWith airport status (carrying output) open_exchange → Meets feeds airport start (carrying output) status after
   open_meets output status same other few stops = open_stops output status (same_alike served after same) (λ is. absurd (other is)) few stops
 
-  -- the session stopped behind one more
+  -- the session stopped after one more
   more_meets : (request : Request) (sent : Sent) (output : List ℕ) (status : Status) → (first : ComesFirst Comes done.rest request (sends sent) served after)
-      → (status ≡ Spent → ⊥) → length done.requests < most_requests → StopsWith airport status (carrying output) (one_more request sent first.behind) → Meets airport start (carrying output) status after
+      → (status ≡ Spent → ⊥) → length done.requests < most_requests → StopsWith airport status (carrying output) (one_more request sent first.behind) → Meets feeds airport start (carrying output) status after
   more_meets request sent output status first other few stops = record {
     new = after;
     alike = same_alike after after refl;
@@ -150,7 +139,7 @@ module _ (airport : AirportParts) (start : PortState) (input taken more : List �
     exchange = one_more request sent first.behind;
     few = let one : length (done.requests ++ request ∷ []) ≡ length done.requests + 1 = length-append done.requests (request ∷ []) in omega arith;
     splits = subst (λ i. Splits i (done.requests ++ request ∷ []) (first.behind ++ more)) (sym front) (more_splits request first.behind first.first);
-    runs = runs_push (Sends airport) start served after done.requests done.sents request sent runs first.comes;
+    runs = runs_push (Sends feeds airport) start served after done.requests done.sents request sent runs first.comes;
     stops = stops;
   }
 
@@ -160,12 +149,14 @@ module _ (airport : AirportParts) (start : PortState) (input taken more : List �
 
   -- how a session that wanted memory stopped
   wants_memory : (output : List ℕ) → length done.requests < most_requests → ((count : ℕ) × (output ≡ texts ++ take count (fault_line files.Memory)))
-      → EndsAfter Comes came.Memory done nothing served after → Meets airport start (carrying output) Memory after
-  wants_memory output few wrote (inl (request, first)) = open_meets output Memory first.comes.1 (λ is. cc) (omega arith) (
-    record { stay = stay; few = few },
-    inr (record { request = request; behind = first.behind ++ more; whole = whole_more done.rest more request first.behind first.first; takes = first.comes.0 }),
-    wrote,
-  )
+      → EndsAfter Comes came.Memory done nothing served after → Meets feeds airport start (carrying output) Memory after
+  wants_memory output few wrote (inl (request, first)) =
+      let unread = not_read feeds airport served request after first.comes in
+      open_meets output Memory unread.1 (λ is. cc) (omega arith) (
+        record { stay = stay; few = few },
+        inr (record { request = request; behind = first.behind ++ more; whole = whole_more done.rest more request first.behind first.first; takes = unread.0 }),
+        wrote,
+      )
   wants_memory output few wrote (inr (none, same)) = open_meets output Memory same (λ is. cc) (omega arith) (
     record { stay = stay; few = few },
     inl (ap (λ (p : Progress). p.requests) none, sym (front ∙ ap (λ t. t ++ more) (nothing_taken none))),
@@ -174,13 +165,13 @@ module _ (airport : AirportParts) (start : PortState) (input taken more : List �
 
   -- how a session stopped whose port was exhausted
   spent_meets : (request : Request) → (first : ComesFirst Comes done.rest request exhausted served after) → (output : List ℕ)
-      → length done.requests < most_requests → output ≡ texts → Meets airport start (carrying output) Spent after
+      → length done.requests < most_requests → output ≡ texts → Meets feeds airport start (carrying output) Spent after
   spent_meets request first output few wrote =
-      let found : FoundSpent (routed airport request) = found_spent (routed airport request) first.comes in
+      let found = finds_spent feeds airport served request after first.comes in
       open_stops output Spent (exhausted_alike served after found.exhausted)
       (λ is. ap (λ (port : PortState). port.spent) found.exhausted) (omega arith) (
         record { stay = stay; few = few },
-        record { request = request; behind = first.behind ++ more; whole = whole_more done.rest more request first.behind first.first; ask = found.ask; asks = found.asks },
+        record { request = request; behind = first.behind ++ more; whole = whole_more done.rest more request first.behind first.first; asks = found.asks },
         wrote,
       )
 
@@ -191,7 +182,7 @@ module _ (airport : AirportParts) (start : PortState) (input taken more : List �
   -- how a session stopped, for each outcome
   pub session_meets : (outcome : Outcome) (last : Last) (written tail : List ℕ) → EndsAfter Comes outcome done last served after
       → IsRead outcome (Some more) → IsCount outcome (length done.requests) → WritesLast outcome (last_text airport last) written → IsTail outcome tail
-      → Meets airport start (carrying ((texts ++ written) ++ tail)) (status_of_outcome outcome) after
+      → Meets feeds airport start (carrying ((texts ++ written) ++ tail)) (status_of_outcome outcome) after
   session_meets came.Ended nothing written tail ends read count wrote end = open_meets _ Done ends.1 (λ is. cc) (omega arith) (
     inl (
       record { stay = stay; few = count },

@@ -107,7 +107,7 @@ opens_longer digests least entries added image opens =
       opens = subst (λ (es : List (List ℕ)). OpensWith digests es (λ more. Unit {0}) image) (sym (take-append-le opens.count entries added few)) opens.opens;
     }
 
--- a value that is told is the one that there is
+-- a value that is exposed is the one that there is
 some_is : {A : Type 0} (one other : A) → Some one ≡ Some other → one ≡ other
 some_is one other is = cc
 
@@ -144,7 +144,7 @@ fronts_opened digests given begun before now extent entries same first opens sec
           (inl (ap (opening_of digests) image_is ∙ (opening bytes was ∙ ap Ok (sym are))));
     }
 
--- an image that stands for a journal opens to its entries, or to these and one more
+-- an image that a crash may leave of a journal opens to its entries, or to these and one more
 stands_opens : (digests : List ℕ) (extent : Extent) (bytes image : List ℕ) (AtRisk : List ℕ → Type 0) → IsOf digests bytes → StandsFor extent bytes AtRisk image
     → OpensWith digests (entries_within extent bytes) AtRisk image
 stands_opens digests extent bytes image AtRisk of (front, inl opens) =

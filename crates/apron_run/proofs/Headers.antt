@@ -29,7 +29,7 @@ pub opened_of : (digests given : List ℕ) (before now : DiskState) (entries : L
 opened_of digests given before now entries same opens reads =
     if_told now.contents (IsOf digests) (λ bytes is. opens_of given bytes entries (opens bytes (sym reads ∙ is)) ∙ same)
 
--- so does an image that stands for bytes which have them
+-- so does an image that a crash may leave of bytes which have them
 pub stands_of : (digests : List ℕ) (extent : Extent) (bytes image : List ℕ) (AtRisk : List ℕ → Type 0) → IsOf digests bytes → StandsFor extent bytes AtRisk image → IsOf digests image
 stands_of digests extent bytes image AtRisk are (front, inl opens) = opens_of (digests_in bytes) image _ opens ∙ are
 stands_of digests extent bytes image AtRisk are (front, inr (entry, at, opens)) = opens_of (digests_in bytes) image _ opens ∙ are

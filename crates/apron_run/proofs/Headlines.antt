@@ -19,6 +19,7 @@ use Rattle.desk_http.specs.Alone.{numbers_from}
 use Rattle.desk_http.specs.Ports.{PortState}
 use Rattle.desk_http.specs.Session.{IsRead, is_write_fault, texts_of}
 use Rattle.desk_http.proofs.OneDesk.{length-numbers_from}
+use Rattle.desk_turns.specs.Watched.{FeedTexts}
 use Rattle.apron_check.specs.Lines.{fault_line}
 use Rattle.apron_check.specs.declared.files.AirportFiles.{AirportFiles}
 use Rattle.apron_check.specs.declared.faults.FilesFault.{FilesFault}
@@ -39,7 +40,7 @@ use Rattle.apron_run.proofs.Calls.{Leaves, run_leaves}
 use Rattle.apron_run.proofs.Endings.{HasLeft, IsTail, Meets, has_left, session_meets}
 use Rattle.apron_run.proofs.Unkept.{run_counts}
 
--- what is told behind a session that wanted memory is a front of the line, and nothing is behind others
+-- what is written after a session that ran out of memory is a front of the line, and nothing is written after others
 record Told (outcome : Outcome) (before after : SinkState) (status : Status) : Type 0 where
   pub failed : Bool
   pub tail : List ℕ
@@ -47,7 +48,7 @@ record Told (outcome : Outcome) (before after : SinkState) (status : Status) : T
   pub end : IsTail outcome tail
   pub status_is : status ≡ status_of_outcome outcome
 
--- nothing is told
+-- nothing is written
 silent : (outcome : Outcome) (before after : SinkState) (status : Status) → IsTail outcome [] → (after ≡ before) × (status ≡ status_of_outcome outcome) → Told outcome before after status
 silent outcome before after status end (same, is) =
     record { failed = false; tail = []; wrote = subst (λ (s : SinkState). Wrote false before s []) (sym same) (wrote_none before); end = end; status_is = is }
@@ -76,18 +77,19 @@ module _ (airport : AirportParts) where
   all_of_their_entries : (history : List Entry) → IsLegal airport history → (version : ℕ) (added : NewVisit) → IsOfItsEntry airport history version added
   all_of_their_entries history legal version added = visits_added airport history version added legal
 
-module _ (files : AirportFiles) where
+module _ (feeds : FeedTexts) (files : AirportFiles) where
   -- what a session met is the headline
   headline_of : (opened : List Entry) (before after : DiskSeen) (carried : Carried) (status : Status) (port : PortState) → IsLegal files.airport opened
-      → Meets files.airport (begun opened before.faults) carried status port → (port.spent ≡ true → port.first + length port.calls ≡ call_limit)
-      → port.faults ≡ after.faults → KeepsHistory files port.seen port.at_risk after → Headline files opened before after carried (code_of status)
+      → Meets feeds files.airport (begun opened before.faults) carried status port → (port.spent ≡ true → port.first + length port.calls ≡ call_limit)
+      → port.faults ≡ after.faults → KeepsHistory files port.seen port.at_risk after → Headline feeds files opened before after carried (code_of status)
   headline_of opened before after carried status port legal_before met used counted kept =
       let exchange = met.exchange in
       let new = met.new in
       let alike = met.alike in
       let first : ℕ = next_after opened in
       let count : ℕ = count_by is_given exchange.sents in
-      let leaves : Leaves files.airport (begun opened before.faults) new count = run_leaves files.airport (begun opened before.faults) new exchange.requests exchange.sents met.runs in
+      let leaves : Leaves files.airport (begun opened before.faults) new count =
+      run_leaves files.airport feeds (begun opened before.faults) new exchange.requests exchange.sents met.runs in
       let legal : IsLegal files.airport new.seen = leaves.legal legal_before in
       let calls : new.calls ≡ numbers_from first count = leaves.calls 0 refl ∙ ap (numbers_from first) (zero-add count) in
       record {
@@ -112,10 +114,10 @@ module _ (files : AirportFiles) where
         visits = all_of_their_entries files.airport new.seen legal;
         faults = alike.faults ∙ counted;
         unkept = subst (λ (n : ℕ). CountsUnkept (count_by tells_unkept exchange.sents) before.faults n) (alike.faults ∙ counted)
-            (run_counts files.airport (begun opened before.faults) new exchange.requests exchange.sents met.runs);
+            (run_counts files.airport feeds (begun opened before.faults) new exchange.requests exchange.sents met.runs);
         keeps = subst (λ (history : List Entry). KeepsHistory files history new.at_risk after) (sym alike.seen)
             (subst (λ (risk : Option Entry). KeepsHistory files port.seen risk after) (sym alike.at_risk) kept);
-        at_risk = unkept_at_risk files.airport opened before.faults exchange new met.runs;
+        at_risk = unkept_at_risk files.airport feeds opened before.faults exchange new met.runs;
       }
 
 -- what holds of each value that there may be
@@ -124,10 +126,10 @@ if_some None P holds = tt
 if_some (Some value) P holds = holds value refl
 
 -- the headline of a session on a journal
-session_headline : (files : AirportFiles) (input : List ℕ) (before after : Ends) (sink : SinkState) (outcome : Outcome) (status : Status) → before.source.left ≡ Some input
-    → (serves : ServesDesk files before after outcome) → Told outcome after.sink sink status
-    → TellsOf files serves.opened input before (record { source = after.source; sink = sink; disk = after.disk }) (code_of status)
-session_headline files input before after sink outcome status left serves told =
+session_headline : (feeds : FeedTexts) (files : AirportFiles) (input : List ℕ) (before after : Ends) (sink : SinkState) (outcome : Outcome) (status : Status) → before.source.left ≡ Some input
+    → (serves : ServesDesk feeds files before after outcome) → Told outcome after.sink sink status
+    → TellsOf feeds files serves.opened input before (record { source = after.source; sink = sink; disk = after.disk }) (code_of status)
+session_headline feeds files input before after sink outcome status left serves told =
     let session = serves.session in
     let done = session.done in
     let start : PortState = begun serves.opened before.disk.faults in
@@ -136,16 +138,16 @@ session_headline files input before after sink outcome status left serves told =
     let written : List ℕ = texts_of files.airport done.sents ++ session.written in
     let all = wrote_both (is_write_fault outcome) told.failed before.sink after.sink sink written told.tail session.wrote told.wrote in
     let carried : Carried = record { input = input; left = more.rest; output = written ++ told.tail } in
-    let met : Meets files.airport start carried (status_of_outcome outcome) serves.port =
-    session_meets files.airport start input session.taken more.rest more.front done session.served serves.port session.splits session.stay session.runs
+    let met : Meets feeds files.airport start carried (status_of_outcome outcome) serves.port =
+    session_meets feeds files.airport start input session.taken more.rest more.front done session.served serves.port session.splits session.stay session.runs
     outcome session.last session.written told.tail session.ends (subst (IsRead outcome) more.is session.read) session.count session.last_written told.end in
     let opens = serves.opens in (
       more.rest,
       written ++ told.tail,
       more.is,
       all.told,
-      subst (λ (s : Status). Headline files serves.opened before.disk after.disk carried (code_of s)) (sym told.status_is)
-          (headline_of files serves.opened before.disk after.disk carried (status_of_outcome outcome) serves.port opens.legal met serves.spent serves.faults serves.keeps),
+      subst (λ (s : Status). Headline feeds files serves.opened before.disk after.disk carried (code_of s)) (sym told.status_is)
+          (headline_of feeds files serves.opened before.disk after.disk carried (status_of_outcome outcome) serves.port opens.legal met serves.spent serves.faults serves.keeps),
     )
 
 -- the headline where there is no journal to work on
@@ -170,15 +172,15 @@ unopened_headline files before after sink why status finds (inr (is, (count, wro
 }
 
 -- the headline of a run on a journal, by what was met there
-met_tells : (files : AirportFiles) (before after : Ends) (sink : SinkState) (met : Result Outcome Unusable) (status : Status) → MeetsDesk files before after met
-    → TellsMet met after.sink sink status → TellsFoundHeadline (Ok files) before (record { source = after.source; sink = sink; disk = after.disk }) (code_of status)
-met_tells files before after sink (Ok outcome) status serves tells = inl (record {
+met_tells : (feeds : FeedTexts) (files : AirportFiles) (before after : Ends) (sink : SinkState) (met : Result Outcome Unusable) (status : Status) → MeetsDesk feeds files before after met
+    → TellsMet met after.sink sink status → TellsFoundHeadline feeds (Ok files) before (record { source = after.source; sink = sink; disk = after.disk }) (code_of status)
+met_tells feeds files before after sink (Ok outcome) status serves tells = inl (record {
   opened = serves.opened;
   opens = serves.opens;
-  tells = if_some before.source.left (λ input. TellsOf files serves.opened input before (record { source = after.source; sink = sink; disk = after.disk }) (code_of status))
-      (λ input left. session_headline files input before after sink outcome status left serves (told outcome after.sink sink status tells));
+  tells = if_some before.source.left (λ input. TellsOf feeds files serves.opened input before (record { source = after.source; sink = sink; disk = after.disk }) (code_of status))
+      (λ input left. session_headline feeds files input before after sink outcome status left serves (told outcome after.sink sink status tells));
 })
-met_tells files before after sink (Err why) status finds tells = inr (unopened_headline files before after sink why status finds tells)
+met_tells feeds files before after sink (Err why) status finds tells = inr (unopened_headline files before after sink why status finds tells)
 
 -- the headline where the files have a fault
 early_tells : (fault : FilesFault) (before after : Ends) (status : Status) → after.source ≡ before.source → after.disk ≡ before.disk → TellsFault fault before.sink after.sink status
@@ -194,21 +196,21 @@ early_tells fault before after status source disk (inr (is, (count, wrote))) =
     record { code_is = ap code_of is; source = source; disk = disk; count = count; wrote = wrote.told }
 
 -- the headline of what was found in the two files
-found_tells : (found : Result AirportFiles FilesFault) (before after : Ends) (status : Status) → RunsFound found before after status
-    → TellsFoundHeadline found before after (code_of status)
-found_tells (Ok files) before after status runs =
-    met_tells files before (record { source = after.source; sink = runs.sink; disk = after.disk }) after.sink runs.met status runs.meets runs.tells
-found_tells (Err fault) before after status (source, disk, tells) = early_tells fault before after status source disk tells
+found_tells : (feeds : FeedTexts) (found : Result AirportFiles FilesFault) (before after : Ends) (status : Status) → RunsFound feeds found before after status
+    → TellsFoundHeadline feeds found before after (code_of status)
+found_tells feeds (Ok files) before after status runs =
+    met_tells feeds files before (record { source = after.source; sink = runs.sink; disk = after.disk }) after.sink runs.met status runs.meets runs.tells
+found_tells feeds (Err fault) before after status (source, disk, tells) = early_tells fault before after status source disk tells
 
 -- the headline of a run
-run_headline : (airport types : List ℕ) (before after : World) (status : Status) → RunsDesk airport types before after status
-    → TellsHeadline airport types before after (code_of status)
-run_headline airport types before after status runs =
-    record { found = runs.found; finds = runs.finds; tells = found_tells runs.found (ends_of before) (ends_of after) status runs.runs }
+run_headline : (feeds : FeedTexts) (airport types : List ℕ) (before after : World) (status : Status) → RunsDesk feeds airport types before after status
+    → TellsHeadline feeds airport types before after (code_of status)
+run_headline feeds airport types before after status runs =
+    record { found = runs.found; finds = runs.finds; tells = found_tells feeds runs.found (ends_of before) (ends_of after) status runs.runs }
 
 -- the headline of a run that is asked a session
-pub asked_headline : (asked : Asked) (airport types : List ℕ) (before after : World) (code : ℕ) → asked ≡ desk_asked airport types → RunsAs asked before after code
-    → TellsHeadline airport types before after code
-asked_headline asked airport types before after code is runs =
-    let desk : RunsAs (desk_asked airport types) before after code = subst (λ (a : Asked). RunsAs a before after code) is runs in
-    subst (TellsHeadline airport types before after) (sym desk.code_is) (run_headline airport types before after desk.status desk.does)
+pub asked_headline : (feeds : FeedTexts) (asked : Asked) (airport types : List ℕ) (before after : World) (code : ℕ) → asked ≡ desk_asked airport types → RunsAs feeds asked before after code
+    → TellsHeadline feeds airport types before after code
+asked_headline feeds asked airport types before after code is runs =
+    let desk : RunsAs feeds (desk_asked airport types) before after code = subst (λ (a : Asked). RunsAs feeds a before after code) is runs in
+    subst (TellsHeadline feeds airport types before after) (sym desk.code_is) (run_headline feeds airport types before after desk.status desk.does)

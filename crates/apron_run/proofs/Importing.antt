@@ -13,6 +13,7 @@ use Rattle.journal_disk.specs.Disk.{DiskState}
 use Rattle.apron_check.specs.Files.{Finds, is_shelf_fault as is_shelf_found}
 use Rattle.apron_check.specs.declared.files.AirportFiles.{AirportFiles}
 use Rattle.apron_check.specs.declared.faults.FilesFault.{FilesFault}
+use Rattle.desk_turns.specs.Watched.{FeedTexts}
 use Rattle.apron_run.specs.Asking.{AsksSeason, MeetsAll, Reached, Stops, StopsAmong, reached, record_behind}
 use Rattle.apron_run.specs.Crash.{ImportsOnJournalLeaving, MeetsImportLeaving}
 use Rattle.apron_run.specs.Import.{Around, AsksFound, FindsSeason, HasCause, ImportsFound, ImportsSeason, MeetsImport, Stores, TellsMet, around, around_at, begun, is_shelf_fault as is_shelf_read, stores_at}
@@ -172,9 +173,9 @@ season_imported tells files season before after board left imported opened (foun
     }
 
 -- a run of the word, from before the two files were read
-module _ (airport types season : List ℕ) (before after : World) (status : Status) (source : after.source ≡ before.source) where
+module _ {feeds : FeedTexts} (airport types season : List ℕ) (before after : World) (status : Status) (source : after.source ≡ before.source) where
   found_as : (found : Result AirportFiles FilesFault) (mid : ShelfState) → Finds before.shelf mid airport types found
-      → ImportsFound found season (around mid before) (around after.shelf after) status → RunsAs (import_asked airport types season) before after (code_of status)
+      → ImportsFound found season (around mid before) (around after.shelf after) status → RunsAs feeds (import_asked airport types season) before after (code_of status)
   found_as (Ok files) mid finds imports =
       let counts : CountsImport status (around mid before) (around after.shelf after) =
       met_as files season (around mid before) (around after.shelf after) imports.met status imports.meets imports.tells in
@@ -190,10 +191,10 @@ module _ (airport types season : List ℕ) (before after : World) (status : Stat
       (record { found = Err fault; shelf = mid; finds = finds; imports = (same, tells) }) counted.disk
 
   pub import_as : ((found : Result AirportFiles FilesFault) × (mid : ShelfState) × Finds before.shelf mid airport types found
-      × ImportsFound found season (around mid before) (around after.shelf after) status) → RunsAs (import_asked airport types season) before after (code_of status)
+      × ImportsFound found season (around mid before) (around after.shelf after) status) → RunsAs feeds (import_asked airport types season) before after (code_of status)
   import_as (found, mid, finds, imports) = found_as found mid finds imports
 
--- an import after which it was told how it ended, and its disk given back
+-- an import after which a line said how it ended, and its disk was given back
 pub told_leaving : {D : Type 0} (state : D → DiskState) {files : AirportFiles} {season : List ℕ} {shelf now : ShelfState} {before after : SinkState} {old left new : D}
     {status : Status} (met : Result Imported Unusable)
     → MeetsImportLeaving (record { before = state old; after = state left }) files season (stores_at shelf (state old)) (stores_at now (state left)) met

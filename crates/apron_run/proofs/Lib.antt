@@ -1,3 +1,4 @@
+pub mod Feeding
 pub mod Calls
 pub mod Disks
 pub mod Headers

@@ -8,6 +8,7 @@ use Rattle.apron_check.specs.Files.{Finds, is_shelf_fault as is_shelf_found}
 use Rattle.apron_check.specs.declared.files.AirportFiles.{AirportFiles}
 use Rattle.apron_check.specs.declared.faults.FilesFault.{FilesFault}
 use Rattle.apron_check.specs.declared.faults.FilesFault.TheVariants as files
+use Rattle.desk_turns.specs.Watched.{FeedTexts}
 use Rattle.apron_run.specs.Check.{TellsFound}
 use Rattle.apron_run.specs.Init.{InitsJournal, Makes, MakesJournal, TellsMade}
 use Rattle.apron_run.specs.Make.{TellsDay}
@@ -28,9 +29,9 @@ found_as (Ok files) before after status disk tells = text_counted before after s
 found_as (Err fault) before after status disk tells = fault_counted before after status fault disk tells
 
 -- a run of the word `check`
-pub check_as : (airport types : List ℕ) (before after : World) (status : Status) → after.source ≡ before.source → after.disk ≡ before.disk
+pub check_as : {feeds : FeedTexts} (airport types : List ℕ) (before after : World) (status : Status) → after.source ≡ before.source → after.disk ≡ before.disk
     → ((found : Result AirportFiles FilesFault) × Finds before.shelf after.shelf airport types found × TellsFound found before.sink after.sink status)
-    → RunsAs (check_asked airport types) before after (code_of status)
+    → RunsAs feeds (check_asked airport types) before after (code_of status)
 check_as airport types before after status source disk (found, finds, tells) =
     let counted : Counted (is_shelf_found found) status (outs_of before) (outs_of after) =
     found_as found (outs_of before) (outs_of after) status (ap (λ (d : DiskSeen). d.faults) disk) tells in
@@ -54,8 +55,8 @@ pub makes_counted : (files : AirportFiles) (before after : Outs) (status : Statu
 makes_counted files before after status makes = made_as files before after makes.refused status makes.makes makes.tells
 
 -- a run of the word `init`
-pub init_as : (airport types : List ℕ) (before after : World) (status : Status) → after.source ≡ before.source → InitsJournal airport types before after status
-    → RunsAs (init_asked airport types) before after (code_of status)
+pub init_as : {feeds : FeedTexts} (airport types : List ℕ) (before after : World) (status : Status) → after.source ≡ before.source → InitsJournal airport types before after status
+    → RunsAs feeds (init_asked airport types) before after (code_of status)
 init_as airport types before after status =
     files_as MakesJournal (init_asked airport types) airport types before after status (λ files. makes_counted files (outs_of before) (outs_of after) status)
     (λ does. does) (λ counts. counts)
@@ -63,8 +64,8 @@ init_as airport types before after status =
 -- where only the sink was used
 module _ (before after : World) (status : Status) (shelf : after.shelf ≡ before.shelf) (source : after.source ≡ before.source) (disk : after.disk ≡ before.disk) where
   -- a run that is counted so
-  sink_as : (asked : Asked) → Does asked before after status → (Counts (is_disk_fault status) before.disk.faults after.disk.faults
-      → DiskCounts asked status before.disk.faults after.disk.faults) → Counted false status (outs_of before) (outs_of after) → RunsAs asked before after (code_of status)
+  sink_as : {feeds : FeedTexts} (asked : Asked) → Does feeds asked before after status → (Counts (is_disk_fault status) before.disk.faults after.disk.faults
+      → DiskCounts asked status before.disk.faults after.disk.faults) → Counted false status (outs_of before) (outs_of after) → RunsAs feeds asked before after (code_of status)
   sink_as asked does counts counted =
       runs_counted asked false before after status source (ap (λ (s : ShelfState). s.faults) shelf) counted does (counts counted.disk)
 
@@ -76,17 +77,17 @@ module _ (before after : World) (status : Status) (shelf : after.shelf ≡ befor
   day_as visits (inr tells) = fault_counted (outs_of before) (outs_of after) status files.Memory (ap (λ (d : DiskSeen). d.faults) disk) tells
 
   -- a run of the word `make`
-  pub make_as : (visits : ℕ) → TellsDay visits before.sink after.sink status → RunsAs (make_asked visits) before after (code_of status)
+  pub make_as : {feeds : FeedTexts} (visits : ℕ) → TellsDay visits before.sink after.sink status → RunsAs feeds (make_asked visits) before after (code_of status)
   make_as visits tells = sink_as (make_asked visits) tells (λ counts. counts) (day_as visits tells)
 
   -- and of those that print a text
-  pub help_as : Writes help_text Done WriteFault before.sink after.sink status → RunsAs help_asked before after (code_of status)
+  pub help_as : {feeds : FeedTexts} → Writes help_text Done WriteFault before.sink after.sink status → RunsAs feeds help_asked before after (code_of status)
   help_as tells = sink_as help_asked tells (λ counts. counts) (text_as help_text tells)
 
-  pub version_as : Writes version_text Done WriteFault before.sink after.sink status → RunsAs version_asked before after (code_of status)
+  pub version_as : {feeds : FeedTexts} → Writes version_text Done WriteFault before.sink after.sink status → RunsAs feeds version_asked before after (code_of status)
   version_as tells = sink_as version_asked tells (λ counts. counts) (text_as version_text tells)
 
-  pub usage_as : Writes usage_text Usage Usage before.sink after.sink status → RunsAs faulty_asked before after (code_of status)
+  pub usage_as : {feeds : FeedTexts} → Writes usage_text Usage Usage before.sink after.sink status → RunsAs feeds faulty_asked before after (code_of status)
   usage_as tells =
       sink_as faulty_asked tells (λ counts. counts) (line_counted (outs_of before) (outs_of after) status usage_text Usage false
       (record { told = refl; shelf = refl; read = refl }) (ap (λ (d : DiskSeen). d.faults) disk) tells)

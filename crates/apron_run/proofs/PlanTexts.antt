@@ -8,6 +8,7 @@ use Rattle.history_core.specs.History.{replay}
 use Rattle.history_core.proofs.Replay.{replay-airport}
 use Rattle.apron_check.specs.declared.files.AirportFiles.{AirportFiles}
 use Rattle.apron_check.specs.declared.faults.FilesFault.TheVariants.{Memory}
+use Rattle.desk_turns.specs.Watched.{FeedTexts}
 use Rattle.apron_run.specs.Chart.{ChartsDay, ChartsFiles, ChartsNamed, IsChart, day_named}
 use Rattle.apron_run.specs.Export.{ExportsFiles, IsSeason}
 use Rattle.apron_run.specs.PlanText.{MeetsText, PrintsText, TellsText}
@@ -38,15 +39,15 @@ module _ (Answers : AirportParts → List Entry → List ℕ → Type 0) where
   prints_counted files before after status prints = met_counted files before after prints.met status prints.meets prints.tells
 
 -- a run of the word `export`
-pub export_as : (airport types : List ℕ) (before after : World) (status : Status) → after.source ≡ before.source → ExportsFiles airport types before after status
-    → RunsAs (export_asked airport types) before after (code_of status)
+pub export_as : {feeds : FeedTexts} (airport types : List ℕ) (before after : World) (status : Status) → after.source ≡ before.source → ExportsFiles airport types before after status
+    → RunsAs feeds (export_asked airport types) before after (code_of status)
 export_as airport types before after status =
     files_as (PrintsText IsSeason) (export_asked airport types) airport types before after status
     (λ files. prints_counted IsSeason files (outs_of before) (outs_of after) status) (λ does. does) (λ counts. counts)
 
 -- a run of the word `propose`
-pub propose_as : (airport types desk : List ℕ) (draft : ℕ) (before after : World) (status : Status) → after.source ≡ before.source
-    → ProposesFiles airport types desk draft before after status → RunsAs (propose_asked airport types desk draft) before after (code_of status)
+pub propose_as : {feeds : FeedTexts} (airport types desk : List ℕ) (draft : ℕ) (before after : World) (status : Status) → after.source ≡ before.source
+    → ProposesFiles airport types desk draft before after status → RunsAs feeds (propose_asked airport types desk draft) before after (code_of status)
 propose_as airport types desk draft before after status =
     files_as (PrintsText (IsProposed desk draft)) (propose_asked airport types desk draft) airport types before after status
     (λ files. prints_counted (IsProposed desk draft) files (outs_of before) (outs_of after) status) (λ does. does) (λ counts. counts)
@@ -60,8 +61,8 @@ pub chart_counted : (day : List ℕ) (files : AirportFiles) (before after : Outs
 chart_counted day files before after status charts = day_counted files (day_named files.airport day) before after status charts
 
 -- a run of the word `chart`
-pub chart_as : (airport types day : List ℕ) (before after : World) (status : Status) → after.source ≡ before.source → ChartsFiles airport types day before after status
-    → RunsAs (chart_asked airport types day) before after (code_of status)
+pub chart_as : {feeds : FeedTexts} (airport types day : List ℕ) (before after : World) (status : Status) → after.source ≡ before.source → ChartsFiles airport types day before after status
+    → RunsAs feeds (chart_asked airport types day) before after (code_of status)
 chart_as airport types day before after status =
     files_as (ChartsNamed day) (chart_asked airport types day) airport types before after status
     (λ files. chart_counted day files (outs_of before) (outs_of after) status) (λ does. does) (λ counts. counts)

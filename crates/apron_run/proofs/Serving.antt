@@ -1,11 +1,12 @@
 -- A session on a journal: what it begins with, and what it leaves on the disk.
-use Rattle.std.proofs.Common.{◌≡◌, ◌≤◌, ◌+◌, ◌-◌, ◌∙◌, ℕ, true, List, [], ◌∷◌, length, inl, inr, refl, sym, ap, subst, arith, Option, None, Some, Result, Ok, Err}
+use Rattle.std.proofs.Common.{◌≡◌, ◌≤◌, ◌+◌, ◌-◌, ◌∙◌, ℕ, Bool, true, List, [], ◌∷◌, length, inl, inr, refl, sym, ap, subst, arith, Option, None, Some, Ok}
 use Rattle.std.specs.Prelude.{IfSome}
 use Rattle.std.specs.Option.{option_and_then, option_map}
 use Rattle.std.specs.Result.{result_ok}
 use Rattle.std.proofs.lemmas.List.{map-append}
 use Rattle.std.proofs.lemmas.Bool.{eqb-true}
 use Rattle.apron_base.specs.Keeper.{KeeperState, with_last}
+use Rattle.apron_base.specs.Machine.{MachineState}
 use Rattle.apron_rules.specs.declared.parts.AirportParts.{AirportParts}
 use Rattle.desk_words.specs.declared.asks.Entry.{Entry}
 use Rattle.entry_bytes.specs.Entries.{decoded, entry_text}
@@ -17,46 +18,52 @@ use Rattle.history_core.specs.Opening.{next_after, next_from}
 use Rattle.apron_base.specs.declared.outside.Outcome.{Outcome}
 use Rattle.apron_base.specs.declared.outside.Outcome.TheVariants as came
 use Rattle.http_framing.specs.Requests.{Request}
-use Rattle.desk_words.specs.declared.asks.Ask.{Ask}
-use Rattle.desk_words.specs.declared.early.Early.{Early}
-use Rattle.desk_http.specs.Alone.{AloneAsks, AloneHeld, alone_port, numbers_from}
-use Rattle.desk_http.specs.Answers.{Answers, FindsExhausted, Sent, sends}
+use Rattle.desk_http.specs.Alone.{AloneAsks, numbers_from, port_over}
+use Rattle.desk_http.specs.Answers.{Sent, exhausted}
+use Rattle.desk_http.specs.FedSession.{FedSessionOf}
 use Rattle.desk_http.specs.Ports.{PortState}
-use Rattle.desk_http.specs.Routes.{routed}
-use Rattle.desk_http.specs.Session.{EndsAfter, Last, Moment, Progress, SessionOf, nothing, refusal, reply}
+use Rattle.desk_http.specs.Session.{EndsAfter, Last, Moment, Progress, SessionBy, nothing, refusal, reply}
+use Rattle.watch_list.specs.WatchBoards.{WatchHeld, watch_fixed, watch_state}
+use Rattle.watch_list.specs.declared.note.Note.{Note}
+use Rattle.watch_list.specs.declared.watch.Watched.{Watched}
+use Rattle.watch_list.specs.declared.watch_asks.WatchFixed.{WatchFixed}
+use Rattle.desk_turns.specs.Alone.{AloneFeeds, AloneMachine}
+use Rattle.desk_turns.specs.Watched.{FeedTexts, feed_texts, watch_text}
 use Rattle.history_core.specs.declared.opening.OpenFault.TheVariants as entries
 use Rattle.desk_http.proofs.OneDesk.{length-numbers_from}
 use Rattle.history_core.proofs.Keepers.{spells_with}
-use Rattle.journal_disk.specs.Disk.{DiskState, Told}
+use Rattle.journal_disk.specs.Disk.{DiskState, Stays, Told}
 use Rattle.journal_disk.specs.Extent.{Extent, IsCrashSafe, StandsFor, entries_within, entry_at_risk, keeper_of}
 use Rattle.journal_disk.specs.Faults.{OpenFails}
 use Rattle.journal_disk.specs.Header.{digests_in, opening_of}
 use Rattle.journal_disk.specs.declared.fault.JournalFault.{JournalFault}
 use Rattle.journal_disk.specs.declared.fault.JournalFault.TheVariants as journal
 use Rattle.apron_check.specs.declared.files.AirportFiles.{AirportFiles}
-use Rattle.apron_run.specs.Desk.{ServedCounts, ServesDesk, begun, moment}
-use Rattle.apron_run.specs.Journal.{FailsToOpen, Holds, IsOf, IsOpened, KeepsHistory, WhyUnusable}
+use Rattle.apron_run.specs.Desk.{DeskAnswers, ServedCounts, ServesDesk, begun, moment}
+use Rattle.apron_run.specs.Headline.{Sends}
+use Rattle.apron_run.specs.Journal.{FailsToOpen, Holds, IsOf, IsOpened, KeepsHistory, NotOpened, WhyUnusable}
 use Rattle.apron_run.specs.World.{DiskSeen, Ends, seen_of}
 use Rattle.apron_run.specs.Statuses.{may_serve, status_of_outcome}
 use Rattle.apron_run.specs.Unusable.{status_of_unusable}
 use Rattle.apron_run.specs.declared.status.Status.{Status}
 use Rattle.apron_run.specs.declared.unusable.Unusable.{Unusable}
 use Rattle.apron_run.specs.declared.unusable.Unusable.TheVariants.{Journal, Entries}
-use Rattle.apron_run.proofs.Calls.{run_leaves, sent_leaves}
+use Rattle.apron_run.proofs.Calls.{comes_leaves, run_leaves}
 use Rattle.apron_run.proofs.Disks.{if_told, known}
+use Rattle.apron_run.proofs.Feeding.{finds_spent, not_read}
 
 -- the bytes of one entry more
 texts_with : (history : List Entry) (entry : Entry) → with_last (entry_text entry) (entry_texts history) ≡ entry_texts (with_last entry history)
 texts_with history entry = sym (map-append entry_text history (entry ∷ []))
 
--- what is told, or that it is not
+-- what is exposed, or that it is not
 told_or : {A : Type 0} {P : Type 0} (option : Option A) → (option ≡ None → P) → ((value : A) → option ≡ Some value → P) → P
 told_or None none some = none refl
 told_or (Some value) none some = some value refl
 
 module _ (files : AirportFiles) (history : List Entry) (extent : Extent) (disk : DiskState) (legal : IsLegal files.airport history)
     (kept : IsKept files.airport history (keeper_of extent disk)) where
-  -- the entry at risk behind the history
+  -- the entry at risk after the history
   abbrev behind : Option Entry
   behind = entry_behind files.airport (keeper_of extent disk)
 
@@ -110,20 +117,20 @@ module _ (files : AirportFiles) (history : List Entry) (extent : Extent) (disk :
   disk_keeps reads safe of = told_or disk.contents keeps_untold
       (λ bytes is. keeps_told bytes is (known disk.contents (IsOf files.digests) bytes of is) (safe bytes is bytes (reads bytes is)))
 
--- a desk alone that has just begun, over a board that was opened
-pub alone_begun : {K : Type 0} (tells : K → KeeperState) (alone : AloneHeld K) (opened : List Entry) (faults : ℕ) → alone.board.history ≡ opened
-    → alone.board.next ≡ next_after opened → alone.first ≡ next_after opened → (tells alone.board.keeper).at_risk ≡ None
-    → (tells alone.board.keeper).faults ≡ faults → alone_port tells alone ≡ begun opened faults
-alone_begun tells alone opened faults history next first safe count =
+-- a desk alone that has just begun, over a machine that was just made
+pub alone_begun : {Fixed : Type 0} (machine : MachineState Entry Fixed) (first : ℕ) (opened : List Entry) (faults : ℕ) → machine.history ≡ opened
+    → machine.next ≡ next_after opened → first ≡ next_after opened → machine.at_risk ≡ None → machine.faults ≡ faults
+    → port_over first machine ≡ begun opened faults
+alone_begun machine first opened faults history next number safe count =
     let none : next_after opened - next_after opened ≡ 0 = omega arith in
-    rw (history, next, first, safe, count, none) refl
+    rw (history, next, number, safe, count, none) refl
 
 -- the numbers of a desk alone whose next one is the last that there may be are used up
-pub alone_spent : {K : Type 0} (tells : K → KeeperState) (alone : AloneHeld K) → alone.first ≤ call_limit → (alone_port tells alone).spent ≡ true
-    → alone.first + length (alone_port tells alone).calls ≡ call_limit
-alone_spent tells alone below spent =
-    let next : alone.board.next ≡ call_limit = eqb-true alone.board.next call_limit spent in
-    let size : length (numbers_from alone.first (alone.board.next - alone.first)) ≡ alone.board.next - alone.first = length-numbers_from alone.first (alone.board.next - alone.first) in
+pub alone_spent : {Fixed : Type 0} (machine : MachineState Entry Fixed) (first : ℕ) → first ≤ call_limit → (port_over first machine).spent ≡ true
+    → first + length (port_over first machine).calls ≡ call_limit
+alone_spent machine first below spent =
+    let next : machine.next ≡ call_limit = eqb-true machine.next call_limit spent in
+    let size : length (numbers_from first (machine.next - first)) ≡ machine.next - first = length-numbers_from first (machine.next - first) in
     omega arith
 
 -- why a disk isn't opened, by what is seen of it
@@ -149,20 +156,21 @@ stays_on before after same = record {
   faults = let count : after.faults ≡ before.faults = ap (λ (port : PortState). port.faults) same in omega arith;
 }
 
-module _ (airport : AirportParts) where
-  sent_on : (request : Request) (sent : Sent) (served after : PortState) → Answers AloneAsks airport served request (sends sent) after → GoesOn served after
+module _ (feeds : FeedTexts) (airport : AirportParts) where
+  sent_on : (request : Request) (sent : Sent) (served after : PortState) → Sends feeds airport served request sent after → GoesOn served after
   sent_on request sent served after comes =
-      let leaves = sent_leaves airport served after (routed airport request) sent comes in record { first = leaves.first; faults = leaves.faults }
+      let leaves = comes_leaves airport feeds served after request sent comes in record { first = leaves.first; faults = leaves.faults }
 
-  spent_on : (asked : Result Ask Early) (served after : PortState) → FindsExhausted AloneAsks airport served asked after → GoesOn served after
-  spent_on (Err early) served after h = absurd h
-  spent_on (Ok ask) served after h = record {
-    first = ap (λ (port : PortState). port.first) h;
-    faults = let count : after.faults ≡ served.faults = ap (λ (port : PortState). port.faults) h in omega arith;
-  }
+  spent_on : (request : Request) (served after : PortState) → DeskAnswers feeds airport served request exhausted after → GoesOn served after
+  spent_on request served after comes =
+      let finds = finds_spent feeds airport served request after comes in
+      record {
+        first = ap (λ (port : PortState). port.first) finds.exhausted;
+        faults = let count : after.faults ≡ served.faults = ap (λ (port : PortState). port.faults) finds.exhausted in omega arith;
+      }
 
   -- how a session ends
-  ends_on : (outcome : Outcome) (done : Progress) (last : Last) (served after : PortState) → EndsAfter (Answers AloneAsks airport) outcome done last served after
+  ends_on : (outcome : Outcome) (done : Progress) (last : Last) (served after : PortState) → EndsAfter (DeskAnswers feeds airport) outcome done last served after
       → GoesOn served after
   ends_on came.Ended done nothing served after ends = stays_on served after ends.1
   ends_on came.Cut done nothing served after ends = stays_on served after ends.1
@@ -172,52 +180,60 @@ module _ (airport : AirportParts) where
   ends_on came.Closed done (reply request sent) served after (closing, first) = sent_on request sent served after first.comes
   ends_on came.WriteFault done (reply request sent) served after first = sent_on request sent served after first.comes
   ends_on came.WriteFault done (refusal why) served after ends = stays_on served after ends.1
-  ends_on came.Memory done nothing served after (inl (request, first)) = stays_on served after first.comes.1
+  ends_on came.Memory done nothing served after (inl (request, first)) = stays_on served after (not_read feeds airport served request after first.comes).1
   ends_on came.Memory done nothing served after (inr (none, same)) = stays_on served after same
-  ends_on came.Spent done nothing served after (request, first) = spent_on (routed airport request) served after first.comes
+  ends_on came.Spent done nothing served after (request, first) = spent_on request served after first.comes
   ends_on other done last served after ends = absurd ends.0
 
   -- a whole session
-  pub session_on : (before after : Moment) (outcome : Outcome) → SessionOf AloneAsks airport before after outcome → GoesOn before.port after.port
+  pub session_on : (before after : Moment) (outcome : Outcome) → SessionBy (DeskAnswers feeds airport) airport before after outcome
+      → GoesOn before.port after.port
   session_on before after outcome session =
       let done = session.done in
-      let leaves = run_leaves airport before.port session.served done.requests done.sents session.runs in
+      let leaves = run_leaves airport feeds before.port session.served done.requests done.sents session.runs in
       let ends : GoesOn session.served after.port = ends_on outcome done session.last session.served after.port session.ends in
       let first : before.port.faults ≤ session.served.faults = leaves.faults in
       let last : session.served.faults ≤ after.port.faults = ends.faults in
       record { first = ends.first ∙ leaves.first; faults = omega arith }
 
 -- a session lowers no count
-serves_count : (files : AirportFiles) (before after : Ends) (outcome : Outcome) → ServesDesk files before after outcome → before.disk.faults ≤ after.disk.faults
-serves_count files before after outcome serves =
+serves_count : (feeds : FeedTexts) (files : AirportFiles) (before after : Ends) (outcome : Outcome) → ServesDesk feeds files before after outcome
+    → before.disk.faults ≤ after.disk.faults
+serves_count feeds files before after outcome serves =
     let on : GoesOn (begun serves.opened before.disk.faults) serves.port =
-    session_on files.airport (moment before (begun serves.opened before.disk.faults)) (moment after serves.port) outcome serves.session in
+    session_on feeds files.airport (moment before (begun serves.opened before.disk.faults)) (moment after serves.port) outcome serves.session in
     let least : before.disk.faults ≤ serves.port.faults = on.faults in
     let counted : serves.port.faults ≡ after.disk.faults = serves.faults in
     omega arith
 
--- a session of a desk alone over a board that was opened, with the disk that was closed behind it
-abbrev pub desk_serves : {K : Type 0} (tells : K → KeeperState) (files : AirportFiles) (before after : Ends) (board : BoardHeld K) (start done : AloneHeld K) (outcome : Outcome)
-    → IsOpened tells files before.disk board → start.board ≡ board → start.first ≡ board.next
-    → SessionOf AloneAsks start.board.airport (moment before (alone_port tells start)) (moment after (alone_port tells done)) outcome
-    → done.board.airport ≡ start.board.airport → after.disk.faults ≡ (tells done.board.keeper).faults
-    → KeepsHistory (record { airport = done.board.airport; digests = files.digests }) done.board.history
-    (entry_behind done.board.airport (tells done.board.keeper)) after.disk
-    → ServesDesk files before after outcome
-desk_serves {K} tells files before after board start done outcome opened begins first session airport counted keeps =
-    let is : start.board.airport ≡ files.airport = ap (λ (b : BoardHeld K). b.airport) begins ∙ opened.airport_is in
-    let number : start.first ≡ next_after board.history = first ∙ opened.next in
-    let next : start.board.next ≡ next_after board.history = ap (λ (b : BoardHeld K). b.next) begins ∙ opened.next in
-    let count : (tells start.board.keeper).faults ≡ before.disk.faults = ap (λ (b : BoardHeld K). (tells b.keeper).faults) begins ∙ opened.faults in
-    let safe : (tells start.board.keeper).at_risk ≡ None = ap (λ (b : BoardHeld K). (tells b.keeper).at_risk) begins ∙ opened.at_risk in
-    let fresh : alone_port tells start ≡ begun board.history before.disk.faults =
-    alone_begun tells start board.history before.disk.faults (ap (λ (b : BoardHeld K). b.history) begins) next number safe count in
-    let here : SessionOf AloneAsks files.airport (moment before (alone_port tells start)) (moment after (alone_port tells done)) outcome =
-    subst (λ (a : AirportParts). SessionOf AloneAsks a (moment before (alone_port tells start)) (moment after (alone_port tells done)) outcome) is session in
-    let whole : SessionOf AloneAsks files.airport (moment before (begun board.history before.disk.faults)) (moment after (alone_port tells done)) outcome =
-    subst (λ (p : PortState). SessionOf AloneAsks files.airport (moment before p) (moment after (alone_port tells done)) outcome) fresh here in
-    let on : GoesOn (begun board.history before.disk.faults) (alone_port tells done) =
-    session_on files.airport (moment before (begun board.history before.disk.faults)) (moment after (alone_port tells done)) outcome whole in
+-- a session of a desk alone over a board that was opened and got these watches, with the disk that was closed after it
+abbrev pub desk_serves : {K R : Type 0} (tells : K → KeeperState) (shows : R → Note → Bool) (watches : List (Watched R)) (files : AirportFiles) (before after : Ends)
+    (board : BoardHeld K) (start done : AloneMachine (WatchHeld K R)) (outcome : Outcome) → IsOpened tells files before.disk board
+    → start.machine ≡ record { board = board; watches = watches; next = board.next } → start.first ≡ board.next
+    → FedSessionOf AloneAsks (AloneFeeds (watch_text shows (watch_fixed start.machine))) start.machine.board.airport
+    (moment before (port_over start.first (watch_state tells start.machine))) (moment after (port_over done.first (watch_state tells done.machine))) outcome
+    → watch_fixed done.machine ≡ watch_fixed start.machine → after.disk.faults ≡ (tells done.machine.board.keeper).faults
+    → KeepsHistory (record { airport = done.machine.board.airport; digests = files.digests }) done.machine.board.history
+    (entry_behind done.machine.board.airport (tells done.machine.board.keeper)) after.disk
+    → ServesDesk (feed_texts shows watches) files before after outcome
+desk_serves {K} {R} tells shows watches files before after board start done outcome opened begins first session fixed counted keeps =
+    let feeds : FeedTexts = feed_texts shows watches in
+    let fresh : WatchHeld K R = record { board = board; watches = watches; next = board.next } in
+    let last : Moment = moment after (port_over done.first (watch_state tells done.machine)) in
+    let safe : entry_behind board.airport (tells board.keeper) ≡ None = ap (option_and_then (λ text. result_ok (decoded board.airport text))) opened.at_risk in
+    let port_is : port_over start.first (watch_state tells fresh) ≡ begun board.history before.disk.faults =
+    alone_begun (watch_state tells fresh) start.first board.history before.disk.faults refl opened.next (first ∙ opened.next) safe opened.faults in
+    let made : SessionBy (DeskAnswers feeds board.airport) board.airport (moment before (port_over start.first (watch_state tells fresh))) last outcome =
+    subst (λ (m : WatchHeld K R). FedSessionOf AloneAsks (AloneFeeds (watch_text shows (watch_fixed m))) m.board.airport
+    (moment before (port_over start.first (watch_state tells m))) last outcome) begins session in
+    let here : SessionBy (DeskAnswers feeds board.airport) board.airport (moment before (begun board.history before.disk.faults)) last outcome =
+    subst (λ (p : PortState). SessionBy (DeskAnswers feeds board.airport) board.airport (moment before p) last outcome) port_is made in
+    let whole : SessionBy (DeskAnswers feeds files.airport) files.airport (moment before (begun board.history before.disk.faults)) last outcome =
+    subst (λ (a : AirportParts). SessionBy (DeskAnswers feeds a) a (moment before (begun board.history before.disk.faults)) last outcome) opened.airport_is here in
+    let on : GoesOn (begun board.history before.disk.faults) (port_over done.first (watch_state tells done.machine)) =
+    session_on feeds files.airport (moment before (begun board.history before.disk.faults)) last outcome whole in
+    let airport : done.machine.board.airport ≡ files.airport =
+    ap (λ (f : WatchFixed R). f.airport) (fixed ∙ ap watch_fixed begins) ∙ opened.airport_is in
     let opens = opened.opens in
     let legal : IsLegal files.airport board.history = opens.legal in
     let below : next_after board.history ≤ call_limit = next_below 1 call_limit board.history legal.numbers in
@@ -225,15 +241,26 @@ desk_serves {K} tells files before after board start done outcome opened begins 
     record {
       opened = board.history;
       opens = opened.opens;
-      port = alone_port tells done;
+      port = port_over done.first (watch_state tells done.machine);
       session = whole;
-      spent = alone_spent tells done (omega arith);
+      spent = alone_spent (watch_state tells done.machine) done.first (omega arith);
       faults = sym counted;
-      keeps = subst (λ (a : AirportParts).
-          KeepsHistory (record { airport = a; digests = files.digests }) done.board.history (alone_port tells done).at_risk after.disk) (airport ∙ is) keeps;
+      keeps = subst (λ (a : AirportParts). KeepsHistory (record { airport = a; digests = files.digests }) done.machine.board.history
+          (entry_behind done.machine.board.airport (tells done.machine.board.keeper)) after.disk) airport keeps;
     }
 
--- what a session is told with
+-- a board that was opened, and no memory for its notes: nothing was written
+pub unwatched : {K : Type 0} (tells : K → KeeperState) (files : AirportFiles) (before after : DiskState) (board : BoardHeld K)
+    → IsOpened tells files (seen_of before) board → Stays before after → after.faults ≡ (tells board.keeper).faults
+    → NotOpened files (seen_of before) (seen_of after) (Entries entries.Memory)
+unwatched tells files before after board opened stays counted =
+    let opens = opened.opens in
+    record {
+      reads = stays.contents;
+      cause = (entry_texts board.history, record { opening = opens.entries; counts = counted ∙ opened.faults }, tt);
+    }
+
+-- a status before which a session may have come
 may_tell : (status : Status) (before now : ℕ) → may_serve status ≡ true → before ≤ now → ServedCounts status before now
 may_tell status before now may least = rw may least
 
@@ -242,11 +269,11 @@ outcomes_may : (outcome : Outcome) → may_serve (status_of_outcome outcome) ≡
 outcomes_may came.Memory = refl
 outcomes_may outcome = refl
 
--- the counts of a session that is told so
-pub session_counts : (files : AirportFiles) (before after : Ends) (outcome : Outcome) (status : Status) → ServesDesk files before after outcome
+-- the counts of a session that ends with this status
+pub session_counts : (feeds : FeedTexts) (files : AirportFiles) (before after : Ends) (outcome : Outcome) (status : Status) → ServesDesk feeds files before after outcome
     → status ≡ status_of_outcome outcome → ServedCounts status before.disk.faults after.disk.faults
-session_counts files before after outcome status serves is =
-    may_tell status before.disk.faults after.disk.faults (ap may_serve is ∙ outcomes_may outcome) (serves_count files before after outcome serves)
+session_counts feeds files before after outcome status serves is =
+    may_tell status before.disk.faults after.disk.faults (ap may_serve is ∙ outcomes_may outcome) (serves_count feeds files before after outcome serves)
 
 -- the counts where there was no journal to work on
 pub why_counts : (files : AirportFiles) (before after : DiskSeen) (why : Unusable) → WhyUnusable files before after why

@@ -22,18 +22,18 @@ use Rattle.desk_words.specs.declared.early.Early.{Early}
 use Rattle.history_core.specs.History.{call_limit}
 use Rattle.history_core.specs.Opening.{next_after}
 use Rattle.desk_http.specs.Alone.{AloneAsks, numbers_from}
-use Rattle.desk_http.specs.Answers.{Answers, FindsExhausted, SendsFor, Sent, at_once, fed, given}
-use Rattle.desk_http.specs.Complete.{AnswersEach, ComesToEnd, IsUnhindered}
+use Rattle.desk_http.specs.Answers.{SendsFor, Sent, at_once, fed, given}
+use Rattle.desk_http.specs.Complete.{AnswersEachBy, ComesToEnd, IsUnhindered}
 use Rattle.desk_http.specs.Ports.{PortState}
-use Rattle.desk_http.specs.Routes.{routed}
 use Rattle.desk_http.specs.Runs.{Runs}
-use Rattle.desk_http.specs.Session.{EndsAfter, Last, Moment, SessionOf, most_requests, nothing, refusal, reply}
-use Rattle.desk_http.proofs.Complete.{GoesOnBehind, listed_behind, sessions_complete}
+use Rattle.desk_http.specs.Session.{EndsAfter, Last, Moment, SessionBy, most_requests, nothing, refusal, reply}
+use Rattle.desk_turns.specs.Watched.{FeedTexts}
+use Rattle.desk_http.proofs.Complete.{GoesOnBehind, listed_behind, sessions_complete_by}
 use Rattle.desk_http.proofs.OneDesk.{length-numbers_from}
 use Rattle.apron_check.specs.declared.files.AirportFiles.{AirportFiles}
 use Rattle.apron_run.specs.Complete.{EndsInTime, HasFiles, HasInput, HasJournal, NoneFails, count_of_asks}
-use Rattle.apron_run.specs.Desk.{MeetsDesk, RunsDesk, RunsFound, ServesDesk, TellsMet, TellsOutcome, begun, moment}
-use Rattle.apron_run.specs.Headline.{Sends, is_given}
+use Rattle.apron_run.specs.Desk.{DeskAnswers, MeetsDesk, RunsDesk, RunsFound, ServesDesk, TellsMet, TellsOutcome, begun, moment}
+use Rattle.apron_run.specs.Headline.{Sends, is_given, takes_number}
 use Rattle.apron_run.specs.Statuses.{status_of_outcome}
 use Rattle.apron_run.specs.World.{Ends, World, ends_of}
 use Rattle.apron_run.specs.declared.status.Status.{Status}
@@ -42,10 +42,11 @@ use Rattle.apron_run.specs.declared.unusable.Unusable.{Unusable}
 use Rattle.apron_run.proofs.Calls.{Leaves, run_leaves}
 use Rattle.apron_run.proofs.Completing.{Well, goes_well, memory_well, unopened_well}
 use Rattle.apron_run.proofs.Endings.{HasLeft, has_left}
+use Rattle.apron_run.proofs.Feeding.{as_plain, finds_spent}
 use Rattle.apron_run.proofs.Valid.{opened_once, unopened_wants}
 
-module _ (airport : AirportParts) where
-  -- a reply was given by the board exactly where the request asks something of the plan
+module _ (feeds : FeedTexts) (airport : AirportParts) where
+  -- a reply was given by the board exactly where something is asked of the plan
   sent_asks : (before after : PortState) (asked : Result Ask Early) (sent : Sent) → SendsFor AloneAsks airport before asked sent after → is_given sent ≡ is_ok asked
   sent_asks before after (Err early) (at_once sent) h = refl
   sent_asks before after (Err early) (given answer) h = absurd h
@@ -54,36 +55,34 @@ module _ (airport : AirportParts) where
   sent_asks before after (Ok ask) (fed answer) h = absurd h
   sent_asks before after (Ok ask) (given answer) h = refl
 
-  runs_ask : (before after : PortState) (requests : List Request) (sents : List Sent) → Runs (Sends airport) before requests sents after
+  -- or where the request takes a call number
+  comes_ask : (before after : PortState) (request : Request) (sent : Sent) → Sends feeds airport before request sent after
+      → is_given sent ≡ takes_number airport request
+  comes_ask before after request sent comes =
+      let plain = as_plain feeds airport before request sent after comes in
+      sym plain.gives ∙ (sent_asks before after plain.asked plain.like plain.sends_like ∙ plain.asks)
+
+  runs_ask : (before after : PortState) (requests : List Request) (sents : List Sent) → Runs (Sends feeds airport) before requests sents after
       → count_by is_given sents ≡ count_of_asks airport requests
   runs_ask before after [] [] same = refl
   runs_ask before after (request ∷ requests) (sent ∷ sents) (mid, one, rest) =
-      let first : is_given sent ≡ is_ok (routed airport request) = sent_asks before mid (routed airport request) sent one in
+      let first : is_given sent ≡ takes_number airport request = comes_ask before mid request sent one in
       let more : count_by is_given sents ≡ count_of_asks airport requests = runs_ask mid after requests sents rest in
       sum_by-cons (λ (x : Sent). cond (is_given x) 1 0) sent sents
-      ∙ (ap₂ (λ m n. m + n) (ap (λ b. cond b 1 0) first) more ∙ sym (sum_by-cons (λ (x : Request). cond (is_ok (routed airport x)) 1 0) request requests))
+      ∙ (ap₂ (λ m n. m + n) (ap (λ b. cond b 1 0) first) more ∙ sym (sum_by-cons (λ (x : Request). cond (takes_number airport x) 1 0) request requests))
   runs_ask before after [] (sent ∷ sents) h = absurd h
   runs_ask before after (request ∷ requests) [] h = absurd h
 
-  -- requests of which one asks something
-  asks_with : (front : List Request) (request : Request) (back : List Request) → is_ok (routed airport request) ≡ true
+  -- requests of which one takes a call number
+  asks_with : (front : List Request) (request : Request) (back : List Request) → takes_number airport request ≡ true
       → count_of_asks airport front < count_of_asks airport (front ++ request ∷ back)
   asks_with front request back asks =
       let all : count_of_asks airport (front ++ request ∷ back) ≡ count_of_asks airport front + count_of_asks airport (request ∷ back) =
-      sum_by-append (λ (x : Request). cond (is_ok (routed airport x)) 1 0) front (request ∷ back) in
-      let rest : count_of_asks airport (request ∷ back) ≡ cond {A = ℕ} (is_ok (routed airport request)) 1 0 + count_of_asks airport back =
-      sum_by-cons (λ (x : Request). cond (is_ok (routed airport x)) 1 0) request back in
-      let one : cond {A = ℕ} (is_ok (routed airport request)) 1 0 ≡ 1 = ap (λ b. cond {A = ℕ} b 1 0) asks in
+      sum_by-append (λ (x : Request). cond (takes_number airport x) 1 0) front (request ∷ back) in
+      let rest : count_of_asks airport (request ∷ back) ≡ cond {A = ℕ} (takes_number airport request) 1 0 + count_of_asks airport back =
+      sum_by-cons (λ (x : Request). cond (takes_number airport x) 1 0) request back in
+      let one : cond {A = ℕ} (takes_number airport request) 1 0 ≡ 1 = ap (λ b. cond {A = ℕ} b 1 0) asks in
       omega arith
-
-  -- an ask found the port exhausted
-  record FoundSpent (before after : PortState) (asked : Result Ask Early) : Type 0 where
-    pub asks : is_ok asked ≡ true
-    pub left : after ≡ record before { spent = true }
-
-  found_spent : (before after : PortState) (asked : Result Ask Early) → FindsExhausted AloneAsks airport before asked after → FoundSpent before after asked
-  found_spent before after (Err early) h = absurd h
-  found_spent before after (Ok ask) h = record { asks = refl; left = h }
 
 -- the request at the front of some bytes is the first that is listed of them
 first_listed : (bytes : List ℕ) (request : Request) (behind : List ℕ) (listed : List Request) (ending : Ending) → HasRequest bytes request behind → Requests bytes listed ending
@@ -93,11 +92,11 @@ first_listed bytes request behind (first ∷ more) ending whole reads =
     let same = HasRequest-unique bytes request first behind reads.0 whole reads.1 in (more, ap (λ (r : Request). r ∷ more) (sym same.0))
 
 -- no session finds its call numbers used up that has enough of them for its input
-module _ (airport : AirportParts) (before after : Moment) (input : List ℕ) (told : before.source.left ≡ Some input) (listed : List Request) (ending : Ending)
-    (reads : Requests input listed ending) (session : SessionOf AloneAsks airport before after came.Spent) (none : before.port.calls ≡ [])
+module _ (feeds : FeedTexts) (airport : AirportParts) (before after : Moment) (input : List ℕ) (told : before.source.left ≡ Some input) (listed : List Request) (ending : Ending)
+    (reads : Requests input listed ending) (session : SessionBy (DeskAnswers feeds airport) airport before after came.Spent) (none : before.port.calls ≡ [])
     (used : after.port.spent ≡ true → after.port.first + length after.port.calls ≡ call_limit)
     (numbers : before.port.first + count_of_asks airport listed ≤ call_limit) where
-  at_last : (last : Last) → EndsAfter (Answers AloneAsks airport) came.Spent session.done last session.served after.port → ⊥
+  at_last : (last : Last) → EndsAfter (DeskAnswers feeds airport) came.Spent session.done last session.served after.port → ⊥
   at_last nothing (request, first) =
       let done = session.done in
       let served : PortState = session.served in
@@ -110,17 +109,17 @@ module _ (airport : AirportParts) (before after : Moment) (input : List ℕ) (to
       listed_behind input (done.rest ++ more.rest) done.requests listed ending splits session.stay reads in
       let (others, next) = first_listed (done.rest ++ more.rest) request (first.behind ++ more.rest) behind.more ending
       (whole_more done.rest more.rest request first.behind first.first) behind.reads in
-      let found : FoundSpent airport served after.port (routed airport request) = found_spent airport served after.port (routed airport request) first.comes in
+      let found = finds_spent feeds airport served request after.port first.comes in
       let are : listed ≡ done.requests ++ request ∷ others = behind.are ∙ ap (λ (rs : List Request). done.requests ++ rs) next in
       let count : ℕ = count_by is_given done.sents in
-      let leaves : Leaves airport before.port served count = run_leaves airport before.port served done.requests done.sents session.runs in
+      let leaves : Leaves airport before.port served count = run_leaves airport feeds before.port served done.requests done.sents session.runs in
       let calls : served.calls ≡ numbers_from before.port.first (0 + count) = leaves.calls 0 none in
       let made : length served.calls ≡ 0 + count = ap length calls ∙ length-numbers_from before.port.first (0 + count) in
-      let same_calls : length after.port.calls ≡ length served.calls = ap (λ (p : PortState). length p.calls) found.left in
-      let same_first : after.port.first ≡ before.port.first = ap (λ (p : PortState). p.first) found.left ∙ leaves.first in
-      let all : after.port.first + length after.port.calls ≡ call_limit = used (ap (λ (p : PortState). p.spent) found.left) in
-      let asked : count ≡ count_of_asks airport done.requests = runs_ask airport before.port served done.requests done.sents session.runs in
-      let fewer : count_of_asks airport done.requests < count_of_asks airport (done.requests ++ request ∷ others) = asks_with airport done.requests request others found.asks in
+      let same_calls : length after.port.calls ≡ length served.calls = ap (λ (p : PortState). length p.calls) found.exhausted in
+      let same_first : after.port.first ≡ before.port.first = ap (λ (p : PortState). p.first) found.exhausted ∙ leaves.first in
+      let all : after.port.first + length after.port.calls ≡ call_limit = used (ap (λ (p : PortState). p.spent) found.exhausted) in
+      let asked : count ≡ count_of_asks airport done.requests = runs_ask feeds airport before.port served done.requests done.sents session.runs in
+      let fewer : count_of_asks airport done.requests < count_of_asks airport (done.requests ++ request ∷ others) = asks_with feeds airport done.requests request others found.asks in
       let most : count_of_asks airport listed ≡ count_of_asks airport (done.requests ++ request ∷ others) = ap (count_of_asks airport) are in
       absurd (omega arith)
   at_last (reply request sent) ends = absurd ends.0
@@ -174,12 +173,12 @@ module _ (input : List ℕ) (listed : List Request) where
   comes_to_done other ending requests last reads ends are to = absurd to
 
 -- a session on a journal
-module _ (made : AirportFiles) (history : List Entry) (before after : Ends) (mid : SinkState) (status : Status) (has : HasJournal made before.disk history)
+module _ (feeds : FeedTexts) (made : AirportFiles) (history : List Entry) (before after : Ends) (mid : SinkState) (status : Status) (has : HasJournal made before.disk history)
     (valid : HasInput made.airport before.source history) (source : ¬ (Rose before.source.faults after.source.faults)) (sink : ¬ (Rose before.sink.faults after.sink.faults))
     (disk : ¬ (Rose before.disk.faults after.disk.faults)) where
-  -- that wanted neither memory nor a call number
+  -- that had memory and call numbers enough
   other_well : (outcome : Outcome) → outcome ≢ came.Memory → outcome ≢ came.Spent
-      → ServesDesk made before (record { source = after.source; sink = mid; disk = after.disk }) outcome
+      → ServesDesk feeds made before (record { source = after.source; sink = mid; disk = after.disk }) outcome
       → (after.sink ≡ mid) × (status ≡ status_of_outcome outcome) → Well status
   other_well outcome memory spent serves (same, is) =
       let start : Moment = moment before (begun serves.opened before.disk.faults) in
@@ -190,33 +189,33 @@ module _ (made : AirportFiles) (history : List Entry) (before after : Ends) (mid
         source = source;
         sink = subst (λ (s : SinkState). ¬ (Rose before.sink.faults s.faults)) same sink;
       } in
-      let each : AnswersEach AloneAsks made.airport start end outcome valid.input =
-      sessions_complete AloneAsks made.airport start end outcome serves.session valid.input valid.told free in
+      let each : AnswersEachBy (DeskAnswers feeds made.airport) made.airport start end outcome valid.input =
+      sessions_complete_by (DeskAnswers feeds made.airport) made.airport start end outcome serves.session valid.input valid.told free in
       inl (is ∙ comes_to_done valid.input valid.requests outcome valid.ending each.requests each.last valid.reads valid.ends
       (each.each valid.requests valid.ending valid.reads) each.ends)
 
-  numbers_last : ServesDesk made before (record { source = after.source; sink = mid; disk = after.disk }) came.Spent → ⊥
+  numbers_last : ServesDesk feeds made before (record { source = after.source; sink = mid; disk = after.disk }) came.Spent → ⊥
   numbers_last serves =
       let same : serves.opened ≡ history = opened_once made before.disk after.disk history has serves.opened serves.opens in
-      spent_never made.airport (moment before (begun serves.opened before.disk.faults))
+      spent_never feeds made.airport (moment before (begun serves.opened before.disk.faults))
       (moment (record { source = after.source; sink = mid; disk = after.disk }) serves.port) valid.input valid.told valid.requests valid.ending valid.reads serves.session refl serves.spent
       (subst (λ (es : List Entry). next_after es + count_of_asks made.airport valid.requests ≤ call_limit) (sym same) valid.numbers)
 
-  session_well : (outcome : Outcome) → ServesDesk made before (record { source = after.source; sink = mid; disk = after.disk }) outcome
+  session_well : (outcome : Outcome) → ServesDesk feeds made before (record { source = after.source; sink = mid; disk = after.disk }) outcome
       → TellsOutcome outcome mid after.sink status → Well status
   session_well came.Memory serves tells = memory_well mid after.sink status tells
   session_well came.Spent serves tells = absurd (numbers_last serves)
   session_well other serves tells = other_well other (λ is. cc) (λ is. cc) serves tells
 
-  pub met_well : (met : Result Outcome Unusable) → MeetsDesk made before (record { source = after.source; sink = mid; disk = after.disk }) met
+  pub met_well : (met : Result Outcome Unusable) → MeetsDesk feeds made before (record { source = after.source; sink = mid; disk = after.disk }) met
       → TellsMet met mid after.sink status → Well status
   met_well (Ok outcome) meets tells = session_well outcome meets tells
   met_well (Err why) meets tells = unopened_well why mid after.sink status (unopened_wants made before.disk after.disk history has why meets.disk disk) tells
 
 -- a run of the word `desk`
-pub desk_well : (made : AirportFiles) (history : List Entry) (airport types : List ℕ) (before after : World) (status : Status) → HasFiles before.shelf airport types made
-    → HasJournal made before.disk history → HasInput made.airport before.source history → NoneFails before after → RunsDesk airport types before after status → Well status
-desk_well made history airport types before after status has journal valid free runs =
-    goes_well made before.shelf after.shelf airport types has free.shelf (λ found. RunsFound found (ends_of before) (ends_of after) status) status
-    (λ does. met_well made history (ends_of before) (ends_of after) does.sink status journal valid free.source free.sink free.disk does.met does.meets does.tells)
+pub desk_well : (feeds : FeedTexts) (made : AirportFiles) (history : List Entry) (airport types : List ℕ) (before after : World) (status : Status) → HasFiles before.shelf airport types made
+    → HasJournal made before.disk history → HasInput made.airport before.source history → NoneFails before after → RunsDesk feeds airport types before after status → Well status
+desk_well feeds made history airport types before after status has journal valid free runs =
+    goes_well made before.shelf after.shelf airport types has free.shelf (λ found. RunsFound feeds found (ends_of before) (ends_of after) status) status
+    (λ does. met_well feeds made history (ends_of before) (ends_of after) does.sink status journal valid free.source free.sink free.disk does.met does.meets does.tells)
     (λ does. memory_well before.sink after.sink status does.2) runs.found runs.finds runs.runs

@@ -1,4 +1,4 @@
--- The count of faults over a run of requests: it rises at each one that was told that its entry could not be kept, and at no other.
+-- The count of faults over a run of requests: it rises at each one whose reply says that its entry could not be kept, and at no other.
 use Rattle.std.proofs.Common.{◌≡◌, ◌+◌, ◌∙◌, ℕ, Bool, true, false, List, [], ◌∷◌, sym, ap, subst, arith, Result, Ok, Err}
 use Rattle.std.specs.Prelude.{cond, count_by}
 use Rattle.std.proofs.lemmas.List.Sums.{sum_by-cons}
@@ -10,9 +10,10 @@ use Rattle.desk_words.specs.declared.early.Early.{Early}
 use Rattle.desk_http.specs.Alone.{AloneAsks}
 use Rattle.desk_http.specs.Answers.{Sent, SendsFor, at_once, fed, given}
 use Rattle.desk_http.specs.Ports.{PortState}
-use Rattle.desk_http.specs.Routes.{routed}
 use Rattle.desk_http.specs.Runs.{Runs}
+use Rattle.desk_turns.specs.Watched.{FeedTexts}
 use Rattle.apron_run.specs.Headline.{CountsUnkept, Sends, tells_unkept}
+use Rattle.apron_run.proofs.Feeding.{as_plain}
 
 -- no reply
 counts_none : (before after : ℕ) → after ≡ before → CountsUnkept 0 before after
@@ -46,12 +47,21 @@ module _ (airport : AirportParts) where
   sent_counts before after (Ok ask) (fed answer) h = absurd h
   sent_counts before after (Ok ask) (given answer) (turn, here, next, risk, counts) = counts_one _ before.faults after.faults counts
 
-  -- a run of requests
-  pub run_counts : (before after : PortState) (requests : List Request) (sents : List Sent) → Runs (Sends airport) before requests sents after
-      → CountsUnkept (count_by tells_unkept sents) before.faults after.faults
-  run_counts before after [] [] same = counts_none before.faults after.faults (ap (λ (port : PortState). port.faults) (sym same))
-  run_counts before after (request ∷ requests) (sent ∷ sents) (mid, one, rest) =
-      subst (λ (n : ℕ). CountsUnkept n before.faults after.faults) (sym (sum_by-cons (λ (x : Sent). cond (tells_unkept x) 1 0) sent sents))
-      (counts_both _ _ before.faults mid.faults after.faults (sent_counts before mid (routed airport request) sent one) (run_counts mid after requests sents rest))
-  run_counts before after [] (sent ∷ sents) h = absurd h
-  run_counts before after (request ∷ requests) [] h = absurd h
+  module _ (feeds : FeedTexts) where
+    -- what is sent for one request
+    comes_counts : (before after : PortState) (request : Request) (sent : Sent) → Sends feeds airport before request sent after
+        → CountsUnkept (cond (tells_unkept sent) 1 0) before.faults after.faults
+    comes_counts before after request sent comes =
+        let plain = as_plain feeds airport before request sent after comes in
+        subst (λ (b : Bool). CountsUnkept (cond {A = ℕ} b 1 0) before.faults after.faults) plain.unkept
+        (sent_counts before after plain.asked plain.like plain.sends_like)
+
+    -- a run of requests
+    pub run_counts : (before after : PortState) (requests : List Request) (sents : List Sent) → Runs (Sends feeds airport) before requests sents after
+        → CountsUnkept (count_by tells_unkept sents) before.faults after.faults
+    run_counts before after [] [] same = counts_none before.faults after.faults (ap (λ (port : PortState). port.faults) (sym same))
+    run_counts before after (request ∷ requests) (sent ∷ sents) (mid, one, rest) =
+        subst (λ (n : ℕ). CountsUnkept n before.faults after.faults) (sym (sum_by-cons (λ (x : Sent). cond (tells_unkept x) 1 0) sent sents))
+        (counts_both _ _ before.faults mid.faults after.faults (comes_counts before mid request sent one) (run_counts mid after requests sents rest))
+    run_counts before after [] (sent ∷ sents) h = absurd h
+    run_counts before after (request ∷ requests) [] h = absurd h

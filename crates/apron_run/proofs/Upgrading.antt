@@ -7,6 +7,7 @@ use Rattle.journal_disk.specs.declared.fault.JournalFault.{JournalFault}
 use Rattle.journal_disk.specs.declared.fault.JournalFault.TheVariants as journal
 use Rattle.history_core.specs.declared.opening.OpenFault.TheVariants as entries
 use Rattle.apron_check.specs.declared.files.AirportFiles.{AirportFiles}
+use Rattle.desk_turns.specs.Watched.{FeedTexts}
 use Rattle.apron_run.specs.Complete.{HasFiles}
 use Rattle.apron_run.specs.Run.{RunsAs}
 use Rattle.apron_run.specs.Statuses.{code_of, is_disk_fault}
@@ -44,8 +45,8 @@ pub upgrades_counted : (files : AirportFiles) (before after : Outs) (status : St
 upgrades_counted files before after status upgrades = met_as files before after upgrades.met status upgrades.meets upgrades.tells
 
 -- a run of the word
-pub upgrade_as : (airport types : List ℕ) (before after : World) (status : Status) → after.source ≡ before.source → UpgradesFiles airport types before after status
-    → RunsAs (upgrade_asked airport types) before after (code_of status)
+pub upgrade_as : {feeds : FeedTexts} (airport types : List ℕ) (before after : World) (status : Status) → after.source ≡ before.source → UpgradesFiles airport types before after status
+    → RunsAs feeds (upgrade_asked airport types) before after (code_of status)
 upgrade_as airport types before after status =
     files_as UpgradesJournal (upgrade_asked airport types) airport types before after status (λ files. upgrades_counted files (outs_of before) (outs_of after) status)
     (λ does. does) (λ counts. counts)

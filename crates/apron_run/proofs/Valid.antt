@@ -35,12 +35,12 @@ use Rattle.apron_run.specs.declared.unusable.Unusable.TheVariants.{Journal, Entr
 ok_once : {A E : Type 0} (result : Result A E) (one other : A) → result ≡ Ok one → result ≡ Ok other → one ≡ other
 ok_once result one other is are = cc
 
--- two facts of what is told
+-- two facts of what is exposed
 pub both_told : {A : Type 0} (option : Option A) (P Q : A → Type 0) → IsSome option → IfSome option P → IfSome option Q → (value : A) × P value × Q value
 both_told None P Q told p q = absurd cc
 both_told (Some value) P Q told p q = (value, p, q)
 
--- two lists of bytes that are those of a file that is told
+-- two lists of bytes that are those of a file that is exposed
 pub same_bytes : (file : Option (List ℕ)) (one other : List ℕ) → IsSome file → IfSome file (λ kept. one ≡ kept) → IfSome file (λ kept. other ≡ kept) → one ≡ other
 same_bytes file one other told is are =
     let (kept, first, second) = both_told file (λ kept. one ≡ kept) (λ kept. other ≡ kept) told is are in first ∙ sym second
@@ -79,7 +79,7 @@ module _ (before after : ShelfState) (airport types : List ℕ) (made : AirportF
       let many : max_file < length kept = long in
       absurd (omega arith)
 
-  -- they are found, or memory is wanting, where the shelf doesn't fail
+  -- they are found, or memory has run out, where the shelf doesn't fail
   pub found_well : (found : Result AirportFiles FilesFault) → HasCause before after airport types found → found ≢ Err files.ShelfFault
       → (found ≡ Ok made) ⊎ (found ≡ Err files.Memory)
   found_well (Ok other) cause failed = inl (ap Ok (made_once other cause))
@@ -108,7 +108,7 @@ read_once airport (text ∷ texts) (x ∷ xs) (y ∷ ys) is are =
     let two : map (decoded airport) texts ≡ map Ok ys = cc in
     ap₂ (λ e es. e ∷ es) head (read_once airport texts xs ys one two)
 
--- an entry of a history that entries are read as, behind those that the first of them are read as
+-- an entry of a history that entries are read as, after those that the first of them are read as
 record IsReadNext (airport : AirportParts) (bytes : List ℕ) (before history : List Entry) : Type 0 where
   pub entry : Entry
   pub rest : List Entry
@@ -186,7 +186,7 @@ module _ (made : AirportFiles) (before after : DiskSeen) (history : List Entry) 
       let same : entry_texts history ≡ texts = opens_to_texts texts opening in
       none_stops made.airport texts history (subst (λ (es : List (List ℕ)). Spells made.airport es history) same known.spells) known.legal fault other stops
 
-  -- it is not opened only where memory is wanting, if the disk doesn't fail
+  -- it is not opened only where memory has run out, if the disk doesn't fail
   pub unopened_wants : (why : Unusable) → NotOpened made before after why → ¬ (Rose before.faults after.faults) → status_of_unusable why ≡ Memory
   unopened_wants why finds still = wants why finds.cause
     where

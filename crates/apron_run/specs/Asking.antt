@@ -19,7 +19,7 @@ use Rattle.history_core.specs.Steps.{IsOtherName, IsSameName, Stepped, Steps, ac
 use Rattle.apron_run.specs.declared.imported.Imported.{Imported}
 use Rattle.apron_run.specs.declared.imported.Imported.TheVariants.{Whole, Refused, Full, DiskFault, Spent, Memory}
 
--- what a board has come to: its history, the entry at risk behind it, the number of its next call, and how often its keeper has failed
+-- what a board has come to: its history, the entry at risk after it, the number of its next call, and how often its keeper has failed
 pub record Reached : Type 0 where
   pub history : List Entry
   pub at_risk : Option Entry
@@ -59,7 +59,7 @@ IsMet accepted = Unit {0}
 IsMet (repeated entry) = Unit {0}
 IsMet stepped = ⊥
 
--- the number of the record of a visit that has so many before it: counted from 1 with the header
+-- the number of the record of a visit after these, counted from 1 with the header
 abbrev pub record_behind : List NewVisit → ℕ
 record_behind front = length front + 2
 
@@ -88,7 +88,7 @@ module _ (airport : AirportParts) where
   MeetsAll (new ∷ visits) before after = (mid : Reached) × Meets before new mid × MeetsAll visits mid after
 
   -- why the asks stopped at the visit of the record of this number: another visit has its name; it is new and there is no place for it; the keeper failed at
-  -- its entry, which may be at risk then; there was no call number for it; or memory is wanting. Only the first two are asks that were answered, and none
+  -- its entry, which may be at risk then; there was no call number for it; or memory has run out. Only the first two are asks that were answered, and none
   -- changed the history.
   abbrev pub Stops : ℕ → Reached → NewVisit → Reached → Imported → Type 0
   Stops number at new after (Refused told) = (told ≡ number) × ((other : VisitNo) × Asks at new (refused (name other)) after)
@@ -98,7 +98,7 @@ module _ (airport : AirportParts) where
   Stops number at new after Memory = (after.history ≡ at.history) × (after.faults ≡ at.faults) × NoMoreAtRisk at after
   Stops number at new after imported = ⊥
 
-  -- the visits before one of these were asked and met, and then the asks stopped: those behind it were not asked
+  -- the visits before one of these were asked and met, and then the asks stopped: those after it were not asked
   pub record StopsAmong (visits : List NewVisit) (before after : Reached) (imported : Imported) : Type 0 where
     pub front : List NewVisit
     pub new : NewVisit
@@ -108,7 +108,7 @@ module _ (airport : AirportParts) where
     pub met : MeetsAll front before at
     pub stops : Stops (record_behind front) at new after imported
 
-  -- each visit was asked and met: so many entries came, and as many visits as the others are were there already
+  -- each visit was asked and met: this many entries came, and the other visits, of this number, were there already
   pub record AsksWhole (visits : List NewVisit) (before after : Reached) (added present : ℕ) : Type 0 where
     pub met : MeetsAll visits before after
     pub added_are : length after.history ≡ length before.history + added

@@ -1,6 +1,7 @@
 -- Why a run ends with the status of an end that failed.
 use Rattle.std.specs.Prelude.{◌≡◌, ◌≢◌, ℕ, Bool, true}
 use Rattle.apron_base.specs.Counts.{Rose}
+use Rattle.desk_turns.specs.Watched.{FeedTexts}
 use Rattle.apron_run.specs.Run.{RunsAs}
 use Rattle.apron_run.specs.Statuses.{code_of}
 use Rattle.apron_run.specs.Words.{Asked, uses_disk, uses_shelf, uses_source}
@@ -21,6 +22,6 @@ pub record FaultsHaveCause (asked : Asked) (before after : World) (code : ℕ) :
 
 -- a run whose shelf, source and sink count no fault ends with none of their statuses
 abbrev pub NoFaultIsTold : Type 0
-NoFaultIsTold = (asked : Asked) (before after : World) (code : ℕ) → RunsAs asked before after code
+NoFaultIsTold = (feeds : FeedTexts) (asked : Asked) (before after : World) (code : ℕ) → RunsAs feeds asked before after code
     → after.shelf.faults ≡ 0 → after.source.faults ≡ 0 → after.sink.faults ≡ 0
     → (code ≢ code_of ShelfFault) × (code ≢ code_of ReadFault) × (code ≢ code_of WriteFault)

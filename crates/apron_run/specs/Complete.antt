@@ -1,5 +1,5 @@
--- Completeness: a run that is asked what can be done, and at whose ends nothing fails, does it, or memory is wanting.
-use Rattle.std.specs.Prelude.{◌≡◌, ◌⊎◌, ◌<◌, ◌≤◌, ◌+◌, ℕ, List, ◌∷◌, ◌++◌, length, count_by, is_ok, IsSome, IfSome, None, Some, Ok}
+-- Completeness: a run that is asked what can be done, and at whose ends nothing fails, does it, or memory has run out.
+use Rattle.std.specs.Prelude.{◌≡◌, ◌⊎◌, ◌<◌, ◌≤◌, ◌+◌, ℕ, List, ◌∷◌, ◌++◌, length, count_by, IsSome, IfSome, None, Some, Ok}
 use Rattle.apron_base.specs.Counts.{Rose}
 use Rattle.apron_base.specs.Ends.{SourceState}
 use Rattle.apron_base.specs.Shelf.{ShelfState}
@@ -15,12 +15,12 @@ use Rattle.desk_words.specs.declared.asks.Entry.{Entry}
 use Rattle.history_core.specs.History.{call_limit, replay}
 use Rattle.history_core.specs.Opening.{next_after}
 use Rattle.history_core.specs.Steps.{HasPlace, IsOtherName}
-use Rattle.desk_http.specs.Routes.{routed}
 use Rattle.desk_http.specs.Session.{most_requests}
 use Rattle.apron_check.specs.Files.{Make}
 use Rattle.apron_check.specs.declared.files.AirportFiles.{AirportFiles}
 use Rattle.apron_run.specs.Asking.{MeetsAll, Reached}
 use Rattle.apron_run.specs.Chart.{day_named}
+use Rattle.apron_run.specs.Headline.{takes_number}
 use Rattle.apron_run.specs.Import.{Tells, begun}
 use Rattle.apron_run.specs.Journal.{OpensTo}
 use Rattle.apron_run.specs.Statuses.{code_of}
@@ -45,17 +45,17 @@ pub record HasJournal (files : AirportFiles) (disk : DiskSeen) (history : List E
   pub told : IsSome disk.contents
   pub opens : OpensTo files disk history
 
--- how many of these requests ask something of the plan: each of them takes a call number
+-- how many of these requests take a call number
 abbrev pub count_of_asks : AirportParts → List Request → ℕ
-count_of_asks airport requests = count_by (λ request. is_ok (routed airport request)) requests
+count_of_asks airport requests = count_by (takes_number airport) requests
 
--- an input of so many requests ends between requests, or with one that closes the session, and a session has not answered as many as it may before
+-- an input of this many requests ends between requests, or with one that closes the session, and a session has not answered as many as it may before
 abbrev pub EndsInTime : Ending → ℕ → Type 0
 EndsInTime ended count = count < most_requests
 EndsInTime closed count = count ≤ most_requests
 EndsInTime ending count = ⊥
 
--- the source tells its input, which a session can answer to its end, and the call numbers behind the history are enough for what it asks
+-- the source tells its input, which a session can answer to its end, and the call numbers after the history are enough for what it asks
 pub record HasInput (airport : AirportParts) (source : SourceState) (history : List Entry) : Type 0 where
   pub input : List ℕ
   pub told : source.left ≡ Some input
@@ -65,7 +65,7 @@ pub record HasInput (airport : AirportParts) (source : SourceState) (history : L
   pub ends : EndsInTime ending (length requests)
   pub numbers : next_after history + count_of_asks airport requests ≤ call_limit
 
--- a plan, whose history has so many entries, adds the visit or has it: no visit of the plan has its name with other data, and where none has its name
+-- a plan, whose history has this many entries, adds the visit or has it: no visit of the plan has its name with other data, and where none has its name
 -- there is a place for one more visit and one more entry
 pub record Admits (plan : PlanState) (entries : ℕ) (new : NewVisit) : Type 0 where
   pub name : (visit : Visit) → ¬ (IsOtherName plan new visit)
@@ -116,7 +116,7 @@ pub record NoneFails (before after : World) : Type 0 where
   pub sink : ¬ (Rose before.sink.faults after.sink.faults)
   pub disk : ¬ (Rose before.disk.faults after.disk.faults)
 
--- all was done, or memory was wanting
+-- all was done, or memory ran out
 abbrev pub EndsWell : ℕ → Type 0
 EndsWell code = (code ≡ code_of Done) ⊎ (code ≡ code_of Memory)
 

@@ -2,6 +2,7 @@
 -- own beside what is seen of a disk without a crash.
 use Rattle.std.specs.Prelude.{◌≡◌, ◌≢◌, ℕ, List, length, Option, None, Some, Result, Ok, Err}
 use Rattle.apron_base.specs.declared.outside.Outcome.{Outcome}
+use Rattle.desk_turns.specs.Watched.{FeedTexts}
 use Rattle.journal_disk.specs.Disk.{IsSafe, Stays, Told}
 use Rattle.journal_disk.specs.Header.{empty_journal}
 use Rattle.journal_disk.specs.declared.fault.JournalFault.{JournalFault}
@@ -34,37 +35,6 @@ LeavesMade digests (Some fault) disk =
     Told disk.before (λ bytes. length bytes ≢ 0 → LeavesAll disk)
 
 module _ (disk : DiskStates) where
-  -- a session: its history survives; and where there was no journal to work on, nothing is written
-  abbrev pub LeavesMet : (files : AirportFiles) (before after : Ends) (met : Result Outcome Unusable)
-      → MeetsDesk files before after met → Type 0
-  LeavesMet files before after (Ok outcome) serves =
-      Survives files.digests serves.port.seen serves.port.at_risk disk
-  LeavesMet files before after (Err why) finds = LeavesAll disk
-
-  -- such a session, and what a crash may leave of it
-  abbrev pub MeetsDeskLeaving : AirportFiles → Ends → Ends → Result Outcome Unusable → Type 0
-  MeetsDeskLeaving files before after met =
-      (meets : MeetsDesk files before after met) × LeavesMet files before after met meets
-
-  -- the same where it was told how it ended
-  abbrev pub RunsOnJournalLeaving : AirportFiles → Ends → Ends → Status → Type 0
-  RunsOnJournalLeaving files before after status = (runs : RunsOnJournal files before after status)
-      × LeavesMet files before (record { source = after.source; sink = runs.sink; disk = after.disk })
-      runs.met runs.meets
-
-  -- the same of what was found in the two files, whose fault writes nothing
-  abbrev pub LeavesServed : (found : Result AirportFiles FilesFault) (before after : Ends)
-      (status : Status) → RunsFound found before after status → Type 0
-  LeavesServed (Ok files) before after status runs =
-      LeavesMet files before (record { source = after.source; sink = runs.sink; disk = after.disk })
-      runs.met runs.meets
-  LeavesServed (Err fault) before after status runs = LeavesAll disk
-
-  -- a run of the word `desk`, and what a crash may leave of it
-  abbrev pub RunsDeskLeaving : List ℕ → List ℕ → World → World → Status → Type 0
-  RunsDeskLeaving airport types before after status = (runs : RunsDesk airport types before after status)
-      × LeavesServed runs.found (ends_of before) (ends_of after) status runs.runs
-
   -- an import: the history to which it came survives; and where there was no journal to work on,
   -- nothing is written
   abbrev pub LeavesImported : (files : AirportFiles) (season : List ℕ) (before after : Stores)
@@ -80,7 +50,7 @@ module _ (disk : DiskStates) where
       (meets : MeetsImport files season before after met)
       × LeavesImported files season before after met meets
 
-  -- the same where it was told how it ended
+  -- the same, with what was written of its end
   abbrev pub ImportsOnJournalLeaving : AirportFiles → List ℕ → Around → Around → Status → Type 0
   ImportsOnJournalLeaving files season before after status =
       (imports : ImportsOnJournal files season before after status)
@@ -117,24 +87,57 @@ module _ (disk : DiskStates) where
   InitsFoundLeaving found before after status = (inits : DoesFound MakesJournal found before after status)
       × LeavesNew found before after status inits
 
+-- `feeds` says what the reply to each feed is, by the airport and the history
+module _ (feeds : FeedTexts) (disk : DiskStates) where
+  -- a session: its history survives; and where there was no journal to work on, nothing is written
+  abbrev pub LeavesMet : (files : AirportFiles) (before after : Ends) (met : Result Outcome Unusable)
+      → MeetsDesk feeds files before after met → Type 0
+  LeavesMet files before after (Ok outcome) serves =
+      Survives files.digests serves.port.seen serves.port.at_risk disk
+  LeavesMet files before after (Err why) finds = LeavesAll disk
+
+  -- such a session, and what a crash may leave of it
+  abbrev pub MeetsDeskLeaving : AirportFiles → Ends → Ends → Result Outcome Unusable → Type 0
+  MeetsDeskLeaving files before after met =
+      (meets : MeetsDesk feeds files before after met) × LeavesMet files before after met meets
+
+  -- the same, with what was written of its end
+  abbrev pub RunsOnJournalLeaving : AirportFiles → Ends → Ends → Status → Type 0
+  RunsOnJournalLeaving files before after status = (runs : RunsOnJournal feeds files before after status)
+      × LeavesMet files before (record { source = after.source; sink = runs.sink; disk = after.disk })
+      runs.met runs.meets
+
+  -- the same of what was found in the two files, whose fault writes nothing
+  abbrev pub LeavesServed : (found : Result AirportFiles FilesFault) (before after : Ends)
+      (status : Status) → RunsFound feeds found before after status → Type 0
+  LeavesServed (Ok files) before after status runs =
+      LeavesMet files before (record { source = after.source; sink = runs.sink; disk = after.disk })
+      runs.met runs.meets
+  LeavesServed (Err fault) before after status runs = LeavesAll disk
+
+  -- a run of the word `desk`, and what a crash may leave of it
+  abbrev pub RunsDeskLeaving : List ℕ → List ℕ → World → World → Status → Type 0
+  RunsDeskLeaving airport types before after status = (runs : RunsDesk feeds airport types before after status)
+      × LeavesServed runs.found (ends_of before) (ends_of after) status runs.runs
+
   -- what is done, by what is asked: no other word writes
   abbrev pub Leaves : (asked : Asked) (before after : World) (status : Status)
-      → Does asked before after status → Type 0
+      → Does feeds asked before after status → Type 0
   Leaves (desk airport types) before after status runs =
       LeavesServed runs.found (ends_of before) (ends_of after) status runs.runs
   Leaves (init airport types) before after status inits =
-      LeavesNew inits.found (outs_of before) (outs_of after) status inits.does
+      LeavesNew disk inits.found (outs_of before) (outs_of after) status inits.does
   Leaves (import airport types season) before after status imports =
-      LeavesAdded imports.found season (around imports.shelf before) (around after.shelf after) status
+      LeavesAdded disk imports.found season (around imports.shelf before) (around after.shelf after) status
       imports.imports
   Leaves (upgrade airport types) before after status upgrades =
       LeavesUpgrade disk upgrades.found (outs_of before) (outs_of after) status upgrades.does
   Leaves asked before after status does = LeavesAll disk
 
-  -- what the program does for what is asked of it, the status that its number stands for, and what
+  -- what the program does for what is asked of it, the status of its number, and what
   -- a crash may leave of what it does
   pub record CrashesAs (asked : Asked) (before after : World) (code : ℕ) : Type 0 where
     pub status : Status
     pub code_is : code ≡ code_of status
-    pub does : Does asked before after status
+    pub does : Does feeds asked before after status
     pub leaves : Leaves asked before after status does

@@ -4,12 +4,18 @@ use Rattle.apron_base.specs.Counts.{Counts}
 use Rattle.apron_base.specs.Ends.{SinkState}
 use Rattle.apron_base.specs.declared.outside.Outcome.{Outcome}
 use Rattle.apron_base.specs.declared.outside.Outcome.TheVariants.{Memory}
+use Rattle.apron_rules.specs.declared.parts.AirportParts.{AirportParts}
+use Rattle.http_framing.specs.Requests.{Request}
 use Rattle.desk_words.specs.declared.asks.Entry.{Entry}
 use Rattle.history_core.specs.History.{call_limit}
 use Rattle.history_core.specs.Opening.{next_after}
 use Rattle.desk_http.specs.Alone.{AloneAsks}
+use Rattle.desk_http.specs.Answers.{Answered}
+use Rattle.desk_http.specs.FedSession.{FedAnswers}
 use Rattle.desk_http.specs.Ports.{PortState}
-use Rattle.desk_http.specs.Session.{Moment, SessionOf}
+use Rattle.desk_http.specs.Session.{Moment, SessionBy}
+use Rattle.desk_turns.specs.Alone.{AloneFeeds}
+use Rattle.desk_turns.specs.Watched.{FeedTexts}
 use Rattle.apron_check.specs.Files.{Finds}
 use Rattle.apron_check.specs.declared.files.AirportFiles.{AirportFiles}
 use Rattle.apron_check.specs.declared.faults.FilesFault.{FilesFault}
@@ -31,29 +37,14 @@ moment ends port = record { source = ends.source; sink = ends.sink; port = port 
 abbrev pub begun : List Entry → ℕ → PortState
 begun opened faults = record { first = next_after opened; seen = opened; at_risk = None; calls = []; spent = next_after opened == call_limit; faults = faults }
 
--- One session of a desk alone: it began with the history that the disk opened to, and left the disk with the history as it then was. Where the desk's call
--- numbers were exhausted, all of them have been used.
-pub record ServesDesk (files : AirportFiles) (before after : Ends) (outcome : Outcome) : Type 0 where
-  pub opened : List Entry
-  pub opens : OpensTo files before.disk opened
-  pub port : PortState
-  pub session : SessionOf AloneAsks files.airport (moment before (begun opened before.disk.faults)) (moment after port) outcome
-  pub spent : port.spent ≡ true → port.first + length port.calls ≡ call_limit
-  pub faults : port.faults ≡ after.disk.faults
-  pub keeps : KeepsHistory files port.seen port.at_risk after.disk
-
 -- there is no journal to work on: nothing was taken and nothing written, and the disk reads as before
 pub record FindsNoJournal (files : AirportFiles) (before after : Ends) (why : Unusable) : Type 0 where
   pub source : after.source ≡ before.source
   pub sink : after.sink ≡ before.sink
   pub disk : NotOpened files before.disk after.disk why
 
--- a session on the journal of these files, or why there is none to work on
-abbrev pub MeetsDesk : AirportFiles → Ends → Ends → Result Outcome Unusable → Type 0
-MeetsDesk files before after (Ok outcome) = ServesDesk files before after outcome
-MeetsDesk files before after (Err why) = FindsNoJournal files before after why
-
--- what is written behind a session, and its status: the line that tells want of memory, and nothing behind others
+-- what is written after a session, and its status: the line that says that memory has run out, and
+-- nothing after others
 abbrev pub TellsOutcome : Outcome → SinkState → SinkState → Status → Type 0
 TellsOutcome Memory before after status = TellsFault files.Memory before after status
 TellsOutcome outcome before after status = (after ≡ before) × (status ≡ status_of_outcome outcome)
@@ -63,26 +54,51 @@ abbrev pub TellsMet : Result Outcome Unusable → SinkState → SinkState → St
 TellsMet (Ok outcome) before after status = TellsOutcome outcome before after status
 TellsMet (Err why) before after status = TellsUnusable why before after status
 
--- a session on the journal of these files, or none, and what is told of either
-pub record RunsOnJournal (files : AirportFiles) (before after : Ends) (status : Status) : Type 0 where
-  pub met : Result Outcome Unusable
-  pub sink : SinkState
-  pub meets : MeetsDesk files before (record { source = after.source; sink = sink; disk = after.disk }) met
-  pub tells : TellsMet met sink after.sink status
-
--- what is done with what was found in the two files: a session on their journal; or the line of their fault is written, and the source and the disk are as
--- they were
-abbrev pub RunsFound : Result AirportFiles FilesFault → Ends → Ends → Status → Type 0
-RunsFound (Ok files) before after status = RunsOnJournal files before after status
-RunsFound (Err fault) before after status = (after.source ≡ before.source) × (after.disk ≡ before.disk) × TellsFault fault before.sink after.sink status
-
 -- the disk's count of faults: it may have risen in a session, whose replies then say so; it rose where the status says that the disk failed, and else it
 -- stands still
 abbrev pub ServedCounts : Status → ℕ → ℕ → Type 0
 ServedCounts status before now = MatchBool (may_serve status) (before ≤ now) (Counts (is_disk_fault status) before now)
 
--- the airport file and the type file of these names were read, and this was done with what was found in them
-pub record RunsDesk (airport types : List ℕ) (before after : World) (status : Status) : Type 0 where
-  pub found : Result AirportFiles FilesFault
-  pub finds : Finds before.shelf after.shelf airport types found
-  pub runs : RunsFound found (ends_of before) (ends_of after) status
+-- `feeds` says what the reply to each feed is, by the airport and the history
+module _ (feeds : FeedTexts) where
+  -- what comes of a request to a desk alone at the airport, and its port after it
+  abbrev pub DeskAnswers : AirportParts → PortState → Request → Answered → PortState → Type 0
+  DeskAnswers airport before request answered after =
+      FedAnswers AloneAsks (AloneFeeds (feeds airport)) airport before request answered after
+
+  -- One session with feeds of a desk alone: it began with the history that the disk opened to, and
+  -- left the disk with the history as it then was. Where the desk's call numbers were exhausted, all
+  -- of them have been used.
+  pub record ServesDesk (files : AirportFiles) (before after : Ends) (outcome : Outcome) : Type 0 where
+    pub opened : List Entry
+    pub opens : OpensTo files before.disk opened
+    pub port : PortState
+    pub session : SessionBy (DeskAnswers files.airport) files.airport
+        (moment before (begun opened before.disk.faults)) (moment after port) outcome
+    pub spent : port.spent ≡ true → port.first + length port.calls ≡ call_limit
+    pub faults : port.faults ≡ after.disk.faults
+    pub keeps : KeepsHistory files port.seen port.at_risk after.disk
+
+  -- a session on the journal of these files, or why there is none to work on
+  abbrev pub MeetsDesk : AirportFiles → Ends → Ends → Result Outcome Unusable → Type 0
+  MeetsDesk files before after (Ok outcome) = ServesDesk files before after outcome
+  MeetsDesk files before after (Err why) = FindsNoJournal files before after why
+
+  -- a session on the journal of these files, or none, and what is written of either
+  pub record RunsOnJournal (files : AirportFiles) (before after : Ends) (status : Status) : Type 0 where
+    pub met : Result Outcome Unusable
+    pub sink : SinkState
+    pub meets : MeetsDesk files before (record { source = after.source; sink = sink; disk = after.disk }) met
+    pub tells : TellsMet met sink after.sink status
+
+  -- what is done with what was found in the two files: a session on their journal; or the line of
+  -- their fault is written, and the source and the disk are as they were
+  abbrev pub RunsFound : Result AirportFiles FilesFault → Ends → Ends → Status → Type 0
+  RunsFound (Ok files) before after status = RunsOnJournal files before after status
+  RunsFound (Err fault) before after status = (after.source ≡ before.source) × (after.disk ≡ before.disk) × TellsFault fault before.sink after.sink status
+
+  -- the airport file and the type file of these names were read, and this was done with what was found in them
+  pub record RunsDesk (airport types : List ℕ) (before after : World) (status : Status) : Type 0 where
+    pub found : Result AirportFiles FilesFault
+    pub finds : Finds before.shelf after.shelf airport types found
+    pub runs : RunsFound found (ends_of before) (ends_of after) status

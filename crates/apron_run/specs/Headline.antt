@@ -1,5 +1,5 @@
 -- The headline: what the output of a desk's session, and what it leaves on the disk, are to its input and what it found there.
-use Rattle.std.specs.Prelude.{◌≡◌, ◌⊎◌, ◌<◌, ◌≤◌, ◌↔◌, ◌+◌, ℕ, Bool, true, false, All, List, [], ◌∷◌, ◌++◌, length, take, count_by, Some, IfSome, Result, Ok, Err}
+use Rattle.std.specs.Prelude.{◌≡◌, ◌⊎◌, ◌<◌, ◌≤◌, ◌↔◌, ◌+◌, ℕ, Bool, true, false, All, List, [], ◌∷◌, ◌++◌, length, take, count_by, is_ok, Option, None, Some, IfSome, Result, Ok, Err}
 use Rattle.std.specs.Io.KnownBytes.{Appends}
 use Rattle.apron_base.specs.Counts.{RoseBy}
 use Rattle.http_framing.specs.declared.bodies.Refusal.{Refusal}
@@ -11,23 +11,27 @@ use Rattle.visit_book.specs.declared.visits.NewVisit.{NewVisit}
 use Rattle.plan_core.specs.Drafts.{draft_version}
 use Rattle.desk_words.specs.declared.asks.Ask.{Ask}
 use Rattle.desk_words.specs.declared.asks.Entry.{Entry}
+use Rattle.desk_words.specs.declared.early.Early.{Early}
 use Rattle.history_core.specs.Answer.{keeper_fault}
 use Rattle.history_core.specs.AtRisk.{IsAskedFor}
 use Rattle.history_core.specs.History.{IsLegal, IsSoundPlan, call_limit, call_of, replay}
 use Rattle.history_core.specs.Laws.{HasAdded, HasCommit, HasVisit}
 use Rattle.history_core.specs.Opening.{next_after}
-use Rattle.desk_http.specs.Answers.{Answers, Sent, TakesMemory, at_once, fed, given, sends, sent_text}
-use Rattle.desk_http.specs.Alone.{AloneAsks, numbers_from}
+use Rattle.desk_http.specs.Answers.{Sent, TakesMemory, at_once, fed, given, sends, sent_text}
+use Rattle.desk_http.specs.Alone.{numbers_from}
+use Rattle.desk_http.specs.FedSession.{feed_asked}
 use Rattle.desk_http.specs.Ports.{PortState, is_unkept}
-use Rattle.desk_http.specs.Routes.{routed}
+use Rattle.desk_http.specs.Routes.{routed, said_in}
 use Rattle.desk_http.specs.Runs.{Runs}
 use Rattle.desk_http.specs.Session.{most_requests, refusal_text, texts_of}
+use Rattle.desk_http.specs.declared.port.FeedAsk.{FeedAsk}
+use Rattle.desk_turns.specs.Watched.{FeedTexts}
 use Rattle.apron_check.specs.Files.{Finds}
 use Rattle.apron_check.specs.Lines.{fault_line}
 use Rattle.apron_check.specs.declared.files.AirportFiles.{AirportFiles}
 use Rattle.apron_check.specs.declared.faults.FilesFault.{FilesFault}
 use Rattle.apron_check.specs.declared.faults.FilesFault.TheVariants as files
-use Rattle.apron_run.specs.Desk.{begun}
+use Rattle.apron_run.specs.Desk.{DeskAnswers, begun}
 use Rattle.apron_run.specs.Journal.{KeepsHistory, NotOpened, OpensTo}
 use Rattle.apron_run.specs.Statuses.{code_of, status_of_fault}
 use Rattle.apron_run.specs.Unusable.{status_of_unusable, unusable_line}
@@ -66,19 +70,28 @@ pub record IsUnread (bytes : List ℕ) : Type 0 where
   pub whole : HasRequest bytes request behind
   pub takes : TakesMemory request
 
--- a request stands whole at the front of the bytes that asks something of the plan of the airport
+-- whether something is asked: of a feed if one is named, and else of the plan
+abbrev pub is_asking : Option (Result FeedAsk Early) → Result Ask Early → Bool
+is_asking None asked = is_ok asked
+is_asking (Some feed) asked = is_ok feed
+
+-- whether the request asks something of the plan of the airport, or asks for a feed: then it takes a
+-- call number
+abbrev pub takes_number : AirportParts → Request → Bool
+takes_number airport request = is_asking (feed_asked (said_in request)) (routed airport request)
+
+-- a request stands whole at the front of the bytes that takes a call number
 pub record IsUnasked (airport : AirportParts) (bytes : List ℕ) : Type 0 where
   pub request : Request
   pub behind : List ℕ
   pub whole : HasRequest bytes request behind
-  pub ask : Ask
-  pub asks : routed airport request ≡ Ok ask
+  pub asks : takes_number airport request ≡ true
 
 -- the entries of a history, and then those that came
 abbrev pub GoesOnFrom : List Entry → List Entry → Type 0
 GoesOnFrom opened history = (added : List Entry) × (history ≡ opened ++ added)
 
--- whether a reply was given by the board
+-- whether a reply was given by the board, to an ask or to a feed
 abbrev pub is_given : Sent → Bool
 is_given (at_once reply) = false
 is_given (given answer) = true
@@ -130,8 +143,8 @@ module _ (airport : AirportParts) where
 
   -- Where in its input a session stopped that ended with this status, and what it wrote. With Done, Cut and Malformed it came to the end of the
   -- input's requests, and with Limit it answered as many as it may. With ReadFault it stopped inside a request, with WriteFault at a reply, with Spent
-  -- at a request that asks something of the plan, and with Memory before it took anything or at a request whose body is to be read as JSON; then the
-  -- line that says so was written after the replies, or a front of it.
+  -- at a request that takes a call number, and with Memory before it took anything or at a request whose body is to be read as JSON; then the line that
+  -- says so was written after the replies, or a front of it.
   abbrev pub StopsWith : Status → Carried → Exchange → Type 0
   StopsWith Done carried exchange =
       (GoesOn exchange × Requests carried.input exchange.requests ended ⊎ Requests carried.input exchange.requests closed)
@@ -148,12 +161,8 @@ module _ (airport : AirportParts) where
   StopsWith Spent carried exchange = GoesOn exchange × IsUnasked airport exchange.rest × (carried.output ≡ replies_text exchange)
   StopsWith status carried exchange = ⊥
 
-  -- what is sent for a request, and the port after it
-  abbrev pub Sends : PortState → Request → Sent → PortState → Type 0
-  Sends before request sent after = Answers AloneAsks airport before request (sends sent) after
-
   -- An entry that could not be kept, where the calls of the exchange have the numbers from `first` on: the request at one place of it asked this command as
-  -- the call of this number, and was told so; and all entries of the history are of calls before that, so that none was added since.
+  -- the call of this number, and its reply says so; and all entries of the history are of calls before that, so that none was added since.
   pub record IsUnkept (first : ℕ) (exchange : Exchange) (history : List Entry) (entry : Entry) : Type 0 where
     pub front : List Request
     pub told : List Sent
@@ -177,23 +186,40 @@ module _ (airport : AirportParts) where
   abbrev pub IsOfItsEntry : List Entry → ℕ → NewVisit → Type 0
   IsOfItsEntry history version added = HasVisit (replay airport history).visits version added ↔ HasAdded history version added
 
-module _ (files : AirportFiles) where
-  -- The headline: the requests at the front of the input, a million at most, were answered in order, and the output is the replies, as far as the status
-  -- says, of one legal history that begins with the entries that the journal had. A request that asks nothing of the plan has its fixed reply. Each other
-  -- one reached the board with the next call number, from the one above the last of those entries on, or from 1 on where there was none; at the end of
-  -- these numbers the session ends. An ask that has seen a later version than the plan's is told that it is ahead. Any other visit is added exactly
-  -- where no visit has its name, and there is a place for one more visit and one more entry; the same visit again is told the version of its entry, and
-  -- other data under its name is refused. Any other commit is accepted exactly where it was not made over a later version, its draft is new, its edits
-  -- (which put, lift, cut and join parts) apply to the plan as it then is and leave no clash, and the history takes one more entry; a draft that came
-  -- before is told the version that its entry made, and any other is refused for the first cause against it. Any other message, report or cancel is an
-  -- entry exactly where nothing refuses it and the history takes one more entry: nothing refuses a message; a report is refused for the first cause
-  -- against its visit, its part and its minute, and never for a clash; a cancel is, where its visit is not there, has left or is on block. A message and
-  -- a report change the one visit that they are of, and then settle the plan: planned parts that can't stay lose their stands, and the reply names them.
-  -- A cancelled visit stands nowhere. A question is answered from the plan and the history as they then are. In place of each of these replies there may be the
-  -- one that says that memory has run out, and in place of the reply to a command that the plan accepts the one that says that its entry could not be
-  -- kept, if the disk's count of faults rose at it; and then nothing has changed. The count stays as it is if no reply is that one. After each entry the
-  -- plan is sound. At the end the disk is a journal of the same two files with the history, or, if it has failed, with this and perhaps one entry more,
-  -- with which it is still legal: that of a request whose reply said that its entry could not be kept, and after which none was added.
+-- what is sent for a request, and the port after it
+abbrev pub Sends : FeedTexts → AirportParts → PortState → Request → Sent → PortState → Type 0
+Sends feeds airport before request sent after = DeskAnswers feeds airport before request (sends sent) after
+
+-- `feeds` says what the reply to each feed is, by the airport and the history
+module _ (feeds : FeedTexts) (files : AirportFiles) where
+  -- The headline: the requests at the front of the input, a million at most, were answered in
+  -- order, and the output is the replies, as far as the status says, of one legal history that
+  -- begins with the entries that the journal had. A request that asks nothing of the plan, and for
+  -- no feed, has its fixed reply. Each other one reached the board with the next call number, from
+  -- the one above the last of those entries on, or from 1 on where there was none; at the end of
+  -- these numbers the session ends. The reply to an ask that has seen a later version than the
+  -- plan's says that it is ahead. Any other visit is added exactly where no visit has its name, and
+  -- there is a place for one more visit and one more entry; the same visit again gets the version
+  -- of its entry, and other data under its name is refused. Any other commit is accepted exactly
+  -- where it was not made over a later version, its draft is new, its edits (which put, lift, cut
+  -- and join parts) apply to the plan as it then is and leave no clash, and the history takes one
+  -- more entry; a draft that came before gets the version that its entry made, and any other is
+  -- refused for the first cause against it. Any other message, report or cancel is an entry exactly
+  -- where nothing refuses it and the history takes one more entry: nothing refuses a message; a
+  -- report is refused for the first cause against its visit, its part and its minute, and never for
+  -- a clash; a cancel is, where its visit is not there, has left or is on block. A message and a
+  -- report change the one visit that they are of, and then settle the plan: planned parts that
+  -- can't stay lose their stands, and the reply names them. A cancelled visit stands nowhere. A
+  -- question is answered from the plan and the history as they then are. The reply to a feed lists
+  -- the notes of entries after the one that it names of which its watch tells, or says that the
+  -- feed is ahead, or that there is no such watch. In place of each of these replies there may be
+  -- the one that says that memory has run out, and in place of the reply to a command that the plan
+  -- accepts the one that says that its entry could not be kept, if the disk's count of faults rose
+  -- at it; and then nothing has changed. The count stays as it is if no reply is that one. After
+  -- each entry the plan is sound. At the end the disk is a journal of the same two files with the
+  -- history, or, if it has failed, with this and perhaps one entry more, with which it is still
+  -- legal: that of a request whose reply said that its entry could not be kept, and after which
+  -- none was added.
   pub record Headline (opened : List Entry) (before after : DiskSeen) (carried : Carried) (code : ℕ) : Type 0 where
     pub status : Status
     pub code_is : code ≡ code_of status
@@ -201,7 +227,7 @@ module _ (files : AirportFiles) where
     pub new : PortState
     pub splits : Splits carried.input exchange.requests exchange.rest
     pub few : length exchange.requests ≤ most_requests
-    pub runs : Runs (Sends files.airport) (begun opened before.faults) exchange.requests exchange.sents new
+    pub runs : Runs (Sends feeds files.airport) (begun opened before.faults) exchange.requests exchange.sents new
     pub stops : StopsWith files.airport status carried exchange
     pub begins : GoesOnFrom opened new.seen
     pub calls : new.calls ≡ numbers_from (next_after opened) (count_by is_given exchange.sents)
@@ -220,11 +246,11 @@ module _ (files : AirportFiles) where
   TellsOf opened input before after code = (left output : List ℕ) × (after.source.left ≡ Some left) × Appends before.sink.told after.sink.told output
       × Headline opened before.disk after.disk (record { input = input; left = left; output = output }) code
 
--- the journal of the files opened, and the headline begins with its history, where the source tells its bytes
-pub record TellsOpened (files : AirportFiles) (before after : Ends) (code : ℕ) : Type 0 where
-  pub opened : List Entry
-  pub opens : OpensTo files before.disk opened
-  pub tells : IfSome before.source.left (λ input. TellsOf files opened input before after code)
+  -- the journal of the files opened, and the headline begins with its history, where the source tells its bytes
+  pub record TellsOpened (before after : Ends) (code : ℕ) : Type 0 where
+    pub opened : List Entry
+    pub opens : OpensTo files before.disk opened
+    pub tells : IfSome before.source.left (λ input. TellsOf opened input before after code)
 
 -- there is no journal of the files to work on: the line that tells why was written, or a front of it, and nothing else; the source is as it was, and the
 -- disk reads as before
@@ -244,13 +270,17 @@ pub record TellsEarly (fault : FilesFault) (before after : Ends) (code : ℕ) : 
   pub count : ℕ
   pub wrote : Appends before.sink.told after.sink.told (take count (fault_line fault))
 
--- the headline of what was found in the two files: of a session on their journal, or that there is none to work on; or that their fault is told
-abbrev pub TellsFoundHeadline : Result AirportFiles FilesFault → Ends → Ends → ℕ → Type 0
-TellsFoundHeadline (Ok files) before after code = TellsOpened files before after code ⊎ TellsUnopened files before after code
-TellsFoundHeadline (Err fault) before after code = TellsEarly fault before after code
+-- `feeds` says what the reply to each feed is, by the airport and the history
+module _ (feeds : FeedTexts) where
+  -- the headline of what was found in the two files: of a session on their journal, or that there is
+  -- none to work on; or the line of their fault
+  abbrev pub TellsFoundHeadline : Result AirportFiles FilesFault → Ends → Ends → ℕ → Type 0
+  TellsFoundHeadline (Ok files) before after code =
+      TellsOpened feeds files before after code ⊎ TellsUnopened files before after code
+  TellsFoundHeadline (Err fault) before after code = TellsEarly fault before after code
 
--- the headline, at what was found in the airport file and the type file of these names
-pub record TellsHeadline (airport types : List ℕ) (before after : World) (code : ℕ) : Type 0 where
-  pub found : Result AirportFiles FilesFault
-  pub finds : Finds before.shelf after.shelf airport types found
-  pub tells : TellsFoundHeadline found (ends_of before) (ends_of after) code
+  -- the headline, at what was found in the airport file and the type file of these names
+  pub record TellsHeadline (airport types : List ℕ) (before after : World) (code : ℕ) : Type 0 where
+    pub found : Result AirportFiles FilesFault
+    pub finds : Finds before.shelf after.shelf airport types found
+    pub tells : TellsFoundHeadline found (ends_of before) (ends_of after) code

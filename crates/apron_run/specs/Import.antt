@@ -76,7 +76,7 @@ abbrev pub is_shelf_fault : Result (List NewVisit) Imported → Bool
 is_shelf_fault (Err ShelfFault) = true
 is_shelf_fault found = false
 
--- what is found in the season file of a name, and what that does to the shelf: its files stay, and it fails only where that is told
+-- what is found in the season file of a name, and what that does to the shelf: its files stay, and it fails only where the fault says so
 pub record FindsSeason (airport : AirportParts) (season : List ℕ) (before after : ShelfState) (found : Result (List NewVisit) Imported) : Type 0 where
   pub cause : HasCause airport season before after found
   pub counts : Counts (is_shelf_fault found) before.faults after.faults

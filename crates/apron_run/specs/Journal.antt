@@ -35,7 +35,7 @@ pub record IsOpened {K : Type 0} (tells : K → KeeperState) (files : AirportFil
   pub at_risk : (tells board.keeper).at_risk ≡ None
   pub faults : (tells board.keeper).faults ≡ disk.faults
 
--- why the disk is not opened as the journal of the files of these digests: it failed, or memory is wanting, or it is what the disk reads as
+-- why the disk is not opened as the journal of the files of these digests: it failed, or memory has run out, or it is what the disk reads as
 abbrev pub FailsToOpen : List ℕ → DiskSeen → DiskSeen → JournalFault → Type 0
 FailsToOpen digests before after journal.DiskFault = Counts true before.faults after.faults
 FailsToOpen digests before after journal.NotEmpty = ⊥
@@ -67,7 +67,7 @@ pub record Holds (files : AirportFiles) (disk : DiskSeen) (history : List Entry)
   pub entries : IfSome disk.contents (λ bytes. opening_of files.digests bytes ≡ Ok (entry_texts history))
   pub spells : Spells files.airport (entry_texts history) history
 
--- the disk holds this history, or this and the entry at risk behind it; and as long as no call of it has failed, just the history
+-- the disk holds this history, or this and the entry at risk after it; and as long as no call of it has failed, just the history
 pub record KeepsHistory (files : AirportFiles) (history : List Entry) (at_risk : Option Entry) (disk : DiskSeen) : Type 0 where
   pub holds : Holds files disk history ⊎ ((entry : Entry) × (at_risk ≡ Some entry) × Holds files disk (with_last entry history))
   pub exact : disk.faults ≡ 0 → Holds files disk history

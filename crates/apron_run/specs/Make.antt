@@ -10,11 +10,11 @@ use Rattle.apron_run.specs.Print.{Writes}
 use Rattle.apron_run.specs.declared.status.Status.{Status}
 use Rattle.apron_run.specs.declared.status.Status.TheVariants.{Done, WriteFault}
 
--- the bytes are the line of the summary of a generated day of so many visits
+-- the bytes are the line of the summary of a generated day of this many visits
 abbrev pub IsDayLine : ℕ → List ℕ → Type 0
 IsDayLine visits line = (summary : Summary) × MakesDay visits summary × (line ≡ summary_text summary)
 
--- the summary of a generated day of so many visits was written
+-- the summary of a generated day of this many visits was written
 pub record WritesDay (visits : ℕ) (before after : SinkState) (status : Status) : Type 0 where
   pub summary : Summary
   pub makes : MakesDay visits summary

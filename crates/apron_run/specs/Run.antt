@@ -1,6 +1,7 @@
 -- What the program does with its words, its files, its bytes and its disk.
 use Rattle.std.specs.Prelude.{◌≡◌, ◌≤◌, ℕ, Bool, true, false, MatchBool}
 use Rattle.apron_base.specs.Counts.{Counts}
+use Rattle.desk_turns.specs.Watched.{FeedTexts}
 use Rattle.apron_run.specs.Words.{Asked, desk, init, check, chart, import, export, propose, upgrade, make, help, version, faulty}
 use Rattle.apron_run.specs.World.{World}
 use Rattle.apron_run.specs.Statuses.{code_of, is_disk_fault, is_read_fault, is_shelf_fault, is_told, is_write_fault}
@@ -17,21 +18,6 @@ use Rattle.apron_run.specs.Print.{Writes, help_text, usage_text, version_text}
 use Rattle.apron_run.specs.declared.status.Status.{Status}
 use Rattle.apron_run.specs.declared.status.Status.TheVariants.{Done, Usage, WriteFault}
 
--- what is done for what the words ask for, from one moment to the other: one line for each
-abbrev pub Does : Asked → World → World → Status → Type 0
-Does (desk airport types) before after status = RunsDesk airport types before after status
-Does (init airport types) before after status = InitsJournal airport types before after status
-Does (check airport types) before after status = ChecksFiles airport types before after status
-Does (chart airport types day) before after status = ChartsFiles airport types day before after status
-Does (import airport types season) before after status = ImportsFiles airport types season before after status
-Does (export airport types) before after status = ExportsFiles airport types before after status
-Does (upgrade airport types) before after status = UpgradesFiles airport types before after status
-Does (propose airport types name draft) before after status = ProposesFiles airport types name draft before after status
-Does (make visits) before after status = TellsDay visits before.sink after.sink status
-Does help before after status = Writes help_text Done WriteFault before.sink after.sink status
-Does version before after status = Writes version_text Done WriteFault before.sink after.sink status
-Does faulty before after status = Writes usage_text Usage Usage before.sink after.sink status
-
 -- the sink's count of faults: it rose where the status says that the sink failed, it may have risen where a line tells the status, and else it
 -- stands still
 abbrev pub SinkCounts : Status → ℕ → ℕ → Type 0
@@ -42,16 +28,34 @@ abbrev pub DiskCounts : Asked → Status → ℕ → ℕ → Type 0
 DiskCounts (desk airport types) status before now = ServedCounts status before now
 DiskCounts asked status before now = Counts (is_disk_fault status) before now
 
--- what the program does for what is asked of it, from one moment to the other, and the status that its number stands for. No end fails but where the
--- status says so, or at the line that tells a status; and the disk in a session, at a reply that says so.
-pub record RunsAs (asked : Asked) (before after : World) (code : ℕ) : Type 0 where
-  pub status : Status
-  pub code_is : code ≡ code_of status
-  pub does : Does asked before after status
-  pub shelf : Counts (is_shelf_fault status) before.shelf.faults after.shelf.faults
-  pub source : Counts (is_read_fault status) before.source.faults after.source.faults
-  pub sink : SinkCounts status before.sink.faults after.sink.faults
-  pub disk : DiskCounts asked status before.disk.faults after.disk.faults
+-- `feeds` says what the reply to each feed is, by the airport and the history
+module _ (feeds : FeedTexts) where
+  -- what is done for what the words ask for, from one moment to the other: one line for each
+  abbrev pub Does : Asked → World → World → Status → Type 0
+  Does (desk airport types) before after status = RunsDesk feeds airport types before after status
+  Does (init airport types) before after status = InitsJournal airport types before after status
+  Does (check airport types) before after status = ChecksFiles airport types before after status
+  Does (chart airport types day) before after status = ChartsFiles airport types day before after status
+  Does (import airport types season) before after status = ImportsFiles airport types season before after status
+  Does (export airport types) before after status = ExportsFiles airport types before after status
+  Does (upgrade airport types) before after status = UpgradesFiles airport types before after status
+  Does (propose airport types name draft) before after status = ProposesFiles airport types name draft before after status
+  Does (make visits) before after status = TellsDay visits before.sink after.sink status
+  Does help before after status = Writes help_text Done WriteFault before.sink after.sink status
+  Does version before after status = Writes version_text Done WriteFault before.sink after.sink status
+  Does faulty before after status = Writes usage_text Usage Usage before.sink after.sink status
+
+  -- what the program does for what is asked of it, from one moment to the other, and the status of its
+  -- number. No end fails but where the status says so, or at the line that tells a status; and the disk
+  -- in a session, at a reply that says so.
+  pub record RunsAs (asked : Asked) (before after : World) (code : ℕ) : Type 0 where
+    pub status : Status
+    pub code_is : code ≡ code_of status
+    pub does : Does asked before after status
+    pub shelf : Counts (is_shelf_fault status) before.shelf.faults after.shelf.faults
+    pub source : Counts (is_read_fault status) before.source.faults after.source.faults
+    pub sink : SinkCounts status before.sink.faults after.sink.faults
+    pub disk : DiskCounts asked status before.disk.faults after.disk.faults
 
 -- what isn't used stays as it is
 abbrev pub KeptUnless : {E : Type 0} → Bool → E → E → Type 0

@@ -13,7 +13,7 @@ abbrev pub AllAreThere : Type 0
 AllAreThere = (airport : AirportParts) (visits : List NewVisit) (before after : Reached) → IsLegal airport after.history
     → MeetsAll airport visits before after → Every (IsThere (replay airport after.history)) visits
 
--- an import of so many visits was told that all were there, or it wanted memory or a call number
+-- an import of this many visits found all of them there, or it ran out of memory or of call numbers
 abbrev pub AddsNothing : ℕ → Imported → Type 0
 AddsNothing visits (Whole added present) = (added ≡ 0) × (present ≡ visits)
 AddsNothing visits Spent = Unit {0}

@@ -32,7 +32,7 @@ pub data Asked : Type 0 where
 abbrev pub asked_by_one : List ℕ → Asked
 asked_by_one word = if bytes_eq word (codes "--help") then help else (if bytes_eq word (codes "--version") then version else faulty)
 
--- what a word asks for that has the names of an airport file and a type file behind it
+-- what a word asks for that has the names of an airport file and a type file after it
 abbrev pub asked_of_files : List ℕ → List ℕ → List ℕ → Asked
 asked_of_files word airport types =
     if bytes_eq word (codes "desk") then desk airport types

@@ -1,5 +1,6 @@
 // The word `desk`.
 ghost use Rattle.std.specs.Prelude.{◌≡◌, ℕ, not, false, OnErr};
+ghost use Rattle.desk_turns.specs.Watched.{feed_texts};
 ghost use Rattle.journal_disk.specs.Disk.{Stays};
 ghost use Rattle.apron_run.specs.Crash.{MeetsDeskLeaving, RunsDeskLeaving, RunsOnJournalLeaving};
 ghost use Rattle.apron_run.specs.Run.{KeptUnless};
@@ -17,23 +18,27 @@ use crate::status::status_of_outcome;
 use crate::unusable::{Unusable, tell_unusable};
 use apron_base::{Outcome, Shelf, Sink, Source};
 use apron_check::{AirportFiles, FilesFault, airport_of};
-use desk_http::{Alone, session};
+use desk_http::session_fed;
+use desk_turns::AlonePort;
+use history_core::OpenFault;
 use journal_disk::Disk;
 use std::alloc::Global;
 use std::marker::{Brand, PhantomData};
+use watch_list::{NoteTest, Stated, WatchBoard, Watches};
 
 /// Answers HTTP requests from the source on the sink, at the airport that the two files of these names make, on the journal of
-/// it that is on the disk; or prints why there is none.
-pub(crate) fn desk<F: Shelf, S: Source, W: Sink, D: Disk>(
+/// it that is on the disk, with these watches; or prints why there is none.
+pub(crate) fn desk<F: Shelf, S: Source, W: Sink, D: Disk, R: Stated, T: NoteTest>(
     alloc: Global,
     airport: &str,
     types: &str,
+    watches: &Watches<R, T>,
     shelf: &mut F,
     source: &mut S,
     sink: &mut W,
     disk: &mut D,
 ) -> Status
-    ensures runs { RunsDeskLeaving (from_to (D.state disk.old) (D.state disk.new))
+    ensures runs { RunsDeskLeaving (feed_texts R.tells watches.now) (from_to (D.state disk.old) (D.state disk.new))
         airport.now types.now
         (world_at (F.state shelf.old) (S.state source.old) (W.state sink.old) (D.state disk.old))
         (world_at (F.state shelf.new) (S.state source.new) (W.state sink.new) (D.state disk.new))
@@ -42,27 +47,29 @@ pub(crate) fn desk<F: Shelf, S: Source, W: Sink, D: Disk>(
     ensures kept { KeptUnless (not (ends_at_files (code_of result))) disk.old disk.new }
 {
     match airport_of(alloc, airport, types, shelf) {
-        Ok(files) => run_on_journal(alloc, &files, source, sink, disk),
+        Ok(files) => run_on_journal(alloc, &files, watches, source, sink, disk),
         Err(fault) => tell_fault(sink, &fault),
     }
 }
 
-// One session on the journal of these files. Behind one that wanted memory the line that tells it is printed, and where there
-// is no journal to work on the line that tells why.
-fn run_on_journal<S: Source, W: Sink, D: Disk>(
+// One session on the journal of these files. If it ran out of memory the line that says so is printed after it, and if there is
+// no journal to work on the line that tells why.
+fn run_on_journal<S: Source, W: Sink, D: Disk, R: Stated, T: NoteTest>(
     alloc: Global,
     files: &AirportFiles,
+    watches: &Watches<R, T>,
     source: &mut S,
     sink: &mut W,
     disk: &mut D,
 ) -> Status
-    ensures runs { RunsOnJournalLeaving (from_to (D.state disk.old) (D.state disk.new)) files.now
+    ensures runs { RunsOnJournalLeaving (feed_texts R.tells watches.now)
+        (from_to (D.state disk.old) (D.state disk.new)) files.now
         (ends_at (S.state source.old) (W.state sink.old) (D.state disk.old))
         (ends_at (S.state source.new) (W.state sink.new) (D.state disk.new)) result }
     ensures untaken { KeptUnless (not (ends_at_journal (code_of result))) source.old source.new }
     ensures no_file { ends_at_files (code_of result) ≡ false }
 {
-    let (met, _disk) = serve_on::<Brand, S, W, D>(alloc, files, source, sink, disk);
+    let (met, _disk) = serve_on::<Brand, S, W, D, R, T>(alloc, files, watches, source, sink, disk);
     match met {
         Ok(Outcome::Memory) => tell_fault(sink, &FilesFault::Memory),
         Ok(outcome) => status_of_outcome(outcome),
@@ -71,9 +78,10 @@ fn run_on_journal<S: Source, W: Sink, D: Disk>(
 }
 
 // The same with the borrow of the disk given back, by its name.
-fn serve_on<'d, N: Named + OfFiles, S: Source, W: Sink, D: Disk>(
+fn serve_on<'d, N: Named + OfFiles, S: Source, W: Sink, D: Disk, R: Stated, T: NoteTest>(
     alloc: Global,
     files: &AirportFiles,
+    watches: &Watches<R, T>,
     source: &mut S,
     sink: &mut W,
     disk: &'d mut D,
@@ -82,7 +90,8 @@ fn serve_on<'d, N: Named + OfFiles, S: Source, W: Sink, D: Disk>(
     requires digests { files.now.digests ≡ N.digests }
     requires begun { Stays N.begun (D.state disk.old) }
     ensures same { result.1.ghost_name ≡ disk.entry.ghost_name }
-    ensures meets { MeetsDeskLeaving (from_to N.begun (D.state result.1.now)) files.now
+    ensures meets { MeetsDeskLeaving (feed_texts R.tells watches.now)
+        (from_to N.begun (D.state result.1.now)) files.now
         (ends_at (S.state source.old) (W.state sink.old) (D.state disk.old))
         (ends_at (S.state source.new) (W.state sink.new) (D.state result.1.now)) result.0 }
     ensures untaken { OnErr result.0 (source.new ≡ source.old) }
@@ -91,22 +100,26 @@ fn serve_on<'d, N: Named + OfFiles, S: Source, W: Sink, D: Disk>(
         disk,
         of: PhantomData,
     };
-    let (met, back) = serve::<N, S, W, SameDisk<'d, N, D>>(alloc, files, source, sink, same);
+    let (met, back) = serve::<N, S, W, SameDisk<'d, N, D>, R, T>(
+        alloc, files, watches, source, sink, same,
+    );
     let SameDisk { disk, .. } = back;
     (met, disk)
 }
 
-// One session at the board of these files over their journal on the disk.
-fn serve<N: OfFiles, S: Source, W: Sink, D: Disk>(
+// One session at the board of these files over their journal on the disk, with these watches.
+fn serve<N: OfFiles, S: Source, W: Sink, D: Disk, R: Stated, T: NoteTest>(
     alloc: Global,
     files: &AirportFiles,
+    watches: &Watches<R, T>,
     source: &mut S,
     sink: &mut W,
     disk: D,
 ) -> (Result<Outcome, Unusable>, D)
     requires digests { files.now.digests ≡ N.digests }
     requires begun { Stays N.begun (D.state disk) }
-    ensures meets { MeetsDeskLeaving (from_to N.begun (D.state result.1)) files.now
+    ensures meets { MeetsDeskLeaving (feed_texts R.tells watches.now)
+        (from_to N.begun (D.state result.1)) files.now
         (ends_at (S.state source.old) (W.state sink.old) (D.state disk))
         (ends_at (S.state source.new) (W.state sink.new) (D.state result.1)) result.0 }
     ensures untaken { OnErr result.0 (source.new ≡ source.old) }
@@ -115,7 +128,17 @@ fn serve<N: OfFiles, S: Source, W: Sink, D: Disk>(
         Ok(board) => board,
         Err((why, disk)) => return (Err(why), disk),
     };
-    let mut desk = Alone::new(board);
-    let outcome = session(alloc, &mut desk, source, sink);
-    (Ok(outcome), close_board(desk.into_board()))
+    let watched = match WatchBoard::new(alloc, &files.airport, board, watches) {
+        Ok(watched) => watched,
+        Err(board) => {
+            return (
+                Err(Unusable::Entries(OpenFault::Memory)),
+                close_board(board),
+            );
+        }
+    };
+    let mut desk = AlonePort::new(&files.airport, watched);
+    let outcome = session_fed(alloc, &mut desk, source, sink);
+    let board = desk.into_machine().into_board();
+    (Ok(outcome), close_board(board))
 }

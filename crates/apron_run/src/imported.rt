@@ -26,7 +26,7 @@ pub(crate) enum Imported {
     DiskFault,
     /// There was no call number for a record.
     Spent,
-    /// Memory was wanting.
+    /// Memory ran out.
     Memory,
 }
 

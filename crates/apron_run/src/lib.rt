@@ -31,7 +31,7 @@ pub use files_journal::{FilesJournal, OfFiles};
 pub use journal::{close_board, open_board};
 pub use laws::{ends_that_never_fail_tell_no_fault, second_imports_add_nothing};
 pub use print::print_usage;
-pub use program::run;
+pub use program::{run, run_with};
 pub use status::Status;
 pub use unusable::{Unusable, tell_unusable};
 pub use words::is_plain_number;

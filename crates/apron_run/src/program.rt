@@ -1,5 +1,7 @@
 // The program's one call.
-ghost use Rattle.std.specs.Prelude.{◌≡◌, ℕ, List, true};
+ghost use Rattle.std.specs.Prelude.{◌≡◌, ℕ, List, [], true};
+ghost use Rattle.desk_turns.specs.Watched.{feed_texts};
+ghost use Rattle.watch_list.specs.Watches.{shows};
 ghost use Rattle.apron_run.specs.Causes.{FaultsHaveCause};
 ghost use Rattle.apron_run.specs.Complete.{IsComplete};
 ghost use Rattle.apron_run.specs.Crash.{CrashesAs};
@@ -26,23 +28,26 @@ use crate::words::{Asked, asked_by};
 use apron_base::{Shelf, Sink, Source, Word};
 use journal_disk::Disk;
 use std::alloc::Global;
+use watch_list::{NoteTest, Shown, Stated, Watches};
 
 /// Does what the words ask for, and gives the number of the [`Status`](crate::Status) that the program ends
 /// with.
 ///
-/// `desk A T` reads the airport file and the type file of these names from the shelf, opens the journal of
-/// these files on the disk, and answers HTTP requests from the source on the sink, at the airport that they
-/// make and from the history that the journal has; where there is no airport or no journal of it, it prints
-/// the line that tells why. `init A T` reads both files and makes an empty journal of them on an empty disk.
-/// `check A T` reads both files, and prints the one line that tells what is in them. `chart A T DAY` opens
-/// the journal as `desk` does, and prints the wall chart of that day of the plan. `import A T SEASON` opens
-/// it and asks to add the visits of the season file, one after the other, and prints how many were added and
-/// how many were there; `export A T` opens it and prints the season file of the plan's visits.
-/// `propose A T DESK DRAFT` opens it and prints a first-fit draft for the parts that stand nowhere, or the
-/// line `draft used` if the history has a commit of this desk's draft of this number, 0 to 4,294,967,295.
-/// `upgrade A T` makes a journal of format 1 one of format 2, with the same entries, and prints how many
-/// there are; all other words need format 2. `make N` prints the summary of a generated day of `N` visits,
-/// 1 to 5,000. `--help` and `--version` print their text. Other words print the line `usage`.
+/// `desk A T` reads the airport file and the type file of these names from the shelf, opens the
+/// journal of these files on the disk, and answers HTTP requests from the source on the sink, at
+/// the airport that they make and from the history that the journal has, with these watches for
+/// feeds; where there is no airport or no journal of it, it prints the line that tells why.
+/// `init A T` reads both files and makes an empty journal of them on an empty disk. `check A T`
+/// reads both files, and prints the one line that tells what is in them. `chart A T DAY` opens the
+/// journal as `desk` does, and prints the wall chart of that day of the plan. `import A T SEASON`
+/// opens it and asks to add the visits of the season file, one after the other, and prints how many
+/// were added and how many were there; `export A T` opens it and prints the season file of the
+/// plan's visits. `propose A T DESK DRAFT` opens it and prints a first-fit draft for the parts that
+/// stand nowhere, or the line `draft used` if the history has a commit of this desk's draft of this
+/// number, 0 to 4,294,967,295. `upgrade A T` makes a journal of format 1 one of format 2, with the
+/// same entries, and prints how many there are; all other words need format 2. `make N` prints the
+/// summary of a generated day of `N` visits, 1 to 5,000. `--help` and `--version` print their text.
+/// Other words print the line `usage`.
 ///
 /// | Status | Comes where |
 /// |---|---|
@@ -60,20 +65,21 @@ use std::alloc::Global;
 /// | 15 | the history has no place for a visit of the season file, whose record is printed |
 /// | 16 | 1,000,000 requests were answered |
 /// | 17 | the call numbers are used up |
-pub fn run<F: Shelf, S: Source, W: Sink, D: Disk>(
+pub fn run_with<F: Shelf, S: Source, W: Sink, D: Disk, R: Stated, T: NoteTest>(
     alloc: Global,
     words: &[Word],
+    watches: &Watches<R, T>,
     shelf: &mut F,
     source: &mut S,
     sink: &mut W,
     disk: &mut D,
 ) -> u8
     ensures headline { (airport types : List ℕ) → asked_by words.now ≡ desk_word airport types
-        → TellsHeadline airport types
+        → TellsHeadline (feed_texts R.tells watches.now) airport types
         (world_at (F.state shelf.old) (S.state source.old) (W.state sink.old) (D.state disk.old))
         (world_at (F.state shelf.new) (S.state source.new) (W.state sink.new) (D.state disk.new))
         result }
-    ensures runs { RunsAs (asked_by words.now)
+    ensures runs { RunsAs (feed_texts R.tells watches.now) (asked_by words.now)
         (world_at (F.state shelf.old) (S.state source.old) (W.state sink.old) (D.state disk.old))
         (world_at (F.state shelf.new) (S.state source.new) (W.state sink.new) (D.state disk.new))
         result }
@@ -85,7 +91,8 @@ pub fn run<F: Shelf, S: Source, W: Sink, D: Disk>(
         (world_at (F.state shelf.old) (S.state source.old) (W.state sink.old) (D.state disk.old))
         (world_at (F.state shelf.new) (S.state source.new) (W.state sink.new) (D.state disk.new))
         result }
-    ensures crash { CrashesAs (from_to (D.state disk.old) (D.state disk.new)) (asked_by words.now)
+    ensures crash { CrashesAs (feed_texts R.tells watches.now)
+        (from_to (D.state disk.old) (D.state disk.new)) (asked_by words.now)
         (world_at (F.state shelf.old) (S.state source.old) (W.state sink.old) (D.state disk.old))
         (world_at (F.state shelf.new) (S.state source.new) (W.state sink.new) (D.state disk.new))
         result }
@@ -95,23 +102,66 @@ pub fn run<F: Shelf, S: Source, W: Sink, D: Disk>(
     ensures source_kept { KeptUnless (uses_source (asked_by words.now) result) source.old source.new }
     ensures disk_kept { KeptUnless (uses_disk (asked_by words.now) result) disk.old disk.new }
 {
-    run_words(alloc, words, shelf, source, sink, disk).code()
+    run_words(alloc, words, watches, shelf, source, sink, disk).code()
 }
 
-// The same, with the status.
-fn run_words<F: Shelf, S: Source, W: Sink, D: Disk>(
+/// Does what [`run_with`] does, with no watch.
+pub fn run<F: Shelf, S: Source, W: Sink, D: Disk>(
     alloc: Global,
     words: &[Word],
     shelf: &mut F,
     source: &mut S,
     sink: &mut W,
     disk: &mut D,
+) -> u8
+    ensures headline { (airport types : List ℕ) → asked_by words.now ≡ desk_word airport types
+        → TellsHeadline (feed_texts shows []) airport types
+        (world_at (F.state shelf.old) (S.state source.old) (W.state sink.old) (D.state disk.old))
+        (world_at (F.state shelf.new) (S.state source.new) (W.state sink.new) (D.state disk.new))
+        result }
+    ensures runs { RunsAs (feed_texts shows []) (asked_by words.now)
+        (world_at (F.state shelf.old) (S.state source.old) (W.state sink.old) (D.state disk.old))
+        (world_at (F.state shelf.new) (S.state source.new) (W.state sink.new) (D.state disk.new))
+        result }
+    ensures complete { IsComplete (asked_by words.now)
+        (world_at (F.state shelf.old) (S.state source.old) (W.state sink.old) (D.state disk.old))
+        (world_at (F.state shelf.new) (S.state source.new) (W.state sink.new) (D.state disk.new))
+        result }
+    ensures faults { FaultsHaveCause (asked_by words.now)
+        (world_at (F.state shelf.old) (S.state source.old) (W.state sink.old) (D.state disk.old))
+        (world_at (F.state shelf.new) (S.state source.new) (W.state sink.new) (D.state disk.new))
+        result }
+    ensures crash { CrashesAs (feed_texts shows [])
+        (from_to (D.state disk.old) (D.state disk.new)) (asked_by words.now)
+        (world_at (F.state shelf.old) (S.state source.old) (W.state sink.old) (D.state disk.old))
+        (world_at (F.state shelf.new) (S.state source.new) (W.state sink.new) (D.state disk.new))
+        result }
+    ensures usage { asked_by words.now ≡ faulty → result ≡ code_of Status.Usage }
+    ensures usage_alone { result ≡ code_of Status.Usage → may_be_usage (asked_by words.now) ≡ true }
+    ensures shelf_kept { KeptUnless (uses_shelf (asked_by words.now)) shelf.old shelf.new }
+    ensures source_kept { KeptUnless (uses_source (asked_by words.now) result) source.old source.new }
+    ensures disk_kept { KeptUnless (uses_disk (asked_by words.now) result) disk.old disk.new }
+{
+    let watches = Watches::<Shown, Shown>::none(alloc);
+    run_with(alloc, words, &watches, shelf, source, sink, disk)
+}
+
+// The same, with the status.
+fn run_words<F: Shelf, S: Source, W: Sink, D: Disk, R: Stated, T: NoteTest>(
+    alloc: Global,
+    words: &[Word],
+    watches: &Watches<R, T>,
+    shelf: &mut F,
+    source: &mut S,
+    sink: &mut W,
+    disk: &mut D,
 ) -> Status
-    ensures runs { RunsAs (asked_by words.now)
+    ensures runs { RunsAs (feed_texts R.tells watches.now) (asked_by words.now)
         (world_at (F.state shelf.old) (S.state source.old) (W.state sink.old) (D.state disk.old))
         (world_at (F.state shelf.new) (S.state source.new) (W.state sink.new) (D.state disk.new))
         (code_of result) }
-    ensures crash { CrashesAs (from_to (D.state disk.old) (D.state disk.new)) (asked_by words.now)
+    ensures crash { CrashesAs (feed_texts R.tells watches.now)
+        (from_to (D.state disk.old) (D.state disk.new)) (asked_by words.now)
         (world_at (F.state shelf.old) (S.state source.old) (W.state sink.old) (D.state disk.old))
         (world_at (F.state shelf.new) (S.state source.new) (W.state sink.new) (D.state disk.new))
         (code_of result) }
@@ -122,7 +172,9 @@ fn run_words<F: Shelf, S: Source, W: Sink, D: Disk>(
     ensures disk_kept { KeptUnless (uses_disk (asked_by words.now) (code_of result)) disk.old disk.new }
 {
     match asked_by(words) {
-        Asked::Desk(airport, types) => desk(alloc, airport, types, shelf, source, sink, disk),
+        Asked::Desk(airport, types) => {
+            desk(alloc, airport, types, watches, shelf, source, sink, disk)
+        }
         Asked::Init(airport, types) => init(alloc, airport, types, shelf, sink, disk),
         Asked::Check(airport, types) => check(alloc, airport, types, shelf, sink),
         Asked::Chart(airport, types, day) => chart(alloc, airport, types, day, shelf, sink, disk),

@@ -30,7 +30,7 @@ pub enum Status {
     Cut,
     /// A listener failed.
     ListenerFault,
-    /// Memory was wanting.
+    /// Memory ran out.
     Memory,
     /// A request's head was refused.
     Malformed,

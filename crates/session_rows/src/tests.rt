@@ -1,6 +1,7 @@
 // Sessions at the airport of the examples. The expected texts are written by hand from the format
 // of requests and replies.
 mod commits;
+mod feeds;
 mod folding;
 mod limits;
 mod lists;

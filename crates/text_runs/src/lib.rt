@@ -5,5 +5,5 @@
 mod lines;
 mod runs;
 
-pub use lines::{Session, all_hold, all_hold_at};
+pub use lines::{Session, all_hold, all_hold_at, all_hold_watched};
 pub use runs::{DEMO, Ended, Run, empty_journal, former_journal};

@@ -3,6 +3,7 @@ use crate::{DEMO, Run};
 use apron_base::Memory;
 use std::alloc::Global;
 use std::test::Fail;
+use watch_list::Shown;
 
 /// The input of a session, and the output that is expected for it.
 #[derive(Drop)]
@@ -103,6 +104,20 @@ impl Session {
         run.gives(alloc, &shows, self.output.as_slice(), status)
     }
 
+    fn holds_watched<'a>(
+        &'a self,
+        alloc: Global,
+        watches: &'a [(&'a str, Shown)],
+        shows: &str,
+    ) -> Result<(), Fail> {
+        let run = Run {
+            watches,
+            input: self.input.as_slice(),
+            ..DEMO
+        };
+        run.gives(alloc, &shows, self.output.as_slice(), 0)
+    }
+
     /// Whether a desk on this journal answers this other input with the output, and ends with
     /// status 0. `Err` if there is no memory.
     pub fn is_told_on<'a>(
@@ -176,6 +191,19 @@ pub fn all_hold_at(alloc: Global, airport: &str, sessions: &str) -> Result<(), F
     for session in sessions.split('#') {
         let (shows, lines) = session.split_once('\n').unwrap_or((session, ""));
         Session::of(alloc, lines)?.holds_at(alloc, airport, shows, 0)?;
+    }
+    Ok(())
+}
+
+/// The same with these watches.
+pub fn all_hold_watched(
+    alloc: Global,
+    watches: &[(&str, Shown)],
+    sessions: &str,
+) -> Result<(), Fail> {
+    for session in sessions.split('#') {
+        let (shows, lines) = session.split_once('\n').unwrap_or((session, ""));
+        Session::of(alloc, lines)?.holds_watched(alloc, watches, shows)?;
     }
     Ok(())
 }

@@ -1,11 +1,12 @@
 // The program on texts in memory.
-use apron_base::{Kept, ListSink, ListSource, MapShelf, Memory};
-use apron_run::run;
+use apron_base::{Kept, ListSink, ListSource, MapShelf, Memory, Name};
+use apron_run::{run, run_with};
 use journal_disk::{MemoryDisk, digest_of};
 use run_inputs::{AIRPORT, ROOM, TYPES, kept, words};
 use std::alloc::Global;
 use std::fmt::Debug;
 use std::test::Fail;
+use watch_list::{Shown, Watch, Watches};
 
 /// What the program is run on.
 #[derive(Clone, Copy)]
@@ -18,6 +19,8 @@ pub struct Run<'a> {
     pub types: &'a str,
     /// The bytes of the file `S`.
     pub season: &'a [u8],
+    /// The watches: their names, and what they show. Without one it is a run that takes no watches.
+    pub watches: &'a [(&'a str, Shown)],
     /// The bytes that the source has.
     pub input: &'a [u8],
     /// How many bytes of them the source gives at a time; after the last of these it gives the rest
@@ -44,6 +47,7 @@ pub const DEMO: Run = Run {
     airport: AIRPORT,
     types: TYPES,
     season: &[],
+    watches: &[],
     input: &[],
     pieces: &[],
     failing_files: &[],
@@ -103,19 +107,38 @@ impl Run<'_> {
         let mut source = self.source(alloc)?;
         let mut sink = ListSink::new(alloc, 200_000, self.failing_puts.to_vec(alloc)?)?;
         let mut disk = self.disk(alloc)?;
-        let status = run(
-            alloc,
-            words.as_slice(),
-            &mut shelf,
-            &mut source,
-            &mut sink,
-            &mut disk,
-        );
+        let words = words.as_slice();
+        let status = if self.watches.is_empty() {
+            run(alloc, words, &mut shelf, &mut source, &mut sink, &mut disk)
+        } else {
+            let watches = self.watches(alloc)?;
+            run_with(
+                alloc,
+                words,
+                &watches,
+                &mut shelf,
+                &mut source,
+                &mut sink,
+                &mut disk,
+            )
+        };
         Ok(Ended {
             output: sink.bytes().to_vec(alloc)?,
             status,
             disk,
         })
+    }
+
+    // A name that is none, or that two watches have, counts as a lack of memory.
+    fn watches(&self, alloc: Global) -> Result<Watches<Shown, Shown>, Memory> {
+        let mut watches = Watches::new(alloc)?;
+        for (name, shown) in self.watches {
+            let name = Name::new(name.as_bytes()).ok_or(Memory)?;
+            if watches.add(Watch::new(name, *shown, *shown)).is_err() {
+                return Err(Memory);
+            }
+        }
+        Ok(watches)
     }
 
     fn shelf(&self, alloc: Global) -> Result<MapShelf, Memory> {

@@ -1,34 +1,39 @@
-use Rattle.std.proofs.Common.{ℕ, subst, sym}
+use Rattle.std.proofs.Common.{◌≡◌, ℕ, List, [], subst}
+use Rattle.watch_list.specs.Watches.{shows}
+use Rattle.watch_list.specs.declared.note.Shown.{Shown}
+use Rattle.watch_list.specs.declared.watch.Watched.{Watched}
+use Rattle.desk_turns.specs.Watched.{FeedTexts, feed_texts}
 use Rattle.apron_run.specs.Crash.{CrashesAs}
+use Rattle.apron_run.specs.Headline.{TellsHeadline}
 use Rattle.apron_run.specs.Run.{RunsAs}
 use Rattle.apron_run.specs.Survival.{DiskStates}
-use Rattle.apron_run.specs.Words.{asked_by}
+use Rattle.apron_run.specs.Words.{asked_by, desk}
 use Rattle.apron_run.specs.World.{World, world_at}
-use Rattle.apron_run.proofs.Causing.{faults_have_cause}
-use Rattle.apron_run.proofs.Complete.{run_complete}
-use Rattle.apron_run.proofs.Headlines.{asked_headline}
 use Rattle.apron_run.proofs.program.run.Goals as goal
+
+-- what is true of feeds of no watch
+of_none : (P : FeedTexts → Type 0) (watches : List (Watched Shown)) → watches ≡ [] → P (feed_texts shows watches) → P (feed_texts shows [])
+of_none P watches none is = subst (λ (ws : List (Watched Shown)). P (feed_texts shows ws)) none is
+
+pub returns-clause-headline : goal.returns-clause-headline
+returns-clause-headline g c =
+    let before : World = world_at (g.F.Shelf.state c.args.shelf.now) (g.S.Source.state c.args.source.now) (g.W.Sink.state c.args.sink.now) (g.D.Disk.state c.args.disk.now) in
+    let after : World = world_at (g.F.Shelf.state c.run_with.new.shelf) (g.S.Source.state c.run_with.new.source) (g.W.Sink.state c.run_with.new.sink)
+    (g.D.Disk.state c.run_with.new.disk) in
+    of_none (λ feeds. (airport types : List ℕ) → asked_by c.args.words.now ≡ desk airport types → TellsHeadline feeds airport types before after c.run_with.result)
+    c.none-watches.result c.none-watches.ensures.none c.run_with.ensures.headline
 
 pub returns-clause-runs : goal.returns-clause-runs
 returns-clause-runs g c =
     let before : World = world_at (g.F.Shelf.state c.args.shelf.now) (g.S.Source.state c.args.source.now) (g.W.Sink.state c.args.sink.now) (g.D.Disk.state c.args.disk.now) in
-    let after : World = world_at (g.F.Shelf.state c.run_words.new.shelf) (g.S.Source.state c.run_words.new.source) (g.W.Sink.state c.run_words.new.sink)
-    (g.D.Disk.state c.run_words.new.disk) in
-    subst (λ (code : ℕ). RunsAs (asked_by c.args.words.now) before after code) (sym c.code.ensures.value) c.run_words.ensures.runs
+    let after : World = world_at (g.F.Shelf.state c.run_with.new.shelf) (g.S.Source.state c.run_with.new.source) (g.W.Sink.state c.run_with.new.sink)
+    (g.D.Disk.state c.run_with.new.disk) in
+    of_none (λ feeds. RunsAs feeds (asked_by c.args.words.now) before after c.run_with.result) c.none-watches.result c.none-watches.ensures.none c.run_with.ensures.runs
 
 pub returns-clause-crash : goal.returns-clause-crash
 returns-clause-crash g c =
     let before : World = world_at (g.F.Shelf.state c.args.shelf.now) (g.S.Source.state c.args.source.now) (g.W.Sink.state c.args.sink.now) (g.D.Disk.state c.args.disk.now) in
-    let after : World = world_at (g.F.Shelf.state c.run_words.new.shelf) (g.S.Source.state c.run_words.new.source) (g.W.Sink.state c.run_words.new.sink)
-    (g.D.Disk.state c.run_words.new.disk) in
-    let disk : DiskStates = record { before = g.D.Disk.state c.args.disk.now; after = g.D.Disk.state c.run_words.new.disk } in
-    subst (λ (code : ℕ). CrashesAs disk (asked_by c.args.words.now) before after code) (sym c.code.ensures.value) c.run_words.ensures.crash
-
-pub returns-clause-headline : goal.returns-clause-headline
-returns-clause-headline g c = λ airport types asked. asked_headline _ airport types _ _ _ asked (returns-clause-runs g c)
-
-pub returns-clause-complete : goal.returns-clause-complete
-returns-clause-complete g c = run_complete _ _ _ _ (returns-clause-runs g c)
-
-pub returns-clause-faults : goal.returns-clause-faults
-returns-clause-faults g c = faults_have_cause _ _ _ _ (returns-clause-runs g c)
+    let after : World = world_at (g.F.Shelf.state c.run_with.new.shelf) (g.S.Source.state c.run_with.new.source) (g.W.Sink.state c.run_with.new.sink)
+    (g.D.Disk.state c.run_with.new.disk) in
+    let disk : DiskStates = record { before = g.D.Disk.state c.args.disk.now; after = g.D.Disk.state c.run_with.new.disk } in
+    of_none (λ feeds. CrashesAs feeds disk (asked_by c.args.words.now) before after c.run_with.result) c.none-watches.result c.none-watches.ensures.none c.run_with.ensures.crash

@@ -9,7 +9,7 @@ use Rattle.apron_run.proofs.Upgrading.{upgrade_as}
 use Rattle.apron_run.proofs.program.run_words.Goals as goal
 
 pub returns-in-Desk-clause-runs : goal.returns-in-Desk-clause-runs
-returns-in-Desk-clause-runs g c = asked_runs c.in-Desk.ensures.asked (desk_as _ _ _ _ _ c.desk.ensures.runs.0)
+returns-in-Desk-clause-runs g c = asked_runs c.in-Desk.ensures.asked (desk_as _ _ _ _ _ _ c.desk.ensures.runs.0)
 
 pub returns-in-Desk-clause-crash : goal.returns-in-Desk-clause-crash
 returns-in-Desk-clause-crash g c =

@@ -10,13 +10,13 @@ use Rattle.apron_run.proofs.season.ask_season.Goals as goal
 taken_more : (visits : List NewVisit) (k : ℕ) (new : NewVisit) → k < length visits → new ≡ get_or visits k new → take (k + 1) visits ≡ take k visits ++ new ∷ []
 taken_more visits k new less is = take_more visits k new less ∙ ap (λ (n : NewVisit). take k visits ++ n ∷ []) (sym is)
 
--- one visit among those before and behind it
+-- one visit among those before and after it
 parted_at : (visits : List NewVisit) (k : ℕ) (new : NewVisit) → k < length visits → new ≡ get_or visits k new → visits ≡ take k visits ++ new ∷ drop (suc k) visits
 parted_at visits k new less is =
     sym (take-append-drop k visits) ∙ (ap (λ (back : List NewVisit). take k visits ++ back) (drop-cons visits k new less)
     ∙ ap (λ (n : NewVisit). take k visits ++ n ∷ drop (suc k) visits) (sym is))
 
--- so many visits are before it
+-- this many visits are before it
 numbered : (visits : List NewVisit) (k : ℕ) → k < length visits → k + 2 ≡ record_behind (take k visits)
 numbered visits k less = ap (λ (n : ℕ). n + 2) (sym (length-take-le k visits (omega (arith, less))))
 
