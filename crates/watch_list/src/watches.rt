@@ -61,6 +61,15 @@ impl<R: Stated, T: NoteTest> Watches<R, T> {
         })
     }
 
+    /// No watch. It takes no memory.
+    pub fn none(alloc: Global) -> Watches<R, T>
+        ensures none { result ≡ [] }
+    {
+        Watches {
+            kept: Vec::new(alloc),
+        }
+    }
+
     /// Puts the watch last. At `Err` it comes back with the first cause that holds, and the list is as it was.
     pub fn add(&mut self, watch: Watch<R, T>) -> Result<(), (WatchFault, Watch<R, T>)>
         ensures last { OnOk result (self.new ≡ with_last watch self.old) }
