@@ -1,10 +1,10 @@
 -- All that is ordered is served where it is valid and nothing fails.
-use Rattle.std.proofs.Common.{◌≡◌, ◌∙◌, ◌⊎◌, ℕ, true, List, Option, None, Some, Result, Ok, Err, inl, inr, ⊎_elim, sym, ap, subst}
+use Rattle.std.proofs.Common.{◌≡◌, ◌∙◌, ◌⊎◌, ℕ, true, List, Option, None, Some, Result, Ok, Err, inl, inr, ⊎_elim, refl, sym, ap, subst}
+use Rattle.std.specs.Prelude.{IsSome}
+use Rattle.std.specs.Option.{option_map}
 use Rattle.apron_base.specs.Counts.{Counts, Rose}
 use Rattle.desk_words.specs.declared.asks.Entry.{Entry}
-use Rattle.desk_turns.specs.Work.{EndStates}
-use Rattle.desk_turns.specs.declared.worker.WorkEnd.{WorkEnd}
-use Rattle.desk_turns.specs.declared.worker.WorkEnd.TheVariants as work
+use Rattle.screen_looks.specs.declared.shown.Task.{Task}
 use Rattle.apron_check.specs.Files.{is_shelf_fault}
 use Rattle.apron_check.specs.declared.files.AirportFiles.{AirportFiles}
 use Rattle.apron_check.specs.declared.faults.FilesFault.{FilesFault}
@@ -17,47 +17,59 @@ use Rattle.apron_run.specs.declared.status.Status.TheVariants.{ListenerFault, Me
 use Rattle.apron_run.specs.declared.unusable.Unusable.{Unusable}
 use Rattle.apron_run.proofs.Counting.{Lines, lines_of}
 use Rattle.apron_run.proofs.Valid.{found_well, unopened_wants}
-use Rattle.apron_serve.specs.Board.{MeetsDesks}
+use Rattle.apron_serve.specs.Board.{MeetsDesks, Service}
 use Rattle.apron_serve.specs.Complete.{IsComplete}
-use Rattle.apron_serve.specs.Files.{ServesFiles, ServesFound, ServesJournal, TellsFiles, TellsMet, listener_line}
-use Rattle.apron_serve.specs.Orders.{Order}
+use Rattle.apron_serve.specs.Files.{ServesFiles, ServesFound, ServesJournal, ServesTask, TellsFiles, TellsMet, listener_line, no_memory}
+use Rattle.apron_serve.specs.Orders.{Order, day_shown}
 use Rattle.apron_serve.specs.Serve.{ServesAs, SomeFailed}
 use Rattle.apron_serve.specs.World.{Outs, World, ends_of, outs_of}
+use Rattle.apron_serve.specs.declared.board.ServeEnd.{ServeEnd}
+use Rattle.apron_serve.specs.declared.board.ServeEnd.TheVariants as end
 
-module _ {In Out : Type 0} (states : EndStates In Out) where
+module _ {In Out : Type 0} (service : Service In Out) where
   -- what was met at a journal that opens
-  met_well : (files : AirportFiles) (connections : ℕ) (history : List Entry) (before after : Outs In Out) (met : Result WorkEnd Unusable) (status : Status)
+  met_well : (files : AirportFiles) (task : Task) (history : List Entry) (before after : Outs In Out) (met : Result ServeEnd Unusable) (status : Status)
       → HasJournal files before.disk history → ¬ (Rose before.disk.faults after.disk.faults) → ¬ (status ≡ ListenerFault)
-      → MeetsDesks states files connections (ends_of before) (ends_of after) met → TellsMet met before.sink after.sink status → EndsWell (code_of status)
-  met_well files connections history before after (Ok work.Done) status has still all meets (silent, is) = inl (ap code_of is)
-  met_well files connections history before after (Ok work.ListenerFault) status has still all meets tells =
+      → MeetsDesks service files task (ends_of before) (ends_of after) met → TellsMet met before.sink after.sink status → EndsWell (code_of status)
+  met_well files task history before after (Ok end.Done) status has still all meets (silent, is) = inl (ap code_of is)
+  met_well files task history before after (Ok end.ListenerFault) status has still all meets tells =
       let lines : Lines status ListenerFault before.sink after.sink = lines_of listener_line ListenerFault before.sink after.sink status tells in absurd (all lines.is)
-  met_well files connections history before after (Err why) status has still all meets tells =
+  met_well files task history before after (Ok end.Missed) status has still all meets tells =
+      let lines : Lines status Memory before.sink after.sink = lines_of (unusable_line no_memory) Memory before.sink after.sink status tells in
+      inr (ap code_of lines.is)
+  met_well files task history before after (Err why) status has still all meets tells =
       let lines : Lines status (status_of_unusable why) before.sink after.sink =
       lines_of (unusable_line why) (status_of_unusable why) before.sink after.sink status tells in
       inr (ap code_of (lines.is ∙ unopened_wants files before.disk after.disk history has why meets.disk still))
 
-  -- what was done with files that were found, or for which memory was wanting
-  found_served : (files : AirportFiles) (connections : ℕ) (history : List Entry) (before after : Outs In Out) (found : Result AirportFiles FilesFault) (status : Status)
-      → HasJournal files before.disk history → ¬ (Rose before.disk.faults after.disk.faults) → ¬ (status ≡ ListenerFault)
-      → (found ≡ Ok files) ⊎ (found ≡ Err faults.Memory) → ServesFound states connections found before after status → EndsWell (code_of status)
-  found_served files connections history before after found status has still all is serves = ⊎_elim
+  -- what was done where the plan has the day
+  day_well : (files : AirportFiles) (order : Order) (history : List Entry) (day : Option ℕ) (before after : Outs In Out) (status : Status)
+      → HasJournal files before.disk history → ¬ (Rose before.disk.faults after.disk.faults) → ¬ (status ≡ ListenerFault) → IsSome day
+      → ServesTask service files (option_map (λ day. record { connections = order.connections; day = day }) day) before after status → EndsWell (code_of status)
+  day_well files order history (Some day) before after status has still all shown journal =
+      met_well files (record { connections = order.connections; day = day }) history before after journal.met status has still all journal.meets journal.tells
+  day_well files order history None before after status has still all shown journal = absurd shown
+
+  -- what was done with files that were found, or for which there was no memory
+  found_served : (files : AirportFiles) (order : Order) (history : List Entry) (before after : Outs In Out) (found : Result AirportFiles FilesFault) (status : Status)
+      → HasJournal files before.disk history → ¬ (Rose before.disk.faults after.disk.faults) → ¬ (status ≡ ListenerFault) → IsSome (day_shown files.airport order.day)
+      → (found ≡ Ok files) ⊎ (found ≡ Err faults.Memory) → ServesFound service order found before after status → EndsWell (code_of status)
+  found_served files order history before after found status has still all shown is serves = ⊎_elim
       (λ (are : found ≡ Ok files).
-      let journal : ServesJournal states files connections before after status =
-      subst (λ (f : Result AirportFiles FilesFault). ServesFound states connections f before after status) are serves in
-      met_well files connections history before after journal.met status has still all journal.meets journal.tells)
+      day_well files order history (day_shown files.airport order.day) before after status has still all shown
+      (subst (λ (f : Result AirportFiles FilesFault). ServesFound service order f before after status) are serves))
       (λ (wants : found ≡ Err faults.Memory).
       let tells : TellsFiles faults.Memory before after status =
-      subst (λ (f : Result AirportFiles FilesFault). ServesFound states connections f before after status) wants serves in
+      subst (λ (f : Result AirportFiles FilesFault). ServesFound service order f before after status) wants serves in
       let lines : Lines status Memory before.sink after.sink = lines_of _ (status_of_fault faults.Memory) before.sink after.sink status tells.tells in
       inr (ap code_of lines.is))
       is
 
-  pub complete : (asked : Option Order) (before after : World In Out) (code : ℕ) → ServesAs states asked before after code
-      → (code ≡ code_of ListenerFault → SomeFailed before.listeners after.listeners) → IsComplete asked before after code
+  pub complete : (asked : Option Order) (before after : World In Out) (code : ℕ) → ServesAs service asked before after code
+      → (code ≡ code_of ListenerFault → SomeFailed before.listeners after.listeners ⊎ SomeFailed before.screens after.screens) → IsComplete asked before after code
   complete None before after code serves failed valid none = absurd valid
-  complete (Some order) before after code serves failed (files, has, (history, journal)) none =
-      let does : ServesFiles states order before after serves.status = serves.does in
+  complete (Some order) before after code serves failed (files, has, shown, (history, journal)) none =
+      let does : ServesFiles service order before after serves.status = serves.does in
       let finds = does.finds in
       let found = found_well before.shelf after.shelf order.airport order.types files has does.found finds.cause
       (λ (is : does.found ≡ Err faults.ShelfFault).
@@ -65,5 +77,5 @@ module _ {In Out : Type 0} (states : EndStates In Out) where
       subst (λ (f : Result AirportFiles FilesFault). Counts (is_shelf_fault f) before.shelf.faults after.shelf.faults) is finds.counts in
       none.shelf counts.1) in
       subst EndsWell (sym serves.code_is)
-      (found_served files order.connections history (outs_of before) (outs_of after) does.found serves.status journal none.disk
-      (λ (is : serves.status ≡ ListenerFault). none.listeners (failed (serves.code_is ∙ ap code_of is))) found does.serves)
+      (found_served files order history (outs_of before) (outs_of after) does.found serves.status journal none.disk
+      (λ (is : serves.status ≡ ListenerFault). ⊎_elim none.listeners none.screens (failed (serves.code_is ∙ ap code_of is))) shown found does.serves)

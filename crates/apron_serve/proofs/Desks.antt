@@ -1,5 +1,5 @@
 -- Desks that are served at a journal: what they begin with, and what they leave on the disk.
-use Rattle.std.proofs.Common.{◌≡◌, ◌∙◌, ℕ, List, None, Result, Ok, Err, refl, subst}
+use Rattle.std.proofs.Common.{◌≡◌, ◌<◌, ◌∙◌, ℕ, true, List, [], ◌∷◌, length, None, Result, Ok, Err, refl, subst}
 use Rattle.std.specs.Prelude.{IfErr, IfOk}
 use Rattle.apron_base.specs.Keeper.{KeeperState}
 use Rattle.apron_base.specs.Machine.{MachineState}
@@ -12,24 +12,25 @@ use Rattle.history_core.specs.declared.opening.OpenFault.TheVariants as entries
 use Rattle.history_core.proofs.Added.{visits_added}
 use Rattle.history_core.proofs.Drafts.{drafts_made}
 use Rattle.history_core.proofs.Legal.{front_legal, legal_sound}
-use Rattle.desk_http.specs.Ports.{Turn}
-use Rattle.desk_http.specs.Session.{sessions_by}
-use Rattle.desk_turns.specs.Crew.{ServesBoard}
-use Rattle.desk_turns.specs.Work.{EndStates}
-use Rattle.desk_turns.specs.declared.worker.WorkEnd.{WorkEnd}
+use Rattle.desk_turns.specs.Crew.{ServesBoard, end_of}
+use Rattle.desk_turns.specs.Watched.{fed_sessions}
+use Rattle.screen_looks.specs.Shown.{ShowsFrom}
+use Rattle.screen_looks.specs.declared.shown.ShownEnd.{ShownEnd}
+use Rattle.screen_looks.specs.declared.shown.Task.{Task}
 use Rattle.apron_check.specs.declared.files.AirportFiles.{AirportFiles}
 use Rattle.apron_run.specs.Headline.{AllSound}
 use Rattle.apron_run.specs.Journal.{IsOpened, KeepsHistory}
 use Rattle.apron_run.specs.World.{DiskSeen}
 use Rattle.apron_run.specs.declared.unusable.Unusable.TheVariants.{Entries}
-use Rattle.apron_serve.specs.Board.{FindsNoJournal, ServesDesks, begun}
+use Rattle.apron_serve.specs.Board.{FindsNoJournal, ServesDesks, Service, begun, served_end}
+use Rattle.apron_serve.specs.declared.board.ServeEnd.{ServeEnd}
 use Rattle.apron_serve.specs.World.{Ends}
 
 -- the plan is sound after each entry of a legal history
 pub all_sound : (airport : AirportParts) (history : List Entry) → IsLegal airport history → AllSound airport history
 all_sound airport history legal = λ front back is. legal_sound airport front (front_legal airport front back (subst (IsLegal airport) is legal))
 
--- behind a board that was opened no entry is at risk
+-- after a board was opened no entry is at risk
 pub opened_safe : {K : Type 0} (tells : K → KeeperState) (files : AirportFiles) (disk : DiskSeen) (board : BoardHeld K) → IsOpened tells files disk board
     → (machine_state tells board).at_risk ≡ None
 opened_safe tells files disk board opened = rw opened.at_risk refl
@@ -44,17 +45,21 @@ opened_begun tells airport faults next board airport_is next_is count safe = rw 
 pub of_err : {A E P : Type 0} (met : Result A E) (why : E) → met ≡ Err why → IfErr met (λ _. P) → P
 of_err {A} {E} {P} met why is holds = subst (λ (r : Result A E). IfErr r (λ _. P)) is holds
 
--- desks that were served at a board that was opened, with the disk that was closed behind them
-abbrev pub desks_serve : {In Out K T R : Type 0} (states : EndStates In Out) (tells : K → KeeperState) (files : AirportFiles) (connections : ℕ) (before after : Ends In Out) (board left : BoardHeld K) (met : Result (WorkEnd × T) R) (ends : WorkEnd × T)
+-- desks and screens that were served at a board that was opened, with the disk that was closed after them
+abbrev pub desks_serve : {In Out K R : Type 0} (service : Service In Out) (tells : K → KeeperState) (files : AirportFiles) (task : Task) (before after : Ends In Out) (board left : BoardHeld K)
+    (met : Result ShownEnd R) (ends : ShownEnd) (served : ServeEnd)
     → IsOpened tells files before.disk board
     → met ≡ Ok ends
-    → IfOk met (λ ended. ServesBoard states (sessions_by Turn) connections (record { listeners = before.listeners; board = machine_state tells board }) (record { listeners = after.listeners; board = machine_state tells left }) ended.0)
+    → IfOk met (λ ended. ServesBoard service.states (fed_sessions service.feeds) task.connections (record { listeners = before.listeners; board = machine_state tells board }) (record { listeners = after.listeners; board = machine_state tells left }) ended.desks)
+    → IfOk met (λ ended. ShowsFrom service.states (record { airport = files.airport; history = board.history }) task before.screens after.screens ended.screens)
+    → IfOk met (λ ended. ended.missed ≡ true → 0 < length before.screens)
+    → served ≡ served_end (end_of (ends.desks ∷ ends.screens ∷ [])) ends.missed
     → after.disk.faults ≡ (tells left.keeper).faults → KeepsHistory (record { airport = left.airport; digests = files.digests }) left.history (entry_at_risk left.airport (tells left.keeper)) after.disk
-    → ServesDesks states files connections before after ends.0
-desks_serve {T = T} {R = R} states tells files connections before after board left met ends opened is serve counted keeps =
-    let serves : ServesBoard states (sessions_by Turn) connections (record { listeners = before.listeners; board = machine_state tells board }) (record { listeners = after.listeners; board = machine_state tells left }) ends.0 =
-    subst (λ (r : Result (WorkEnd × T) R).
-    IfOk r (λ ended. ServesBoard states (sessions_by Turn) connections (record { listeners = before.listeners; board = machine_state tells board }) (record { listeners = after.listeners; board = machine_state tells left }) ended.0)) is serve in
+    → ServesDesks service files task before after served
+desks_serve {R = R} service tells files task before after board left met ends served opened is serve show missed end_is counted keeps =
+    let serves : ServesBoard service.states (fed_sessions service.feeds) task.connections (record { listeners = before.listeners; board = machine_state tells board }) (record { listeners = after.listeners; board = machine_state tells left }) ends.desks =
+    subst (λ (r : Result ShownEnd R).
+    IfOk r (λ ended. ServesBoard service.states (fed_sessions service.feeds) task.connections (record { listeners = before.listeners; board = machine_state tells board }) (record { listeners = after.listeners; board = machine_state tells left }) ended.desks)) is serve in
     let fresh : machine_state tells board ≡ begun files.airport board.history before.disk.faults =
     opened_begun tells files.airport before.disk.faults _ board opened.airport_is opened.next opened.faults opened.at_risk in
     let same : left.airport ≡ files.airport = serves.fixed ∙ opened.airport_is in
@@ -63,8 +68,15 @@ desks_serve {T = T} {R = R} states tells files connections before after board le
       opened = board.history;
       opens = opened.opens;
       board = machine_state tells left;
+      desks = ends.desks;
       serves = subst (λ (m : MachineState Entry AirportParts).
-          ServesBoard states (sessions_by Turn) connections (record { listeners = before.listeners; board = m }) (record { listeners = after.listeners; board = machine_state tells left }) ends.0) fresh serves;
+          ServesBoard service.states (fed_sessions service.feeds) task.connections (record { listeners = before.listeners; board = m }) (record { listeners = after.listeners; board = machine_state tells left }) ends.desks) fresh serves;
+      looks = ends.screens;
+      shows = subst (λ (r : Result ShownEnd R).
+          IfOk r (λ ended. ShowsFrom service.states (record { airport = files.airport; history = board.history }) task before.screens after.screens ended.screens)) is show;
+      missed = ends.missed;
+      screens = subst (λ (r : Result ShownEnd R). IfOk r (λ ended. ended.missed ≡ true → 0 < length before.screens)) is missed;
+      end_is = end_is;
       faults = counted;
       keeps = subst (λ (a : AirportParts).
           KeepsHistory (record { airport = a; digests = files.digests }) left.history (entry_at_risk left.airport (tells left.keeper)) after.disk) same keeps;
@@ -73,12 +85,13 @@ desks_serve {T = T} {R = R} states tells files connections before after board le
       visits = λ version added. visits_added files.airport left.history version added legal;
     }
 
--- there is no memory for the turns at a board that was opened, and the disk reads as before
+-- there is no memory to serve at a board that was opened, and the disk reads as before
 pub turns_want_memory : {In Out K : Type 0} (tells : K → KeeperState) (files : AirportFiles) (before after : Ends In Out) (board : BoardHeld K)
-    → IsOpened tells files before.disk board → after.listeners ≡ before.listeners → after.disk.contents ≡ before.disk.contents
+    → IsOpened tells files before.disk board → after.listeners ≡ before.listeners → after.screens ≡ before.screens → after.disk.contents ≡ before.disk.contents
     → after.disk.faults ≡ (tells board.keeper).faults → FindsNoJournal files before after (Entries entries.Memory)
-turns_want_memory tells files before after board opened listeners reads counted =
+turns_want_memory tells files before after board opened listeners screens reads counted =
     let opens = opened.opens in record {
       listeners = listeners;
+      screens = screens;
       disk = record { reads = reads; cause = (entry_texts board.history, record { opening = opens.entries; counts = counted ∙ opened.faults }, tt) };
     }

@@ -1,15 +1,18 @@
 -- What `serve` ends with, and what it counts at each end.
-use Rattle.std.proofs.Common.{◌≡◌, ◌≤◌, ◌↔◌, ◌∙◌, ℕ, Bool, true, List, length, refl, sym, ap, subst, arith, Option, None, Some, Result, Ok, Err}
+use Rattle.std.proofs.Common.{◌≡◌, ◌⊎◌, ◌<◌, ◌≤◌, ◌∙◌, ℕ, Bool, true, false, List, [], ◌∷◌, length, inl, inr, ⊎_elim, refl, sym, ap, subst, arith, Option, None, Some, Result, Ok, Err}
+use Rattle.std.specs.Prelude.{is_some}
+use Rattle.std.specs.Option.{option_map}
 use Rattle.apron_base.specs.Counts.{Counts}
 use Rattle.apron_base.specs.Ends.{SinkState}
 use Rattle.apron_base.specs.Listener.{ListenerState}
+use Rattle.apron_rules.specs.declared.parts.AirportParts.{AirportParts}
 use Rattle.journal_disk.specs.declared.fault.JournalFault.TheVariants as journal
 use Rattle.history_core.specs.declared.opening.OpenFault.TheVariants as entries
-use Rattle.desk_http.specs.Ports.{Turn}
-use Rattle.desk_http.specs.Session.{sessions_by}
-use Rattle.desk_turns.specs.Work.{EndStates}
+use Rattle.desk_turns.specs.Crew.{end_of}
+use Rattle.desk_turns.specs.Watched.{fed_sessions}
 use Rattle.desk_turns.specs.declared.worker.WorkEnd.{WorkEnd}
 use Rattle.desk_turns.specs.declared.worker.WorkEnd.TheVariants as work
+use Rattle.screen_looks.specs.declared.shown.Task.{Task}
 use Rattle.apron_check.specs.Files.{is_shelf_fault as is_shelf_found}
 use Rattle.apron_check.specs.declared.files.AirportFiles.{AirportFiles}
 use Rattle.apron_check.specs.declared.faults.FilesFault.{FilesFault}
@@ -21,27 +24,44 @@ use Rattle.apron_run.specs.Statuses.{code_of, is_shelf_fault, status_of_fault}
 use Rattle.apron_run.specs.Unusable.{status_of_unusable, unusable_line}
 use Rattle.apron_run.specs.World.{DiskSeen}
 use Rattle.apron_run.specs.declared.status.Status.{Status}
-use Rattle.apron_run.specs.declared.status.Status.TheVariants.{Done, ListenerFault, Usage}
+use Rattle.apron_run.specs.declared.status.Status.TheVariants.{Done, ListenerFault, Memory, Usage}
 use Rattle.apron_run.specs.declared.unusable.Unusable.{Unusable}
 use Rattle.apron_run.specs.declared.unusable.Unusable.TheVariants.{Journal, Entries}
 use Rattle.apron_run.proofs.Counting.{Lines, fault_disk, fault_shelf, lines_of, unusable_shelf}
 use Rattle.apron_run.proofs.Serving.{why_counts}
-use Rattle.apron_serve.specs.Board.{MeetsDesks, ServesDesks}
-use Rattle.apron_serve.specs.Files.{ServesFiles, ServesFound, TellsMet, listener_line}
-use Rattle.apron_serve.specs.Orders.{Order}
-use Rattle.apron_serve.specs.Serve.{HaveFinished, ServesAs, SomeFailed, may_end_serve}
+use Rattle.apron_serve.specs.Board.{MeetsDesks, ServesDesks, Service, served_end}
+use Rattle.apron_serve.specs.Files.{ServesFiles, ServesFound, ServesTask, TellsMet, listener_line, no_memory, task_at}
+use Rattle.apron_serve.specs.Orders.{Order, day_shown}
+use Rattle.apron_serve.specs.Serve.{HaveFinished, ServesAs, SomeFailed, is_screen_order, may_end_serve}
 use Rattle.apron_serve.specs.World.{Outs, World, ends_of, outs_of}
-use Rattle.apron_serve.proofs.Finished.{done_finished, fault_failed, finished_done, none_finished}
+use Rattle.apron_serve.specs.declared.board.ServeEnd.{ServeEnd}
+use Rattle.apron_serve.specs.declared.board.ServeEnd.TheVariants as end
+use Rattle.apron_serve.proofs.Finished.{Finished, desks_ended, none_finished, screens_ended}
+
+module _ {In Out : Type 0} where
+  -- all listeners have finished this many connections more
+  abbrev pub AllFinished : ℕ → Outs In Out → Outs In Out → Type 0
+  AllFinished connections before after =
+      HaveFinished connections before.listeners after.listeners × HaveFinished connections before.screens after.screens
+
+  -- the count of faults of one of them rose
+  abbrev pub AnyFailed : Outs In Out → Outs In Out → Type 0
+  AnyFailed before after = SomeFailed before.listeners after.listeners ⊎ SomeFailed before.screens after.screens
+
+-- the status is that of serving that was all done; or of such, where there are screens, after which one missed the last version
+abbrev pub IsDone : {In Out : Type 0} → Outs In Out → ℕ → Type 0
+IsDone before code = (code ≡ code_of Done) ⊎ ((code ≡ code_of Memory) × (0 < length before.screens))
 
 -- what is known of an ending, by its status
-record EndsAs {In Out : Type 0} (connections : ℕ) (found : Result AirportFiles FilesFault) (status : Status) (before after : Outs In Out) : Type 0 where
+record EndsAs {In Out : Type 0} (order : Order) (found : Result AirportFiles FilesFault) (status : Status) (before after : Outs In Out) : Type 0 where
   pub may : may_end_serve status ≡ true
   pub shelf : is_shelf_fault status ≡ is_shelf_found found
   pub sink : before.sink.faults ≤ after.sink.faults
   pub disk : ServedCounts status before.disk.faults after.disk.faults
-  pub done : code_of status ≡ code_of Done ↔ HaveFinished connections before.listeners after.listeners
-  pub failed : code_of status ≡ code_of ListenerFault → SomeFailed before.listeners after.listeners
-  pub ordered : code_of status ≡ code_of Usage → ⊥
+  pub done : code_of status ≡ code_of Done → AllFinished order.connections before after
+  pub finished : AllFinished order.connections before after → IsDone before (code_of status)
+  pub failed : code_of status ≡ code_of ListenerFault → AnyFailed before after
+  pub ordered : code_of status ≡ code_of Usage → is_some order.day ≡ true
 
 -- the status of a journal that isn't worked on is one of those of `serve`, and none of desks that were served
 record IsEarly (status : Status) : Type 0 where
@@ -70,98 +90,203 @@ fault_early files.ShelfFault = record { may = refl; done = λ is. absurd cc; fai
 fault_early files.Memory = record { may = refl; done = λ is. absurd cc; failed = λ is. absurd cc; ordered = λ is. absurd cc }
 
 module _ {In Out : Type 0} where
+  -- listeners that are as they were have not finished what was asked
+  none_yet : (order : Order) (before after : Outs In Out) → 1 ≤ order.connections → 1 ≤ length before.listeners → after.listeners ≡ before.listeners
+      → ¬ (AllFinished order.connections before after)
+  none_yet order before after some any same all = none_finished order.connections before.listeners some any
+      (subst (λ (l : List (ListenerState In Out)). HaveFinished order.connections before.listeners l) same all.0)
+
   -- an early ending, where the listeners are as they were
-  early_as : (connections : ℕ) (found : Result AirportFiles FilesFault) (status of : Status) (before after : Outs In Out) → 1 ≤ connections → 1 ≤ length before.listeners
+  early_as : (order : Order) (found : Result AirportFiles FilesFault) (status of : Status) (before after : Outs In Out) → 1 ≤ order.connections → 1 ≤ length before.listeners
       → after.listeners ≡ before.listeners → IsEarly of → is_shelf_fault of ≡ is_shelf_found found → ServedCounts of before.disk.faults after.disk.faults
-      → Lines status of before.sink after.sink → EndsAs connections found status before after
-  early_as connections found status of before after some any same early shelf disk lines =
-      subst (λ (s : Status). EndsAs connections found s before after) (sym lines.is) (record {
+      → Lines status of before.sink after.sink → EndsAs order found status before after
+  early_as order found status of before after some any same early shelf disk lines =
+      subst (λ (s : Status). EndsAs order found s before after) (sym lines.is) (record {
         may = early.may;
         shelf = shelf;
         sink = lines.least;
         disk = disk;
-        done = (
-          (λ is. absurd (early.done is)),
-          (λ all. absurd (none_finished connections before.listeners some any
-              (subst (λ (l : List (ListenerState In Out)). HaveFinished connections before.listeners l) same all))),
-        );
+        done = λ is. absurd (early.done is);
+        finished = λ all. absurd (none_yet order before after some any same all);
         failed = λ is. absurd (early.failed is);
-        ordered = early.ordered;
+        ordered = λ is. absurd (early.ordered is);
       })
 
-module _ {In Out : Type 0} (states : EndStates In Out) where
+-- how the workers of desks and of screens ended, by how serving did
+both_done : (desks looks : WorkEnd) (missed : Bool) → served_end (end_of (desks ∷ looks ∷ [])) missed ≡ end.Done → (desks ≡ work.Done) × (looks ≡ work.Done)
+both_done work.Done work.Done missed is = (refl, refl)
+both_done work.Done work.ListenerFault missed is = absurd cc
+both_done work.ListenerFault looks missed is = absurd cc
+
+one_missed : (desks looks : WorkEnd) (missed : Bool) → served_end (end_of (desks ∷ looks ∷ [])) missed ≡ end.Missed
+    → (desks ≡ work.Done) × (looks ≡ work.Done) × (missed ≡ true)
+one_missed work.Done work.Done true is = (refl, refl, refl)
+one_missed work.Done work.Done false is = absurd cc
+one_missed work.Done work.ListenerFault missed is = absurd cc
+one_missed work.ListenerFault looks missed is = absurd cc
+
+one_failed : (desks looks : WorkEnd) (missed : Bool) → served_end (end_of (desks ∷ looks ∷ [])) missed ≡ end.ListenerFault
+    → (desks ≡ work.ListenerFault) ⊎ (looks ≡ work.ListenerFault)
+one_failed work.Done work.Done true is = absurd cc
+one_failed work.Done work.Done false is = absurd cc
+one_failed work.Done work.ListenerFault missed is = inr refl
+one_failed work.ListenerFault looks missed is = inl refl
+
+-- serving that was not done had a worker that was not
+none_failed : (desks looks : WorkEnd) (missed : Bool) → desks ≡ work.Done → looks ≡ work.Done
+    → ¬ (served_end (end_of (desks ∷ looks ∷ [])) missed ≡ end.ListenerFault)
+none_failed desks looks missed one other is = ⊎_elim
+    (λ (failed : desks ≡ work.ListenerFault). let no : work.Done ≡ work.ListenerFault = sym one ∙ failed in absurd cc)
+    (λ (failed : looks ≡ work.ListenerFault). let no : work.Done ≡ work.ListenerFault = sym other ∙ failed in absurd cc)
+    (one_failed desks looks missed is)
+
+module _ {In Out : Type 0} (service : Service In Out) where
   -- desks were served, and did not make the disk's count fall
-  least_count : (airport : AirportFiles) (connections : ℕ) (before after : Outs In Out) (end : WorkEnd) → ServesDesks states airport connections (ends_of before) (ends_of after) end
-      → before.disk.faults ≤ after.disk.faults
-  least_count airport connections before after end desks =
+  least_count : (files : AirportFiles) (task : Task) (before after : Outs In Out) (served : ServeEnd)
+      → ServesDesks service files task (ends_of before) (ends_of after) served → before.disk.faults ≤ after.disk.faults
+  least_count files task before after served desks =
       let serves = desks.serves in
       let least : before.disk.faults ≤ desks.board.faults = serves.faults in
       let counted : after.disk.faults ≡ desks.board.faults = desks.faults in
       omega arith
 
-  -- desks that were served, all
-  all_as : (airport : AirportFiles) (connections : ℕ) (before after : Outs In Out) → ServesDesks states airport connections (ends_of before) (ends_of after) work.Done
-      → after.sink ≡ before.sink → EndsAs connections (Ok airport) Done before after
-  all_as airport connections before after desks silent = record {
-    may = refl;
-    shelf = refl;
-    sink = let same : after.sink.faults ≡ before.sink.faults = ap (λ (s : SinkState). s.faults) silent in omega arith;
-    disk = least_count airport connections before after work.Done desks;
-    done = ((λ _. done_finished states (sessions_by Turn) connections _ _ desks.serves), (λ _. refl));
-    failed = λ is. absurd cc;
-    ordered = λ is. absurd cc;
-  }
+  -- what was finished, by how serving ended
+  record Served (connections : ℕ) (before after : Outs In Out) (served : ServeEnd) : Type 0 where
+    pub done : served ≡ end.Done → AllFinished connections before after
+    pub missed : served ≡ end.Missed → AllFinished connections before after × (0 < length before.screens)
+    pub failed : served ≡ end.ListenerFault → AnyFailed before after
+    pub all : AllFinished connections before after → ¬ (served ≡ end.ListenerFault)
 
-  -- desks that were served, but not all
-  some_as : (airport : AirportFiles) (connections : ℕ) (before after : Outs In Out) → ServesDesks states airport connections (ends_of before) (ends_of after) work.ListenerFault
-      → before.sink.faults ≤ after.sink.faults → EndsAs connections (Ok airport) ListenerFault before after
-  some_as airport connections before after desks least = record {
-    may = refl;
-    shelf = refl;
-    sink = least;
-    disk = least_count airport connections before after work.ListenerFault desks;
-    done = ((λ is. absurd cc), (λ all. let none : work.ListenerFault ≡ work.Done = finished_done states (sessions_by Turn) connections _ _ work.ListenerFault desks.serves all in absurd cc));
-    failed = λ _. fault_failed states (sessions_by Turn) connections _ _ desks.serves;
-    ordered = λ is. absurd cc;
-  }
+  served_as : (files : AirportFiles) (task : Task) (before after : Outs In Out) (served : ServeEnd)
+      → ServesDesks service files task (ends_of before) (ends_of after) served → Served task.connections before after served
+  served_as files task before after served desks =
+      let ended : Finished task.connections before.listeners after.listeners desks.desks =
+      desks_ended service.states (fed_sessions service.feeds) task.connections _ _ desks.desks desks.serves in
+      let shown : Finished task.connections before.screens after.screens desks.looks =
+      screens_ended service.states task.connections desks.shows.screens before.screens after.screens desks.looks desks.shows.shows in
+      record {
+        done = λ is. let both = both_done desks.desks desks.looks desks.missed (sym desks.end_is ∙ is) in (ended.finished both.0, shown.finished both.1);
+        missed = λ is. let all = one_missed desks.desks desks.looks desks.missed (sym desks.end_is ∙ is) in
+            ((ended.finished all.0, shown.finished all.1), desks.screens all.2);
+        failed = λ is. ⊎_elim
+            (λ (failed : desks.desks ≡ work.ListenerFault). inl (ended.failed failed))
+            (λ (failed : desks.looks ≡ work.ListenerFault). inr (shown.failed failed))
+            (one_failed desks.desks desks.looks desks.missed (sym desks.end_is ∙ is));
+        all = λ all is. none_failed desks.desks desks.looks desks.missed (ended.done all.0) (shown.done all.1) (sym desks.end_is ∙ is);
+      }
+
+  -- where a screen missed a version there are screens
+  pub missed_shown : (files : AirportFiles) (task : Task) (before after : Outs In Out) (met : Result ServeEnd Unusable)
+      → MeetsDesks service files task (ends_of before) (ends_of after) met → met ≡ Ok end.Missed → 0 < length before.screens
+  missed_shown files task before after met meets is =
+      let desks : ServesDesks service files task (ends_of before) (ends_of after) end.Missed =
+      subst (λ (m : Result ServeEnd Unusable). MeetsDesks service files task (ends_of before) (ends_of after) m) is meets in
+      desks.screens (one_missed desks.desks desks.looks desks.missed (sym desks.end_is)).2
 
   -- what was met at the journal
-  met_as : (airport : AirportFiles) (connections : ℕ) (before after : Outs In Out) (met : Result WorkEnd Unusable) (status : Status) → 1 ≤ connections → 1 ≤ length before.listeners
-      → MeetsDesks states airport connections (ends_of before) (ends_of after) met → TellsMet met before.sink after.sink status → EndsAs connections (Ok airport) status before after
-  met_as airport connections before after (Ok work.Done) status some any desks (silent, is) =
-      subst (λ (s : Status). EndsAs connections (Ok airport) s before after) (sym is) (all_as airport connections before after desks silent)
-  met_as airport connections before after (Ok work.ListenerFault) status some any desks tells =
+  met_as : (files : AirportFiles) (order : Order) (day : ℕ) (before after : Outs In Out) (met : Result ServeEnd Unusable) (status : Status) → 1 ≤ order.connections
+      → 1 ≤ length before.listeners
+      → MeetsDesks service files (record { connections = order.connections; day = day }) (ends_of before) (ends_of after) met
+      → TellsMet met before.sink after.sink status → EndsAs order (Ok files) status before after
+  met_as files order day before after (Ok end.Done) status some any desks (silent, is) =
+      let task : Task = record { connections = order.connections; day = day } in
+      let served : Served order.connections before after end.Done = served_as files task before after end.Done desks in
+      subst (λ (s : Status). EndsAs order (Ok files) s before after) (sym is) (record {
+        may = refl;
+        shelf = refl;
+        sink = let same : after.sink.faults ≡ before.sink.faults = ap (λ (s : SinkState). s.faults) silent in omega arith;
+        disk = least_count files task before after end.Done desks;
+        done = λ _. served.done refl;
+        finished = λ _. inl refl;
+        failed = λ is. absurd cc;
+        ordered = λ is. absurd cc;
+      })
+  met_as files order day before after (Ok end.ListenerFault) status some any desks tells =
+      let task : Task = record { connections = order.connections; day = day } in
+      let served : Served order.connections before after end.ListenerFault = served_as files task before after end.ListenerFault desks in
       let lines : Lines status ListenerFault before.sink after.sink = lines_of listener_line ListenerFault before.sink after.sink status tells in
-      subst (λ (s : Status). EndsAs connections (Ok airport) s before after) (sym lines.is) (some_as airport connections before after desks lines.least)
-  met_as airport connections before after (Err why) status some any finds tells =
+      subst (λ (s : Status). EndsAs order (Ok files) s before after) (sym lines.is) (record {
+        may = refl;
+        shelf = refl;
+        sink = lines.least;
+        disk = least_count files task before after end.ListenerFault desks;
+        done = λ is. absurd cc;
+        finished = λ all. absurd (served.all all refl);
+        failed = λ _. served.failed refl;
+        ordered = λ is. absurd cc;
+      })
+  met_as files order day before after (Ok end.Missed) status some any desks tells =
+      let task : Task = record { connections = order.connections; day = day } in
+      let served : Served order.connections before after end.Missed = served_as files task before after end.Missed desks in
+      let lines : Lines status Memory before.sink after.sink = lines_of (unusable_line no_memory) Memory before.sink after.sink status tells in
+      subst (λ (s : Status). EndsAs order (Ok files) s before after) (sym lines.is) (record {
+        may = refl;
+        shelf = refl;
+        sink = lines.least;
+        disk = least_count files task before after end.Missed desks;
+        done = λ is. absurd cc;
+        finished = λ _. inr (refl, (served.missed refl).1);
+        failed = λ is. absurd cc;
+        ordered = λ is. absurd cc;
+      })
+  met_as files order day before after (Err why) status some any finds tells =
       let not_opened = finds.disk in
-      early_as connections (Ok airport) status (status_of_unusable why) before after some any finds.listeners
-      (unusable_early airport before.disk after.disk why not_opened.cause) (unusable_shelf why)
-      (why_counts airport before.disk after.disk why not_opened.cause)
+      early_as order (Ok files) status (status_of_unusable why) before after some any finds.listeners
+      (unusable_early files before.disk after.disk why not_opened.cause) (unusable_shelf why)
+      (why_counts files before.disk after.disk why not_opened.cause)
       (lines_of (unusable_line why) (status_of_unusable why) before.sink after.sink status tells)
 
+  -- an order whose day the plan lacks names one
+  names_day : (airport : AirportParts) (named : Option (List ℕ)) → day_shown airport named ≡ None → is_some named ≡ true
+  names_day airport None none = absurd cc
+  names_day airport (Some digits) none = refl
+
+  -- what was done, by the day
+  day_as : (files : AirportFiles) (order : Order) (day : Option ℕ) (before after : Outs In Out) (status : Status) → day_shown files.airport order.day ≡ day
+      → 1 ≤ order.connections → 1 ≤ length before.listeners
+      → ServesTask service files (option_map (λ day. record { connections = order.connections; day = day }) day) before after status
+      → EndsAs order (Ok files) status before after
+  day_as files order (Some day) before after status is some any serves =
+      met_as files order day before after serves.met status some any serves.meets serves.tells
+  day_as files order None before after status is some any tells =
+      let lines : Lines status Usage before.sink after.sink = lines_of usage_text Usage before.sink after.sink status tells.tells in
+      let still : after.disk.faults ≡ before.disk.faults = ap (λ (d : DiskSeen). d.faults) tells.disk in
+      subst (λ (s : Status). EndsAs order (Ok files) s before after) (sym lines.is) (record {
+        may = refl;
+        shelf = refl;
+        sink = lines.least;
+        disk = omega arith;
+        done = λ is. absurd cc;
+        finished = λ all. absurd (none_yet order before after some any tells.listeners all);
+        failed = λ is. absurd cc;
+        ordered = λ _. names_day files.airport order.day is;
+      })
+
   -- what was found in the files
-  found_as : (connections : ℕ) (found : Result AirportFiles FilesFault) (before after : Outs In Out) (status : Status) → 1 ≤ connections → 1 ≤ length before.listeners
-      → ServesFound states connections found before after status → EndsAs connections found status before after
-  found_as connections (Ok airport) before after status some any serves = met_as airport connections before after serves.met status some any serves.meets serves.tells
-  found_as connections (Err fault) before after status some any serves =
-      early_as connections (Err fault) status (status_of_fault fault) before after some any serves.listeners (fault_early fault) (fault_shelf fault)
+  found_as : (order : Order) (found : Result AirportFiles FilesFault) (before after : Outs In Out) (status : Status) → 1 ≤ order.connections → 1 ≤ length before.listeners
+      → ServesFound service order found before after status → EndsAs order found status before after
+  found_as order (Ok files) before after status some any serves =
+      day_as files order (day_shown files.airport order.day) before after status refl some any serves
+  found_as order (Err fault) before after status some any serves =
+      early_as order (Err fault) status (status_of_fault fault) before after some any serves.listeners (fault_early fault) (fault_shelf fault)
       (fault_disk fault before.disk.faults after.disk.faults (ap (λ (d : DiskSeen). d.faults) serves.disk))
       (lines_of _ (status_of_fault fault) before.sink after.sink status serves.tells)
 
   -- what is known of what was asked, by the number that the program ends with
   pub record Carried (asked : Option Order) (before after : World In Out) (code : ℕ) : Type 0 where
-    pub serves : ServesAs states asked before after code
-    pub done : (order : Order) → asked ≡ Some order → (code ≡ code_of Done ↔ HaveFinished order.connections before.listeners after.listeners)
-    pub failed : code ≡ code_of ListenerFault → SomeFailed before.listeners after.listeners
-    pub usage : code ≡ code_of Usage ↔ asked ≡ None
+    pub serves : ServesAs service asked before after code
+    pub done : (order : Order) → asked ≡ Some order → code ≡ code_of Done → AllFinished order.connections (outs_of before) (outs_of after)
+    pub finished : (order : Order) → asked ≡ Some order → AllFinished order.connections (outs_of before) (outs_of after) → IsDone (outs_of before) code
+    pub failed : code ≡ code_of ListenerFault → AnyFailed (outs_of before) (outs_of after)
+    pub usage : asked ≡ None → code ≡ code_of Usage
+    pub usage_alone : code ≡ code_of Usage → (asked ≡ None) ⊎ (is_screen_order asked ≡ true)
 
   -- an order that was carried out
   carried_so : (order : Order) (before after : World In Out) (status : Status) → 1 ≤ order.connections → 1 ≤ length before.listeners
-      → ServesFiles states order before after status → Carried (Some order) before after (code_of status)
+      → ServesFiles service order before after status → Carried (Some order) before after (code_of status)
   carried_so order before after status some any serves =
-      let ends : EndsAs order.connections serves.found status (outs_of before) (outs_of after) =
-      found_as order.connections serves.found (outs_of before) (outs_of after) status some any serves.serves in
+      let ends : EndsAs order serves.found status (outs_of before) (outs_of after) =
+      found_as order serves.found (outs_of before) (outs_of after) status some any serves.serves in
       let finds = serves.finds in
       record {
         serves = record {
@@ -174,14 +299,17 @@ module _ {In Out : Type 0} (states : EndStates In Out) where
           disk = ends.disk;
         };
         done = λ other is. let same : order ≡ other = cc in
-            subst (λ (o : Order). code_of status ≡ code_of Done ↔ HaveFinished o.connections before.listeners after.listeners) same ends.done;
+            subst (λ (o : Order). code_of status ≡ code_of Done → AllFinished o.connections (outs_of before) (outs_of after)) same ends.done;
+        finished = λ other is. let same : order ≡ other = cc in
+            subst (λ (o : Order). AllFinished o.connections (outs_of before) (outs_of after) → IsDone (outs_of before) (code_of status)) same ends.finished;
         failed = ends.failed;
-        usage = ((λ is. absurd (ends.ordered is)), (λ is. absurd cc));
+        usage = λ is. absurd cc;
+        usage_alone = λ is. inr (ends.ordered is);
       }
 
   -- what was asked was this order, which was carried out
   pub carried : (order : Order) (asked : Option Order) (before after : World In Out) (status : Status) (code : ℕ) → 1 ≤ order.connections → 1 ≤ length before.listeners
-      → Some order ≡ asked → code ≡ code_of status → ServesFiles states order before after status → Carried asked before after code
+      → Some order ≡ asked → code ≡ code_of status → ServesFiles service order before after status → Carried asked before after code
   carried order asked before after status code some any asked_is code_is serves =
       subst (λ (c : ℕ). Carried asked before after c) (sym code_is)
       (subst (λ (a : Option Order). Carried a before after (code_of status)) asked_is (carried_so order before after status some any serves))
@@ -202,8 +330,10 @@ module _ {In Out : Type 0} (states : EndStates In Out) where
           disk = let still : after.disk.faults ≡ before.disk.faults = ap (λ (w : World In Out). w.disk.faults) same in omega arith;
         };
         done = λ order is. absurd cc;
+        finished = λ order is. absurd cc;
         failed = λ is. absurd cc;
-        usage = ((λ _. refl), (λ _. refl));
+        usage = λ _. refl;
+        usage_alone = λ _. inl refl;
       }
 
   -- nothing was ordered, and this number came of it

@@ -1,15 +1,18 @@
 -- How workers ended, by how many connections their listeners finished.
-use Rattle.std.proofs.Common.{◌≡◌, ◌∙◌, ◌⊎◌, ◌+◌, ◌≤◌, ℕ, true, List, [], ◌∷◌, length, map, inl, inr, refl, sym, ap, subst, arith}
+use Rattle.std.proofs.Common.{◌≡◌, ◌∙◌, ◌⊎◌, ◌+◌, ◌<◌, ◌≤◌, ℕ, Bool, true, false, List, [], ◌∷◌, length, map, inl, inr, refl, sym, ap, subst, arith}
 use Rattle.apron_base.specs.Counts.{Counts, Rose}
 use Rattle.apron_base.specs.Histories.{Every}
 use Rattle.apron_base.specs.Listener.{ListenerState}
 use Rattle.apron_base.specs.Machine.{MachineState}
-use Rattle.desk_words.specs.declared.asks.Entry.{Entry}
+use Rattle.turn_board.proofs.Totals.{every_more}
 use Rattle.desk_http.specs.Session.{SessionKind}
 use Rattle.desk_turns.specs.Crew.{CrewState, ServesBoard, Worker, WorksAt, end_of}
 use Rattle.desk_turns.specs.Work.{EndStates, IsEndAt, is_listener_fault}
 use Rattle.desk_turns.specs.declared.worker.WorkEnd.{WorkEnd}
 use Rattle.desk_turns.specs.declared.worker.WorkEnd.TheVariants.{Done, ListenerFault}
+use Rattle.screen_feed.specs.Screens.{ScreenState}
+use Rattle.screen_looks.specs.Looks.{ShowsOn}
+use Rattle.screen_looks.specs.Walls.{ScreenWorker, ShowsAll}
 use Rattle.apron_serve.specs.Serve.{HaveFinished, SomeFailed}
 
 -- the first of some workers that were all done, and the others
@@ -31,80 +34,97 @@ done_at ListenerFault asked count before after less is all = absurd (omega arith
 same_lists : (one other : ℕ) (ones others : List ℕ) → one ≡ other → ones ≡ others → one ∷ ones ≡ other ∷ others
 same_lists one other ones others first rest = rw (first, rest) refl
 
-module _ {In Out Fixed : Type 0} (states : EndStates In Out) (kinds : Fixed → SessionKind) (asked : ℕ) (before after : MachineState Entry Fixed) where
-  -- a worker that is done has finished all that it was asked for
-  has_finished : (worker : Worker In Out) → WorksAt states kinds asked before after worker → worker.end ≡ Done → worker.after.listener.ended ≡ worker.before.listener.ended + asked
-  has_finished worker at is =
-      let works = at.works in
-      let serves = works.serves in
-      let finishes = serves.finishes in
-      let count : length works.connections ≡ asked = subst (λ (e : WorkEnd). IsEndAt e asked (length works.connections)) is works.count in
-      finishes.ended ∙ ap (λ n. worker.before.listener.ended + n) count
+-- a listener before and after a worker that was asked for this many connections, and how that ended
+record Ended {In Out : Type 0} (asked : ℕ) (before after : ListenerState In Out) (end : WorkEnd) : Type 0 where
+  pub count : ℕ
+  pub ended : after.ended ≡ before.ended + count
+  pub is : IsEndAt end asked count
+  pub faults : Counts (is_listener_fault end) before.faults after.faults
 
-  -- a worker that has finished all that it was asked for is done
-  is_done : (worker : Worker In Out) → WorksAt states kinds asked before after worker → worker.after.listener.ended ≡ worker.before.listener.ended + asked → worker.end ≡ Done
-  is_done worker at all =
-      let works = at.works in
-      let serves = works.serves in
-      let finishes = serves.finishes in
-      done_at worker.end asked (length works.connections) worker.before.listener.ended worker.after.listener.ended works.count finishes.ended all
+-- what is known of the listeners of workers that were asked for this many connections each, and ended so together
+pub record Finished {In Out : Type 0} (asked : ℕ) (olds news : List (ListenerState In Out)) (together : WorkEnd) : Type 0 where
+  pub finished : together ≡ Done → HaveFinished asked olds news
+  pub done : HaveFinished asked olds news → together ≡ Done
+  pub failed : together ≡ ListenerFault → SomeFailed olds news
+
+-- workers, of whatever kind, each with its listener before and after and how it ended
+module _ {In Out W : Type 0} (asked : ℕ) (before after : W → ListenerState In Out) (end : W → WorkEnd) where
+  abbrev EndedAt : W → Type 0
+  EndedAt worker = Ended asked (before worker) (after worker) (end worker)
+
+  -- a worker that is done has finished all that it was asked for
+  has_finished : (worker : W) → EndedAt worker → end worker ≡ Done → (after worker).ended ≡ (before worker).ended + asked
+  has_finished worker at is =
+      let count : at.count ≡ asked = subst (λ (e : WorkEnd). IsEndAt e asked at.count) is at.is in
+      at.ended ∙ ap (λ n. (before worker).ended + n) count
 
   -- the listener of one that is not done has failed
-  has_failed : (worker : Worker In Out) → WorksAt states kinds asked before after worker → worker.end ≡ ListenerFault → Rose worker.before.listener.faults worker.after.listener.faults
+  has_failed : (worker : W) → EndedAt worker → end worker ≡ ListenerFault → Rose (before worker).faults (after worker).faults
   has_failed worker at is =
-      let works = at.works in
-      let serves = works.serves in
-      let finishes = serves.finishes in
-      let counts : Counts true worker.before.listener.faults worker.after.listener.faults =
-      subst (λ (e : WorkEnd). Counts (is_listener_fault e) worker.before.listener.faults worker.after.listener.faults) is finishes.faults in
+      let counts : Counts true (before worker).faults (after worker).faults =
+      subst (λ (e : WorkEnd). Counts (is_listener_fault e) (before worker).faults (after worker).faults) is at.faults in
       counts.1
 
   -- workers that are all done have finished all
-  all_finished : (workers : List (Worker In Out)) → Every (WorksAt states kinds asked before after) workers → end_of (map (λ (worker : Worker In Out). worker.end) workers) ≡ Done
-      → HaveFinished asked (map (λ (worker : Worker In Out). worker.before.listener) workers) (map (λ (worker : Worker In Out). worker.after.listener) workers)
+  all_finished : (workers : List W) → Every EndedAt workers → end_of (map end workers) ≡ Done → HaveFinished asked (map before workers) (map after workers)
   all_finished [] every is = refl
   all_finished (worker ∷ workers) (at, rest) is =
-      let both = first_done worker.end (map (λ (w : Worker In Out). w.end) workers) is in
-      same_lists worker.after.listener.ended (worker.before.listener.ended + asked) _ _ (has_finished worker at both.0) (all_finished workers rest both.1)
+      let both = first_done (end worker) (map end workers) is in
+      same_lists (after worker).ended ((before worker).ended + asked) _ _ (has_finished worker at both.0) (all_finished workers rest both.1)
 
   -- workers that have finished all are all done
-  all_done : (workers : List (Worker In Out)) → Every (WorksAt states kinds asked before after) workers
-      → HaveFinished asked (map (λ (worker : Worker In Out). worker.before.listener) workers) (map (λ (worker : Worker In Out). worker.after.listener) workers)
-      → end_of (map (λ (worker : Worker In Out). worker.end) workers) ≡ Done
+  all_done : (workers : List W) → Every EndedAt workers → HaveFinished asked (map before workers) (map after workers) → end_of (map end workers) ≡ Done
   all_done [] every all = refl
   all_done (worker ∷ workers) (at, rest) all =
-      let first : worker.after.listener.ended ≡ worker.before.listener.ended + asked = cc in
-      let others : HaveFinished asked (map (λ (w : Worker In Out). w.before.listener) workers) (map (λ (w : Worker In Out). w.after.listener) workers) = cc in
-      let is : worker.end ≡ Done = is_done worker at first in
-      subst (λ (e : WorkEnd). end_of (e ∷ map (λ (w : Worker In Out). w.end) workers) ≡ Done) (sym is) (all_done workers rest others)
+      let first : (after worker).ended ≡ (before worker).ended + asked = cc in
+      let others : HaveFinished asked (map before workers) (map after workers) = cc in
+      let is : end worker ≡ Done = done_at (end worker) asked at.count (before worker).ended (after worker).ended at.is at.ended first in
+      subst (λ (e : WorkEnd). end_of (e ∷ map end workers) ≡ Done) (sym is) (all_done workers rest others)
 
   -- a failed one is the first, or among the others
-  fails_first : {Others Some : Type 0} (worker : Worker In Out) → WorksAt states kinds asked before after worker → (worker.end ≡ ListenerFault) ⊎ Others → (Others → Some)
-      → Rose worker.before.listener.faults worker.after.listener.faults ⊎ Some
+  fails_first : {Others Some : Type 0} (worker : W) → EndedAt worker → (end worker ≡ ListenerFault) ⊎ Others → (Others → Some)
+      → Rose (before worker).faults (after worker).faults ⊎ Some
   fails_first worker at (inl is) goes = inl (has_failed worker at is)
   fails_first worker at (inr others) goes = inr (goes others)
 
   -- where not all are done the count of a listener rose
-  some_failed : (workers : List (Worker In Out)) → Every (WorksAt states kinds asked before after) workers → end_of (map (λ (worker : Worker In Out). worker.end) workers) ≡ ListenerFault
-      → SomeFailed (map (λ (worker : Worker In Out). worker.before.listener) workers) (map (λ (worker : Worker In Out). worker.after.listener) workers)
+  some_failed : (workers : List W) → Every EndedAt workers → end_of (map end workers) ≡ ListenerFault → SomeFailed (map before workers) (map after workers)
   some_failed [] every is = absurd cc
   some_failed (worker ∷ workers) (at, rest) is =
-      fails_first worker at (first_failed worker.end (map (λ (w : Worker In Out). w.end) workers) is) (λ others. some_failed workers rest others)
+      fails_first worker at (first_failed (end worker) (map end workers) is) (λ others. some_failed workers rest others)
 
-module _ {In Out Fixed : Type 0} (states : EndStates In Out) (kinds : Fixed → SessionKind) (asked : ℕ) (before after : CrewState In Out Fixed) where
-  -- a board whose workers are done
-  pub done_finished : ServesBoard states kinds asked before after Done → HaveFinished asked before.listeners after.listeners
-  done_finished serves = rw (serves.begun, serves.ended) (all_finished states kinds asked before.board after.board serves.workers serves.work (sym serves.end_is))
+  all_ended : (workers : List W) → Every EndedAt workers → (olds news : List (ListenerState In Out)) (together : WorkEnd)
+      → olds ≡ map before workers → news ≡ map after workers → together ≡ end_of (map end workers) → Finished asked olds news together
+  all_ended workers every olds news together begun ended is = record {
+    finished = λ done. rw (begun, ended) (all_finished workers every (sym is ∙ done));
+    done = λ all. is ∙ all_done workers every (subst (λ (l : List (ListenerState In Out)). HaveFinished asked (map before workers) l) ended
+        (subst (λ (l : List (ListenerState In Out)). HaveFinished asked l news) begun all));
+    failed = λ failed. rw (begun, ended) (some_failed workers every (sym is ∙ failed));
+  }
 
-  -- a board whose listeners have finished all
-  pub finished_done : (end : WorkEnd) → ServesBoard states kinds asked before after end → HaveFinished asked before.listeners after.listeners → end ≡ Done
-  finished_done end serves all = serves.end_is ∙ all_done states kinds asked before.board after.board serves.workers serves.work
-      (subst (λ (l : List (ListenerState In Out)). HaveFinished asked (map (λ (w : Worker In Out). w.before.listener) serves.workers) l) serves.ended
-      (subst (λ (l : List (ListenerState In Out)). HaveFinished asked l after.listeners) serves.begun all))
+-- the workers of desks at a board
+pub desks_ended : {In Out Fixed : Type 0} (states : EndStates In Out) (kinds : Fixed → SessionKind) (asked : ℕ) (before after : CrewState In Out Fixed) (end : WorkEnd)
+    → ServesBoard states kinds asked before after end
+    → Finished asked before.listeners after.listeners end
+desks_ended states kinds asked before after end serves =
+    all_ended asked (λ (worker : Worker In Out). worker.before.listener) (λ (worker : Worker In Out). worker.after.listener) (λ (worker : Worker In Out). worker.end)
+    serves.workers
+    (every_more (WorksAt states kinds asked before.board after.board) _ (λ worker at.
+    let works = at.works in let finishes = works.serves.finishes in
+    record { count = length works.connections; ended = finishes.ended; is = works.count; faults = finishes.faults }) serves.workers serves.work)
+    before.listeners after.listeners end serves.begun serves.ended serves.end_is
 
-  -- a board with a worker that is not done
-  pub fault_failed : ServesBoard states kinds asked before after ListenerFault → SomeFailed before.listeners after.listeners
-  fault_failed serves = rw (serves.begun, serves.ended) (some_failed states kinds asked before.board after.board serves.workers serves.work (sym serves.end_is))
+-- the workers of screens
+pub screens_ended : {In Out : Type 0} (states : EndStates In Out) (asked : ℕ) (screens : List ScreenState) (before after : List (ListenerState In Out)) (end : WorkEnd)
+    → ShowsAll states asked screens before after end
+    → Finished asked before after end
+screens_ended states asked screens before after end shows =
+    all_ended asked (λ (worker : ScreenWorker In Out). worker.before.listener) (λ (worker : ScreenWorker In Out). worker.after.listener)
+    (λ (worker : ScreenWorker In Out). worker.end) shows.workers
+    (every_more (λ (worker : ScreenWorker In Out). ShowsOn states asked worker.before worker.after worker.end) _ (λ worker on.
+    let finishes = on.shows.finishes in
+    record { count = length on.connections; ended = finishes.ended; is = on.count; faults = finishes.faults }) shows.workers shows.work)
+    before after end shows.begun shows.ended shows.end_is
 
 -- listeners that are as they were have not finished more
 pub none_finished : {In Out : Type 0} (asked : ℕ) (listeners : List (ListenerState In Out)) → 1 ≤ asked → 1 ≤ length listeners → ¬ (HaveFinished asked listeners listeners)

@@ -1,36 +1,24 @@
 -- What stays as it was, by what was met at the journal.
-use Rattle.std.proofs.Common.{◌≡◌, ◌∙◌, Bool, false, refl, sym, ap, subst, Result, Ok, Err}
+use Rattle.std.proofs.Common.{◌≡◌, ◌<◌, ◌∙◌, ℕ, Bool, true, false, refl, sym, ap, subst, arith, Result, Ok, Err}
 use Rattle.std.specs.Prelude.{OnErr}
+use Rattle.std.proofs.lemmas.Bool.Decides.{nat_tests}
 use Rattle.apron_base.specs.Ends.{SinkState}
 use Rattle.journal_disk.specs.declared.fault.JournalFault.TheVariants as journal
 use Rattle.history_core.specs.declared.opening.OpenFault.TheVariants as entries
-use Rattle.desk_turns.specs.declared.worker.WorkEnd.{WorkEnd}
-use Rattle.desk_turns.specs.declared.worker.WorkEnd.TheVariants as work
 use Rattle.apron_run.specs.Run.{KeptUnless}
 use Rattle.apron_run.specs.Statuses.{code_of}
 use Rattle.apron_run.specs.Unusable.{status_of_unusable, unusable_line}
 use Rattle.apron_run.specs.declared.status.Status.{Status}
-use Rattle.apron_run.specs.declared.status.Status.TheVariants.{ListenerFault}
+use Rattle.apron_run.specs.declared.status.Status.TheVariants.{ListenerFault, Memory}
 use Rattle.apron_run.specs.declared.unusable.Unusable.{Unusable}
 use Rattle.apron_run.specs.declared.unusable.Unusable.TheVariants.{Journal, Entries}
 use Rattle.apron_run.proofs.Counting.{Lines, lines_of}
-use Rattle.apron_serve.specs.Files.{TellsMet, listener_line}
+use Rattle.apron_serve.specs.Files.{TellsMet, listener_line, no_memory}
 use Rattle.apron_serve.specs.Serve.{ends_before_journal, has_served}
+use Rattle.apron_serve.specs.declared.board.ServeEnd.{ServeEnd}
+use Rattle.apron_serve.specs.declared.board.ServeEnd.TheVariants as end
 
--- whether the statuses of a journal that isn't worked on are those of desks that were served
-unusable_unserved : (why : Unusable) → has_served (code_of (status_of_unusable why)) ≡ false
-unusable_unserved (Journal journal.DiskFault) = refl
-unusable_unserved (Journal journal.NotEmpty) = refl
-unusable_unserved (Journal journal.NotAJournal) = refl
-unusable_unserved (Journal (journal.OtherAirport kept given)) = refl
-unusable_unserved (Journal journal.OldFormat) = refl
-unusable_unserved (Journal (journal.BadRecord number)) = refl
-unusable_unserved (Journal journal.Memory) = refl
-unusable_unserved (Entries (entries.BadEntry number)) = refl
-unusable_unserved (Entries (entries.WrongEntry number)) = refl
-unusable_unserved (Entries entries.Memory) = refl
-
--- and whether they are those of an end before the journal
+-- the status of a journal that isn't worked on is none of an end before the journal
 unusable_comes : (why : Unusable) → ends_before_journal (code_of (status_of_unusable why)) ≡ false
 unusable_comes (Journal journal.DiskFault) = refl
 unusable_comes (Journal journal.NotEmpty) = refl
@@ -44,23 +32,37 @@ unusable_comes (Entries (entries.WrongEntry number)) = refl
 unusable_comes (Entries entries.Memory) = refl
 
 -- what is told of what was met at the journal is no end before it
-pub met_comes : (met : Result WorkEnd Unusable) (before after : SinkState) (status : Status) → TellsMet met before after status → ends_before_journal (code_of status) ≡ false
-met_comes (Ok work.Done) before after status (silent, is) = ap (λ (s : Status). ends_before_journal (code_of s)) is
-met_comes (Ok work.ListenerFault) before after status tells =
+pub met_comes : (met : Result ServeEnd Unusable) (before after : SinkState) (status : Status) → TellsMet met before after status → ends_before_journal (code_of status) ≡ false
+met_comes (Ok end.Done) before after status (silent, is) = ap (λ (s : Status). ends_before_journal (code_of s)) is
+met_comes (Ok end.ListenerFault) before after status tells =
     let lines : Lines status ListenerFault before after = lines_of listener_line ListenerFault before after status tells in
+    ap (λ (s : Status). ends_before_journal (code_of s)) lines.is
+met_comes (Ok end.Missed) before after status tells =
+    let lines : Lines status Memory before after = lines_of (unusable_line no_memory) Memory before after status tells in
     ap (λ (s : Status). ends_before_journal (code_of s)) lines.is
 met_comes (Err why) before after status tells =
     let lines : Lines status (status_of_unusable why) before after = lines_of (unusable_line why) (status_of_unusable why) before after status tells in
     ap (λ (s : Status). ends_before_journal (code_of s)) lines.is ∙ unusable_comes why
 
+-- what is kept, whether or not it has to be
+kept_anyway : {E : Type 0} (may : Bool) (old new : E) → new ≡ old → KeptUnless may old new
+kept_anyway true old new same = tt
+kept_anyway false old new same = same
+
+-- a version that a screen missed may end what was served
+missed_served : (screens : ℕ) → 0 < screens → has_served screens (code_of Memory) ≡ true
+missed_served screens some = grind (arith, nat_tests)
+
 -- where there was no journal to work on it is told so
-pub met_kept : {E : Type 0} (met : Result WorkEnd Unusable) (before after : SinkState) (status : Status) (old new : E) → TellsMet met before after status
-    → OnErr met (new ≡ old) → KeptUnless (has_served (code_of status)) old new
-met_kept (Ok work.Done) before after status old new (silent, is) kept =
-    subst (λ (s : Status). KeptUnless (has_served (code_of s)) old new) (sym is) tt
-met_kept (Ok work.ListenerFault) before after status old new tells kept =
+pub met_kept : {E : Type 0} (screens : ℕ) (met : Result ServeEnd Unusable) (before after : SinkState) (status : Status) (old new : E)
+    → (met ≡ Ok end.Missed → 0 < screens) → TellsMet met before after status → OnErr met (new ≡ old) → KeptUnless (has_served screens (code_of status)) old new
+met_kept screens (Ok end.Done) before after status old new shown (silent, is) kept =
+    subst (λ (s : Status). KeptUnless (has_served screens (code_of s)) old new) (sym is) tt
+met_kept screens (Ok end.ListenerFault) before after status old new shown tells kept =
     let lines : Lines status ListenerFault before after = lines_of listener_line ListenerFault before after status tells in
-    subst (λ (s : Status). KeptUnless (has_served (code_of s)) old new) (sym lines.is) tt
-met_kept (Err why) before after status old new tells kept =
-    let lines : Lines status (status_of_unusable why) before after = lines_of (unusable_line why) (status_of_unusable why) before after status tells in
-    subst (λ (b : Bool). KeptUnless b old new) (sym (ap (λ (s : Status). has_served (code_of s)) lines.is ∙ unusable_unserved why)) kept
+    subst (λ (s : Status). KeptUnless (has_served screens (code_of s)) old new) (sym lines.is) tt
+met_kept screens (Ok end.Missed) before after status old new shown tells kept =
+    let lines : Lines status Memory before after = lines_of (unusable_line no_memory) Memory before after status tells in
+    subst (λ (s : Status). KeptUnless (has_served screens (code_of s)) old new) (sym lines.is)
+    (subst (λ (b : Bool). KeptUnless b old new) (sym (missed_served screens (shown refl))) tt)
+met_kept screens (Err why) before after status old new shown tells kept = kept_anyway (has_served screens (code_of status)) old new kept

@@ -4,3 +4,4 @@ pub mod Finished
 pub mod Endings
 pub mod Keeping
 pub mod Completing
+pub mod NoScreens

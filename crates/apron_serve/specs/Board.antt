@@ -1,31 +1,47 @@
--- What desks that are served at one journal do to it, and to their listeners.
-use Rattle.std.specs.Prelude.{◌≡◌, ℕ, List, None, Result, Ok, Err}
+-- What desks and screens that are served at one journal do to it, and to their listeners.
+use Rattle.std.specs.Prelude.{◌≡◌, ◌<◌, ℕ, Bool, true, false, List, [], ◌∷◌, length, None, Result, Ok, Err}
 use Rattle.apron_base.specs.Machine.{MachineState}
 use Rattle.apron_rules.specs.declared.parts.AirportParts.{AirportParts}
 use Rattle.visit_book.specs.declared.visits.NewVisit.{NewVisit}
 use Rattle.desk_words.specs.declared.asks.Entry.{Entry}
 use Rattle.history_core.specs.Opening.{next_after}
-use Rattle.desk_http.specs.Ports.{Turn}
-use Rattle.desk_http.specs.Session.{sessions_by}
-use Rattle.desk_turns.specs.Crew.{ServesBoard}
+use Rattle.desk_turns.specs.Crew.{ServesBoard, end_of}
+use Rattle.desk_turns.specs.Watched.{FeedTexts, fed_sessions}
 use Rattle.desk_turns.specs.Work.{EndStates}
 use Rattle.desk_turns.specs.declared.worker.WorkEnd.{WorkEnd}
+use Rattle.desk_turns.specs.declared.worker.WorkEnd.TheVariants as work
+use Rattle.screen_looks.specs.Shown.{ShowsFrom}
+use Rattle.screen_looks.specs.declared.shown.Task.{Task}
 use Rattle.apron_check.specs.declared.files.AirportFiles.{AirportFiles}
 use Rattle.apron_run.specs.Headline.{AllSound, HasItsEntry, IsOfItsEntry}
 use Rattle.apron_run.specs.Journal.{KeepsHistory, NotOpened, OpensTo}
 use Rattle.apron_run.specs.declared.unusable.Unusable.{Unusable}
+use Rattle.apron_serve.specs.declared.board.ServeEnd.{ServeEnd}
+use Rattle.apron_serve.specs.declared.board.ServeEnd.TheVariants.{Done, ListenerFault, Missed}
 use Rattle.apron_serve.specs.World.{Ends}
 
--- a board that was opened with this history, behind which no entry is at risk, over a disk that had failed so often
+-- a board that was opened with this history, after which no entry is at risk, over a disk that had failed so often
 abbrev pub begun : AirportParts → List Entry → ℕ → MachineState Entry AirportParts
 begun airport opened faults = record { fixed = airport; history = opened; at_risk = None; next = next_after opened; faults = faults }
+
+-- how the ends of connections are seen, and what the reply to each feed is
+pub record Service (In Out : Type 0) : Type 0 where
+  pub states : EndStates In Out
+  pub feeds : FeedTexts
+
+-- how serving ended, by how the workers ended and whether a screen's writer missed the last version
+abbrev pub served_end : WorkEnd → Bool → ServeEnd
+served_end work.ListenerFault missed = ListenerFault
+served_end work.Done true = Missed
+served_end work.Done false = Done
 
 -- there is no journal to work on, or no memory for the turns at it: no listener was called, and the disk reads as before
 pub record FindsNoJournal {In Out : Type 0} (files : AirportFiles) (before after : Ends In Out) (why : Unusable) : Type 0 where
   pub listeners : after.listeners ≡ before.listeners
+  pub screens : after.screens ≡ before.screens
   pub disk : NotOpened files before.disk after.disk why
 
-module _ {In Out : Type 0} (states : EndStates In Out) (files : AirportFiles) (connections : ℕ) where
+module _ {In Out : Type 0} (service : Service In Out) (files : AirportFiles) (task : Task) where
   -- The headline for many desks. The journal of the files opened to a legal history. Each listener's connections were served one after the other by a
   -- worker of its own, whose port had seen that history: each request was answered as for a desk alone, at the whole history that its turn found. At
   -- the end the history is legal, begins with the one that was opened, and is the longest that a worker has seen; each worker has seen a front of it.
@@ -34,14 +50,22 @@ module _ {In Out : Type 0} (states : EndStates In Out) (files : AirportFiles) (c
   -- After each entry the plan is sound; a draft made a version exactly where the entry of that number is its commit, and a visit is of the entry that
   -- added it. The disk at the end is the journal of the same files with the history, or, where it has failed, with this and perhaps one entry more, with
   -- which it is still legal: that of a request on a connection of one of the workers, which was told that its entry could not be kept, and after which none
-  -- was added.
-  pub record ServesDesks (before after : Ends In Out) (end : WorkEnd) : Type 0 where
+  -- was added. Beside the desks each screen's connections were shown its sheets, one look each; a screen had seen the chart of the opened plan, and its
+  -- sheets are charts of the day of plans of the airport whose versions never fall. Serving ended as the first worker in order that stopped early,
+  -- those of the desks before those of the screens. If none did, it tells whether a writer of a screen missed the last version.
+  pub record ServesDesks (before after : Ends In Out) (end : ServeEnd) : Type 0 where
     pub opened : List Entry
     pub opens : OpensTo files before.disk opened
     pub board : MachineState Entry AirportParts
-    pub serves : ServesBoard states (sessions_by Turn) connections
+    pub desks : WorkEnd
+    pub serves : ServesBoard service.states (fed_sessions service.feeds) task.connections
         (record { listeners = before.listeners; board = begun files.airport opened before.disk.faults })
-        (record { listeners = after.listeners; board = board }) end
+        (record { listeners = after.listeners; board = board }) desks
+    pub looks : WorkEnd
+    pub shows : ShowsFrom service.states (record { airport = files.airport; history = opened }) task before.screens after.screens looks
+    pub missed : Bool
+    pub screens : missed ≡ true → 0 < length before.screens
+    pub end_is : end ≡ served_end (end_of (desks ∷ looks ∷ [])) missed
     pub faults : after.disk.faults ≡ board.faults
     pub keeps : KeepsHistory files board.history board.at_risk after.disk
     pub sound : AllSound files.airport board.history
@@ -49,6 +73,6 @@ module _ {In Out : Type 0} (states : EndStates In Out) (files : AirportFiles) (c
     pub visits : (version : ℕ) (added : NewVisit) → IsOfItsEntry files.airport board.history version added
 
   -- desks served at the journal of these files, or why there is none to work on
-  abbrev pub MeetsDesks : Ends In Out → Ends In Out → Result WorkEnd Unusable → Type 0
+  abbrev pub MeetsDesks : Ends In Out → Ends In Out → Result ServeEnd Unusable → Type 0
   MeetsDesks before after (Ok end) = ServesDesks before after end
   MeetsDesks before after (Err why) = FindsNoJournal files before after why

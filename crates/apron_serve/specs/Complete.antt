@@ -1,24 +1,26 @@
 -- Completeness: `serve` with what it can work with, where no count rises, serves all that it is asked for, or memory is wanting.
-use Rattle.std.specs.Prelude.{ℕ, List, Option, None, Some}
+use Rattle.std.specs.Prelude.{ℕ, List, Option, None, Some, IsSome}
 use Rattle.apron_base.specs.Counts.{Rose}
 use Rattle.desk_words.specs.declared.asks.Entry.{Entry}
 use Rattle.apron_check.specs.declared.files.AirportFiles.{AirportFiles}
 use Rattle.apron_run.specs.Complete.{EndsWell, HasFiles, HasJournal}
-use Rattle.apron_serve.specs.Orders.{Order}
+use Rattle.apron_serve.specs.Orders.{Order, day_shown}
 use Rattle.apron_serve.specs.Serve.{SomeFailed}
 use Rattle.apron_serve.specs.World.{World}
 
 module _ {In Out : Type 0} where
-  -- there is an order, its two files make an airport, and the disk opens as the journal of it
+  -- there is an order, its two files make an airport, whose plan has the day that is ordered, and the disk opens as the journal of it
   abbrev pub IsValid : Option Order → World In Out → Type 0
   IsValid None world = ⊥
   IsValid (Some order) world =
-      (files : AirportFiles) × HasFiles world.shelf order.airport order.types files × ((history : List Entry) × HasJournal files world.disk history)
+      (files : AirportFiles) × HasFiles world.shelf order.airport order.types files
+      × IsSome (day_shown files.airport order.day) × ((history : List Entry) × HasJournal files world.disk history)
 
   -- the count of faults of the shelf, of a listener or of the disk neither rose nor stands at its last value
   pub record NoneFails (before after : World In Out) : Type 0 where
     pub shelf : ¬ (Rose before.shelf.faults after.shelf.faults)
     pub listeners : ¬ (SomeFailed before.listeners after.listeners)
+    pub screens : ¬ (SomeFailed before.screens after.screens)
     pub disk : ¬ (Rose before.disk.faults after.disk.faults)
 
   -- what is valid, and where nothing fails, ends well

@@ -1,52 +1,77 @@
--- What is done with an order: desks are served at the journal of two files, or it is told why not.
-use Rattle.std.specs.Prelude.{◌≡◌, ℕ, List, codes, Result, Ok, Err}
+-- What is done with an order: desks and screens are served at the journal of two files, or a line says why not.
+use Rattle.std.specs.Prelude.{◌≡◌, ℕ, List, codes, Option, None, Some, Result, Ok, Err}
+use Rattle.std.specs.Option.{option_map}
 use Rattle.apron_base.specs.Ends.{SinkState}
-use Rattle.desk_turns.specs.Work.{EndStates}
-use Rattle.desk_turns.specs.declared.worker.WorkEnd.{WorkEnd}
-use Rattle.desk_turns.specs.declared.worker.WorkEnd.TheVariants as work
 use Rattle.apron_check.specs.Files.{Finds}
 use Rattle.apron_check.specs.declared.files.AirportFiles.{AirportFiles}
 use Rattle.apron_check.specs.declared.faults.FilesFault.{FilesFault}
+use Rattle.history_core.specs.declared.opening.OpenFault.TheVariants as entries
+use Rattle.screen_looks.specs.declared.shown.Task.{Task}
 use Rattle.apron_run.specs.Check.{TellsFault}
-use Rattle.apron_run.specs.Print.{Writes}
+use Rattle.apron_run.specs.Print.{Writes, usage_text}
 use Rattle.apron_run.specs.Unusable.{TellsUnusable}
 use Rattle.apron_run.specs.declared.status.Status.{Status}
-use Rattle.apron_run.specs.declared.status.Status.TheVariants.{Done, ListenerFault}
+use Rattle.apron_run.specs.declared.status.Status.TheVariants as status
 use Rattle.apron_run.specs.declared.unusable.Unusable.{Unusable}
-use Rattle.apron_serve.specs.Board.{MeetsDesks}
-use Rattle.apron_serve.specs.Orders.{Order}
+use Rattle.apron_run.specs.declared.unusable.Unusable.TheVariants.{Entries}
+use Rattle.apron_serve.specs.declared.board.ServeEnd.{ServeEnd}
+use Rattle.apron_serve.specs.declared.board.ServeEnd.TheVariants.{Done, ListenerFault, Missed}
+use Rattle.apron_serve.specs.Board.{MeetsDesks, Service}
+use Rattle.apron_serve.specs.Orders.{Order, day_shown}
 use Rattle.apron_serve.specs.World.{Outs, World, ends_of, outs_of}
 
 -- the line that tells that a listener failed
 unfoldable pub listener_line : List ℕ
 listener_line = codes "listener fault\n"
 
--- what is told of what was met, and its status: nothing of desks that were all served, and else a line
-abbrev pub TellsMet : Result WorkEnd Unusable → SinkState → SinkState → Status → Type 0
-TellsMet (Ok work.Done) before after status = (after ≡ before) × (status ≡ Done)
-TellsMet (Ok work.ListenerFault) before after status = Writes listener_line ListenerFault ListenerFault before after status
-TellsMet (Err why) before after status = TellsUnusable why before after status
+-- why a screen does not show the last version: there was no memory
+abbrev pub no_memory : Unusable
+no_memory = Entries entries.Memory
+
+-- what is told of what was met, and its status: nothing of desks and screens that were all served, and else a line
+abbrev pub TellsMet : Result ServeEnd Unusable → SinkState → SinkState → Status → Type 0
+TellsMet (Ok Done) before after told = (after ≡ before) × (told ≡ status.Done)
+TellsMet (Ok ListenerFault) before after told = Writes listener_line status.ListenerFault status.ListenerFault before after told
+TellsMet (Ok Missed) before after told = TellsUnusable no_memory before after told
+TellsMet (Err why) before after told = TellsUnusable why before after told
 
 -- the line of a fault of the files was written, and the listeners and the disk are as they were
-pub record TellsFiles {In Out : Type 0} (fault : FilesFault) (before after : Outs In Out) (status : Status) : Type 0 where
+pub record TellsFiles {In Out : Type 0} (fault : FilesFault) (before after : Outs In Out) (told : Status) : Type 0 where
   pub listeners : after.listeners ≡ before.listeners
+  pub screens : after.screens ≡ before.screens
   pub disk : after.disk ≡ before.disk
-  pub tells : TellsFault fault before.sink after.sink status
+  pub tells : TellsFault fault before.sink after.sink told
 
-module _ {In Out : Type 0} (states : EndStates In Out) where
-  -- desks served at the journal of these files, or none, and what is told of either
-  pub record ServesJournal (files : AirportFiles) (connections : ℕ) (before after : Outs In Out) (status : Status) : Type 0 where
-    pub met : Result WorkEnd Unusable
-    pub meets : MeetsDesks states files connections (ends_of before) (ends_of after) met
-    pub tells : TellsMet met before.sink after.sink status
+-- the plan has no such day: the line for faulty words was written, and the listeners and the disk are as they were
+pub record TellsNoDay {In Out : Type 0} (before after : Outs In Out) (told : Status) : Type 0 where
+  pub listeners : after.listeners ≡ before.listeners
+  pub screens : after.screens ≡ before.screens
+  pub disk : after.disk ≡ before.disk
+  pub tells : Writes usage_text status.Usage status.Usage before.sink after.sink told
+
+-- what is to be done at an airport, if its plan has the day that is ordered
+abbrev pub task_at : AirportFiles → Order → Option Task
+task_at files order = option_map (λ day. record { connections = order.connections; day = day }) (day_shown files.airport order.day)
+
+module _ {In Out : Type 0} (service : Service In Out) where
+  -- desks and screens served at the journal of these files, or none, and what is told of either
+  pub record ServesJournal (files : AirportFiles) (task : Task) (before after : Outs In Out) (told : Status) : Type 0 where
+    pub met : Result ServeEnd Unusable
+    pub meets : MeetsDesks service files task (ends_of before) (ends_of after) met
+    pub tells : TellsMet met before.sink after.sink told
+
+  -- the same where there may be no such day
+  abbrev pub ServesTask : AirportFiles → Option Task → Outs In Out → Outs In Out → Status → Type 0
+  ServesTask files (Some task) before after told = ServesJournal files task before after told
+  ServesTask files None before after told = TellsNoDay before after told
 
   -- what is done with what was found in the two files
-  abbrev pub ServesFound : ℕ → Result AirportFiles FilesFault → Outs In Out → Outs In Out → Status → Type 0
-  ServesFound connections (Ok files) before after status = ServesJournal files connections before after status
-  ServesFound connections (Err fault) before after status = TellsFiles fault before after status
+  abbrev pub ServesFound : Order → Result AirportFiles FilesFault → Outs In Out → Outs In Out → Status → Type 0
+  ServesFound order (Ok files) before after told = ServesTask files (task_at files order) before after told
+  ServesFound order (Err fault) before after told = TellsFiles fault before after told
 
   -- the two files of the order were read, and this was done with what was found in them
-  pub record ServesFiles (order : Order) (before after : World In Out) (status : Status) : Type 0 where
+  pub record ServesFiles (order : Order) (before after : World In Out) (told : Status) : Type 0 where
     pub found : Result AirportFiles FilesFault
     pub finds : Finds before.shelf after.shelf order.airport order.types found
-    pub serves : ServesFound order.connections found (outs_of before) (outs_of after) status
+    pub serves : ServesFound order found (outs_of before) (outs_of after) told

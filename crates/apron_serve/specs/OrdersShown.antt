@@ -1,7 +1,13 @@
 -- What contracts see of an order.
+use Rattle.std.specs.Option.{option_copied}
 use Rattle.apron_serve.specs.declared.words.Order.{Order as Read}
 use Rattle.apron_serve.specs.Orders.{Order}
 
--- the same, with the names in place of the words
+-- the same, with the names and digits in place of the words
 abbrev pub shown : Read → Order
-shown order = record { airport = order.airport.now; types = order.types.now; connections = order.connections }
+shown order = record {
+  airport = order.airport.now;
+  types = order.types.now;
+  connections = order.connections;
+  day = option_copied order.day;
+}

@@ -1,13 +1,13 @@
--- What the program does with the words `serve A T N`, its files, its listeners and its disk.
-use Rattle.std.specs.Prelude.{◌≡◌, ◌⊎◌, ◌+◌, ◌≤◌, ◌==◌, ◌||◌, ℕ, Bool, true, false, List, ◌∷◌, map, Option, Some, None}
+-- What the program does with the words `serve A T N` and `serve A T N screen DAY`, its files, its listeners and its disk.
+use Rattle.std.specs.Prelude.{◌≡◌, ◌⊎◌, ◌+◌, ◌≤◌, ◌==◌, ◌&&◌, ◌||◌, nat_lt, ℕ, Bool, true, false, List, ◌∷◌, map, Option, Some, None, is_some}
 use Rattle.apron_base.specs.Counts.{Counts, Rose}
 use Rattle.apron_base.specs.Listener.{ListenerState}
-use Rattle.desk_turns.specs.Work.{EndStates}
 use Rattle.apron_run.specs.Desk.{ServedCounts}
 use Rattle.apron_run.specs.Print.{Writes, usage_text}
 use Rattle.apron_run.specs.Statuses.{code_of, is_shelf_fault}
 use Rattle.apron_run.specs.declared.status.Status.{Status}
 use Rattle.apron_run.specs.declared.status.Status.TheVariants.{Done, Usage, FileFault, ShelfFault, DiskFault, JournalFault, ListenerFault, Memory}
+use Rattle.apron_serve.specs.Board.{Service}
 use Rattle.apron_serve.specs.Files.{ServesFiles}
 use Rattle.apron_serve.specs.Orders.{Order}
 use Rattle.apron_serve.specs.World.{World}
@@ -24,9 +24,9 @@ may_end_serve ListenerFault = true
 may_end_serve Memory = true
 may_end_serve status = false
 
--- `serve` ends with this number after desks were served
-abbrev pub has_served : ℕ → Bool
-has_served code = code == code_of Done || code == code_of ListenerFault
+-- `serve` with this many screens may end with this number after desks were served
+abbrev pub has_served : ℕ → ℕ → Bool
+has_served screens code = code == code_of Done || code == code_of ListenerFault || (code == code_of Memory && nat_lt 0 screens)
 
 -- `serve` ends with this number before it comes to the journal
 abbrev pub ends_before_journal : ℕ → Bool
@@ -36,6 +36,11 @@ ends_before_journal code = code == code_of Usage || code == code_of FileFault ||
 abbrev pub is_order : Option Order → Bool
 is_order None = false
 is_order (Some order) = true
+
+-- there is an order, of screens
+abbrev pub is_screen_order : Option Order → Bool
+is_screen_order None = false
+is_screen_order (Some order) = is_some order.day
 
 module _ {In Out : Type 0} where
   -- how many connections a listener has finished
@@ -51,11 +56,11 @@ module _ {In Out : Type 0} where
   SomeFailed (before ∷ befores) (after ∷ afters) = Rose before.faults after.faults ⊎ SomeFailed befores afters
   SomeFailed befores afters = ⊥
 
-module _ {In Out : Type 0} (states : EndStates In Out) where
+module _ {In Out : Type 0} (service : Service In Out) where
   -- what is done where there is an order; where there is none the line `usage` is written, and nothing else is touched
   abbrev pub Does : Option Order → World In Out → World In Out → Status → Type 0
   Does None before after status = (after ≡ record before { sink = after.sink }) × Writes usage_text Usage Usage before.sink after.sink status
-  Does (Some order) before after status = ServesFiles states order before after status
+  Does (Some order) before after status = ServesFiles service order before after status
 
   -- What `serve` does for what is ordered, and the status that its number stands for. The shelf fails only where the status says so, the sink only at the
   -- line that tells a status, and the disk where the status says so or desks were served.

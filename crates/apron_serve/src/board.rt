@@ -1,8 +1,10 @@
-// Desks at the board of an airport over its journal on a disk.
-ghost use Rattle.std.specs.Prelude.{◌≡◌, ◌≤◌, OnErr, length, map};
+// Desks and screens at the board of an airport over its journal on a disk.
+ghost use Rattle.std.specs.Prelude.{◌≡◌, ◌<◌, ◌≤◌, [], ◌∷◌, OnErr, length, map};
+ghost use Rattle.desk_turns.specs.Crew.{end_of};
+ghost use Rattle.desk_turns.specs.Watched.{feed_texts};
 ghost use Rattle.journal_disk.specs.Disk.{Stays};
 ghost use Rattle.apron_run.specs.World.{seen_of};
-ghost use Rattle.apron_serve.specs.Board.{MeetsDesks};
+ghost use Rattle.apron_serve.specs.Board.{MeetsDesks, served_end};
 ghost use Rattle.apron_serve.specs.Crash.{LeavesMet};
 ghost use Rattle.apron_serve.specs.Orders.{most_listeners};
 ghost use Rattle.apron_serve.specs.World.{ends_at};
@@ -10,58 +12,90 @@ ghost use Rattle.apron_serve.specs.World.{ends_at};
 use apron_base::Memory;
 use apron_check::AirportFiles;
 use apron_run::{OfFiles, Unusable, close_board, open_board};
-use desk_turns::{WorkEnd, Workplace, serve_board};
+use desk_turns::{WorkEnd, first_end};
 use history_core::OpenFault;
 use journal_disk::Disk;
+use screen_looks::{ShownEnd, Task, Wall, serve_watched};
 use std::alloc::Global;
 use std::sync::Wait;
 use std::thread::Threads;
+use watch_list::{NoteTest, Stated, Watches};
 
-/// Opens the journal of these files on the disk, and serves this many connections of each listener at its board. `Err`
-/// says why there is no journal to work on, or that there is no memory for the turns at it; then no listener was called,
-/// and nothing was written on the disk.
+/// How desks and screens were served.
+#[derive(Clone, Copy, Debug, PartialEq, Eq)]
+pub(crate) enum ServeEnd {
+    /// Each listener has had all its connections.
+    Done,
+    /// A listener failed.
+    ListenerFault,
+    /// All connections were served, but a screen's writer had no memory for the last version.
+    Missed,
+}
+
+/// Opens the journal of these files on the disk, and serves the connections of the listeners of desks at its board, and those of
+/// the listeners of screens beside them. `Err` says why there is no journal to work on, or that there is no memory for the screens
+/// or the turns at it; then no listener was called, and nothing was written on the disk.
 pub(crate) fn serve_desks<
+    'a,
     N: OfFiles + Send,
-    L: Workplace + Send,
+    L: Wall + Send,
     D: Disk + Send,
-    R: Wait + Threads + Sync,
+    R: Stated + Sync + 'a,
+    T: NoteTest + Sync + 'a,
+    Rt: Wait + Threads + Sync + 'a,
 >(
-    rt: &R,
+    rt: &'a Rt,
     alloc: Global,
-    files: &AirportFiles,
-    connections: u32,
+    files: &'a AirportFiles,
+    task: Task,
+    watches: &'a Watches<R, T>,
     listeners: &mut [L],
+    screens: &mut [L],
     disk: D,
-) -> (Result<WorkEnd, Unusable>, D)
+) -> (Result<ServeEnd, Unusable>, D)
     requires digests { files.now.digests ≡ N.digests }
     requires begun { Stays N.begun (D.state disk) }
     requires few { length listeners.old ≤ most_listeners }
-    ensures meets { MeetsDesks L.states files.now connections
-        (record { listeners = map L.state listeners.old; disk = seen_of (D.state disk) })
-        (record { listeners = map L.state listeners.new; disk = seen_of (D.state result.1) }) result.0 }
-    ensures crash { let before = ends_at (map L.state listeners.old) (D.state disk) in
-        let after = ends_at (map L.state listeners.new) (D.state result.1) in
-        (meets : MeetsDesks L.states files.now connections before after result.0)
-        × LeavesMet L.states (record { before = N.begun; after = D.state result.1 }) files.now connections before after result.0 meets }
+    requires day { 0 < length screens.old → (1 ≤ task.day) × (task.day ≤ files.now.airport.days) }
+    ensures meets { MeetsDesks (record { states = L.states; feeds = feed_texts R.tells watches.now }) files.now task
+        (record { listeners = map L.state listeners.old; screens = map L.state screens.old; disk = seen_of (D.state disk) })
+        (record { listeners = map L.state listeners.new; screens = map L.state screens.new; disk = seen_of (D.state result.1) }) result.0 }
+    ensures crash { let before = ends_at (map L.state listeners.old) (map L.state screens.old) (D.state disk) in
+        let after = ends_at (map L.state listeners.new) (map L.state screens.new) (D.state result.1) in
+        (meets : MeetsDesks (record { states = L.states; feeds = feed_texts R.tells watches.now }) files.now task before after result.0)
+        × LeavesMet (record { states = L.states; feeds = feed_texts R.tells watches.now })
+        (record { before = N.begun; after = D.state result.1 }) files.now task before after result.0 meets }
     ensures unserved { OnErr result.0 (listeners.new ≡ listeners.old) }
+    ensures unshown { OnErr result.0 (screens.new ≡ screens.old) }
 {
     let board = match open_board::<N, D>(alloc, files, disk) {
         Ok(board) => board,
         Err((why, disk)) => return (Err(why), disk),
     };
-    let mut no_job = || ();
-    let (served, board) = serve_board(
+    let (served, board) = serve_watched(
         rt,
         alloc,
         &files.airport,
         board,
+        watches,
         listeners,
-        connections,
-        &mut no_job,
+        screens,
+        task,
     );
     let disk = close_board(board);
     match served {
-        Ok((end, ())) => (Ok(end), disk),
+        Ok(ends) => (Ok(served_end(&ends)), disk),
         Err(Memory) => (Err(Unusable::Entries(OpenFault::Memory)), disk),
+    }
+}
+
+// How serving ended, by how its workers did: those of desks come before those of screens.
+fn served_end(ends: &ShownEnd) -> ServeEnd
+    ensures is { result ≡ served_end (end_of (ends.now.desks ∷ ends.now.screens ∷ [])) ends.now.missed }
+{
+    match first_end(ends.desks, ends.screens) {
+        WorkEnd::ListenerFault => ServeEnd::ListenerFault,
+        WorkEnd::Done if ends.missed => ServeEnd::Missed,
+        WorkEnd::Done => ServeEnd::Done,
     }
 }

@@ -1,10 +1,10 @@
-//! Many desks at once, each on a connection of its own, at one board over one journal: what the words `serve A T N` ask for.
-//! It knows nothing of where connections come from.
+//! Many desks at once, each on a connection of its own, at one board over one journal, and screens that show its plan beside
+//! them: what the words `serve A T N` and `serve A T N screen DAY` ask for. It knows nothing of where connections come from.
 #![tactic(auto)]
 
 mod board;
 mod program;
 mod words;
 
-pub use program::serve;
-pub use words::{MAX_CONNECTIONS, MAX_LISTENERS, limits_are_as_defined};
+pub use program::{serve, serve_all, serve_with};
+pub use words::{MAX_CONNECTIONS, MAX_LISTENERS, MAX_SCREENS, limits_are_as_defined};

@@ -1,27 +1,30 @@
-// The call of the words `serve A T N`.
-ghost use Rattle.std.specs.Prelude.{◌≡◌, ◌↔◌, ◌≤◌, false, None, Ok, Some, length, map, not};
+// The calls of the words `serve A T N` and `serve A T N screen DAY`.
+ghost use Rattle.std.specs.Prelude.{◌≡◌, ◌↔◌, ◌⊎◌, ◌<◌, ◌≤◌, true, false, [], None, Ok, Some, length, map, not};
+ghost use Rattle.desk_turns.specs.Watched.{feed_texts, no_feeds};
 ghost use Rattle.apron_run.specs.Run.{KeptUnless};
 ghost use Rattle.apron_run.specs.Statuses.{code_of};
 ghost use Rattle.apron_run.specs.World.{seen_of};
 ghost use Rattle.apron_serve.specs.Complete.{IsComplete};
-ghost use Rattle.apron_serve.specs.Crash.{CrashesAs, LeavesFound, LeavesMet};
-ghost use Rattle.apron_serve.specs.Files.{ServesFiles, ServesJournal, TellsMet, listener_line};
-ghost use Rattle.apron_serve.specs.Orders.{Order as Ordered, most_listeners, order_of};
+ghost use Rattle.apron_serve.specs.Crash.{CrashesAs, LeavesFound, LeavesMet, LeavesTask};
+ghost use Rattle.apron_serve.specs.Files.{ServesFiles, ServesJournal, ServesTask, TellsMet, listener_line, task_at};
+ghost use Rattle.apron_serve.specs.Orders.{Order as Ordered, may_have, most_listeners, order_of};
 ghost use Rattle.apron_serve.specs.OrdersShown.{shown};
-ghost use Rattle.apron_serve.specs.Serve.{HaveFinished, ServesAs, SomeFailed, ends_before_journal, has_served, is_order};
+ghost use Rattle.apron_serve.specs.Serve.{HaveFinished, ServesAs, SomeFailed, ends_before_journal, has_served, is_order, is_screen_order};
 ghost use Rattle.apron_serve.specs.World.{ends_of, outs_at, outs_of, world_at};
 
-use crate::board::serve_desks;
+use crate::board::{ServeEnd, serve_desks};
 use crate::words::{Order, order_of};
 use apron_base::{Shelf, Sink, Word};
 use apron_check::{AirportFiles, airport_of};
 use apron_run::{Status, Unusable, print_usage, tell_fault, tell_unusable};
-use desk_turns::{WorkEnd, Workplace};
+use history_core::OpenFault;
 use journal_disk::Disk;
+use screen_looks::{Task, Wall};
 use std::alloc::Global;
 use std::marker::Brand;
 use std::sync::Wait;
 use std::thread::Threads;
+use watch_list::{NoteTest, Shown, Stated, Watches};
 
 /// Serves many desks at once, and gives the disk back with the number of the [`Status`](apron_run::Status) that the program
 /// ends with.
@@ -30,7 +33,7 @@ use std::thread::Threads;
 /// the disk, and takes `N` connections of each listener, 1 to 1,000,000. Each listener has a worker in a thread of its own,
 /// which answers the requests of one connection after the other; all workers take turns at the one board over the journal.
 /// Other words, no listener or more than 16 print the line `usage`. It ends when each worker has ended, and returns only if
-/// each call that waits does.
+/// each call that waits does. There is no watch: each feed is answered that there is none.
 ///
 /// | Status | Comes where |
 /// |---|---|
@@ -42,8 +45,8 @@ use std::thread::Threads;
 /// | 8 | what the disk reads as is no journal of these files, or no history of their airport, which is printed |
 /// | 11 | a listener failed, which is printed when all workers have ended |
 /// | 12 | there is no memory before any connection is taken, which is printed |
-pub fn serve<F: Shelf, L: Workplace + Send, W: Sink, D: Disk + Send, R: Wait + Threads + Sync>(
-    rt: &R,
+pub fn serve<F: Shelf, L: Wall + Send, W: Sink, D: Disk + Send, Rt: Wait + Threads + Sync>(
+    rt: &Rt,
     alloc: Global,
     words: &[Word],
     shelf: &mut F,
@@ -51,26 +54,135 @@ pub fn serve<F: Shelf, L: Workplace + Send, W: Sink, D: Disk + Send, R: Wait + T
     sink: &mut W,
     disk: D,
 ) -> (u8, D)
-    ensures headline { ServesAs L.states (order_of words.now (length listeners.old))
-        (record { shelf = F.state shelf.old; listeners = map L.state listeners.old; sink = W.state sink.old; disk = seen_of (D.state disk) })
-        (record { shelf = F.state shelf.new; listeners = map L.state listeners.new; sink = W.state sink.new; disk = seen_of (D.state result.1) }) result.0 }
-    ensures done { (order : Ordered) → order_of words.now (length listeners.old) ≡ Some order
+    ensures headline { ServesAs (record { states = L.states; feeds = no_feeds }) (order_of words.now (length listeners.old) 0)
+        (record { shelf = F.state shelf.old; listeners = map L.state listeners.old; screens = []; sink = W.state sink.old; disk = seen_of (D.state disk) })
+        (record { shelf = F.state shelf.new; listeners = map L.state listeners.new; screens = []; sink = W.state sink.new; disk = seen_of (D.state result.1) }) result.0 }
+    ensures done { (order : Ordered) → order_of words.now (length listeners.old) 0 ≡ Some order
         → (result.0 ≡ code_of Status.Done ↔ HaveFinished order.connections (map L.state listeners.old) (map L.state listeners.new)) }
     ensures failed { result.0 ≡ code_of Status.ListenerFault → SomeFailed (map L.state listeners.old) (map L.state listeners.new) }
-    ensures usage { result.0 ≡ code_of Status.Usage ↔ order_of words.now (length listeners.old) ≡ None }
-    ensures complete { IsComplete (order_of words.now (length listeners.old))
-        (record { shelf = F.state shelf.old; listeners = map L.state listeners.old; sink = W.state sink.old; disk = seen_of (D.state disk) })
-        (record { shelf = F.state shelf.new; listeners = map L.state listeners.new; sink = W.state sink.new; disk = seen_of (D.state result.1) }) result.0 }
-    ensures crash { CrashesAs L.states (record { before = D.state disk; after = D.state result.1 }) (order_of words.now (length listeners.old))
-        (world_at (F.state shelf.old) (map L.state listeners.old) (W.state sink.old) (D.state disk))
-        (world_at (F.state shelf.new) (map L.state listeners.new) (W.state sink.new) (D.state result.1)) result.0 }
-    ensures shelf_kept { KeptUnless (is_order (order_of words.now (length listeners.old))) shelf.old shelf.new }
-    ensures listeners_kept { KeptUnless (has_served result.0) listeners.old listeners.new }
+    ensures usage { result.0 ≡ code_of Status.Usage ↔ order_of words.now (length listeners.old) 0 ≡ None }
+    ensures complete { IsComplete (order_of words.now (length listeners.old) 0)
+        (record { shelf = F.state shelf.old; listeners = map L.state listeners.old; screens = []; sink = W.state sink.old; disk = seen_of (D.state disk) })
+        (record { shelf = F.state shelf.new; listeners = map L.state listeners.new; screens = []; sink = W.state sink.new; disk = seen_of (D.state result.1) }) result.0 }
+    ensures crash { CrashesAs (record { states = L.states; feeds = no_feeds }) (record { before = D.state disk; after = D.state result.1 }) (order_of words.now (length listeners.old) 0)
+        (world_at (F.state shelf.old) (map L.state listeners.old) [] (W.state sink.old) (D.state disk))
+        (world_at (F.state shelf.new) (map L.state listeners.new) [] (W.state sink.new) (D.state result.1)) result.0 }
+    ensures shelf_kept { KeptUnless (is_order (order_of words.now (length listeners.old) 0)) shelf.old shelf.new }
+    ensures listeners_kept { KeptUnless (has_served 0 result.0) listeners.old listeners.new }
     ensures disk_kept { KeptUnless (not (ends_before_journal result.0)) disk result.1 }
 {
-    match order_of(words, listeners.len()) {
+    let watches = Watches::<Shown, Shown>::none(alloc);
+    serve_with(
+        rt, alloc, words, &watches, shelf, listeners, sink, disk,
+    )
+}
+
+/// The same with these watches, whose feeds each desk can ask for.
+pub fn serve_with<
+    F: Shelf,
+    L: Wall + Send,
+    W: Sink,
+    D: Disk + Send,
+    R: Stated + Sync,
+    T: NoteTest + Sync,
+    Rt: Wait + Threads + Sync,
+>(
+    rt: &Rt,
+    alloc: Global,
+    words: &[Word],
+    watches: &Watches<R, T>,
+    shelf: &mut F,
+    listeners: &mut [L],
+    sink: &mut W,
+    disk: D,
+) -> (u8, D)
+    ensures headline { ServesAs (record { states = L.states; feeds = feed_texts R.tells watches.now }) (order_of words.now (length listeners.old) 0)
+        (record { shelf = F.state shelf.old; listeners = map L.state listeners.old; screens = []; sink = W.state sink.old; disk = seen_of (D.state disk) })
+        (record { shelf = F.state shelf.new; listeners = map L.state listeners.new; screens = []; sink = W.state sink.new; disk = seen_of (D.state result.1) }) result.0 }
+    ensures done { (order : Ordered) → order_of words.now (length listeners.old) 0 ≡ Some order
+        → (result.0 ≡ code_of Status.Done ↔ HaveFinished order.connections (map L.state listeners.old) (map L.state listeners.new)) }
+    ensures failed { result.0 ≡ code_of Status.ListenerFault → SomeFailed (map L.state listeners.old) (map L.state listeners.new) }
+    ensures usage { result.0 ≡ code_of Status.Usage ↔ order_of words.now (length listeners.old) 0 ≡ None }
+    ensures complete { IsComplete (order_of words.now (length listeners.old) 0)
+        (record { shelf = F.state shelf.old; listeners = map L.state listeners.old; screens = []; sink = W.state sink.old; disk = seen_of (D.state disk) })
+        (record { shelf = F.state shelf.new; listeners = map L.state listeners.new; screens = []; sink = W.state sink.new; disk = seen_of (D.state result.1) }) result.0 }
+    ensures crash { CrashesAs (record { states = L.states; feeds = feed_texts R.tells watches.now }) (record { before = D.state disk; after = D.state result.1 }) (order_of words.now (length listeners.old) 0)
+        (world_at (F.state shelf.old) (map L.state listeners.old) [] (W.state sink.old) (D.state disk))
+        (world_at (F.state shelf.new) (map L.state listeners.new) [] (W.state sink.new) (D.state result.1)) result.0 }
+    ensures shelf_kept { KeptUnless (is_order (order_of words.now (length listeners.old) 0)) shelf.old shelf.new }
+    ensures listeners_kept { KeptUnless (has_served 0 result.0) listeners.old listeners.new }
+    ensures disk_kept { KeptUnless (not (ends_before_journal result.0)) disk result.1 }
+{
+    let (none, desks) = listeners.split_at_mut(0);
+    serve_all(
+        rt, alloc, words, watches, shelf, desks, none, sink, disk,
+    )
+}
+
+/// The same with screens beside the desks.
+///
+/// `serve A T N screen DAY` takes `N` connections of each screen's listener too, 1 to 8 of them, each by a worker in a thread of
+/// its own. It reads nothing from a connection. It puts the chart of this day, counted from 1, of the plan that the screen then
+/// sees, and finishes the connection. Without `screen DAY` there may be no such listener.
+///
+/// Its statuses are those of [`serve`] with these besides:
+///
+/// | Status | Comes where |
+/// |---|---|
+/// | 2 | the plan has no such day, or there are other screens than the words order |
+/// | 11 | a listener of a screen failed |
+/// | 12 | all connections were finished, but there was no memory to show a screen the last version |
+pub fn serve_all<
+    F: Shelf,
+    L: Wall + Send,
+    W: Sink,
+    D: Disk + Send,
+    R: Stated + Sync,
+    T: NoteTest + Sync,
+    Rt: Wait + Threads + Sync,
+>(
+    rt: &Rt,
+    alloc: Global,
+    words: &[Word],
+    watches: &Watches<R, T>,
+    shelf: &mut F,
+    listeners: &mut [L],
+    screens: &mut [L],
+    sink: &mut W,
+    disk: D,
+) -> (u8, D)
+    ensures headline { ServesAs (record { states = L.states; feeds = feed_texts R.tells watches.now }) (order_of words.now (length listeners.old) (length screens.old))
+        (record { shelf = F.state shelf.old; listeners = map L.state listeners.old; screens = map L.state screens.old; sink = W.state sink.old; disk = seen_of (D.state disk) })
+        (record { shelf = F.state shelf.new; listeners = map L.state listeners.new; screens = map L.state screens.new; sink = W.state sink.new; disk = seen_of (D.state result.1) }) result.0 }
+    ensures done { (order : Ordered) → order_of words.now (length listeners.old) (length screens.old) ≡ Some order → result.0 ≡ code_of Status.Done
+        → HaveFinished order.connections (map L.state listeners.old) (map L.state listeners.new)
+        × HaveFinished order.connections (map L.state screens.old) (map L.state screens.new) }
+    ensures finished { (order : Ordered) → order_of words.now (length listeners.old) (length screens.old) ≡ Some order
+        → HaveFinished order.connections (map L.state listeners.old) (map L.state listeners.new)
+        → HaveFinished order.connections (map L.state screens.old) (map L.state screens.new)
+        → (result.0 ≡ code_of Status.Done) ⊎ ((result.0 ≡ code_of Status.Memory) × (0 < length screens.old)) }
+    ensures failed { result.0 ≡ code_of Status.ListenerFault
+        → SomeFailed (map L.state listeners.old) (map L.state listeners.new)
+        ⊎ SomeFailed (map L.state screens.old) (map L.state screens.new) }
+    ensures usage { order_of words.now (length listeners.old) (length screens.old) ≡ None → result.0 ≡ code_of Status.Usage }
+    ensures usage_alone { result.0 ≡ code_of Status.Usage
+        → (order_of words.now (length listeners.old) (length screens.old) ≡ None) ⊎ (is_screen_order (order_of words.now (length listeners.old) (length screens.old)) ≡ true) }
+    ensures complete { IsComplete (order_of words.now (length listeners.old) (length screens.old))
+        (record { shelf = F.state shelf.old; listeners = map L.state listeners.old; screens = map L.state screens.old; sink = W.state sink.old; disk = seen_of (D.state disk) })
+        (record { shelf = F.state shelf.new; listeners = map L.state listeners.new; screens = map L.state screens.new; sink = W.state sink.new; disk = seen_of (D.state result.1) }) result.0 }
+    ensures crash { CrashesAs (record { states = L.states; feeds = feed_texts R.tells watches.now }) (record { before = D.state disk; after = D.state result.1 }) (order_of words.now (length listeners.old) (length screens.old))
+        (world_at (F.state shelf.old) (map L.state listeners.old) (map L.state screens.old) (W.state sink.old) (D.state disk))
+        (world_at (F.state shelf.new) (map L.state listeners.new) (map L.state screens.new) (W.state sink.new) (D.state result.1)) result.0 }
+    ensures shelf_kept { KeptUnless (is_order (order_of words.now (length listeners.old) (length screens.old))) shelf.old shelf.new }
+    ensures listeners_kept { KeptUnless (has_served (length screens.old) result.0) listeners.old listeners.new }
+    ensures screens_kept { KeptUnless (has_served (length screens.old) result.0) screens.old screens.new }
+    ensures disk_kept { KeptUnless (not (ends_before_journal result.0)) disk result.1 }
+{
+    match order_of(words, listeners.len(), screens.len()) {
         Some(order) => {
-            let (status, disk) = serve_files(rt, alloc, &order, shelf, listeners, sink, disk);
+            let (status, disk) = serve_files(
+                rt, alloc, &order, watches, shelf, listeners, screens, sink, disk,
+            );
             (status.code(), disk)
         }
         None => (print_usage(sink).code(), disk),
@@ -78,72 +190,147 @@ pub fn serve<F: Shelf, L: Workplace + Send, W: Sink, D: Disk + Send, R: Wait + T
 }
 
 // Serves what is ordered, or prints why not.
-fn serve_files<F: Shelf, L: Workplace + Send, W: Sink, D: Disk + Send, R: Wait + Threads + Sync>(
-    rt: &R,
+fn serve_files<
+    F: Shelf,
+    L: Wall + Send,
+    W: Sink,
+    D: Disk + Send,
+    R: Stated + Sync,
+    T: NoteTest + Sync,
+    Rt: Wait + Threads + Sync,
+>(
+    rt: &Rt,
     alloc: Global,
     order: &Order,
+    watches: &Watches<R, T>,
     shelf: &mut F,
     listeners: &mut [L],
+    screens: &mut [L],
     sink: &mut W,
     disk: D,
 ) -> (Status, D)
     requires few { length listeners.old ≤ most_listeners }
-    ensures serves { ServesFiles L.states (shown order.now)
-        (record { shelf = F.state shelf.old; listeners = map L.state listeners.old; sink = W.state sink.old; disk = seen_of (D.state disk) })
-        (record { shelf = F.state shelf.new; listeners = map L.state listeners.new; sink = W.state sink.new; disk = seen_of (D.state result.1) }) result.0 }
-    ensures crash { let before = world_at (F.state shelf.old) (map L.state listeners.old) (W.state sink.old) (D.state disk) in
-        let after = world_at (F.state shelf.new) (map L.state listeners.new) (W.state sink.new) (D.state result.1) in
-        (serves : ServesFiles L.states (shown order.now) before after result.0)
-        × LeavesFound L.states (record { before = D.state disk; after = D.state result.1 }) order.now.connections
+    requires screens { may_have (length screens.old) (shown order.now).day ≡ true }
+    ensures serves { ServesFiles (record { states = L.states; feeds = feed_texts R.tells watches.now }) (shown order.now)
+        (record { shelf = F.state shelf.old; listeners = map L.state listeners.old; screens = map L.state screens.old; sink = W.state sink.old; disk = seen_of (D.state disk) })
+        (record { shelf = F.state shelf.new; listeners = map L.state listeners.new; screens = map L.state screens.new; sink = W.state sink.new; disk = seen_of (D.state result.1) }) result.0 }
+    ensures crash { let before = world_at (F.state shelf.old) (map L.state listeners.old) (map L.state screens.old) (W.state sink.old) (D.state disk) in
+        let after = world_at (F.state shelf.new) (map L.state listeners.new) (map L.state screens.new) (W.state sink.new) (D.state result.1) in
+        (serves : ServesFiles (record { states = L.states; feeds = feed_texts R.tells watches.now }) (shown order.now) before after result.0)
+        × LeavesFound (record { states = L.states; feeds = feed_texts R.tells watches.now }) (record { before = D.state disk; after = D.state result.1 }) (shown order.now)
         serves.found (outs_of before) (outs_of after) result.0 serves.serves }
-    ensures listeners_kept { KeptUnless (has_served (code_of result.0)) listeners.old listeners.new }
+    ensures listeners_kept { KeptUnless (has_served (length screens.old) (code_of result.0)) listeners.old listeners.new }
+    ensures screens_kept { KeptUnless (has_served (length screens.old) (code_of result.0)) screens.old screens.new }
     ensures disk_kept { KeptUnless (not (ends_before_journal (code_of result.0))) disk result.1 }
 {
     match airport_of(alloc, order.airport.text(), order.types.text(), shelf) {
-        Ok(files) => serve_journal(rt, alloc, &files, order.connections, listeners, sink, disk),
+        Ok(files) => serve_day(
+            rt, alloc, &files, order, watches, listeners, screens, sink, disk,
+        ),
         Err(fault) => (tell_fault(sink, &fault), disk),
     }
 }
 
-// Serves desks at the journal of these files, and prints the line that tells why they were not all served.
-fn serve_journal<L: Workplace + Send, W: Sink, D: Disk + Send, R: Wait + Threads + Sync>(
-    rt: &R,
+// Serves what is ordered at the journal of these files, if their plan has the day that is ordered.
+fn serve_day<
+    L: Wall + Send,
+    W: Sink,
+    D: Disk + Send,
+    R: Stated + Sync,
+    T: NoteTest + Sync,
+    Rt: Wait + Threads + Sync,
+>(
+    rt: &Rt,
     alloc: Global,
     files: &AirportFiles,
-    connections: u32,
+    order: &Order,
+    watches: &Watches<R, T>,
     listeners: &mut [L],
+    screens: &mut [L],
     sink: &mut W,
     disk: D,
 ) -> (Status, D)
     requires few { length listeners.old ≤ most_listeners }
-    ensures serves { ServesJournal L.states files.now connections
-        (record { listeners = map L.state listeners.old; sink = W.state sink.old; disk = seen_of (D.state disk) })
-        (record { listeners = map L.state listeners.new; sink = W.state sink.new; disk = seen_of (D.state result.1) }) result.0 }
-    ensures crash { let before = outs_at (map L.state listeners.old) (W.state sink.old) (D.state disk) in
-        let after = outs_at (map L.state listeners.new) (W.state sink.new) (D.state result.1) in
-        (serves : ServesJournal L.states files.now connections before after result.0)
-        × LeavesMet L.states (record { before = D.state disk; after = D.state result.1 }) files.now connections
+    requires screens { may_have (length screens.old) (shown order.now).day ≡ true }
+    ensures serves { ServesTask (record { states = L.states; feeds = feed_texts R.tells watches.now }) files.now (task_at files.now (shown order.now))
+        (record { listeners = map L.state listeners.old; screens = map L.state screens.old; sink = W.state sink.old; disk = seen_of (D.state disk) })
+        (record { listeners = map L.state listeners.new; screens = map L.state screens.new; sink = W.state sink.new; disk = seen_of (D.state result.1) }) result.0 }
+    ensures crash { let before = outs_at (map L.state listeners.old) (map L.state screens.old) (W.state sink.old) (D.state disk) in
+        let after = outs_at (map L.state listeners.new) (map L.state screens.new) (W.state sink.new) (D.state result.1) in
+        (serves : ServesTask (record { states = L.states; feeds = feed_texts R.tells watches.now }) files.now (task_at files.now (shown order.now)) before after result.0)
+        × LeavesTask (record { states = L.states; feeds = feed_texts R.tells watches.now }) (record { before = D.state disk; after = D.state result.1 }) files.now
+        (task_at files.now (shown order.now)) before after result.0 serves }
+    ensures listeners_kept { KeptUnless (has_served (length screens.old) (code_of result.0)) listeners.old listeners.new }
+    ensures screens_kept { KeptUnless (has_served (length screens.old) (code_of result.0)) screens.old screens.new }
+    ensures disk_kept { KeptUnless (not (ends_before_journal (code_of result.0))) disk result.1 }
+{
+    match order.day_of(files.airport.parts().days) {
+        Some(day) => {
+            let task = Task {
+                connections: order.connections,
+                day,
+            };
+            serve_journal(
+                rt, alloc, files, task, watches, listeners, screens, sink, disk,
+            )
+        }
+        None => (print_usage(sink), disk),
+    }
+}
+
+// Serves desks and screens at the journal of these files, and prints the line that tells why they were not all served.
+fn serve_journal<
+    L: Wall + Send,
+    W: Sink,
+    D: Disk + Send,
+    R: Stated + Sync,
+    T: NoteTest + Sync,
+    Rt: Wait + Threads + Sync,
+>(
+    rt: &Rt,
+    alloc: Global,
+    files: &AirportFiles,
+    task: Task,
+    watches: &Watches<R, T>,
+    listeners: &mut [L],
+    screens: &mut [L],
+    sink: &mut W,
+    disk: D,
+) -> (Status, D)
+    requires few { length listeners.old ≤ most_listeners }
+    requires day { 0 < length screens.old → (1 ≤ task.day) × (task.day ≤ files.now.airport.days) }
+    ensures serves { ServesJournal (record { states = L.states; feeds = feed_texts R.tells watches.now }) files.now task
+        (record { listeners = map L.state listeners.old; screens = map L.state screens.old; sink = W.state sink.old; disk = seen_of (D.state disk) })
+        (record { listeners = map L.state listeners.new; screens = map L.state screens.new; sink = W.state sink.new; disk = seen_of (D.state result.1) }) result.0 }
+    ensures crash { let before = outs_at (map L.state listeners.old) (map L.state screens.old) (W.state sink.old) (D.state disk) in
+        let after = outs_at (map L.state listeners.new) (map L.state screens.new) (W.state sink.new) (D.state result.1) in
+        (serves : ServesJournal (record { states = L.states; feeds = feed_texts R.tells watches.now }) files.now task before after result.0)
+        × LeavesMet (record { states = L.states; feeds = feed_texts R.tells watches.now }) (record { before = D.state disk; after = D.state result.1 }) files.now task
         (ends_of before) (ends_of after) serves.met serves.meets }
-    ensures listeners_kept { KeptUnless (has_served (code_of result.0)) listeners.old listeners.new }
+    ensures listeners_kept { KeptUnless (has_served (length screens.old) (code_of result.0)) listeners.old listeners.new }
+    ensures screens_kept { KeptUnless (has_served (length screens.old) (code_of result.0)) screens.old screens.new }
     ensures comes { ends_before_journal (code_of result.0) ≡ false }
 {
-    let (met, disk) = serve_desks::<Brand, L, D, R>(rt, alloc, files, connections, listeners, disk);
+    let (met, disk) = serve_desks::<Brand, L, D, R, T, Rt>(
+        rt, alloc, files, task, watches, listeners, screens, disk,
+    );
     (tell_met(sink, &met), disk)
 }
 
 // Prints the line that tells it, where there is one, and gives its status, which stays where the sink fails at the line.
-fn tell_met<W: Sink>(sink: &mut W, met: &Result<WorkEnd, Unusable>) -> Status
+fn tell_met<W: Sink>(sink: &mut W, met: &Result<ServeEnd, Unusable>) -> Status
     ensures tells { TellsMet met.now (W.state sink.old) (W.state sink.new) result }
 {
     match met {
-        Ok(WorkEnd::Done) => Status::Done,
-        Ok(WorkEnd::ListenerFault) => print_listener_fault(sink),
+        Ok(ServeEnd::Done) => Status::Done,
+        Ok(ServeEnd::ListenerFault) => print_listener_fault(sink),
+        Ok(ServeEnd::Missed) => tell_unusable(sink, &Unusable::Entries(OpenFault::Memory)),
         Err(why) => tell_unusable(sink, why),
     }
 }
 
 fn print_listener_fault<W: Sink>(sink: &mut W) -> Status
-    ensures tells { TellsMet (Ok WorkEnd.ListenerFault) (W.state sink.old) (W.state sink.new) result }
+    ensures tells { TellsMet (Ok ServeEnd.ListenerFault) (W.state sink.old) (W.state sink.new) result }
 {
     let _ = sink.put(listener_line());
     Status::ListenerFault

@@ -5,5 +5,5 @@ pub mod Crosses
 mod Feeding
 mod Lone
 mod Plain
-mod Together
-mod Working
+pub mod Together
+pub mod Working

@@ -52,7 +52,7 @@ one_end : (end : WorkEnd) → end_of (end ∷ []) ≡ end
 one_end Done = refl
 one_end ListenerFault = refl
 
-ends : (one others : WorkEnd) (more : List WorkEnd) → others ≡ end_of more → end_of (one ∷ others ∷ []) ≡ end_of (one ∷ more)
+pub ends : (one others : WorkEnd) (more : List WorkEnd) → others ≡ end_of more → end_of (one ∷ others ∷ []) ≡ end_of (one ∷ more)
 ends Done others more same = one_end others ∙ same
 ends ListenerFault others more same = refl
 

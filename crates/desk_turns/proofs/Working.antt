@@ -34,7 +34,7 @@ module _ {In Out : Type 0} where
       second ∙ (ap (option_map (λ others. others ++ map finished_of ys)) first ∙ ap Some back)
 
   -- connections and then others
-  finishes_more : (failed : Bool) (before between after : ListenerState In Out) (xs ys : List (Connection In Out))
+  pub finishes_more : (failed : Bool) (before between after : ListenerState In Out) (xs ys : List (Connection In Out))
       → TakesAndFinishes false before between xs → TakesAndFinishes failed between after ys → TakesAndFinishes failed before after (xs ++ ys)
   finishes_more failed before between after xs ys first second =
       let count = length-append xs ys in record {
@@ -54,7 +54,7 @@ module _ {In Out : Type 0} where
   none_behind (Some others) = ap Some (sym (append-nil others))
 
   -- nothing was finished yet
-  none_finished : (state : ListenerState In Out) → TakesAndFinishes false state state []
+  pub none_finished : (state : ListenerState In Out) → TakesAndFinishes false state state []
   none_finished state = record {
     to_come = none_to_come state.to_come;
     finished = none_behind state.finished;
@@ -64,13 +64,25 @@ module _ {In Out : Type 0} where
   }
 
   -- a listener that failed
-  failed_finishing : (before after : ListenerState In Out) → TakesNone before after → TakesAndFinishes true before after []
+  pub failed_finishing : (before after : ListenerState In Out) → TakesNone before after → TakesAndFinishes true before after []
   failed_finishing before after none = record {
     to_come = sym none.to_come ∙ none_to_come after.to_come;
     finished = none.finished ∙ none_behind before.finished;
     accepted = let e = none.accepted in omega arith;
     ended = let e = none.ended in omega arith;
     faults = none.faults;
+  }
+
+  -- a connection was accepted and finished
+  pub one_finished : (before taken after : ListenerState In Out) (source : In) (sink : Out) (last : Finished In Out)
+      → TakesFirst before taken (source, sink) → IsFinished taken after last
+      → TakesAndFinishes false before after (record { source = source; sink = sink; finished = last } ∷ [])
+  one_finished before taken after source sink last first finished = record {
+    to_come = first.to_come ∙ ap (option_map (λ (others : List (In × Out)). (source, sink) ∷ others)) (sym finished.to_come);
+    finished = finished.finished ∙ ap (option_map (with_last last)) first.finished;
+    accepted = finished.accepted ∙ first.accepted;
+    ended = finished.ended ∙ ap (λ n. n + 1) first.ended;
+    faults = finished.faults ∙ first.faults;
   }
 
 -- `kinds` says of which kind the sessions are, by what a port has that no session changes
@@ -142,13 +154,7 @@ module _ {In Out : Type 0} (states : EndStates In Out) {Fixed : Type 0} (kinds :
     record { source = source; sink = sink; finished = last },
     record {
       served = (ported, session, refl);
-      finishes = record {
-        to_come = first.to_come ∙ ap (option_map (λ (others : List (In × Out)). (source, sink) ∷ others)) (sym finished.to_come);
-        finished = finished.finished ∙ ap (option_map (with_last last)) first.finished;
-        accepted = finished.accepted ∙ first.accepted;
-        ended = finished.ended ∙ ap (λ n. n + 1) first.ended;
-        faults = finished.faults ∙ first.faults;
-      };
+      finishes = one_finished before taken after source sink last first finished;
     },
   )
 

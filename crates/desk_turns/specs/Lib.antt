@@ -4,5 +4,6 @@ pub mod Feeds
 pub mod Machines
 pub mod Seats
 pub mod Together
+pub mod WatchFeeds
 pub mod Watched
 pub mod Work

@@ -1,12 +1,17 @@
 -- A board with watches as a machine that answers feeds.
-use Rattle.std.specs.Prelude.{ℕ, Bool, List}
+use Rattle.std.specs.Prelude.{ℕ, Bool, List, []}
 use Rattle.apron_rules.specs.declared.parts.AirportParts.{AirportParts}
 use Rattle.desk_words.specs.declared.asks.Entry.{Entry}
 use Rattle.watch_list.specs.WatchBoards.{feed_reply}
+use Rattle.watch_list.specs.Watches.{shows}
 use Rattle.watch_list.specs.declared.note.Note.{Note}
 use Rattle.watch_list.specs.declared.watch.Watched.{Watched}
 use Rattle.watch_list.specs.declared.watch_asks.WatchFixed.{WatchFixed}
+use Rattle.desk_http.specs.FedSession.{FedAnswers}
+use Rattle.desk_http.specs.Ports.{Turn}
+use Rattle.desk_http.specs.Session.{SessionKind}
 use Rattle.desk_http.specs.declared.port.FeedAsk.{FeedAsk}
+use Rattle.desk_turns.specs.Feeds.{FeedTurns}
 
 -- the text of the reply to each feed at each history
 abbrev pub watch_text : {R : Type 0} → (R → Note → Bool) → WatchFixed R → FeedAsk → List Entry → List ℕ
@@ -19,3 +24,11 @@ FeedTexts = AirportParts → FeedAsk → List Entry → List ℕ
 -- those of these watches
 abbrev pub feed_texts : {R : Type 0} → (R → Note → Bool) → List (Watched R) → FeedTexts
 feed_texts tells watches airport = watch_text tells (record { airport = airport; watches = watches })
+
+-- those of no watch: there is none of any name
+abbrev pub no_feeds : FeedTexts
+no_feeds = feed_texts shows []
+
+-- the sessions over a port of the airport that answer these feeds
+abbrev pub fed_sessions : FeedTexts → AirportParts → SessionKind
+fed_sessions feeds airport = record { airport = airport; comes = FedAnswers Turn (FeedTurns (feeds airport)) airport }

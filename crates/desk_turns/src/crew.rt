@@ -226,8 +226,8 @@ fn work_all<P: SplitPort + Send, W: Workplace + Send, R: Threads + Wait + Sync, 
     (first_end(one, others), done)
 }
 
-// Of two the end of the first one that was not done.
-fn first_end(one: WorkEnd, others: WorkEnd) -> WorkEnd
+/// Of two the end of the first one that was not done.
+pub fn first_end(one: WorkEnd, others: WorkEnd) -> WorkEnd
     ensures is { result ≡ end_of (one ∷ others ∷ []) }
 {
     match one {

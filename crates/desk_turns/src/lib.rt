@@ -16,10 +16,11 @@ mod watched;
 mod worker;
 
 pub use alone::AlonePort;
-pub use crew::{Workplace, serve_board};
+pub use crew::{Workplace, first_end, serve_board};
 pub use feeds::{FeedMachine, serve_fed};
 pub use machine::DeskMachine;
 pub use served::{SeatPort, Served};
 pub use sessions::SessionMachine;
 pub use turns::Turns;
+pub use watched::{watch_ask_of, watch_feed};
 pub use worker::{WorkEnd, work};

@@ -48,9 +48,8 @@ impl<'a, K: Keeper, R: Stated, T: NoteTest> DeskMachine for WatchBoard<'a, 'a, K
 
 impl<'a, K: Keeper, R: Stated, T: NoteTest> FeedMachine for WatchBoard<'a, 'a, K, R, T> {
     ghost use Rattle.watch_list.specs.declared.watch_asks.WatchAsk.TheVariants.{Feed};
-    ghost use Rattle.std.proofs.Common.{subst};
-    ghost use Rattle.watch_list.specs.WatchBoards.{IsReplyOrMemory};
     ghost use Rattle.desk_turns.specs.Watched.{watch_text};
+    ghost use Rattle.desk_turns.specs.WatchFeeds.{watch_feeds};
 
     ghost fed = { λ ask. Feed ask.seen ask.feed.watch ask.feed.after };
 
@@ -60,28 +59,14 @@ impl<'a, K: Keeper, R: Stated, T: NoteTest> FeedMachine for WatchBoard<'a, 'a, K
 
     ghost adds_none = { λ ask entry adds. adds };
 
-    ghost feeds_as = { λ fixed before call ask answer after feeds. record {
-      found = feeds.found;
-      fed = λ bytes is. subst (IsReplyOrMemory (watch_text R.tells fixed ask before)) is feeds.acts;
-      fine = λ is. subst (IsReplyOrMemory (watch_text R.tells fixed ask before)) is feeds.acts;
-      left = feeds.left;
-    } };
+    ghost feeds_as = { λ fixed before call ask answer after. watch_feeds R.tells fixed before ask answer after };
 
-    fn copied(alloc: Global, ask: &Ask) -> Result<WatchAsk, Memory>
-        ensures same { IfOk result (λ own. own ≡ WatchAsk.Plain ask.now) }
-        ensures uncopied { OnErr result (IsCommand ask.now) }
-    {
-        Ok(WatchAsk::Plain(copy_of(alloc, ask)?))
+    fn copied(alloc: Global, ask: &Ask) -> Result<WatchAsk, Memory> {
+        watch_ask_of(alloc, ask)
     }
 
-    fn feed_ask(seen: u32, watch: &Name, after: u32) -> WatchAsk
-        ensures is { result ≡ WatchAsk.Feed seen watch.now after }
-    {
-        WatchAsk::Feed {
-            seen,
-            watch: *watch,
-            after,
-        }
+    fn feed_ask(seen: u32, watch: &Name, after: u32) -> WatchAsk {
+        watch_feed(seen, watch, after)
     }
 }
 
@@ -101,6 +86,25 @@ impl<'a, K: Keeper, R: Stated + 'a, T: NoteTest + 'a> SessionMachine
         sink: &mut W,
     ) -> Outcome {
         serve_fed(alloc, port, source, sink)
+    }
+}
+
+/// A copy of what a desk asks, as a board with watches is asked it. At `Err` there is no memory to copy a command.
+pub fn watch_ask_of(alloc: Global, ask: &Ask) -> Result<WatchAsk, Memory>
+    ensures same { IfOk result (λ own. own ≡ WatchAsk.Plain ask.now) }
+    ensures uncopied { OnErr result (IsCommand ask.now) }
+{
+    Ok(WatchAsk::Plain(copy_of(alloc, ask)?))
+}
+
+/// How a board with watches is asked for a feed. It takes no memory.
+pub fn watch_feed(seen: u32, watch: &Name, after: u32) -> WatchAsk
+    ensures is { result ≡ WatchAsk.Feed seen watch.now after }
+{
+    WatchAsk::Feed {
+        seen,
+        watch: *watch,
+        after,
     }
 }
 

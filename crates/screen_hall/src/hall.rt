@@ -1,9 +1,9 @@
 // A board whose plan is shown on screens, as a machine.
 ghost use Rattle.std.specs.Prelude.{◌≡◌, ◌≤◌, ◌<◌, false};
 ghost use Rattle.std.specs.List.{AllZip};
-ghost use Rattle.apron_base.specs.Histories.{Every};
+ghost use Rattle.apron_base.specs.Histories.{Every, Rises};
 ghost use Rattle.apron_base.specs.Machine.{Acts, ActsAtRisk, is_fault, standing};
-ghost use Rattle.history_core.specs.History.{call_limit, call_of};
+ghost use Rattle.history_core.specs.History.{IsLegal, call_limit, call_of};
 ghost use Rattle.watch_list.specs.WatchBoards.{CanAdd, IsWatchAskOf, WatchAnswers, watch_fixed, watch_state};
 ghost use Rattle.screen_hall.specs.Halls.{IsHall, IsNewWriter, IsShown, plan_of};
 
@@ -84,6 +84,16 @@ impl<'s, 'w, 'a, W: Wait, K: Keeper, R: Stated, T: NoteTest> Hall<'s, 'w, 'a, W,
         board
     }
 
+    /// The least number that the next call may have. The entries' numbers are lower.
+    pub fn next_call(&self) -> u64
+        ensures value { result ≡ self.now.board.next }
+        ensures few { result ≤ call_limit }
+        ensures numbers { Rises call_of 1 result self.now.board.board.history }
+        ensures legal { IsLegal self.now.board.board.airport self.now.board.board.history }
+    {
+        self.board.next_call()
+    }
+
     /// What the board answers. Then each writer shows the board's plan, where that has another version. The answer is the same
     /// whether they do or want memory. It may wait for screens that are looking.
     pub fn ask(&mut self, alloc: Global, call: u64, ask: &WatchAsk) -> Acted
@@ -129,7 +139,7 @@ impl<'s, 'w, 'a, W: Wait, K: Keeper, R: Stated, T: NoteTest> Machine
     ghost answers = { WatchAnswers R.tells };
 
     fn next_call(&self) -> u64 {
-        self.board.next_call()
+        self.next_call()
     }
 
     fn length(&self) -> u64 {

@@ -1,14 +1,16 @@
 // Many desks at once at a small airport, over a journal in memory.
 mod beside;
+mod feeds;
 mod over_tcp;
+mod screens;
 mod statuses;
 
 use apron_base::{ListListener, ListSink, ListSource, MapShelf, Memory};
 use apron_run::run;
 use apron_serve::serve;
-use desk_turns::Workplace;
 use journal_disk::{Disk, MemoryDisk};
 use run_inputs::{FIRST, ROOM, STANDS, kept, words};
+use screen_looks::Wall;
 use std::alloc::Global;
 use std::sync::Wait;
 use std::test::Fail;
@@ -125,7 +127,7 @@ fn is_at<D: Disk>(alloc: Global, disk: &mut D, version: &[u8]) -> Result<bool, M
 
 // Serves at these listeners. It gives whether the status and the printed line are these, and the
 // disk.
-fn served<L: Workplace + Send, D: Disk + Drop + Send, R: Wait + Threads + Sync>(
+fn served<L: Wall + Send, D: Disk + Drop + Send, R: Wait + Threads + Sync>(
     rt: &R,
     alloc: Global,
     texts: &str,

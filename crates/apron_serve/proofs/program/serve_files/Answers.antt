@@ -1,6 +1,6 @@
-use Rattle.std.proofs.Common.{List, ℕ, Ok, Err, arith, refl, subst}
-use Rattle.journal_disk.specs.Disk.{DiskState, Stays}
+use Rattle.std.proofs.Common.{List, ℕ, Ok, Err, refl, subst}
 use Rattle.apron_check.specs.Files.{Finds}
+use Rattle.apron_run.proofs.Fronts.{stays_same}
 use Rattle.apron_serve.proofs.program.serve_files.Goals as goal
 
 pub returns-in-Ok-clause-crash : goal.returns-in-Ok-clause-crash
@@ -11,19 +11,9 @@ returns-in-Ok-clause-crash g c =
     c.text.ensures.text c.in-Ok.ensures.finds in
     let finds = subst (λ (types : List ℕ). Finds before after c.args.order.now.airport.now types (Ok c.in-Ok.files))
     c.text-2.ensures.text found in (
-      record { found = Ok c.in-Ok.files; finds = finds; serves = c.serve_journal.ensures.crash.0 },
-      c.serve_journal.ensures.crash.1,
+      record { found = Ok c.in-Ok.files; finds = finds; serves = c.serve_day.ensures.crash.0 },
+      c.serve_day.ensures.crash.1,
     )
-
--- a disk stays as it is
-stays_same : (disk : DiskState) → Stays disk disk
-stays_same disk = record {
-  contents = refl;
-  crash = record {
-    clock = record { later = omega arith; past = λ moment image early is. is; kept = λ moment image early is. is };
-    since = λ moment image later early is. absurd (omega (arith, later, early));
-  };
-}
 
 pub returns-in-Err-clause-crash : goal.returns-in-Err-clause-crash
 returns-in-Err-clause-crash g c =
@@ -36,7 +26,7 @@ returns-in-Err-clause-crash g c =
       record {
         found = Err c.in-Err.fault;
         finds = finds;
-        serves = record { listeners = refl; disk = refl; tells = c.tell_fault.ensures.tells };
+        serves = record { listeners = refl; screens = refl; disk = refl; tells = c.tell_fault.ensures.tells };
       },
       stays_same (g.D.Disk.state c.args.disk),
     )

@@ -1,0 +1,75 @@
+-- Serving without screens, as serving with a list of none.
+use Rattle.std.proofs.Common.{◌≡◌, ◌∙◌, ℕ, Bool, true, false, List, [], ◌∷◌, ◌++◌, length, map, refl, sym, ap, subst, arith, Option, None, Some, Result, Ok, Err, if◌then◌else◌}
+use Rattle.std.specs.Prelude.{is_some}
+use Rattle.std.specs.Option.{option_map}
+use Rattle.std.proofs.lemmas.List.{length-map}
+use Rattle.apron_base.specs.Listener.{ListenerState}
+use Rattle.apron_check.specs.declared.files.AirportFiles.{AirportFiles}
+use Rattle.apron_check.specs.declared.faults.FilesFault.{FilesFault}
+use Rattle.apron_run.specs.declared.status.Status.{Status}
+use Rattle.apron_run.specs.declared.unusable.Unusable.{Unusable}
+use Rattle.screen_looks.specs.declared.shown.Task.{Task}
+use Rattle.screen_looks.specs.Walls.{ScreenWorker, ShowsAll}
+use Rattle.apron_serve.specs.Board.{MeetsDesks, Service}
+use Rattle.apron_serve.specs.Files.{ServesFound, ServesTask, task_at}
+use Rattle.apron_serve.specs.Orders.{Order, may_have, order_of, order_of_words, order_with}
+use Rattle.apron_serve.specs.Serve.{Does, ServesAs, is_screen_order}
+use Rattle.apron_serve.specs.World.{Outs, World, ends_of, outs_of}
+use Rattle.apron_serve.specs.declared.board.ServeEnd.{ServeEnd}
+
+module _ {In Out : Type 0} (service : Service In Out) where
+  met_as_many : (files : AirportFiles) (task : Task) (before after : Outs In Out) (met : Result ServeEnd Unusable)
+      → MeetsDesks service files task (ends_of before) (ends_of after) met → length after.screens ≡ length before.screens
+  met_as_many files task before after (Ok end) desks =
+      let shows = desks.shows.shows in
+      (ap length shows.ended ∙ length-map shows.workers (λ (worker : ScreenWorker In Out). worker.after.listener))
+      ∙ sym (ap length shows.begun ∙ length-map shows.workers (λ (worker : ScreenWorker In Out). worker.before.listener))
+  met_as_many files task before after (Err why) finds = ap length finds.screens
+
+  task_as_many : (files : AirportFiles) (task : Option Task) (before after : Outs In Out) (told : Status)
+      → ServesTask service files task before after told → length after.screens ≡ length before.screens
+  task_as_many files (Some task) before after told serves = met_as_many files task before after serves.met serves.meets
+  task_as_many files None before after told tells = ap length tells.screens
+
+  found_as_many : (order : Order) (found : Result AirportFiles FilesFault) (before after : Outs In Out) (told : Status)
+      → ServesFound service order found before after told → length after.screens ≡ length before.screens
+  found_as_many order (Ok files) before after told serves = task_as_many files (task_at files order) before after told serves
+  found_as_many order (Err fault) before after told tells = ap length tells.screens
+
+  does_as_many : (asked : Option Order) (before after : World In Out) (told : Status) → Does service asked before after told
+      → length after.screens ≡ length before.screens
+  does_as_many None before after told does = ap (λ (world : World In Out). length world.screens) does.0
+  does_as_many (Some order) before after told does = found_as_many order does.found (outs_of before) (outs_of after) told does.serves
+
+  -- there are as many screens after serving as before
+  pub as_many : (asked : Option Order) (before after : World In Out) (code : ℕ) → ServesAs service asked before after code
+      → length after.screens ≡ length before.screens
+  as_many asked before after code serves = does_as_many asked before after serves.status serves.does
+
+-- what holds of listeners that were cut in none and all of them holds of all
+pub of_all : {L : Type 0} (P : List L → List L → List L → List L → Type 0) (all front desks left shown : List L) → all ≡ front ++ desks
+    → length front ≡ 0 → length left ≡ 0 → P desks front shown left → P all [] (left ++ shown) []
+of_all P all [] desks [] shown is none empty holds = subst (λ list. P list [] shown []) (sym is) holds
+of_all P all (x ∷ front) desks left shown is none empty holds = absurd (omega arith)
+of_all P all [] desks (x ∷ left) shown is none empty holds = absurd (omega arith)
+
+-- where there is no screen none is ordered
+with_none : (order : Order) (day : Option (List ℕ)) → order.day ≡ day → ¬ (is_screen_order (order_with 0 (Some order)) ≡ true)
+with_none order None is some =
+    let test : may_have 0 order.day ≡ true = ap (may_have 0) is in
+    let same : is_some order.day ≡ true = subst (λ (b : Bool). is_screen_order (if b then Some order else None) ≡ true) test some in
+    let no : false ≡ true = ap is_some (sym is) ∙ same in absurd cc
+with_none order (Some digits) is some =
+    let test : may_have 0 order.day ≡ false = ap (may_have 0) is in
+    let no : false ≡ true = subst (λ (b : Bool). is_screen_order (if b then Some order else None) ≡ true) test some in absurd cc
+
+none_ordered : (order : Option Order) → ¬ (is_screen_order (order_with 0 order) ≡ true)
+none_ordered None some = absurd cc
+none_ordered (Some order) some = with_none order order.day refl some
+
+with_listeners : (fits : Bool) (order : Option Order) → ¬ (is_screen_order (if fits then order_with 0 order else None) ≡ true)
+with_listeners true order some = none_ordered order some
+with_listeners false order some = absurd cc
+
+pub no_screen_order : (words : List (List ℕ)) (listeners : ℕ) → ¬ (is_screen_order (order_of words listeners 0) ≡ true)
+no_screen_order words listeners some = with_listeners _ (order_of_words words) some

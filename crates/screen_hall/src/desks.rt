@@ -1,0 +1,84 @@
+// Desks take turns at a board that is shown on screens, and it answers feeds.
+use crate::hall::Hall;
+use apron_base::{Acted, Keeper, Machine, Memory, Name, Outcome, Sink, Source};
+use desk_turns::{DeskMachine, FeedMachine, SeatPort, SessionMachine, Turns, serve_fed, watch_ask_of, watch_feed};
+use desk_words::asks::Ask;
+use std::alloc::Global;
+use std::sync::Wait;
+use turn_board::Seat;
+use watch_list::{NoteTest, Stated, WatchAsk};
+
+impl<'a, W: Wait, K: Keeper, R: Stated, T: NoteTest> DeskMachine for Hall<'a, 'a, 'a, W, K, R, T> {
+    ghost use Rattle.std.specs.Prelude.{refl};
+    ghost use Rattle.watch_list.specs.declared.watch_asks.WatchAsk.TheVariants.{Plain};
+
+    ghost airport = { λ fixed. fixed.airport };
+
+    ghost plain = { λ ask. Plain ask };
+
+    ghost numbers = { refl };
+
+    ghost can_ask = { λ fixed ask of. of };
+
+    ghost adds_asked = { λ ask entry adds. adds };
+
+    ghost answers_as = { λ fixed before call ask answer after acts. acts };
+
+    fn is_board(&self) {
+        let _next = self.next_call();
+    }
+
+    fn ask_at<Rt: Wait, B: Turns<Hall<'a, 'a, 'a, W, K, R, T>>>(
+        rt: &Rt,
+        alloc: Global,
+        board: &B,
+        seat: &mut Seat<Hall<'a, 'a, 'a, W, K, R, T>>,
+        ask: &Ask,
+    ) -> Result<Acted, Memory> {
+        let own = watch_ask_of(alloc, ask)?;
+        Ok(board.ask(rt, alloc, seat, &own))
+    }
+}
+
+impl<'a, W: Wait, K: Keeper, R: Stated, T: NoteTest> FeedMachine for Hall<'a, 'a, 'a, W, K, R, T> {
+    ghost use Rattle.watch_list.specs.declared.watch_asks.WatchAsk.TheVariants.{Feed};
+    ghost use Rattle.desk_turns.specs.Watched.{watch_text};
+    ghost use Rattle.desk_turns.specs.WatchFeeds.{watch_feeds};
+
+    ghost fed = { λ ask. Feed ask.seen ask.feed.watch ask.feed.after };
+
+    ghost feed_text = { watch_text R.tells };
+
+    ghost can_feed = { λ fixed ask. tt };
+
+    ghost adds_none = { λ ask entry adds. adds };
+
+    ghost feeds_as = { λ fixed before call ask answer after. watch_feeds R.tells fixed before ask answer after };
+
+    fn copied(alloc: Global, ask: &Ask) -> Result<WatchAsk, Memory> {
+        watch_ask_of(alloc, ask)
+    }
+
+    fn feed_ask(seen: u32, watch: &Name, after: u32) -> WatchAsk {
+        watch_feed(seen, watch, after)
+    }
+}
+
+impl<'a, W: Wait + 'a, K: Keeper, R: Stated + 'a, T: NoteTest + 'a> SessionMachine
+    for Hall<'a, 'a, 'a, W, K, R, T> {
+    ghost use Rattle.desk_http.specs.FedSession.{FedAnswers};
+    ghost use Rattle.desk_http.specs.Ports.{Turn};
+    ghost use Rattle.desk_turns.specs.Feeds.{FeedTurns};
+    ghost use Rattle.desk_turns.specs.Watched.{watch_text};
+
+    ghost comes = { λ fixed. FedAnswers Turn (FeedTurns (watch_text R.tells fixed)) fixed.airport };
+
+    fn serve_seat<'s, Rt: Wait, B: Turns<Hall<'a, 'a, 'a, W, K, R, T>>, S: Source, Out: Sink>(
+        alloc: Global,
+        port: &mut SeatPort<'s, Rt, Hall<'a, 'a, 'a, W, K, R, T>, B>,
+        source: &mut S,
+        sink: &mut Out,
+    ) -> Outcome {
+        serve_fed(alloc, port, source, sink)
+    }
+}

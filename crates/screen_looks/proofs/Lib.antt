@@ -1,0 +1,4 @@
+mod Boards
+mod Lasting
+mod Looking
+mod Together

@@ -1,0 +1,13 @@
+use Rattle.std.proofs.Common.{◌≡◌}
+use Rattle.apron_base.specs.Histories.{Every}
+use Rattle.history_core.specs.History.{replay}
+use Rattle.screen_hall.specs.Halls.{IsNewWriter}
+use Rattle.screen_looks.specs.Looks.{IsNewScreen}
+use Rattle.screen_looks.proofs.writers.writers_of.Given as goal
+
+abbrev pub invariant-loop-made : goal.invariant-loop-made
+invariant-loop-made g l =
+    Every (IsNewWriter l.board.board.airport l.board.board.history) l.writers.items
+    × Every (IsNewScreen l.airport l.board.board.history l.day) l.screens.items
+    × (l.board.board.airport ≡ l.airport) × (l.plan.plan ≡ replay l.board.board.airport l.board.board.history)
+    × (l.plan.plan.airport ≡ l.airport)

@@ -1,0 +1,145 @@
+// Desks at a board that is shown on screens, and these screens beside them.
+ghost use Rattle.std.specs.Prelude.{◌≡◌, ◌<◌, ◌≤◌, ◌&&◌, [], nat_lt, IfErr, IfOk, None, length, map};
+ghost use Rattle.std.specs.Thread.{IsSync};
+ghost use Rattle.apron_base.specs.Histories.{Every};
+ghost use Rattle.desk_http.specs.FedSession.{FedAnswers};
+ghost use Rattle.desk_http.specs.Ports.{Turn};
+ghost use Rattle.desk_turns.specs.Crew.{ServesBoard};
+ghost use Rattle.desk_turns.specs.Feeds.{FeedTurns};
+ghost use Rattle.desk_turns.specs.Watched.{fed_sessions, feed_texts, watch_text};
+ghost use Rattle.history_core.specs.Board.{machine_state};
+ghost use Rattle.screen_hall.specs.Halls.{IsHall, hall_state};
+ghost use Rattle.turn_board.specs.Views.{all_shares};
+ghost use Rattle.screen_looks.specs.Looks.{IsNewScreen};
+ghost use Rattle.screen_looks.specs.Shown.{ShowsFrom};
+ghost use Rattle.screen_looks.specs.Walls.{ShowsAll};
+
+use crate::wall::Wall;
+use crate::walls::show_all;
+use crate::writers::writers_of;
+use apron_base::{Keeper, Memory};
+use apron_rules::Airport;
+use desk_turns::{WorkEnd, serve_board};
+use history_core::Board;
+use screen_feed::Screen;
+use screen_hall::Hall;
+use std::alloc::Global;
+use std::sync::Wait;
+use std::thread::Threads;
+use watch_list::{NoteTest, Stated, WatchBoard, Watches};
+
+/// How many connections each listener takes, and the day that the screens show, counted from 1.
+#[derive(Clone, Copy)]
+pub struct Task {
+    pub connections: u32,
+    pub day: u32,
+}
+
+/// How the workers of the desks and those of the screens ended, and whether a screen's writer does not show the last version.
+#[derive(Clone, Copy)]
+pub struct ShownEnd {
+    pub desks: WorkEnd,
+    pub screens: WorkEnd,
+    pub missed: bool,
+}
+
+/// Serves the connections of desks at a board with these watches, and beside them those of screens, which show a day of its
+/// plan; each listener by a worker in a thread of its own. At `Err` there is no memory, and no listener was called.
+pub fn serve_watched<
+    'a,
+    Rt: Threads + Wait + Sync + 'a,
+    K: Keeper + Send,
+    R: Stated + Sync + 'a,
+    T: NoteTest + Sync + 'a,
+    W: Wall + Send,
+>(
+    rt: &'a Rt,
+    alloc: Global,
+    airport: &'a Airport,
+    board: Board<'a, K>,
+    watches: &'a Watches<R, T>,
+    listeners: &mut [W],
+    walls: &mut [W],
+    task: Task,
+) -> (Result<ShownEnd, Memory>, Board<'a, K>)
+    requires airport { airport.now ≡ board.airport }
+    requires at_risk { (machine_state K.state board).at_risk ≡ None }
+    requires few { length listeners.old < all_shares }
+    requires day { 0 < length walls.old → (1 ≤ task.day) × (task.day ≤ airport.now.days) }
+    ensures serves { IfOk result.0 (λ ends. ServesBoard W.states (fed_sessions (feed_texts R.tells watches.now)) task.connections
+        (record { listeners = map W.state listeners.old; board = machine_state K.state board.entry })
+        (record { listeners = map W.state listeners.new; board = machine_state K.state result.1 }) ends.desks) }
+    ensures shows { IfOk result.0 (λ ends. ShowsFrom W.states (record { airport = airport.now; history = board.entry.history })
+        task (map W.state walls.old) (map W.state walls.new) ends.screens) }
+    ensures missed { IfOk result.0 (λ ends. ends.missed ≡ true → 0 < length walls.old) }
+    ensures refused { IfErr result.0 (λ _. (listeners.new ≡ listeners.old) × (walls.new ≡ walls.old) × (result.1 ≡ board.entry)) }
+{
+    let board = match WatchBoard::new(alloc, airport, board, watches) {
+        Ok(board) => board,
+        Err(board) => return (Err(Memory), board),
+    };
+    let mut screens = Vec::new(alloc);
+    let writers = writers_of(rt, alloc, airport, &board, task.day, walls.len(), &mut screens);
+    let hall = Hall::new(rt, board, writers);
+    let (ended, hall) = serve_hall(
+        rt,
+        alloc,
+        airport,
+        hall,
+        listeners,
+        screens.as_mut_slice(),
+        walls,
+        task.connections,
+    );
+    (ended, hall.into_board().into_board())
+}
+
+// Serves desks at the board, and beside them each of these screens on the listener of the same place. At `Err` there is no memory
+// for this, or there was none for a screen, and nothing was served.
+fn serve_hall<
+    'a,
+    Rt: Threads + Wait + Sync + 'a,
+    K: Keeper + Send,
+    R: Stated + Sync + 'a,
+    T: NoteTest + Sync + 'a,
+    W: Wall + Send,
+>(
+    rt: &'a Rt,
+    alloc: Global,
+    airport: &Airport,
+    hall: Hall<'a, 'a, 'a, Rt, K, R, T>,
+    listeners: &mut [W],
+    screens: &mut [Screen],
+    walls: &mut [W],
+    connections: u32,
+) -> (Result<ShownEnd, Memory>, Hall<'a, 'a, 'a, Rt, K, R, T>)
+    requires airport { airport.now ≡ hall.board.board.airport }
+    requires at_risk { (hall_state K.state hall).at_risk ≡ None }
+    requires few { length listeners.old < all_shares }
+    ensures serves { IfOk result.0 (λ ends. ServesBoard W.states
+        (λ fixed. record { airport = fixed.airport; comes = FedAnswers Turn (FeedTurns (watch_text R.tells fixed)) fixed.airport }) connections
+        (record { listeners = map W.state listeners.old; board = hall_state K.state hall.entry })
+        (record { listeners = map W.state listeners.new; board = hall_state K.state result.1 }) ends.desks) }
+    ensures shows { IfOk result.0 (λ ends. ShowsAll W.states connections screens.old (map W.state walls.old) (map W.state walls.new) ends.screens) }
+    ensures missed { IfOk result.0 (λ ends. ends.missed ≡ (result.1.missed && nat_lt 0 (length walls.old))) }
+    ensures hall { IfOk result.0 (λ ends. IsHall result.1) }
+    ensures refused { IfErr result.0 (λ _. (listeners.new ≡ listeners.old) × (walls.new ≡ walls.old) × (result.1 ≡ hall.entry)) }
+{
+    if screens.len() != walls.len() {
+        return (Err(Memory), hall);
+    }
+    let has_screens = !walls.is_empty();
+    let mut job = ||
+        requires { IsSync Rt.row × (length screens.now ≡ length walls.now) }
+        ensures shows { ShowsAll W.states connections screens.entry.now (map W.state walls.entry.now) (map W.state walls.exit.now) result }
+    { show_all(rt, screens, walls, connections) };
+    let (ended, hall) = serve_board(rt, alloc, airport, hall, listeners, connections, &mut job);
+    match ended {
+        Ok((desks, shows)) => {
+            // Without a screen there is no writer that could miss a version.
+            let missed = hall.missed() && has_screens;
+            (Ok(ShownEnd { desks, screens: shows, missed }), hall)
+        }
+        Err(Memory) => (Err(Memory), hall),
+    }
+}

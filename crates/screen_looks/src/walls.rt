@@ -1,0 +1,53 @@
+// The workers of all screens, each in a thread of its own.
+ghost use Rattle.std.specs.Prelude.{◌≡◌, length, map};
+ghost use Rattle.std.specs.Thread.{IsSync};
+ghost use Rattle.screen_looks.specs.Walls.{ShowsAll, ShowsEach};
+
+use crate::wall::Wall;
+use desk_turns::{WorkEnd, first_end};
+use screen_feed::Screen;
+use std::sync::Wait;
+use std::thread::{Threads, join_mut};
+
+// The only screen of a list, on the only listener of one.
+fn show_first<W: Wall, R: Wait>(
+    rt: &R,
+    screens: &mut [Screen],
+    walls: &mut [W],
+    connections: u32,
+) -> WorkEnd
+    requires one { length screens.old ≡ 1 }
+    requires wall { length walls.old ≡ 1 }
+    ensures shows { ShowsEach W.states W.state connections screens.old walls.old screens.new walls.new result }
+{
+    walls[0].show_on(rt, &mut screens[0], connections)
+}
+
+/// A worker for each screen with the listener of the same place, each in a thread of its own.
+pub(crate) fn show_all<W: Wall + Send, R: Threads + Wait + Sync>(
+    rt: &R,
+    screens: &mut [Screen],
+    walls: &mut [W],
+    connections: u32,
+) -> WorkEnd
+    requires same { length screens.old ≡ length walls.old }
+    ensures shows { ShowsAll W.states connections screens.old (map W.state walls.old) (map W.state walls.new) result }
+{
+    if walls.is_empty() {
+        return WorkEnd::Done;
+    }
+    let (screen, others) = screens.split_at_mut(1);
+    let (first, rest) = walls.split_at_mut(1);
+    let (one, end) = join_mut(
+        rt,
+        &mut ||
+            requires { (length screen.now ≡ 1) × (length first.now ≡ 1) }
+            ensures shows { ShowsEach W.states W.state connections screen.entry.now first.entry.now screen.exit.now first.exit.now result }
+        { show_first(rt, screen, first, connections) },
+        &mut ||
+            requires { IsSync R.row × (length others.now ≡ length rest.now) }
+            ensures shows { ShowsAll W.states connections others.entry.now (map W.state rest.entry.now) (map W.state rest.exit.now) result }
+        { show_all(rt, others, rest, connections) },
+    );
+    first_end(one, end)
+}
