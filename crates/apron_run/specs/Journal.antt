@@ -1,5 +1,5 @@
 -- The journal of an airport on a disk: what it opens to, why it doesn't, and what a disk keeps of a history.
-use Rattle.std.specs.Prelude.{◌≡◌, ◌⊎◌, ℕ, List, true, false, Option, None, Some, IfSome, Ok}
+use Rattle.std.specs.Prelude.{◌≡◌, ◌⊎◌, ℕ, List, length, true, false, Option, None, Some, IfSome, Ok}
 use Rattle.apron_base.specs.Counts.{Counts}
 use Rattle.apron_base.specs.Keeper.{KeeperState, with_last}
 use Rattle.desk_words.specs.declared.asks.Entry.{Entry}
@@ -26,6 +26,15 @@ pub record OpensTo (files : AirportFiles) (disk : DiskSeen) (opened : List Entry
   pub legal : IsLegal files.airport opened
   pub entries : IfSome disk.contents (λ bytes. opening_of files.digests bytes ≡ Ok (entry_texts opened))
   pub spells : Spells files.airport (entry_texts opened) opened
+
+-- a keeper over the disk's journal of the files of these digests has these entries, which the disk opens to; no entry is at risk,
+-- and so far no call of the disk has failed
+pub record HasEntries (digests : List ℕ) (disk : DiskSeen) (keeper : KeeperState) (entries : List (List ℕ)) : Type 0 where
+  pub opening : IfSome disk.contents (λ bytes. opening_of digests bytes ≡ Ok entries)
+  pub kept : IfSome keeper.entries (λ kept. kept ≡ entries)
+  pub number : keeper.number ≡ length entries
+  pub at_risk : keeper.at_risk ≡ None
+  pub faults : keeper.faults ≡ disk.faults
 
 -- a board was opened over the journal of these files that is on the disk; no entry is at risk, and so far no call of the disk has failed
 pub record IsOpened {K : Type 0} (tells : K → KeeperState) (files : AirportFiles) (disk : DiskSeen) (board : BoardHeld K) : Type 0 where

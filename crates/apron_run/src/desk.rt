@@ -12,7 +12,7 @@ ghost use Rattle.apron_run.specs.World.{ends_at, world_at};
 use crate::Status;
 use crate::check::tell_fault;
 use crate::files_journal::OfFiles;
-use crate::journal::{close_board, open_board};
+use crate::journal::{close_board, open_watched};
 use crate::same_disk::{Named, SameDisk};
 use crate::status::status_of_outcome;
 use crate::unusable::{Unusable, tell_unusable};
@@ -20,11 +20,10 @@ use apron_base::{Outcome, Shelf, Sink, Source};
 use apron_check::{AirportFiles, FilesFault, airport_of};
 use desk_http::session_fed;
 use desk_turns::AlonePort;
-use history_core::OpenFault;
 use journal_disk::Disk;
 use std::alloc::Global;
 use std::marker::{Brand, PhantomData};
-use watch_list::{NoteTest, Stated, WatchBoard, Watches};
+use watch_list::{NoteTest, Stated, Watches};
 
 /// Answers HTTP requests from the source on the sink, at the airport that the two files of these names make, on the journal of
 /// it that is on the disk, with these watches; or prints why there is none.
@@ -124,18 +123,9 @@ fn serve<N: OfFiles, S: Source, W: Sink, D: Disk, R: Stated, T: NoteTest>(
         (ends_at (S.state source.new) (W.state sink.new) (D.state result.1)) result.0 }
     ensures untaken { OnErr result.0 (source.new ≡ source.old) }
 {
-    let board = match open_board::<N, D>(alloc, files, disk) {
-        Ok(board) => board,
-        Err((why, disk)) => return (Err(why), disk),
-    };
-    let watched = match WatchBoard::new(alloc, &files.airport, board, watches) {
+    let watched = match open_watched::<N, D, R, T>(alloc, files, watches, disk) {
         Ok(watched) => watched,
-        Err(board) => {
-            return (
-                Err(Unusable::Entries(OpenFault::Memory)),
-                close_board(board),
-            );
-        }
+        Err((why, disk)) => return (Err(why), disk),
     };
     let mut desk = AlonePort::new(&files.airport, watched);
     let outcome = session_fed(alloc, &mut desk, source, sink);

@@ -3,16 +3,18 @@ ghost use Rattle.std.specs.Prelude.{◌≡◌, IfErr, IfOk};
 ghost use Rattle.history_core.specs.History.{IsLegal};
 ghost use Rattle.history_core.specs.AtRisk.{entry_at_risk};
 ghost use Rattle.journal_disk.specs.Disk.{Stays};
-ghost use Rattle.apron_run.specs.Journal.{IsOpened, KeepsHistory, NotOpened, journal_tells};
+ghost use Rattle.apron_run.specs.Journal.{HasEntries, IsOpened, KeepsHistory, NotOpened, journal_tells};
 ghost use Rattle.apron_run.specs.Survival.{Survives, from_to};
 ghost use Rattle.apron_run.specs.World.{seen_of};
 
 use crate::files_journal::{FilesJournal, OfFiles};
 use crate::unusable::Unusable;
+use apron_base::Listed;
 use apron_check::AirportFiles;
 use history_core::Board;
 use journal_disk::{Disk, Journal};
 use std::alloc::Global;
+use watch_list::{NoteTest, Stated, WatchBoard, Watches};
 
 /// Opens the journal of these files on the disk, and the board of its entries. At `Err` comes why there is none to work on,
 /// and the disk, on which nothing was written.
@@ -29,14 +31,56 @@ pub fn open_board<'f, N: OfFiles, D: Disk>(
         NotOpened files.entry.now (seen_of (D.state disk)) (seen_of (D.state refusal.1)) refusal.0) }
     ensures unwritten { IfErr result (λ refusal. Stays (D.state disk) (D.state refusal.1)) }
 {
-    let (journal, entries) = match Journal::open(alloc, disk, &files.digests) {
-        Ok(opened) => opened,
-        Err((fault, disk)) => return Err((Unusable::Journal(fault), disk)),
-    };
-    let journal = FilesJournal::new(journal);
+    let (journal, entries) = open_journal(alloc, files, disk)?;
     match Board::open(alloc, &files.airport, journal, entries) {
         Ok(board) => Ok(board),
         Err((fault, journal)) => Err((Unusable::Entries(fault), journal.into_disk())),
+    }
+}
+
+/// The same board with these watches. Each entry is read once.
+pub fn open_watched<'f, N: OfFiles, D: Disk, R: Stated, T: NoteTest>(
+    alloc: Global,
+    files: &'f AirportFiles,
+    watches: &'f Watches<R, T>,
+    disk: D,
+) -> Result<WatchBoard<'f, 'f, FilesJournal<N, D>, R, T>, (Unusable, D)>
+    requires digests { files.now.digests ≡ N.digests }
+    requires begun { Stays N.begun (D.state disk) }
+    ensures opened { IfOk result (λ made.
+        IsOpened (journal_tells D.state) files.entry.now (seen_of (D.state disk)) made.board) }
+    ensures watches { IfOk result (λ made. made.watches ≡ watches.entry.now) }
+    ensures next { IfOk result (λ made. made.next ≡ made.board.next) }
+    ensures stays { IfOk result (λ made. Stays (D.state disk) (D.state made.board.keeper.disk)) }
+    ensures refused { IfErr result (λ refusal.
+        NotOpened files.entry.now (seen_of (D.state disk)) (seen_of (D.state refusal.1)) refusal.0) }
+    ensures unwritten { IfErr result (λ refusal. Stays (D.state disk) (D.state refusal.1)) }
+{
+    let (journal, entries) = open_journal(alloc, files, disk)?;
+    match WatchBoard::open(alloc, &files.airport, journal, entries, watches) {
+        Ok(board) => Ok(board),
+        Err((fault, journal)) => Err((Unusable::Entries(fault), journal.into_disk())),
+    }
+}
+
+// The journal of these files on the disk, and the bytes of its entries. At `Err` comes why there is none, and the disk.
+fn open_journal<N: OfFiles, D: Disk>(
+    alloc: Global,
+    files: &AirportFiles,
+    disk: D,
+) -> Result<(FilesJournal<N, D>, Vec<Listed<u8>>), (Unusable, D)>
+    requires digests { files.now.digests ≡ N.digests }
+    requires begun { Stays N.begun (D.state disk) }
+    ensures entries { IfOk result (λ opened. HasEntries files.now.digests (seen_of (D.state disk))
+        (journal_tells D.state opened.0) opened.1.items) }
+    ensures stays { IfOk result (λ opened. Stays (D.state disk) (D.state opened.0.disk)) }
+    ensures refused { IfErr result (λ refusal.
+        NotOpened files.now (seen_of (D.state disk)) (seen_of (D.state refusal.1)) refusal.0) }
+    ensures unwritten { IfErr result (λ refusal. Stays (D.state disk) (D.state refusal.1)) }
+{
+    match Journal::open(alloc, disk, &files.digests) {
+        Ok((journal, entries)) => Ok((FilesJournal::new(journal), entries)),
+        Err((fault, disk)) => Err((Unusable::Journal(fault), disk)),
     }
 }
 
