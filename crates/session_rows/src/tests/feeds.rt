@@ -1,8 +1,9 @@
 // Feeds that a desk asks for: the bumps of the history after an entry that a watch tells of.
-use apron_base::Minute;
+use apron_base::{Memory, Minute};
+use run_inputs::{AIRPORT, TYPES};
 use std::alloc::Global;
 use std::test::Fail;
-use text_runs::{DEMO, Run, Session, all_hold, all_hold_watched};
+use text_runs::{DEMO, Ended, Run, Session, all_hold, all_hold_watched, empty_journal};
 use watch_list::Shown;
 
 // What a watch of every class shows.
@@ -35,25 +36,26 @@ fn a_run_without_a_watch_finds_none(rt: HostRuntime) -> Result<(), Fail> {
     all_hold(rt.alloc(), UNWATCHED)
 }
 
-// Whether a desk that starts on the journal of HISTORY gives these replies to AGAIN.
+// What a desk with the watches does with this input on this journal.
+fn ends_on<'a>(alloc: Global, journal: &'a [u8], input: &'a [u8]) -> Result<Ended, Memory> {
+    let run = Run {
+        watches: &WATCHES,
+        input,
+        is_new: false,
+        stored: journal,
+        ..DEMO
+    };
+    run.ends(alloc)
+}
+
+// Whether a desk that starts on the journal of HISTORY gives the replies of AGAIN.
 fn is_fed_again(alloc: Global) -> Result<bool, Fail> {
     let history = Session::of(alloc, HISTORY)?;
-    let first = Run {
-        watches: &WATCHES,
-        input: history.input.as_slice(),
-        ..DEMO
-    };
-    let ended = first.ends(alloc)?;
     let again = Session::of(alloc, AGAIN)?;
-    let second = Run {
-        watches: &WATCHES,
-        input: again.input.as_slice(),
-        is_new: false,
-        stored: ended.disk.bytes(),
-        ..DEMO
-    };
-    let replies = second.ends(alloc)?;
-    Ok(ended.is(history.output.as_slice(), 0) && replies.is(again.output.as_slice(), 0))
+    let empty = empty_journal(alloc, AIRPORT, TYPES)?;
+    let first = ends_on(alloc, empty.as_slice(), history.input.as_slice())?;
+    let second = ends_on(alloc, first.disk.bytes(), again.input.as_slice())?;
+    Ok(first.is(history.output.as_slice(), 0) && second.is(again.output.as_slice(), 0))
 }
 
 #[test]
