@@ -94,8 +94,7 @@ fn order_of_words(words: &[Word]) -> Option<Order<'_>>
     match words {
         [word, airport, types, number] => ordered_by(word, airport, types, number, None),
         [word, airport, types, number, screen, day]
-            if screen.text() == "screen" && is_plain_number(day.text().as_bytes()) =>
-        {
+            if screen.text() == "screen" && is_plain_number(day.text().as_bytes()) => {
             ordered_by(word, airport, types, number, Some(day))
         }
         _ => None,
