@@ -313,7 +313,7 @@ fn serve_journal<
     (tell_met(sink, &met), disk)
 }
 
-// Prints the line that tells it, where there is one, and gives its status, which stays where the sink fails at the line.
+// Prints the line about it, if there is one, and gives its status, which stays even if the sink fails at the line.
 fn tell_met<W: Sink>(sink: &mut W, met: &Result<ServeEnd, Unusable>) -> Status
     ensures tells { TellsMet met.now (W.state sink.old) (W.state sink.new) result }
 {
