@@ -41,7 +41,7 @@ pub opened_begun : {K : Type 0} (tells : K → KeeperState) (airport : AirportPa
     → machine_state tells board ≡ record { fixed = airport; history = board.history; at_risk = None; next = next; faults = faults }
 opened_begun tells airport faults next board airport_is next_is count safe = rw (safe, airport_is, next_is, count) refl
 
--- what is told of a fault, at that fault
+-- what is said of a fault, at that fault
 pub of_err : {A E P : Type 0} (met : Result A E) (why : E) → met ≡ Err why → IfErr met (λ _. P) → P
 of_err {A} {E} {P} met why is holds = subst (λ (r : Result A E). IfErr r (λ _. P)) is holds
 

@@ -31,7 +31,7 @@ unusable_comes (Entries (entries.BadEntry number)) = refl
 unusable_comes (Entries (entries.WrongEntry number)) = refl
 unusable_comes (Entries entries.Memory) = refl
 
--- what is told of what was met at the journal is no end before it
+-- what is printed about the journal is no end before it
 pub met_comes : (met : Result ServeEnd Unusable) (before after : SinkState) (status : Status) → TellsMet met before after status → ends_before_journal (code_of status) ≡ false
 met_comes (Ok end.Done) before after status (silent, is) = ap (λ (s : Status). ends_before_journal (code_of s)) is
 met_comes (Ok end.ListenerFault) before after status tells =
@@ -53,7 +53,7 @@ kept_anyway false old new same = same
 missed_served : (screens : ℕ) → 0 < screens → has_served screens (code_of Memory) ≡ true
 missed_served screens some = grind (arith, nat_tests)
 
--- where there was no journal to work on it is told so
+-- the listeners are as they were if there was no journal to work on
 pub met_kept : {E : Type 0} (screens : ℕ) (met : Result ServeEnd Unusable) (before after : SinkState) (status : Status) (old new : E)
     → (met ≡ Ok end.Missed → 0 < screens) → TellsMet met before after status → OnErr met (new ≡ old) → KeptUnless (has_served screens (code_of status)) old new
 met_kept screens (Ok end.Done) before after status old new shown (silent, is) kept =

@@ -28,7 +28,7 @@ listener_line = codes "listener fault\n"
 abbrev pub no_memory : Unusable
 no_memory = Entries entries.Memory
 
--- what is told of what was met, and its status: nothing of desks and screens that were all served, and else a line
+-- what is printed about what was met, and its status: nothing if desks and screens were all served, and otherwise a line
 abbrev pub TellsMet : Result ServeEnd Unusable → SinkState → SinkState → Status → Type 0
 TellsMet (Ok Done) before after told = (after ≡ before) × (told ≡ status.Done)
 TellsMet (Ok ListenerFault) before after told = Writes listener_line status.ListenerFault status.ListenerFault before after told
@@ -54,7 +54,7 @@ abbrev pub task_at : AirportFiles → Order → Option Task
 task_at files order = option_map (λ day. record { connections = order.connections; day = day }) (day_shown files.airport order.day)
 
 module _ {In Out : Type 0} (service : Service In Out) where
-  -- desks and screens served at the journal of these files, or none, and what is told of either
+  -- desks and screens served at the journal of these files, or none, and what is printed about either
   pub record ServesJournal (files : AirportFiles) (task : Task) (before after : Outs In Out) (told : Status) : Type 0 where
     pub met : Result ServeEnd Unusable
     pub meets : MeetsDesks service files task (ends_of before) (ends_of after) met

@@ -47,7 +47,7 @@ module _ {In Out : Type 0} where
   abbrev pub ended_of : ListenerState In Out → ℕ
   ended_of listener = listener.ended
 
-  -- each listener has finished so many connections more
+  -- each listener has finished this many connections more
   abbrev pub HaveFinished : ℕ → List (ListenerState In Out) → List (ListenerState In Out) → Type 0
   HaveFinished connections before after = map ended_of after ≡ map (λ (listener : ListenerState In Out). listener.ended + connections) before
 

@@ -72,9 +72,7 @@ pub fn serve<F: Shelf, L: Wall + Send, W: Sink, D: Disk + Send, Rt: Wait + Threa
     ensures disk_kept { KeptUnless (not (ends_before_journal result.0)) disk result.1 }
 {
     let watches = Watches::<Shown, Shown>::none(alloc);
-    serve_with(
-        rt, alloc, words, &watches, shelf, listeners, sink, disk,
-    )
+    serve_with(rt, alloc, words, &watches, shelf, listeners, sink, disk)
 }
 
 /// The same with these watches, whose feeds each desk can ask for.
@@ -114,9 +112,7 @@ pub fn serve_with<
     ensures disk_kept { KeptUnless (not (ends_before_journal result.0)) disk result.1 }
 {
     let (none, desks) = listeners.split_at_mut(0);
-    serve_all(
-        rt, alloc, words, watches, shelf, desks, none, sink, disk,
-    )
+    serve_all(rt, alloc, words, watches, shelf, desks, none, sink, disk)
 }
 
 /// The same with screens beside the desks.
@@ -317,7 +313,7 @@ fn serve_journal<
     (tell_met(sink, &met), disk)
 }
 
-// Prints the line that tells it, where there is one, and gives its status, which stays where the sink fails at the line.
+// Prints the line about it, if there is one, and gives its status, which stays even if the sink fails at the line.
 fn tell_met<W: Sink>(sink: &mut W, met: &Result<ServeEnd, Unusable>) -> Status
     ensures tells { TellsMet met.now (W.state sink.old) (W.state sink.new) result }
 {

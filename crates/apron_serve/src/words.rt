@@ -1,5 +1,5 @@
 // What the words order.
-ghost use Rattle.std.specs.Prelude.{◌≡◌, ◌<◌, ◌≤◌, ℕ, true, is_some, IfSome, List, Option};
+ghost use Rattle.std.specs.Prelude.{◌≡◌, ◌<◌, ◌≤◌, ℕ, true, IfSome};
 ghost use Rattle.std.specs.Option.{option_copied, option_map};
 ghost use Rattle.apron_rules.specs.declared.parts.AirportParts.{AirportParts};
 ghost use Rattle.apron_run.specs.Words.{number_within};
@@ -71,19 +71,18 @@ pub(crate) fn order_of(words: &[Word], listeners: usize, screens: usize) -> Opti
         return None;
     }
     match order_of_words(words) {
-        Some(order) if may_have(screens, order.day.is_some()) => Some(order),
+        Some(order) if may_have(screens, order.day) => Some(order),
         _ => None,
     }
 }
 
 // There may be this many screens: none if no day is shown, and otherwise 1 to 8.
-fn may_have(screens: usize, is_shown: bool) -> bool
-    ensures is { (day : Option (List ℕ)) → is_shown ≡ is_some day → result ≡ may_have screens day }
+fn may_have(screens: usize, day: Option<&Word>) -> bool
+    ensures is { result ≡ may_have screens (option_copied day) }
 {
-    if is_shown {
-        1 <= screens && screens <= MAX_SCREENS
-    } else {
-        screens == 0
+    match day {
+        Some(_) => 1 <= screens && screens <= MAX_SCREENS,
+        None => screens == 0,
     }
 }
 
@@ -94,8 +93,7 @@ fn order_of_words(words: &[Word]) -> Option<Order<'_>>
     match words {
         [word, airport, types, number] => ordered_by(word, airport, types, number, None),
         [word, airport, types, number, screen, day]
-            if screen.text() == "screen" && is_plain_number(day.text().as_bytes()) =>
-        {
+            if screen.text() == "screen" && is_plain_number(day.text().as_bytes()) => {
             ordered_by(word, airport, types, number, Some(day))
         }
         _ => None,

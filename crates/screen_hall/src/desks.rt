@@ -1,7 +1,9 @@
 // Desks take turns at a board that is shown on screens, and it answers feeds.
 use crate::hall::Hall;
 use apron_base::{Acted, Keeper, Machine, Memory, Name, Outcome, Sink, Source};
-use desk_turns::{DeskMachine, FeedMachine, SeatPort, SessionMachine, Turns, serve_fed, watch_ask_of, watch_feed};
+use desk_turns::{
+    DeskMachine, FeedMachine, SeatPort, SessionMachine, Turns, serve_fed, watch_ask_of, watch_feed,
+};
 use desk_words::asks::Ask;
 use std::alloc::Global;
 use std::sync::Wait;

@@ -1,6 +1,7 @@
 -- The last sheet of a list, and that of a longer one.
 use Rattle.std.proofs.Common.{◌≡◌, ◌≤◌, ◌+◌, ◌∙◌, ℕ, List, [], ◌∷◌, ◌++◌, refl, sym, ap, subst, arith}
 use Rattle.apron_base.specs.Histories.{Every, Rises}
+use Rattle.screen_feed.specs.Screens.{HasLooked, ScreenState}
 use Rattle.screen_feed.specs.Sheets.{AreSheets, Begins, IsLast, IsSheet, SheetState, Shown, last_version, version_after, version_of}
 use Rattle.screen_looks.specs.Looks.{IsLastSheet}
 
@@ -10,7 +11,7 @@ every_last P [] e all = all.0
 every_last P (x ∷ front) e all = every_last P front e all.1
 
 -- the last of a list of sheets is one
-pub last_sheet : (shown : Shown) (sheets : List SheetState) (sheet : SheetState) → AreSheets shown sheets → IsLast sheets sheet → IsSheet shown sheet
+last_sheet : (shown : Shown) (sheets : List SheetState) (sheet : SheetState) → AreSheets shown sheets → IsLast sheets sheet → IsSheet shown sheet
 last_sheet shown sheets sheet are (front, is) = every_last (IsSheet shown) front sheet (subst (Every (IsSheet shown)) is are.each)
 
 -- versions that rise from one on are no lower at the end
@@ -29,3 +30,10 @@ pub no_older : (shown : Shown) (before after : List SheetState) → AreSheets sh
 no_older shown before after are (rest, is) =
     let rises = subst (Rises version_of 0 _) is are.rises in
     subst (λ (list : List SheetState). last_version before ≤ last_version list) (sym is) (goes_on_later 0 _ 0 before rest (omega arith) rises)
+
+-- the last sheet that a screen has seen after a look
+pub is_last : (before after : ScreenState) (sheet : SheetState) → HasLooked before after → IsLast after.seen sheet → IsLastSheet after sheet
+is_last before after sheet looked last = record {
+  last = last;
+  chart = subst (λ (shown : Shown). IsSheet shown sheet) (sym looked.shown) (last_sheet before.shown after.seen sheet looked.sheets last);
+}

@@ -1,5 +1,5 @@
 // Desks at a board that is shown on screens, and these screens beside them.
-ghost use Rattle.std.specs.Prelude.{◌≡◌, ◌<◌, ◌≤◌, ◌&&◌, [], nat_lt, IfErr, IfOk, None, length, map};
+ghost use Rattle.std.specs.Prelude.{◌≡◌, ◌<◌, ◌≤◌, true, IfErr, IfOk, None, length, map};
 ghost use Rattle.std.specs.Thread.{IsSync};
 ghost use Rattle.apron_base.specs.Histories.{Every};
 ghost use Rattle.desk_http.specs.FedSession.{FedAnswers};
@@ -47,10 +47,10 @@ pub struct ShownEnd {
 /// plan; each listener by a worker in a thread of its own. At `Err` there is no memory, and no listener was called.
 pub fn serve_watched<
     'a,
-    Rt: Threads + Wait + Sync + 'a,
+    Rt: Threads + Wait + Sync,
     K: Keeper + Send,
-    R: Stated + Sync + 'a,
-    T: NoteTest + Sync + 'a,
+    R: Stated + Sync,
+    T: NoteTest + Sync,
     W: Wall + Send,
 >(
     rt: &'a Rt,
@@ -79,7 +79,15 @@ pub fn serve_watched<
         Err(board) => return (Err(Memory), board),
     };
     let mut screens = Vec::new(alloc);
-    let writers = writers_of(rt, alloc, airport, &board, task.day, walls.len(), &mut screens);
+    let writers = writers_of(
+        rt,
+        alloc,
+        airport,
+        &board,
+        task.day,
+        walls.len(),
+        &mut screens,
+    );
     let hall = Hall::new(rt, board, writers);
     let (ended, hall) = serve_hall(
         rt,
@@ -98,10 +106,10 @@ pub fn serve_watched<
 // for this, or there was none for a screen, and nothing was served.
 fn serve_hall<
     'a,
-    Rt: Threads + Wait + Sync + 'a,
+    Rt: Threads + Wait + Sync,
     K: Keeper + Send,
-    R: Stated + Sync + 'a,
-    T: NoteTest + Sync + 'a,
+    R: Stated + Sync,
+    T: NoteTest + Sync,
     W: Wall + Send,
 >(
     rt: &'a Rt,
@@ -121,25 +129,44 @@ fn serve_hall<
         (record { listeners = map W.state listeners.old; board = hall_state K.state hall.entry })
         (record { listeners = map W.state listeners.new; board = hall_state K.state result.1 }) ends.desks) }
     ensures shows { IfOk result.0 (λ ends. ShowsAll W.states connections screens.old (map W.state walls.old) (map W.state walls.new) ends.screens) }
-    ensures missed { IfOk result.0 (λ ends. ends.missed ≡ (result.1.missed && nat_lt 0 (length walls.old))) }
+    ensures missed { IfOk result.0 (λ ends. ends.missed ≡ true → 0 < length walls.old) }
+    ensures note { IfOk result.0 (λ ends. 0 < length walls.old → ends.missed ≡ result.1.missed) }
     ensures hall { IfOk result.0 (λ ends. IsHall result.1) }
     ensures refused { IfErr result.0 (λ _. (listeners.new ≡ listeners.old) × (walls.new ≡ walls.old) × (result.1 ≡ hall.entry)) }
 {
     if screens.len() != walls.len() {
         return (Err(Memory), hall);
     }
-    let has_screens = !walls.is_empty();
+    let count = walls.len();
     let mut job = ||
         requires { IsSync Rt.row × (length screens.now ≡ length walls.now) }
         ensures shows { ShowsAll W.states connections screens.entry.now (map W.state walls.entry.now) (map W.state walls.exit.now) result }
     { show_all(rt, screens, walls, connections) };
     let (ended, hall) = serve_board(rt, alloc, airport, hall, listeners, connections, &mut job);
     match ended {
-        Ok((desks, shows)) => {
-            // Without a screen there is no writer that could miss a version.
-            let missed = hall.missed() && has_screens;
-            (Ok(ShownEnd { desks, screens: shows, missed }), hall)
+        Ok((desks, screens)) => {
+            let missed = has_missed(&hall, count);
+            let ends = ShownEnd {
+                desks,
+                screens,
+                missed,
+            };
+            (Ok(ends), hall)
         }
         Err(Memory) => (Err(Memory), hall),
     }
+}
+
+// Whether one of this many screens' writers does not show the last version.
+fn has_missed<W: Wait, K: Keeper, R: Stated, T: NoteTest>(
+    hall: &Hall<'_, '_, '_, W, K, R, T>,
+    screens: usize,
+) -> bool
+    ensures screens { result ≡ true → 0 < screens }
+    ensures note { 0 < screens → result ≡ hall.now.missed }
+    ensures hall { IsHall hall.now }
+{
+    let missed = hall.missed();
+    // Without a screen there is no writer that could miss a version.
+    screens > 0 && missed
 }

@@ -23,6 +23,30 @@ fn show_first<W: Wall, R: Wait>(
     walls[0].show_on(rt, &mut screens[0], connections)
 }
 
+// The worker of the only screen of a list, in a thread of its own, and another job beside it.
+fn show_beside<W: Wall + Send, R: Threads + Wait + Sync, J: FnMut() -> T, T>(
+    rt: &R,
+    screens: &mut [Screen],
+    walls: &mut [W],
+    connections: u32,
+    job: &mut J,
+) -> (WorkEnd, T)
+    requires one { length screens.old ≡ 1 }
+    requires wall { length walls.old ≡ 1 }
+    requires job { J.pre job.old }
+    ensures shows { ShowsEach W.states W.state connections screens.old walls.old screens.new walls.new result.0 }
+    ensures job { J.step job.old result.1 job.new }
+{
+    join_mut(
+        rt,
+        &mut ||
+            requires { (length screens.now ≡ 1) × (length walls.now ≡ 1) }
+            ensures shows { ShowsEach W.states W.state connections screens.entry.now walls.entry.now screens.exit.now walls.exit.now result }
+        { show_first(rt, screens, walls, connections) },
+        job,
+    )
+}
+
 /// A worker for each screen with the listener of the same place, each in a thread of its own.
 pub(crate) fn show_all<W: Wall + Send, R: Threads + Wait + Sync>(
     rt: &R,
@@ -38,12 +62,11 @@ pub(crate) fn show_all<W: Wall + Send, R: Threads + Wait + Sync>(
     }
     let (screen, others) = screens.split_at_mut(1);
     let (first, rest) = walls.split_at_mut(1);
-    let (one, end) = join_mut(
+    let (one, end) = show_beside(
         rt,
-        &mut ||
-            requires { (length screen.now ≡ 1) × (length first.now ≡ 1) }
-            ensures shows { ShowsEach W.states W.state connections screen.entry.now first.entry.now screen.exit.now first.exit.now result }
-        { show_first(rt, screen, first, connections) },
+        screen,
+        first,
+        connections,
         &mut ||
             requires { IsSync R.row × (length others.now ≡ length rest.now) }
             ensures shows { ShowsAll W.states connections others.entry.now (map W.state rest.entry.now) (map W.state rest.exit.now) result }

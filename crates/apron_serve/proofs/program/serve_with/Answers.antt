@@ -47,8 +47,10 @@ returns g c =
       headline = all (λ olds screens news left. ServesAs service (order_of words (length olds) (length screens))
           (record { shelf = g.F.Shelf.state c.args.shelf.now; listeners = map g.L.Workplace.state olds; screens = map g.L.Workplace.state screens; sink = g.W.Sink.state c.args.sink.now; disk = seen_of (g.D.Disk.state c.args.disk) })
           (record { shelf = g.F.Shelf.state c.serve_all.new.shelf; listeners = map g.L.Workplace.state news; screens = map g.L.Workplace.state left; sink = g.W.Sink.state c.serve_all.new.sink; disk = seen_of (g.D.Disk.state c.serve_all.result.1) }) code) ensures.headline;
-      done = λ order is. ((λ zero. (done order is zero).0),
-          (λ have. ⊎_elim (λ zero. zero) (λ missed. absurd (let some = missed.1 in omega (arith, some))) (finished order is have refl)));
+      done = λ order is. (
+        (λ zero. (done order is zero).0),
+        (λ have. ⊎_elim (λ zero. zero) (λ missed. absurd (let some = missed.1 in omega (arith, some))) (finished order is have refl)),
+      );
       failed = λ is. ⊎_elim (λ some. some) (λ none. absurd none) (failed is);
       usage = ((λ is. ⊎_elim (λ none. none) (λ some. absurd (no_screen_order words (length c.args.listeners.now) some)) (usage_alone is)), usage);
       complete = all (λ olds screens news left. IsComplete (order_of words (length olds) (length screens))

@@ -2,7 +2,9 @@ use Rattle.std.proofs.Common.{refl}
 use Rattle.screen_looks.proofs.Looking.{one_shown}
 use Rattle.screen_looks.proofs.wall.show_next.Goals as goal
 
-pub returns-clause-shows : goal.returns-clause-shows
-returns-clause-shows g c =
-    one_shown (record { source = g.L.In.Source.state; sink = g.L.Out.Sink.state }) _ _ _ _ _ _ _ _
-    c.in_ok-source.ensures.accepts refl c.look_once-outcome.ensures.looks c.finish.ensures.finishes
+pub returns : goal.returns
+returns g c =
+    record {
+      shows = one_shown (record { source = g.L.In.Source.state; sink = g.L.Out.Sink.state }) _ _ _ _ _ _ _ _
+          c.in_ok-source.ensures.accepts refl c.look_once-outcome.ensures.looks c.finish.ensures.finishes;
+    }

@@ -1,0 +1,19 @@
+use Rattle.std.proofs.Common.{rules, length, map}
+use Rattle.screen_looks.specs.Walls.{ShowsAll, ShowsEach}
+use Rattle.screen_looks.proofs.Together.{of_first}
+use Rattle.screen_looks.proofs.walls.+fn-show_all-show_beside+show_all.Goals as goal
+
+pub returns : goal.returns
+returns g t c =
+    let state = g.W.Workplace.state in
+    let front = c.split_at_mut-screen.result.0.now in
+    let others = c.split_at_mut-screen.result.1.now in
+    let first = c.split_at_mut-first.result.0.now in
+    let rest = c.split_at_mut-first.result.1.now in
+    let each : ShowsEach g.W.Workplace.states state c.args.connections front first c.show_beside-one.new.screens c.show_beside-one.new.walls c.show_beside-one.result.0 =
+    search rules in
+    let all : ShowsAll g.W.Workplace.states c.args.connections others (map state rest) (map state c.rest-1.given.0) c.show_beside-one.result.1 = search rules in record {
+      shows = rw (c.split_at_mut-screen.ensures.value, c.split_at_mut-first.ensures.value)
+          (of_first g.W.Workplace.states state c.args.connections front others c.show_beside-one.new.screens first rest c.show_beside-one.new.walls c.rest-1.given.0
+          c.show_beside-one.result.0 c.show_beside-one.result.1 c.first_end.result (search rules) (search rules) each all c.first_end.ensures.is);
+    }
