@@ -249,17 +249,6 @@ desk_serves {K} {R} tells shows watches files before after board start done outc
           (entry_behind done.machine.board.airport (tells done.machine.board.keeper)) after.disk) airport keeps;
     }
 
--- a board that was opened, and no memory for its notes: nothing was written
-pub unwatched : {K : Type 0} (tells : K → KeeperState) (files : AirportFiles) (before after : DiskState) (board : BoardHeld K)
-    → IsOpened tells files (seen_of before) board → Stays before after → after.faults ≡ (tells board.keeper).faults
-    → NotOpened files (seen_of before) (seen_of after) (Entries entries.Memory)
-unwatched tells files before after board opened stays counted =
-    let opens = opened.opens in
-    record {
-      reads = stays.contents;
-      cause = (entry_texts board.history, record { opening = opens.entries; counts = counted ∙ opened.faults }, tt);
-    }
-
 -- a status before which a session may have come
 may_tell : (status : Status) (before now : ℕ) → may_serve status ≡ true → before ≤ now → ServedCounts status before now
 may_tell status before now may least = rw may least
