@@ -48,7 +48,7 @@ module _ {In Out : Type 0} (service : Service In Out) where
       → ServesTask service files (option_map (λ day. record { connections = order.connections; day = day }) day) before after status → EndsWell (code_of status)
   day_well files order history (Some day) before after status has still all shown journal =
       met_well files (record { connections = order.connections; day = day }) history before after journal.met status has still all journal.meets journal.tells
-  day_well files order history None before after status has still all shown journal = absurd shown
+  day_well files order history None before after status has still all shown journal = absurd cc
 
   -- what was done with files that were found, or for which there was no memory
   found_served : (files : AirportFiles) (order : Order) (history : List Entry) (before after : Outs In Out) (found : Result AirportFiles FilesFault) (status : Status)
