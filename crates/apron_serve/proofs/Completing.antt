@@ -1,5 +1,5 @@
 -- All that is ordered is served where it is valid and nothing fails.
-use Rattle.std.proofs.Common.{◌≡◌, ◌∙◌, ◌⊎◌, ℕ, true, List, Option, None, Some, Result, Ok, Err, inl, inr, ⊎_elim, refl, sym, ap, subst}
+use Rattle.std.proofs.Common.{◌≡◌, ◌∙◌, ◌⊎◌, ℕ, true, List, Option, None, Some, Result, Ok, Err, inl, inr, ⊎_elim, sym, ap, subst}
 use Rattle.std.specs.Prelude.{IsSome}
 use Rattle.std.specs.Option.{option_map}
 use Rattle.apron_base.specs.Counts.{Counts, Rose}
@@ -19,7 +19,7 @@ use Rattle.apron_run.proofs.Counting.{Lines, lines_of}
 use Rattle.apron_run.proofs.Valid.{found_well, unopened_wants}
 use Rattle.apron_serve.specs.Board.{MeetsDesks, Service}
 use Rattle.apron_serve.specs.Complete.{IsComplete}
-use Rattle.apron_serve.specs.Files.{ServesFiles, ServesFound, ServesJournal, ServesTask, TellsFiles, TellsMet, listener_line, no_memory}
+use Rattle.apron_serve.specs.Files.{ServesFiles, ServesFound, ServesTask, TellsFiles, TellsMet, listener_line, no_memory}
 use Rattle.apron_serve.specs.Orders.{Order, day_shown}
 use Rattle.apron_serve.specs.Serve.{ServesAs, SomeFailed}
 use Rattle.apron_serve.specs.World.{Outs, World, ends_of, outs_of}

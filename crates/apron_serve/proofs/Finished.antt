@@ -1,9 +1,8 @@
 -- How workers ended, by how many connections their listeners finished.
-use Rattle.std.proofs.Common.{◌≡◌, ◌∙◌, ◌⊎◌, ◌+◌, ◌<◌, ◌≤◌, ℕ, Bool, true, false, List, [], ◌∷◌, length, map, inl, inr, refl, sym, ap, subst, arith}
+use Rattle.std.proofs.Common.{◌≡◌, ◌∙◌, ◌⊎◌, ◌+◌, ◌≤◌, ℕ, true, List, [], ◌∷◌, length, map, inl, inr, refl, sym, ap, subst, arith}
 use Rattle.apron_base.specs.Counts.{Counts, Rose}
 use Rattle.apron_base.specs.Histories.{Every}
 use Rattle.apron_base.specs.Listener.{ListenerState}
-use Rattle.apron_base.specs.Machine.{MachineState}
 use Rattle.turn_board.proofs.Totals.{every_more}
 use Rattle.desk_http.specs.Session.{SessionKind}
 use Rattle.desk_turns.specs.Crew.{CrewState, ServesBoard, Worker, WorksAt, end_of}

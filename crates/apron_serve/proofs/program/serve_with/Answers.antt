@@ -1,5 +1,4 @@
-use Rattle.std.proofs.Common.{◌≡◌, ◌⊎◌, ◌∙◌, ◌<◌, ℕ, List, [], ◌++◌, None, Some, length, map, refl, sym, true, arith, ⊎_elim}
-use Rattle.std.specs.Prelude.{not}
+use Rattle.std.proofs.Common.{◌≡◌, ◌⊎◌, ◌∙◌, ◌<◌, List, [], ◌++◌, None, Some, length, map, refl, sym, true, arith, ⊎_elim}
 use Rattle.std.proofs.lemmas.List.{length-map}
 use Rattle.desk_turns.specs.Watched.{feed_texts}
 use Rattle.apron_run.specs.Run.{KeptUnless}
