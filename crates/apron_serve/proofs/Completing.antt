@@ -1,5 +1,5 @@
 -- All that is ordered is served where it is valid and nothing fails.
-use Rattle.std.proofs.Common.{◌≡◌, ◌∙◌, ◌⊎◌, ℕ, true, List, Option, None, Some, Result, Ok, Err, inl, inr, ⊎_elim, refl, sym, ap, subst}
+use Rattle.std.proofs.Common.{◌≡◌, ◌∙◌, ◌⊎◌, ℕ, true, List, Option, None, Some, Result, Ok, Err, inl, inr, ⊎_elim, sym, ap, subst}
 use Rattle.std.specs.Prelude.{IsSome}
 use Rattle.std.specs.Option.{option_map}
 use Rattle.apron_base.specs.Counts.{Counts, Rose}
@@ -19,7 +19,7 @@ use Rattle.apron_run.proofs.Counting.{Lines, lines_of}
 use Rattle.apron_run.proofs.Valid.{found_well, unopened_wants}
 use Rattle.apron_serve.specs.Board.{MeetsDesks, Service}
 use Rattle.apron_serve.specs.Complete.{IsComplete}
-use Rattle.apron_serve.specs.Files.{ServesFiles, ServesFound, ServesJournal, ServesTask, TellsFiles, TellsMet, listener_line, no_memory}
+use Rattle.apron_serve.specs.Files.{ServesFiles, ServesFound, ServesTask, TellsFiles, TellsMet, listener_line, no_memory}
 use Rattle.apron_serve.specs.Orders.{Order, day_shown}
 use Rattle.apron_serve.specs.Serve.{ServesAs, SomeFailed}
 use Rattle.apron_serve.specs.World.{Outs, World, ends_of, outs_of}
@@ -48,7 +48,7 @@ module _ {In Out : Type 0} (service : Service In Out) where
       → ServesTask service files (option_map (λ day. record { connections = order.connections; day = day }) day) before after status → EndsWell (code_of status)
   day_well files order history (Some day) before after status has still all shown journal =
       met_well files (record { connections = order.connections; day = day }) history before after journal.met status has still all journal.meets journal.tells
-  day_well files order history None before after status has still all shown journal = absurd shown
+  day_well files order history None before after status has still all shown journal = absurd cc
 
   -- what was done with files that were found, or for which there was no memory
   found_served : (files : AirportFiles) (order : Order) (history : List Entry) (before after : Outs In Out) (found : Result AirportFiles FilesFault) (status : Status)

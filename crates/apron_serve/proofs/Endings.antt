@@ -30,7 +30,7 @@ use Rattle.apron_run.specs.declared.unusable.Unusable.TheVariants.{Journal, Entr
 use Rattle.apron_run.proofs.Counting.{Lines, fault_disk, fault_shelf, lines_of, unusable_shelf}
 use Rattle.apron_run.proofs.Serving.{why_counts}
 use Rattle.apron_serve.specs.Board.{MeetsDesks, ServesDesks, Service, served_end}
-use Rattle.apron_serve.specs.Files.{ServesFiles, ServesFound, ServesTask, TellsMet, listener_line, no_memory, task_at}
+use Rattle.apron_serve.specs.Files.{ServesFiles, ServesFound, ServesTask, TellsMet, listener_line, no_memory}
 use Rattle.apron_serve.specs.Orders.{Order, day_shown}
 use Rattle.apron_serve.specs.Serve.{HaveFinished, ServesAs, SomeFailed, is_screen_order, may_end_serve}
 use Rattle.apron_serve.specs.World.{Outs, World, ends_of, outs_of}

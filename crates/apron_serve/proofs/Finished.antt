@@ -1,9 +1,8 @@
 -- How workers ended, by how many connections their listeners finished.
-use Rattle.std.proofs.Common.{◌≡◌, ◌∙◌, ◌⊎◌, ◌+◌, ◌<◌, ◌≤◌, ℕ, Bool, true, false, List, [], ◌∷◌, length, map, inl, inr, refl, sym, ap, subst, arith}
+use Rattle.std.proofs.Common.{◌≡◌, ◌∙◌, ◌⊎◌, ◌+◌, ◌≤◌, ℕ, true, List, [], ◌∷◌, length, map, inl, inr, refl, sym, ap, subst, arith}
 use Rattle.apron_base.specs.Counts.{Counts, Rose}
 use Rattle.apron_base.specs.Histories.{Every}
 use Rattle.apron_base.specs.Listener.{ListenerState}
-use Rattle.apron_base.specs.Machine.{MachineState}
 use Rattle.turn_board.proofs.Totals.{every_more}
 use Rattle.desk_http.specs.Session.{SessionKind}
 use Rattle.desk_turns.specs.Crew.{CrewState, ServesBoard, Worker, WorksAt, end_of}
@@ -106,7 +105,7 @@ module _ {In Out W : Type 0} (asked : ℕ) (before after : W → ListenerState I
 pub desks_ended : {In Out Fixed : Type 0} (states : EndStates In Out) (kinds : Fixed → SessionKind) (asked : ℕ) (before after : CrewState In Out Fixed) (end : WorkEnd)
     → ServesBoard states kinds asked before after end
     → Finished asked before.listeners after.listeners end
-desks_ended states kinds asked before after end serves =
+desks_ended {In = In} {Out = Out} states kinds asked before after end serves =
     all_ended asked (λ (worker : Worker In Out). worker.before.listener) (λ (worker : Worker In Out). worker.after.listener) (λ (worker : Worker In Out). worker.end)
     serves.workers
     (every_more (WorksAt states kinds asked before.board after.board) _ (λ worker at.
@@ -118,7 +117,7 @@ desks_ended states kinds asked before after end serves =
 pub screens_ended : {In Out : Type 0} (states : EndStates In Out) (asked : ℕ) (screens : List ScreenState) (before after : List (ListenerState In Out)) (end : WorkEnd)
     → ShowsAll states asked screens before after end
     → Finished asked before after end
-screens_ended states asked screens before after end shows =
+screens_ended {In = In} {Out = Out} states asked screens before after end shows =
     all_ended asked (λ (worker : ScreenWorker In Out). worker.before.listener) (λ (worker : ScreenWorker In Out). worker.after.listener)
     (λ (worker : ScreenWorker In Out). worker.end) shows.workers
     (every_more (λ (worker : ScreenWorker In Out). ShowsOn states asked worker.before worker.after worker.end) _ (λ worker on.

@@ -78,7 +78,7 @@ pub(crate) fn order_of(words: &[Word], listeners: usize, screens: usize) -> Opti
 
 // There may be this many screens: none if no day is shown, and otherwise 1 to 8.
 fn may_have(screens: usize, day: Option<&Word>) -> bool
-    ensures is { result ≡ may_have screens (option_copied day) }
+    ensures is { result ≡ may_have screens (option_copied day.entry) }
 {
     match day {
         Some(_) => 1 <= screens && screens <= MAX_SCREENS,
@@ -107,7 +107,7 @@ fn ordered_by<'w>(
     number: &Word,
     day: Option<&'w Word>,
 ) -> Option<Order<'w>>
-    ensures order { option_map shown result ≡ ordered_by word.now airport.now types.now number.now (option_copied day) }
+    ensures order { option_map shown result ≡ ordered_by word.now airport.now types.now number.now (option_copied day.entry) }
     ensures some { IfSome result (λ order. 1 ≤ order.connections) }
 {
     let number = number.text().as_bytes();
@@ -124,7 +124,7 @@ fn ordered<'w>(
     day: Option<&'w Word>,
     number: Option<u64>,
 ) -> Option<Order<'w>>
-    ensures order { option_map shown result ≡ ordered airport.now types.now (option_copied day) number }
+    ensures order { option_map shown result ≡ ordered airport.now types.now (option_copied day.entry) number }
     ensures some { IfSome result (λ order. 1 ≤ order.connections) }
 {
     match number {

@@ -3,9 +3,6 @@ use Rattle.std.proofs.Common.{◌≡◌, ℕ, Bool, List, Result, IfOk, ap, subs
 use Rattle.std.proofs.lemmas.Result.{IfOk-weaker}
 use Rattle.apron_base.specs.Keeper.{KeeperState}
 use Rattle.apron_base.specs.Listener.{ListenerState}
-use Rattle.apron_base.specs.Machine.{MachineState}
-use Rattle.apron_rules.specs.declared.parts.AirportParts.{AirportParts}
-use Rattle.desk_words.specs.declared.asks.Entry.{Entry}
 use Rattle.desk_http.specs.FedSession.{FedAnswers}
 use Rattle.desk_http.specs.Ports.{Turn}
 use Rattle.desk_http.specs.Session.{SessionKind}

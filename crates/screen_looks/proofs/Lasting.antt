@@ -1,5 +1,5 @@
 -- The last sheet of a list, and that of a longer one.
-use Rattle.std.proofs.Common.{◌≡◌, ◌≤◌, ◌+◌, ◌∙◌, ℕ, List, [], ◌∷◌, ◌++◌, refl, sym, ap, subst, arith}
+use Rattle.std.proofs.Common.{◌≤◌, ◌+◌, ℕ, List, [], ◌∷◌, ◌++◌, sym, subst, arith}
 use Rattle.apron_base.specs.Histories.{Every, Rises}
 use Rattle.screen_feed.specs.Screens.{HasLooked, ScreenState}
 use Rattle.screen_feed.specs.Sheets.{AreSheets, Begins, IsLast, IsSheet, SheetState, Shown, last_version, version_after, version_of}

@@ -3,7 +3,6 @@ use Rattle.std.proofs.Common.{◌≡◌, ◌∙◌, ◌+◌, ◌<◌, ℕ, Bool,
 use Rattle.apron_base.specs.Listener.{ListenerState, TakesFirst, TakesNone, Finishes as IsFinished}
 use Rattle.apron_base.specs.declared.listener.Finished.{Finished}
 use Rattle.desk_turns.specs.Work.{Connection, EndStates}
-use Rattle.desk_turns.specs.declared.worker.WorkEnd.{WorkEnd}
 use Rattle.desk_turns.specs.declared.worker.WorkEnd.TheVariants.{Done, ListenerFault}
 use Rattle.desk_turns.proofs.Working.{failed_finishing, finishes_more, none_finished, one_finished}
 use Rattle.screen_feed.specs.Screens.{ScreenState}

@@ -1,5 +1,5 @@
 -- What the workers of new screens do.
-use Rattle.std.specs.Prelude.{ℕ, List}
+use Rattle.std.specs.Prelude.{List}
 use Rattle.apron_base.specs.Histories.{Every}
 use Rattle.apron_base.specs.Listener.{ListenerState}
 use Rattle.apron_rules.specs.declared.parts.AirportParts.{AirportParts}

@@ -1,4 +1,7 @@
-use Rattle.std.proofs.Common.{◌∙◌, ℕ, List, ap, map, subst, sym}
+use denote.Param.Send.{param_send}
+use Rattle.std.proofs.Common.{◌∙◌, ◌<◌, ℕ, List, ap, map, subst, sym}
+use Rattle.std.proofs.lemmas.List.{length-map}
+use Rattle.std.proofs.lemmas.Result.{IfOk-weaker}
 use Rattle.history_core.specs.AtRisk.{entry_at_risk}
 use Rattle.journal_disk.specs.Disk.{Stays}
 use Rattle.apron_run.specs.Journal.{KeepsHistory, journal_tells}
@@ -11,7 +14,9 @@ use Rattle.apron_serve.proofs.board.serve_desks.Goals as goal
 use Rattle.desk_turns.specs.Watched.{feed_texts}
 
 pub serve_watched-served-requires-send-K : goal.serve_watched-served-requires-send-K
-serve_watched-served-requires-send-K g c κs within = files_send _ _ g.N.OfFiles g.D.Disk c.type_bounds.send-N c.type_bounds.send-D
+serve_watched-served-requires-send-K g c κs within =
+    let sent = files_send _ _ g.N.OfFiles g.D.Disk c.type_bounds.send-N c.type_bounds.send-D in
+    record { owned = sent.owned; leaving = (param_send 1 _ sent).leaving }
 
 pub serve_watched-served-requires-clause-at_risk : goal.serve_watched-served-requires-clause-at_risk
 serve_watched-served-requires-clause-at_risk g c κs within = opened_safe (journal_tells g.D.Disk.state) c.args.files.now (seen_of (g.D.Disk.state c.args.disk)) c.in-Ok.board c.in-Ok.ensures.opened
@@ -23,7 +28,10 @@ returns-in-Ok-served-clause-crash g c =
           (record { listeners = map g.L.Workplace.state c.args.listeners.now; screens = map g.L.Workplace.state c.args.screens.now; disk = seen_of (g.D.Disk.state c.args.disk) })
           (record { listeners = map g.L.Workplace.state c.serve_watched-served.new.listeners; screens = map g.L.Workplace.state c.serve_watched-served.new.walls; disk = seen_of (g.D.Disk.state c.close_board-disk.result) })
           c.in-Ok.board c.serve_watched-served.result.1 c.serve_watched-served.result.0 c.in-Ok-served.ends c.served_end.result c.in-Ok.ensures.opened c.in-Ok-served.is
-          c.serve_watched-served.ensures.serves c.serve_watched-served.ensures.shows c.serve_watched-served.ensures.missed c.served_end.ensures.is
+          c.serve_watched-served.ensures.serves c.serve_watched-served.ensures.shows
+          (IfOk-weaker c.serve_watched-served.result.0 _ _ (λ ended missed is.
+          subst (λ (n : ℕ). 0 < n) (sym (length-map c.args.screens.now g.L.Workplace.state)) (missed is)) c.serve_watched-served.ensures.missed)
+          c.served_end.ensures.is
           (ap (λ d. (seen_of (g.D.Disk.state d)).faults) c.close_board-disk.ensures.disk)
           (subst (λ (digests : List ℕ). KeepsHistory (record { airport = left.airport; digests = digests }) left.history
           (entry_at_risk left.airport (journal_tells g.D.Disk.state left.keeper)) (seen_of (g.D.Disk.state c.close_board-disk.result)))

@@ -1,5 +1,4 @@
-use Rattle.std.proofs.Common.{◌≡◌, ◌⊎◌, ◌∙◌, ◌<◌, ℕ, List, [], ◌++◌, None, Some, length, map, refl, sym, true, arith, ⊎_elim}
-use Rattle.std.specs.Prelude.{not}
+use Rattle.std.proofs.Common.{◌≡◌, ◌⊎◌, ◌∙◌, ◌<◌, List, [], ◌++◌, None, Some, length, map, refl, sym, true, arith, ⊎_elim}
 use Rattle.std.proofs.lemmas.List.{length-map}
 use Rattle.desk_turns.specs.Watched.{feed_texts}
 use Rattle.apron_run.specs.Run.{KeptUnless}
@@ -28,7 +27,7 @@ returns g c =
     let code = c.serve_all.result.0 in
     let disk : DiskStates = record { before = g.D.Disk.state c.args.disk; after = g.D.Disk.state c.serve_all.result.1 } in
     let ensures = c.serve_all.ensures in
-    let none : length front ≡ 0 = c.split_at_mut-none.ensures.len in
+    let none : length front ≡ 0 = c.split_at_mut-none.ensures.front_len in
     let many : length (map state left) ≡ length (map state front) = as_many service _ _ _ _ ensures.headline in
     let empty : length left ≡ 0 = sym (length-map left state) ∙ (many ∙ (length-map front state ∙ none)) in
     let all : (P : List L → List L → List L → List L → Type 0) → P desks front served left → P c.args.listeners.now [] (left ++ served) [] =

@@ -1,8 +1,7 @@
-use Rattle.std.proofs.Common.{◌≡◌, ◌∙◌, List, map, ap, subst, sym}
+use Rattle.std.proofs.Common.{◌∙◌, List, map, ap, subst, sym}
 use Rattle.std.proofs.lemmas.Result.{IfErr-weaker, IfOk-weaker}
 use Rattle.apron_base.specs.Histories.{Every}
 use Rattle.desk_words.specs.declared.asks.Entry.{Entry}
-use Rattle.screen_feed.specs.Screens.{ScreenState}
 use Rattle.screen_looks.specs.Looks.{IsNewScreen}
 use Rattle.screen_looks.proofs.Boards.{board_served}
 use Rattle.screen_looks.proofs.shown.serve_watched.Goals as goal

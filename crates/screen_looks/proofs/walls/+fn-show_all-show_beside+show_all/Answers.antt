@@ -1,4 +1,4 @@
-use Rattle.std.proofs.Common.{rules, length, map}
+use Rattle.std.proofs.Common.{rules, map}
 use Rattle.screen_looks.specs.Walls.{ShowsAll, ShowsEach}
 use Rattle.screen_looks.proofs.Together.{of_first}
 use Rattle.screen_looks.proofs.walls.+fn-show_all-show_beside+show_all.Goals as goal
