@@ -32,7 +32,7 @@ use Rattle.desk_turns.specs.Watched.{FeedTexts, feed_texts, watch_text}
 use Rattle.history_core.specs.declared.opening.OpenFault.TheVariants as entries
 use Rattle.desk_http.proofs.OneDesk.{length-numbers_from}
 use Rattle.history_core.proofs.Keepers.{spells_with}
-use Rattle.journal_disk.specs.Disk.{DiskState, Stays, Told}
+use Rattle.journal_disk.specs.Disk.{DiskState, Told}
 use Rattle.journal_disk.specs.Extent.{Extent, IsCrashSafe, StandsFor, entries_within, entry_at_risk, keeper_of}
 use Rattle.journal_disk.specs.Faults.{OpenFails}
 use Rattle.journal_disk.specs.Header.{digests_in, opening_of}
@@ -41,7 +41,7 @@ use Rattle.journal_disk.specs.declared.fault.JournalFault.TheVariants as journal
 use Rattle.apron_check.specs.declared.files.AirportFiles.{AirportFiles}
 use Rattle.apron_run.specs.Desk.{DeskAnswers, ServedCounts, ServesDesk, begun, moment}
 use Rattle.apron_run.specs.Headline.{Sends}
-use Rattle.apron_run.specs.Journal.{FailsToOpen, Holds, IsOf, IsOpened, KeepsHistory, NotOpened, WhyUnusable}
+use Rattle.apron_run.specs.Journal.{FailsToOpen, Holds, IsOf, IsOpened, KeepsHistory, WhyUnusable}
 use Rattle.apron_run.specs.World.{DiskSeen, Ends, seen_of}
 use Rattle.apron_run.specs.Statuses.{may_serve, status_of_outcome}
 use Rattle.apron_run.specs.Unusable.{status_of_unusable}

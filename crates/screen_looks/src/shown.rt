@@ -26,7 +26,7 @@ use screen_hall::Hall;
 use std::alloc::Global;
 use std::sync::Wait;
 use std::thread::Threads;
-use watch_list::{NoteTest, Stated, WatchBoard, Watches};
+use watch_list::{NoteTest, Stated, WatchBoard};
 
 /// How many connections each listener takes, and the day that the screens show, counted from 1.
 #[derive(Clone, Copy)]
@@ -43,8 +43,8 @@ pub struct ShownEnd {
     pub missed: bool,
 }
 
-/// Serves the connections of desks at a board with these watches, and beside them those of screens, which show a day of its
-/// plan; each listener by a worker in a thread of its own. At `Err` there is no memory, and no listener was called.
+/// Serves the connections of desks at a board with watches that was just opened, and beside them those of screens, which show
+/// a day of its plan; each listener by a worker in a thread of its own. At `Err` there is no memory, and no listener was called.
 pub fn serve_watched<
     'a,
     Rt: Threads + Wait + Sync,
@@ -56,28 +56,24 @@ pub fn serve_watched<
     rt: &'a Rt,
     alloc: Global,
     airport: &'a Airport,
-    board: Board<'a, K>,
-    watches: &'a Watches<R, T>,
+    board: WatchBoard<'a, 'a, K, R, T>,
     listeners: &mut [W],
     walls: &mut [W],
     task: Task,
 ) -> (Result<ShownEnd, Memory>, Board<'a, K>)
-    requires airport { airport.now ≡ board.airport }
-    requires at_risk { (machine_state K.state board).at_risk ≡ None }
+    requires airport { airport.now ≡ board.board.airport }
+    requires next { board.next ≡ board.board.next }
+    requires at_risk { (machine_state K.state board.board).at_risk ≡ None }
     requires few { length listeners.old < all_shares }
     requires day { 0 < length walls.old → (1 ≤ task.day) × (task.day ≤ airport.now.days) }
-    ensures serves { IfOk result.0 (λ ends. ServesBoard W.states (fed_sessions (feed_texts R.tells watches.now)) task.connections
-        (record { listeners = map W.state listeners.old; board = machine_state K.state board.entry })
+    ensures serves { IfOk result.0 (λ ends. ServesBoard W.states (fed_sessions (feed_texts R.tells board.entry.watches)) task.connections
+        (record { listeners = map W.state listeners.old; board = machine_state K.state board.entry.board })
         (record { listeners = map W.state listeners.new; board = machine_state K.state result.1 }) ends.desks) }
-    ensures shows { IfOk result.0 (λ ends. ShowsFrom W.states (record { airport = airport.now; history = board.entry.history })
+    ensures shows { IfOk result.0 (λ ends. ShowsFrom W.states (record { airport = airport.now; history = board.entry.board.history })
         task (map W.state walls.old) (map W.state walls.new) ends.screens) }
     ensures missed { IfOk result.0 (λ ends. ends.missed ≡ true → 0 < length walls.old) }
-    ensures refused { IfErr result.0 (λ _. (listeners.new ≡ listeners.old) × (walls.new ≡ walls.old) × (result.1 ≡ board.entry)) }
+    ensures refused { IfErr result.0 (λ _. (listeners.new ≡ listeners.old) × (walls.new ≡ walls.old) × (result.1 ≡ board.entry.board)) }
 {
-    let board = match WatchBoard::new(alloc, airport, board, watches) {
-        Ok(board) => board,
-        Err(board) => return (Err(Memory), board),
-    };
     let mut screens = Vec::new(alloc);
     let writers = writers_of(
         rt,

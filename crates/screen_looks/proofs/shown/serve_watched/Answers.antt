@@ -1,25 +1,28 @@
-use Rattle.std.proofs.Common.{◌∙◌, List, map, ap, subst, sym}
+use Rattle.std.proofs.Common.{◌∙◌, map, ap, subst, sym}
 use Rattle.std.proofs.lemmas.Result.{IfErr-weaker, IfOk-weaker}
 use Rattle.apron_base.specs.Histories.{Every}
-use Rattle.desk_words.specs.declared.asks.Entry.{Entry}
 use Rattle.screen_looks.specs.Looks.{IsNewScreen}
 use Rattle.screen_looks.proofs.Boards.{board_served}
 use Rattle.screen_looks.proofs.shown.serve_watched.Goals as goal
 
 pub returns-clause-serves : goal.returns-clause-serves
 returns-clause-serves g c =
-    board_served g.W.Workplace.states c.args.task.connections g.K.Keeper.state g.R.Stated.tells c.args.board c.into_board-2.result c.args.watches.now
+    let opened = c.args.board.board in
+    let watches = c.args.board.watches in
+    board_served g.W.Workplace.states c.args.task.connections g.K.Keeper.state g.R.Stated.tells opened c.into_board-2.result watches
     c.new-hall.result.board c.serve_hall-ended.result.1.board
     (map g.W.Workplace.state c.args.listeners.now) (map g.W.Workplace.state c.serve_hall-ended.new.listeners) c.serve_hall-ended.result.0
-    (c.new-hall.ensures.board ∙ c.in-Ok.ensures.made) (c.into_board-2.ensures.value ∙ ap (λ w. w.board) c.into_board.ensures.board) c.serve_hall-ended.ensures.serves
+    (c.new-hall.ensures.board ∙ ap (λ next. record { board = opened; watches = watches; next = next }) c.requires.next)
+    (c.into_board-2.ensures.value ∙ ap (λ w. w.board) c.into_board.ensures.board) c.serve_hall-ended.ensures.serves
 
 pub returns-clause-shows : goal.returns-clause-shows
 returns-clause-shows g c =
-    let new : Every (IsNewScreen c.args.airport.now c.args.board.history c.args.task.day) c.as_mut_slice.result.now =
-    subst (Every (IsNewScreen c.args.airport.now c.args.board.history c.args.task.day)) (sym c.as_mut_slice.ensures.value)
-    (subst (λ (history : List Entry). Every (IsNewScreen c.args.airport.now history c.args.task.day) c.writers_of-writers.new.screens.items)
-    (ap (λ held. held.board.history) c.in-Ok.ensures.made) c.writers_of-writers.ensures.screens) in
-    IfOk-weaker c.serve_hall-ended.result.0 _ _ (λ ends shows. record { screens = c.as_mut_slice.result.now; new = new; shows = shows }) c.serve_hall-ended.ensures.shows
+    IfOk-weaker c.serve_hall-ended.result.0 _ _ (λ ends shows. record {
+      screens = c.as_mut_slice.result.now;
+      new = subst (Every (IsNewScreen c.args.airport.now c.args.board.board.history c.args.task.day)) (sym c.as_mut_slice.ensures.value)
+          c.writers_of-writers.ensures.screens;
+      shows = shows;
+    }) c.serve_hall-ended.ensures.shows
 
 pub returns-clause-missed : goal.returns-clause-missed
 returns-clause-missed g c = c.serve_hall-ended.ensures.missed
@@ -30,5 +33,5 @@ returns-clause-refused g c =
       same.0,
       same.1,
       (c.into_board-2.ensures.value ∙ ap (λ w. w.board) c.into_board.ensures.board)
-          ∙ (ap (λ h. h.board.board) same.2 ∙ ap (λ w. w.board) (c.new-hall.ensures.board ∙ c.in-Ok.ensures.made)),
+          ∙ (ap (λ h. h.board.board) same.2 ∙ ap (λ w. w.board) c.new-hall.ensures.board),
     )) c.serve_hall-ended.ensures.refused
