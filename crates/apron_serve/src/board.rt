@@ -11,7 +11,7 @@ ghost use Rattle.apron_serve.specs.World.{ends_at};
 
 use apron_base::Memory;
 use apron_check::AirportFiles;
-use apron_run::{OfFiles, Unusable, close_board, open_board};
+use apron_run::{OfFiles, Unusable, close_board, open_watched};
 use desk_turns::{WorkEnd, first_end};
 use history_core::OpenFault;
 use journal_disk::Disk;
@@ -68,7 +68,7 @@ pub(crate) fn serve_desks<
     ensures unserved { OnErr result.0 (listeners.new ≡ listeners.old) }
     ensures unshown { OnErr result.0 (screens.new ≡ screens.old) }
 {
-    let board = match open_board::<N, D>(alloc, files, disk) {
+    let board = match open_watched::<N, D, R, T>(alloc, files, watches, disk) {
         Ok(board) => board,
         Err((why, disk)) => return (Err(why), disk),
     };
@@ -77,7 +77,6 @@ pub(crate) fn serve_desks<
         alloc,
         &files.airport,
         board,
-        watches,
         listeners,
         screens,
         task,
