@@ -118,7 +118,7 @@ fn order_in(words: &[Word]) -> Option<Order<'_>> {
 fn order_after<'a>(words: &'a [Word], rest: &'a [Word]) -> Option<Order<'a>> {
     match rest {
         [address, workers, journal] => Some(Order {
-            words: &words[..4],
+            words: words.get(..4)?,
             desks: desks_at(address, workers, journal)?,
             screens: None,
             journal: journal.text(),
@@ -133,7 +133,7 @@ fn order_after<'a>(words: &'a [Word], rest: &'a [Word]) -> Option<Order<'a>> {
             journal,
         ] if screen.text() == "screen" => {
             Some(Order {
-                words: &words[..6],
+                words: words.get(..6)?,
                 desks: desks_at(address, workers, journal)?,
                 screens: Some(screens_at(screen_address, screens, day)?),
                 journal: journal.text(),
@@ -251,7 +251,7 @@ fn tell_listening<R: Eprint>(rt: &R, place: Place<'_>, first: &TcpDesks) {
 }
 
 // Says whom the place serves, at the address as it is bound.
-fn tell_served<R: Eprint, A: fmt::Display>(rt: &R, place: Place<'_>, bound: A) {
+fn tell_served<R: Eprint, A: fmt::Display + Drop>(rt: &R, place: Place<'_>, bound: A) {
     let listeners = place.listeners;
     // If standard error fails too, all are served all the same.
     let _ = match place.served {

@@ -31,23 +31,22 @@ fn main(rt: HostRuntime) -> ExitCode {
             return ExitCode::from(Status::WriteFault.code());
         }
     };
-    let status = match words(&rt) {
-        Ok(words) => do_words(&rt, words.as_slice()),
+    let status = match words_and_watches(&rt) {
+        Ok((words, watches)) if desks::are_asked(words.as_slice()) => {
+            let output = ToldStream::new(&rt, OUTPUT, rt.stdout());
+            desks::serve_words(&rt, words.as_slice(), &watches, &mut Writing::new(output))
+        }
+        Ok((words, watches)) => run_words(&rt, words.as_slice(), &watches),
         Err(Memory) => Status::Memory.code(),
     };
     ExitCode::from(status)
 }
 
-// Does what the words ask for, with the watches that desks can follow.
-fn do_words(rt: &HostRuntime, words: &[Word]) -> u8 {
-    match all_and_high(rt.alloc()) {
-        Ok(watches) if desks::are_asked(words) => {
-            let output = ToldStream::new(rt, OUTPUT, rt.stdout());
-            desks::serve_words(rt, words, &watches, &mut Writing::new(output))
-        }
-        Ok(watches) => run_words(rt, words, &watches),
-        Err(Memory) => Status::Memory.code(),
-    }
+// The words after the program's name, and the watches that desks can follow.
+fn words_and_watches(
+    rt: &(impl Env + AllocGlobal),
+) -> Result<(Vec<Word>, Watches<Shown, Shown>), Memory> {
+    Ok((words(rt)?, all_and_high(rt.alloc())?))
 }
 
 const NULL_DEVICE: &str = "/dev/null";

@@ -3,4 +3,4 @@ use Rattle.apron.proofs.desks.all_beside.Given as goal
 
 -- this many were pushed
 abbrev pub invariant-loop-made : goal.invariant-loop-made
-invariant-loop-made g l = length l.desks.items ≡ l.made
+invariant-loop-made g l = length l.listeners.items ≡ l.made
