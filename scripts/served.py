@@ -74,7 +74,7 @@ def listens_at(port):
 
 
 class Server:
-    """The program as a server in a folder of its own, with so many screens that show a day."""
+    """The program as a server in a folder of its own, perhaps with screens that show a day."""
 
     def __init__(self, program, room, workers, connections=MOST_CONNECTIONS, example="demo", host="127.0.0.1", screens=0, day=1):
         self.program, self.room, self.files = program, room, files_of(example)

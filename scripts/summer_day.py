@@ -11,7 +11,7 @@ DAY, MOST_PROPOSALS = 2, 20
 
 
 def started(program, room, workers, screens=0):
-    """A server of the day, with so many screens that show it. Its visits are put where `apron propose` proposes."""
+    """A server of the day, perhaps with screens that show it. Its visits are put where `apron propose` proposes."""
     server = served.Server(program, room, workers, example="large", screens=screens, day=DAY)
     server.make_journal()
     server.run("import", *server.files, SEASON, server.journal)
