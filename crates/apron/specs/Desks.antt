@@ -1,9 +1,9 @@
--- How many workers serve the desks that come over TCP, and how many connections each of them takes.
+-- How many workers serve the desks that come over TCP, how many screens there are, and how many connections each of them takes.
 use Rattle.std.specs.Prelude.{ℕ, nat_le, Option, Some, None, List, if◌then◌else◌}
 use Rattle.apron_base.specs.Digits.{number_of}
 use Rattle.apron_base.specs.declared.digits.TheConstants.{MAX_DIGITS}
 use Rattle.apron_run.specs.Words.{is_plain_number}
-use Rattle.apron_serve.specs.Orders.{most_connections, most_listeners}
+use Rattle.apron_serve.specs.Orders.{most_connections, most_listeners, most_screens}
 
 -- this number, if it is at most the limit; otherwise 0
 abbrev pub at_most : ℕ → Option ℕ → ℕ
@@ -21,3 +21,7 @@ connections_named text = named_up_to most_connections text
 -- how many workers a word names, 1 to 16; 0 if it names no such number
 abbrev pub workers_named : List ℕ → ℕ
 workers_named text = named_up_to most_listeners text
+
+-- how many screens a word names, 1 to 8; 0 if it names no such number
+abbrev pub screens_named : List ℕ → ℕ
+screens_named text = named_up_to most_screens text

@@ -1,34 +1,31 @@
-// The words `serve A T N ADDRESS WORKERS JOURNAL`: many desks at once over TCP.
+// The words `serve A T N ADDRESS WORKERS JOURNAL`, many desks at once over TCP, and
+// `serve A T N screen DAY ADDRESS WORKERS SCREENADDRESS SCREENS JOURNAL`, screens beside them.
 ghost use Rattle.std.specs.Prelude.{◌≡◌, IfOk, length};
-ghost use Rattle.apron.specs.Desks.{connections_named, named_up_to, workers_named};
+ghost use Rattle.apron.specs.Desks.{connections_named, named_up_to, screens_named, workers_named};
 
 use crate::told_desks::ToldDesks;
 use apron_base::{MAX_DIGITS, Memory, Sink, Word, number_of};
 use apron_run::{Status, is_plain_number};
-use apron_serve::{MAX_CONNECTIONS, MAX_LISTENERS, serve};
+use apron_serve::{MAX_CONNECTIONS, MAX_LISTENERS, MAX_SCREENS, serve_all};
 use host_files::{FileDisk, FileShelf, tell};
 use std::alloc::Global;
+use std::fmt;
 use std::fs::File;
 use std::net::{Net, TcpListener, TcpStream};
 use std::rt::Files;
 use std::sync::Wait;
 use std::thread::Threads;
 use tcp_desks::TcpDesks;
+use watch_list::{Shown, Watches};
 
-/// The first word is `serve`, and six words come after it; two of them are numbers in their ranges.
+/// The words ask for desks to be served, and perhaps for screens beside them.
 pub(crate) fn are_asked(words: &[Word]) -> bool {
-    match words {
-        [word, _, _, connections, _, workers, _] => {
-            word.text() == "serve"
-                && connections_of(connections.text()) > 0
-                && workers_of(workers.text()) > 0
-        }
-        _ => false,
-    }
+    order_in(words).is_some()
 }
 
-/// Serves the desks that come to the address, with this many workers, on the journal of this path.
-/// A line about a fault goes to the sink. Standard error says where it listens, and how it ended.
+/// Serves the desks that come to an address on the journal of a path, and shows the wall chart of a
+/// day on screens at another address if the words ask for it. A line about a fault goes to the
+/// sink. Standard error says where it listens, and how it ended.
 pub(crate) fn serve_words<
     R: Wait
         + Threads
@@ -38,28 +35,24 @@ pub(crate) fn serve_words<
         + Files<File = File>
         + Net<Listener = TcpListener, Stream = TcpStream>,
     W: Sink,
->(rt: &R, words: &[Word], sink: &mut W) -> u8 {
-    let [_, _, _, _, address, workers, path] = words else {
+>(rt: &R, words: &[Word], watches: &Watches<Shown, Shown>, sink: &mut W) -> u8 {
+    let Some(order) = order_in(words) else {
         return Status::Usage.code();
     };
     let alloc: Global = rt.alloc();
-    let disk = FileDisk::open(rt, path.text());
-    let place = Place {
-        address: address.text(),
-        workers: workers_of(workers.text()),
-        journal: path.text(),
-    };
-    let Ok(desks) = desks_at(rt, alloc, place) else {
+    let disk = FileDisk::open(rt, order.journal);
+    let Ok((mut desks, mut screens)) = listeners_of(rt, alloc, order) else {
         return Status::Memory.code();
     };
-    let mut desks = desks;
     let mut shelf = FileShelf::new(rt);
-    let (status, _disk) = serve(
+    let (status, _disk) = serve_all(
         rt,
         alloc,
-        &words[..4],
+        order.words,
+        watches,
         &mut shelf,
         desks.as_mut_slice(),
+        screens.as_mut_slice(),
         sink,
         disk,
     );
@@ -83,6 +76,102 @@ fn why_ended(status: u8) -> &'static str {
     }
 }
 
+// The words of `serve` and after it, without places and journal; where desks are served, and where
+// screens are shown if the words ask for any; and the journal's path.
+#[derive(Clone, Copy)]
+struct Order<'a> {
+    words: &'a [Word],
+    desks: Place<'a>,
+    screens: Option<Place<'a>>,
+    journal: &'a str,
+}
+
+// An address, how many listeners there are at it, each of one worker, and whom they serve.
+#[derive(Clone, Copy)]
+struct Place<'a> {
+    address: &'a str,
+    listeners: u64,
+    served: Served<'a>,
+}
+
+// Whom a place serves.
+#[derive(Clone, Copy)]
+enum Served<'a> {
+    // the desks at the journal of this path
+    Desks(&'a str),
+    // the screens of this day
+    Screens(&'a str),
+}
+
+// What the words order, if they ask for desks.
+fn order_in(words: &[Word]) -> Option<Order<'_>> {
+    match words {
+        [word, _, _, connections, rest @ ..]
+            if word.text() == "serve" && connections_of(connections.text()) > 0 => {
+            order_after(words, rest)
+        }
+        _ => None,
+    }
+}
+
+// What the words order, by those after the number of connections.
+fn order_after<'a>(words: &'a [Word], rest: &'a [Word]) -> Option<Order<'a>> {
+    match rest {
+        [address, workers, journal] => Some(Order {
+            words: &words[..4],
+            desks: desks_at(address, workers, journal)?,
+            screens: None,
+            journal: journal.text(),
+        }),
+        [
+            screen,
+            day,
+            address,
+            workers,
+            screen_address,
+            screens,
+            journal,
+        ] if screen.text() == "screen" => {
+            Some(Order {
+                words: &words[..6],
+                desks: desks_at(address, workers, journal)?,
+                screens: Some(screens_at(screen_address, screens, day)?),
+                journal: journal.text(),
+            })
+        }
+        _ => None,
+    }
+}
+
+// The place of desks, if the word names a number of workers.
+fn desks_at<'a>(address: &'a Word, workers: &Word, journal: &'a Word) -> Option<Place<'a>> {
+    match workers_of(workers.text()) {
+        0 => None,
+        listeners => Some(Place {
+            address: address.text(),
+            listeners,
+            served: Served::Desks(journal.text()),
+        }),
+    }
+}
+
+// The place of screens, if the words name a number of screens and a day.
+fn screens_at<'a>(address: &'a Word, screens: &Word, day: &'a Word) -> Option<Place<'a>> {
+    match screens_of(screens.text()) {
+        listeners if listeners > 0 && is_day(day.text()) => Some(Place {
+            address: address.text(),
+            listeners,
+            served: Served::Screens(day.text()),
+        }),
+        _ => None,
+    }
+}
+
+/// Whether the word can name a day of a plan: digits, of which the first is no zero.
+pub(crate) fn is_day(text: &str) -> bool {
+    is_plain_number(text.as_bytes()) && text != "0"
+}
+
 /// How many connections the word names, 1 to 1,000,000; 0 if it names no such number.
 pub(crate) fn connections_of(text: &str) -> u64
     ensures named { result ≡ connections_named text.now }
@@ -97,6 +186,13 @@ fn workers_of(text: &str) -> u64
     number_up_to(text, MAX_LISTENERS as u64)
 }
 
+/// How many screens the word names, 1 to 8; 0 if it names no such number.
+pub(crate) fn screens_of(text: &str) -> u64
+    ensures named { result ≡ screens_named text.now }
+{
+    number_up_to(text, MAX_SCREENS as u64)
+}
+
 // The number that the word is, if it is at most `most`; otherwise 0.
 fn number_up_to(text: &str, most: u64) -> u64
     ensures named { result ≡ named_up_to most text.now }
@@ -108,22 +204,30 @@ fn number_up_to(text: &str, most: u64) -> u64
     }
 }
 
-// Where desks are served, by how many workers, and on the journal of which path.
-#[derive(Clone, Copy)]
-struct Place<'a> {
-    address: &'a str,
-    workers: u64,
-    journal: &'a str,
+// A listener for each worker of desks, and one for each screen.
+type Listeners<'a, R> = (Vec<ToldDesks<'a, R>>, Vec<ToldDesks<'a, R>>);
+
+fn listeners_of<'a, R: Eprint + Net<Listener = TcpListener, Stream = TcpStream>>(
+    rt: &'a R,
+    alloc: Global,
+    order: Order<'a>,
+) -> Result<Listeners<'a, R>, Memory> {
+    let desks = listeners_at(rt, alloc, order.desks)?;
+    let screens = match order.screens {
+        Some(place) => listeners_at(rt, alloc, place)?,
+        None => Vec::new(alloc),
+    };
+    Ok((desks, screens))
 }
 
-// This many listeners at the address. If it can't be bound, standard error says why, and then each
-// accept fails.
-fn desks_at<'a, R: Eprint + Net<Listener = TcpListener, Stream = TcpStream>>(
+// As many listeners as the place has. If its address can't be bound, standard error says why, and
+// then each accept fails.
+fn listeners_at<'a, R: Eprint + Net<Listener = TcpListener, Stream = TcpStream>>(
     rt: &'a R,
     alloc: Global,
     place: Place<'a>,
 ) -> Result<Vec<ToldDesks<'a, R>>, Memory>
-    ensures as_many { IfOk result (λ desks. length desks.items ≡ place.entry.workers) }
+    ensures as_many { IfOk result (λ listeners. length listeners.items ≡ place.entry.listeners) }
 {
     let first = match TcpDesks::bind(rt, place.address) {
         Ok(first) => {
@@ -139,36 +243,44 @@ fn desks_at<'a, R: Eprint + Net<Listener = TcpListener, Stream = TcpStream>>(
 }
 
 // Says where it listens, with the port that the system chose if none was asked for.
-fn tell_listening<R: Eprint>(rt: &R, place: Place<'_>, desks: &TcpDesks) {
-    let Place {
-        address,
-        workers,
-        journal,
-    } = place;
-    // If standard error fails too, desks are served all the same.
-    let _ = match desks.address() {
-        Some(bound) => {
-            eprintln!(rt; "apron: listening at {bound}, workers: {workers}, journal: {journal}")
+fn tell_listening<R: Eprint>(rt: &R, place: Place<'_>, first: &TcpDesks) {
+    match first.address() {
+        Some(bound) => tell_served(rt, place, bound),
+        None => tell_served(rt, place, place.address),
+    }
+}
+
+// Says whom the place serves, at the address as it is bound.
+fn tell_served<R: Eprint, A: fmt::Display>(rt: &R, place: Place<'_>, bound: A) {
+    let listeners = place.listeners;
+    // If standard error fails too, all are served all the same.
+    let _ = match place.served {
+        Served::Desks(journal) => {
+            eprintln!(rt; "apron: listening at {bound}, workers: {listeners}, journal: {journal}")
         }
-        None => {
-            eprintln!(rt; "apron: listening at {address}, workers: {workers}, journal: {journal}")
+        Served::Screens(day) => {
+            eprintln!(rt; "apron: screens at {bound}, screens: {listeners}, day: {day}")
         }
     };
 }
 
-// This many more listeners at the same address. The first of them says that the journal is open.
+// As many listeners beside this one as the place has. The first listener of desks says that the
+// journal is open.
 fn all_beside<'a, R: Eprint>(
     rt: &'a R,
     alloc: Global,
     place: Place<'a>,
     first: &TcpDesks,
 ) -> Result<Vec<ToldDesks<'a, R>>, Memory>
-    ensures as_many { IfOk result (λ desks. length desks.items ≡ place.entry.workers) }
+    ensures as_many { IfOk result (λ listeners. length listeners.items ≡ place.entry.listeners) }
 {
-    let mut desks = Vec::new(alloc);
-    for made in 0..place.workers {
-        let journal = if made == 0 { Some(place.journal) } else { None };
-        desks.push(ToldDesks::new(rt, place.address, journal, first.beside()))?;
+    let mut listeners = Vec::new(alloc);
+    for made in 0..place.listeners {
+        let journal = match place.served {
+            Served::Desks(journal) if made == 0 => Some(journal),
+            _ => None,
+        };
+        listeners.push(ToldDesks::new(rt, place.address, journal, first.beside()))?;
     }
-    Ok(desks)
+    Ok(listeners)
 }

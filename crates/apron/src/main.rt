@@ -3,11 +3,14 @@
 #![tactic(auto)]
 
 mod desks;
+mod forms;
 mod told_desks;
 mod unclear;
+mod watches;
 
 use apron_base::{Memory, Reading, Word, Writing};
-use apron_run::{Status, run};
+use apron_run::{Status, run_with};
+use forms::{JournalUse, journal_use};
 use host_files::{FileDisk, FileShelf, ToldStream, tell};
 use journal_disk::{Disk, MemoryDisk, Room};
 use std::alloc::Global;
@@ -15,6 +18,8 @@ use std::fs::File;
 use std::process::ExitCode;
 use std::rt::{Env, Files};
 use std::{env, io};
+use watch_list::{Shown, Watches};
+use watches::all_and_high;
 
 fn main(rt: HostRuntime) -> ExitCode {
     // Kept to the end, so that no file or connection gets the number of a standard stream that was
@@ -27,14 +32,22 @@ fn main(rt: HostRuntime) -> ExitCode {
         }
     };
     let status = match words(&rt) {
-        Ok(words) if desks::are_asked(words.as_slice()) => {
-            let output = ToldStream::new(&rt, OUTPUT, rt.stdout());
-            desks::serve_words(&rt, words.as_slice(), &mut Writing::new(output))
-        }
-        Ok(words) => run_words(&rt, words.as_slice()),
+        Ok(words) => do_words(&rt, words.as_slice()),
         Err(Memory) => Status::Memory.code(),
     };
     ExitCode::from(status)
+}
+
+// Does what the words ask for, with the watches that desks can follow.
+fn do_words(rt: &HostRuntime, words: &[Word]) -> u8 {
+    match all_and_high(rt.alloc()) {
+        Ok(watches) if desks::are_asked(words) => {
+            let output = ToldStream::new(rt, OUTPUT, rt.stdout());
+            desks::serve_words(rt, words, &watches, &mut Writing::new(output))
+        }
+        Ok(watches) => run_words(rt, words, &watches),
+        Err(Memory) => Status::Memory.code(),
+    }
 }
 
 const NULL_DEVICE: &str = "/dev/null";
@@ -53,79 +66,33 @@ fn null_devices<R: Files<File = File>>(rt: &R) -> io::Result<(File, File, File)>
 
 // Does what the words ask for. If they ask for nothing, standard error says what was not
 // understood.
-fn run_words(rt: &HostRuntime, words: &[Word]) -> u8 {
-    let status = run_with_journal(rt, words);
+fn run_words(rt: &HostRuntime, words: &[Word], watches: &Watches<Shown, Shown>) -> u8 {
+    let status = run_with_journal(rt, words, watches);
     if status == Status::Usage.code() {
         unclear::tell_unclear(rt, words);
     }
     status
 }
 
-// Words that need a journal have its path last. Other words get an empty disk in memory.
-fn run_with_journal(rt: &HostRuntime, words: &[Word]) -> u8 {
-    match words.split_last() {
-        Some((path, asked)) if asks_for(asked, "init") => {
-            run_on(rt, asked, FileDisk::make(rt, path.text()))
+// Words that have a journal have its path last. Others get an empty disk in memory, and so do no
+// words, which is what words come to that are too few or too many.
+fn run_with_journal(rt: &HostRuntime, words: &[Word], watches: &Watches<Shown, Shown>) -> u8 {
+    match (journal_use(words), words.split_last()) {
+        (Some(JournalUse::None), _) => run_on_nothing(rt, words, watches),
+        (Some(JournalUse::Made), Some((path, asked))) => {
+            run_on(rt, asked, watches, FileDisk::make(rt, path.text()))
         }
-        Some((path, asked)) if writes_on_journal(asked) => {
-            run_on(rt, asked, FileDisk::open(rt, path.text()))
+        (Some(JournalUse::Read), Some((path, asked))) => {
+            run_on(rt, asked, watches, FileDisk::open_to_read(rt, path.text()))
         }
-        Some((path, asked)) if asks_for(asked, "export") || asks_for_more(asked, "chart") => {
-            run_on(rt, asked, FileDisk::open_to_read(rt, path.text()))
+        (Some(JournalUse::Written), Some((path, asked))) => {
+            run_on(rt, asked, watches, FileDisk::open(rt, path.text()))
         }
-        Some((path, asked)) if asks_for_draft(asked, "propose") => {
-            run_on(rt, asked, FileDisk::open_to_read(rt, path.text()))
-        }
-        Some((_, asked)) if takes_journal(words) => run_on_nothing(rt, asked),
-        _ => run_on_nothing(rt, words),
+        _ => run_on_nothing(rt, &[], watches),
     }
 }
 
-// The words go on with a journal.
-fn writes_on_journal(words: &[Word]) -> bool {
-    asks_for(words, "desk") || asks_for(words, "upgrade") || asks_for_more(words, "import")
-}
-
-// The words are this one and the names of two files.
-fn asks_for(words: &[Word], text: &str) -> bool {
-    match words {
-        [word, _, _] => word.text() == text,
-        _ => false,
-    }
-}
-
-// The words are this one, the names of two files, and a day or the name of a season file.
-fn asks_for_more(words: &[Word], text: &str) -> bool {
-    match words {
-        [word, _, _, _] => word.text() == text,
-        _ => false,
-    }
-}
-
-// The words are this one, the names of two files, a desk's name and the number of a draft.
-fn asks_for_draft(words: &[Word], text: &str) -> bool {
-    match words {
-        [word, _, _, _, _] => word.text() == text,
-        _ => false,
-    }
-}
-
-// The first word is one that has a journal.
-fn takes_journal(words: &[Word]) -> bool {
-    match words {
-        [word, ..] => has_journal(word.text()),
-        [] => false,
-    }
-}
-
-fn has_journal(word: &str) -> bool {
-    matches!(
-        word,
-        "init" | "desk" | "chart" | "import" | "export" | "propose" | "upgrade"
-    )
-}
-
-fn run_on_nothing(rt: &HostRuntime, words: &[Word]) -> u8 {
+fn run_on_nothing(rt: &HostRuntime, words: &[Word], watches: &Watches<Shown, Shown>) -> u8 {
     let alloc: Global = rt.alloc();
     let room = Room {
         bytes: 0,
@@ -133,19 +100,25 @@ fn run_on_nothing(rt: &HostRuntime, words: &[Word]) -> u8 {
         calls: 0,
     };
     match MemoryDisk::new(alloc, Vec::new(alloc), room, Vec::new(alloc)) {
-        Ok(disk) => run_on(rt, words, disk),
+        Ok(disk) => run_on(rt, words, watches, disk),
         Err(Memory) => Status::Memory.code(),
     }
 }
 
-fn run_on<D: Disk + Drop>(rt: &HostRuntime, words: &[Word], disk: D) -> u8 {
+fn run_on<D: Disk + Drop>(
+    rt: &HostRuntime,
+    words: &[Word],
+    watches: &Watches<Shown, Shown>,
+    disk: D,
+) -> u8 {
     let mut disk = disk;
     let mut shelf = FileShelf::new(rt);
     let mut source = Reading::new(ToldStream::new(rt, INPUT, rt.stdin()));
     let mut sink = Writing::new(ToldStream::new(rt, OUTPUT, rt.stdout()));
-    run(
+    run_with(
         rt.alloc(),
         words,
+        watches,
         &mut shelf,
         &mut source,
         &mut sink,

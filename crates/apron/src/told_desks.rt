@@ -3,19 +3,44 @@ ghost use Rattle.std.specs.Prelude.{◌≡◌};
 
 use apron_base::{Failed, Listener, Outcome, Reading, Writing};
 use host_files::tell;
+use std::io;
 use std::marker::Model;
 use std::net::TcpStream;
 use std::sync::Wait;
-use tcp_desks::TcpDesks;
+use tcp_desks::{TcpDesks, Told};
 
-/// Desks over TCP. Standard error says why an accept failed. Before the first accept of those that
-/// have the journal's name, it says that the journal is open. Contracts see the desks.
+/// Desks over TCP. Standard error says why an accept failed, and while none can succeed, that it is
+/// tried again. Before the first accept of those that have the journal's name, it says that the
+/// journal is open. Contracts see the desks.
 #[derive(Drop)]
 pub(crate) struct ToldDesks<'a, R> {
-    rt: &'a R,
-    address: &'a str,
+    notices: Notices<'a, R>,
     journal: Option<&'a str>,
     desks: TcpDesks,
+}
+
+// What standard error says of accepts at an address.
+#[derive(Drop)]
+struct Notices<'a, R> {
+    rt: &'a R,
+    address: &'a str,
+}
+
+// If standard error fails too, there is no other place to say it.
+impl<'a, R: Eprint> Told for Notices<'a, R> {
+    ghost use Rattle.std.specs.Prelude.{None};
+
+    ghost told = { λ _. None };
+
+    fn waiting(&mut self, cause: &io::Error) {
+        let address = self.address;
+        let _ = eprintln!(self.rt; "apron: {address}: {cause}; accepting is tried again");
+    }
+
+    fn taken_again(&mut self) {
+        let address = self.address;
+        let _ = eprintln!(self.rt; "apron: {address}: connections are accepted again");
+    }
 }
 
 impl<'a, R> Model for ToldDesks<'a, R> {
@@ -36,8 +61,7 @@ impl<'a, R: Eprint> ToldDesks<'a, R> {
         desks: TcpDesks,
     ) -> Self {
         ToldDesks {
-            rt,
-            address,
+            notices: Notices { rt, address },
             journal,
             desks,
         }
@@ -48,14 +72,14 @@ impl<'a, R: Eprint> ToldDesks<'a, R> {
     {
         if let Some(journal) = self.journal {
             // If standard error fails too, desks are served all the same.
-            let _ = eprintln!(self.rt; "apron: {journal} is open, and desks are served");
+            let _ = eprintln!(self.notices.rt; "apron: {journal} is open, and desks are served");
             self.journal = None;
         }
     }
 
     fn tell_cause(&self) {
         if let Some(cause) = self.desks.cause() {
-            tell(self.rt, self.address, &cause);
+            tell(self.notices.rt, self.notices.address, &cause);
         }
     }
 }
@@ -71,7 +95,7 @@ impl<'a, R: Eprint> Listener for ToldDesks<'a, R> {
 
     fn accept<W: Wait>(&mut self, rt: &W) -> Result<(Self::In, Self::Out), Failed> {
         self.tell_open();
-        let accepted = self.desks.accept(rt);
+        let accepted = self.desks.accept_told(rt, &mut self.notices);
         if accepted.is_err() {
             self.tell_cause();
         }

@@ -1,5 +1,6 @@
 // What was not understood of words that ask for nothing, as standard error says it.
-use crate::desks::connections_of;
+use crate::desks::{connections_of, is_day, screens_of};
+use crate::forms::{Form, form_of};
 use apron_base::{Name, Word};
 use std::fmt;
 
@@ -16,8 +17,8 @@ enum Unclear<'w> {
     // there is no word, or one of them is not text
     NoWord,
     Unknown(&'w str),
-    // the first word, and what has to come after it
-    Others(&'w str, &'static str),
+    // what comes after the first word
+    Others(Form),
     // the name of a desk, which is not a name
     Desk(&'w str),
     Number(Number<'w>),
@@ -36,7 +37,7 @@ impl fmt::Display for Unclear<'_> {
         match self {
             Unclear::NoWord => f.write_str("no word is given, or one is no text"),
             Unclear::Unknown(word) => write!(f, "no word '{word}'"),
-            Unclear::Others(word, wanted) => write!(f, "{word} takes {wanted}"),
+            Unclear::Others(Form { first, wanted, .. }) => write!(f, "{first} takes {wanted}"),
             Unclear::Desk(desk) => write!(
                 f,
                 "DESK is '{desk}', and has to be 1 to 12 capitals, digits or dashes"
@@ -52,34 +53,19 @@ impl fmt::Display for Unclear<'_> {
 fn unclear_of(words: &[Word]) -> Unclear<'_> {
     match words {
         [] => Unclear::NoWord,
-        [word, rest @ ..] => match wanted_after(word.text()) {
-            Some((wanted, count)) if rest.len() != count => Unclear::Others(word.text(), wanted),
-            Some(_) => unclear_word(word.text(), rest),
+        [word, rest @ ..] => match form_of(word) {
+            Some(form) if form.takes(rest) => unclear_word(form, rest),
+            Some(form) => Unclear::Others(form),
             None => Unclear::Unknown(word.text()),
         },
     }
 }
 
-// What has to come after a word, and how many words that is.
-fn wanted_after(word: &str) -> Option<(&'static str, usize)> {
-    match word {
-        "init" | "desk" | "export" | "upgrade" => Some(("AIRPORT TYPES JOURNAL", 3)),
-        "serve" => Some(("AIRPORT TYPES CONNECTIONS ADDRESS WORKERS JOURNAL", 6)),
-        "chart" => Some(("AIRPORT TYPES DAY JOURNAL", 4)),
-        "propose" => Some(("AIRPORT TYPES DESK DRAFT JOURNAL", 5)),
-        "import" => Some(("AIRPORT TYPES SEASON JOURNAL", 4)),
-        "check" => Some(("AIRPORT TYPES", 2)),
-        "make" => Some(("VISITS", 1)),
-        "--help" | "--version" => Some(("no other words", 0)),
-        _ => None,
-    }
-}
-
 // The number or the name that was not understood, if there are as many words as there have to be.
-fn unclear_word<'w>(word: &'w str, rest: &'w [Word]) -> Unclear<'w> {
+fn unclear_word(form: Form, rest: &[Word]) -> Unclear<'_> {
     match rest {
         [visits] => wrong_number("VISITS", visits, "1 to 5,000"),
-        [_, _, day, _] => wrong_number("DAY", day, "a day of the plan, from 1 on"),
+        [_, _, day, _] => wrong_number("DAY", day, DAYS),
         [_, _, desk, draft, _] => {
             if Name::new(desk.text().as_bytes()).is_none() {
                 Unclear::Desk(desk.text())
@@ -87,14 +73,31 @@ fn unclear_word<'w>(word: &'w str, rest: &'w [Word]) -> Unclear<'w> {
                 wrong_number("DRAFT", draft, "0 to 4,294,967,295")
             }
         }
-        [_, _, connections, _, workers, _] => {
-            if connections_of(connections.text()) == 0 {
-                wrong_number("CONNECTIONS", connections, "1 to 1,000,000")
+        [_, _, connections, _, workers, _] => wrong_desks(connections, workers),
+        [_, _, connections, screen, day, _, workers, _, screens, _] => {
+            if screen.text() != "screen" {
+                Unclear::Others(form)
+            } else if !is_day(day.text()) {
+                wrong_number("DAY", day, DAYS)
+            } else if screens_of(screens.text()) == 0 {
+                wrong_number("SCREENS", screens, "1 to 8")
             } else {
-                wrong_number("WORKERS", workers, "1 to 16")
+                wrong_desks(connections, workers)
             }
         }
-        _ => Unclear::Unknown(word),
+        _ => Unclear::Others(form),
+    }
+}
+
+// The range of a day, as it is told.
+const DAYS: &str = "a day of the plan, from 1 on";
+
+// The number of connections, or else that of workers, that was not understood.
+fn wrong_desks<'w>(connections: &'w Word, workers: &'w Word) -> Unclear<'w> {
+    if connections_of(connections.text()) == 0 {
+        wrong_number("CONNECTIONS", connections, "1 to 1,000,000")
+    } else {
+        wrong_number("WORKERS", workers, "1 to 16")
     }
 }
 

@@ -3,6 +3,7 @@ use Rattle.std.proofs.Common.{◌≡◌, ◌∙◌, ◌<◌, ◌≤◌, ◌+◌,
 use Rattle.apron_base.proofs.Rising.{rises_more, rises_push}
 use Rattle.apron_base.specs.Histories.{Rises}
 use Rattle.apron_base.specs.Keeper.{AddsEntry, FailsToAdd, KeeperState}
+use Rattle.apron_base.specs.declared.numbers.PartId.{PartId}
 use Rattle.apron_rules.specs.declared.parts.AirportParts.{AirportParts}
 use Rattle.visit_book.specs.Numbers.{IsNumbered}
 use Rattle.plan_core.specs.PlanState.{PlanState, empty_plan}
@@ -10,6 +11,7 @@ use Rattle.desk_words.specs.Commands.{IsCommandOf}
 use Rattle.desk_words.specs.declared.asks.Entry.{Entry}
 use Rattle.entry_bytes.specs.Entries.{decoded, entry_text}
 use Rattle.history_core.specs.Board.{BoardHeld, IsBoard}
+use Rattle.history_core.specs.Bumped.{last_bumped}
 use Rattle.history_core.specs.History.{IsLegal, call_limit, call_of, replay}
 use Rattle.history_core.specs.Steps.{Steps, accepted, after_command}
 use Rattle.history_core.proofs.Keepers.{kept_added, kept_failed, kept_ready}
@@ -41,11 +43,12 @@ legal_pushed airport history next entry legal numbers valid steps up last = reco
 }
 
 -- the next call may have a later number
-pub board_called : {K : Type 0} (plan : PlanState) (keeper : KeeperState) (board : BoardHeld K) (later : ℕ) → IsBoard plan keeper board → board.next ≤ later
-    → later ≤ call_limit → IsBoard plan keeper (record board { next = later })
-board_called plan keeper board later h up few = record {
+pub board_called : {K : Type 0} (plan : PlanState) (bumped : List PartId) (keeper : KeeperState) (board : BoardHeld K) (later : ℕ) → IsBoard plan bumped keeper board → board.next ≤ later
+    → later ≤ call_limit → IsBoard plan bumped keeper (record board { next = later })
+board_called plan bumped keeper board later h up few = record {
   legal = h.legal;
   plan_is = h.plan_is;
+  bumped_is = h.bumped_is;
   numbers = rises_more call_of 1 board.next later board.history h.numbers up;
   calls = few;
   kept = h.kept;
@@ -59,31 +62,37 @@ pub record IsNext {K : Type 0} (board : BoardHeld K) (entry : Entry) : Type 0 wh
   pub last : entry.call < call_limit
 
 -- a board after one more entry, by this call, which its keeper has
-pub board_pushed : {K : Type 0} (plan new : PlanState) (first before after : KeeperState) (board : BoardHeld K) (keeper : K) (history : List Entry) (entry : Entry)
-    → IsBoard plan first board → IsNext board entry → decoded board.airport (entry_text entry) ≡ Ok entry → before ≡ record first { room = before.room }
+pub board_pushed : {K : Type 0} (plan new : PlanState) (bumped lost : List PartId) (first before after : KeeperState) (board : BoardHeld K) (keeper : K)
+    (history : List Entry) (entry : Entry)
+    → IsBoard plan bumped first board → IsNext board entry → decoded board.airport (entry_text entry) ≡ Ok entry → before ≡ record first { room = before.room }
     → AddsEntry before after (entry_text entry)
     → history ≡ board.history ++ entry ∷ [] → new ≡ after_command (replay board.airport board.history) entry.command
-    → IsBoard new after (record { keeper = keeper; airport = board.airport; history = history; next = entry.call + 1 })
-board_pushed plan new first before after board keeper history entry h next read ready adds history_is is =
+    → lost ≡ last_bumped new
+    → IsBoard new lost after (record { keeper = keeper; airport = board.airport; history = history; next = entry.call + 1 })
+board_pushed plan new bumped lost first before after board keeper history entry h next read ready adds history_is is lost_is =
     let last : entry.call < call_limit = next.last in
-    subst (λ (es : List Entry). IsBoard new after (record { keeper = keeper; airport = board.airport; history = es; next = entry.call + 1 })) (sym history_is)
+    subst (λ (es : List Entry). IsBoard new lost after (record { keeper = keeper; airport = board.airport; history = es; next = entry.call + 1 })) (sym history_is)
     (record {
       legal = legal_pushed board.airport board.history board.next entry h.legal h.numbers next.valid next.steps next.up next.last;
       plan_is = is ∙ sym (after-push (empty_plan board.airport) board.history entry);
+      bumped_is = lost_is;
       numbers = rises_push call_of 1 board.next (entry.call + 1) board.history entry h.numbers next.up (omega arith);
       calls = omega arith;
       kept = kept_added board.airport board.history before after entry (kept_ready board.airport board.history first before h.kept ready) read adds;
     })
 
 -- a board after an ask whose append failed
-pub board_failed : {K : Type 0} (plan same : PlanState) (first before after : KeeperState) (board : BoardHeld K) (keeper : K) (history : List Entry) (entry : Entry)
-    → IsBoard plan first board → IsNext board entry → decoded board.airport (entry_text entry) ≡ Ok entry → before ≡ record first { room = before.room }
-    → FailsToAdd before after (entry_text entry) → history ≡ board.history → same ≡ plan → IsBoard same after (record { keeper = keeper; airport = board.airport; history = history; next = board.next })
-board_failed plan same first before after board keeper history entry h next read ready fails history_is plan_is =
-    subst (λ (es : List Entry). IsBoard same after (record { keeper = keeper; airport = board.airport; history = es; next = board.next })) (sym history_is)
+pub board_failed : {K : Type 0} (plan same : PlanState) (bumped : List PartId) (first before after : KeeperState) (board : BoardHeld K) (keeper : K)
+    (history : List Entry) (entry : Entry)
+    → IsBoard plan bumped first board → IsNext board entry → decoded board.airport (entry_text entry) ≡ Ok entry → before ≡ record first { room = before.room }
+    → FailsToAdd before after (entry_text entry) → history ≡ board.history → same ≡ plan
+    → IsBoard same bumped after (record { keeper = keeper; airport = board.airport; history = history; next = board.next })
+board_failed plan same bumped first before after board keeper history entry h next read ready fails history_is plan_is =
+    subst (λ (es : List Entry). IsBoard same bumped after (record { keeper = keeper; airport = board.airport; history = es; next = board.next })) (sym history_is)
     (record {
       legal = h.legal;
       plan_is = plan_is ∙ h.plan_is;
+      bumped_is = h.bumped_is ∙ ap last_bumped (sym plan_is);
       numbers = h.numbers;
       calls = h.calls;
       kept = kept_failed board.airport board.history before after entry (kept_ready board.airport board.history first before h.kept ready) read

@@ -1,13 +1,15 @@
 -- Which entries took stands from the parts of a plan.
-use Rattle.std.proofs.Common.{◌≡◌, ◌∙◌, ◌≤◌, ◌<◌, ◌+◌, ◌∷◌, [], ℕ, suc, Bool, true, false, if◌then◌else◌, List, length, map, Option, None, Some, Result, Ok, Err, refl, sym, ap, subst, arith}
+use Rattle.std.proofs.Common.{◌≡◌, ◌∙◌, ◌≤◌, ◌+◌, ◌∷◌, [], ℕ, suc, Bool, true, false, if◌then◌else◌, List, map, Option, None, Some, Result, Ok, Err, refl, sym, ap, subst, arith}
 use Rattle.std.specs.Prelude.{Contains}
 use Rattle.std.specs.Result.{result_ok}
 use Rattle.std.specs.List.{AllByRecursion}
+use Rattle.std.proofs.lemmas.Bool.Decides.{nat_tests}
 use Rattle.std.proofs.lemmas.List.Elements.{All-from_recursion}
 use Rattle.apron_base.specs.Histories.{Every}
 use Rattle.apron_base.specs.declared.numbers.StandNo.{StandNo}
 use Rattle.apron_rules.specs.declared.parts.AirportParts.{AirportParts}
 use Rattle.visit_book.specs.declared.visits.Bump.{Bump}
+use Rattle.visit_book.specs.declared.visits.NewVisit.{NewVisit}
 use Rattle.visit_book.specs.declared.visits.Part.{Part}
 use Rattle.visit_book.specs.declared.visits.Place.{Place}
 use Rattle.visit_book.specs.declared.visits.Place.TheVariants.{Unplaced, Planned, Actual}
@@ -16,12 +18,13 @@ use Rattle.visit_book.specs.Numbers.{IsNumbered, has_number, visit_at}
 use Rattle.visit_book.specs.declared.edits.Edit.{Edit}
 use Rattle.plan_core.specs.Adding.{next_visit}
 use Rattle.plan_core.specs.Edits.{edit_visit, is_edited}
-use Rattle.plan_core.specs.Moving.{IsCancellable, cancelled, lifted}
+use Rattle.plan_core.specs.Moving.{cancelled, lifted}
 use Rattle.plan_core.specs.PlanState.{HasBump, PlanState, empty_plan}
-use Rattle.plan_core.specs.Rebase.{edited_last, stamp, stamped}
+use Rattle.plan_core.specs.Rebase.{edited_last, stamped}
 use Rattle.plan_core.proofs.EditKept.{visit_bumps}
+use Rattle.bump_core.specs.Bumped.{bumped_by, bumped_from, is_bumped_by}
 use Rattle.bump_core.specs.Ranks.{all_parts_on, kept_of}
-use Rattle.bump_core.specs.Settle.{blockings, best, place_after, settled_parts, settled_place, settled_visit}
+use Rattle.bump_core.specs.Settle.{place_after, settled_parts, settled_place, settled_visit}
 use Rattle.bump_core.specs.Settled.{with_changed, with_settled}
 use Rattle.bump_core.specs.declared.ranks.Blocking.{Blocking}
 use Rattle.bump_core.specs.declared.ranks.Ranked.{Ranked}
@@ -30,7 +33,8 @@ use Rattle.desk_words.specs.declared.asks.Command.TheVariants.{AddVisit, Commit,
 use Rattle.desk_words.specs.declared.asks.Entry.{Entry}
 use Rattle.desk_words.specs.declared.replies.Denial.{Denial}
 use Rattle.history_core.specs.History.{AreTakenFrom, IsLegal, after_entries, replay}
-use Rattle.history_core.specs.Steps.{IsTaken, after_command, cancellable, cancelled_if, changed_by, reported}
+use Rattle.history_core.specs.Bumped.{bumped_in, last_bumped}
+use Rattle.history_core.specs.Steps.{IsTaken, after_command, cancellable, cancelled_if, changed_by, made_told, reported}
 use Rattle.history_core.proofs.Happenings.{MayChange, message_changes, report_changes}
 use Rattle.history_core.proofs.Kept.{all_last, edits_keep, found_has, put_one_has, with_has}
 use Rattle.history_core.proofs.Replay.{command_numbered, command_version, commits}
@@ -162,24 +166,35 @@ happened_of plan changed may all =
     let visits = with_changed plan.visits changed in
     settled_of plan.airport plan.version (kept_of plan.airport (all_parts_on plan.airport visits)) visits (changed_of plan.version plan.visits changed may all)
 
-cancelled_of : (plan : PlanState) (found : Result Visit Denial) → Every (VisitIsOf (plan.version + 1)) plan.visits
-    → Every (VisitIsOf (plan.version + 1)) (cancelled_if plan found).visits
-cancelled_of plan (Ok visit) all = put_one_has (VisitIsOf (plan.version + 1)) plan.visits (cancelled visit) (lifted_of (plan.version + 1) visit.parts) all
-cancelled_of plan (Err why) all = all
+-- commands that take no stand: the records after them are those before
+quiet_visit : (plan : PlanState) (new : NewVisit) → Every (VisitIsOf plan.version) plan.visits
+    → Every (VisitIsOf plan.version) (after_command plan (AddVisit new)).visits
+quiet_visit plan new all =
+    all_last (VisitIsOf plan.version) plan.visits (next_visit plan new) all (unplaced_of plan.version new.on new.off)
+
+quiet_commit : (plan : PlanState) (desk : List ℕ) (draft base : ℕ) (edits : List Edit) → IsTaken plan (Commit desk draft base edits)
+    → Every (VisitIsOf plan.version) plan.visits → Every (VisitIsOf plan.version) (after_command plan (Commit desk draft base edits)).visits
+quiet_commit plan desk draft base edits taken all =
+    let made = commits plan desk draft base edits taken in
+    let kept = edits_keep (VisitIsOf plan.version) (edit_of plan.version) plan.airport base 1 edits plan.visits made.new made.apply all in
+    subst (λ (p : PlanState). Every (VisitIsOf plan.version) p.visits) (sym made.makes)
+    (stamped_of plan.version (plan.version + 1) edits made.new kept)
+
+quiet_cancel : (plan : PlanState) (found : Result Visit Denial) → Every (VisitIsOf plan.version) plan.visits
+    → Every (VisitIsOf plan.version) (cancelled_if plan found).visits
+quiet_cancel plan (Ok visit) all = put_one_has (VisitIsOf plan.version) plan.visits (cancelled visit) (lifted_of plan.version visit.parts) all
+quiet_cancel plan (Err why) all = all
 
 -- the records after a command that is taken
 command_of : (plan : PlanState) (command : Command) → IsTaken plan command → IsNumbered plan.visits → Every (VisitIsOf plan.version) plan.visits
     → Every (VisitIsOf (plan.version + 1)) (after_command plan command).visits
-command_of plan (AddVisit new) taken numbered all =
-    all_last (VisitIsOf (plan.version + 1)) plan.visits (next_visit plan new) (all_later plan.version plan.visits all) (unplaced_of (plan.version + 1) new.on new.off)
+command_of plan (AddVisit new) taken numbered all = all_later plan.version (after_command plan (AddVisit new)).visits (quiet_visit plan new all)
 command_of plan (Commit desk draft base edits) taken numbered all =
-    let made = commits plan desk draft base edits taken in
-    let kept = edits_keep (VisitIsOf plan.version) (edit_of plan.version) plan.airport base 1 edits plan.visits made.new made.apply all in
-    subst (λ (p : PlanState). Every (VisitIsOf (plan.version + 1)) p.visits) (sym made.makes)
-    (stamped_of (plan.version + 1) (plan.version + 1) edits made.new (all_later plan.version made.new kept))
+    all_later plan.version (after_command plan (Commit desk draft base edits)).visits (quiet_commit plan desk draft base edits taken all)
 command_of plan (Message desk message) taken numbered all = happened_of plan (changed_by plan message) (message_changes plan message numbered) all
 command_of plan (Report desk number event) taken numbered all = happened_of plan (result_ok (reported plan number event)) (report_changes plan number event) all
-command_of plan (Cancel number) taken numbered all = cancelled_of plan (cancellable plan number) (all_later plan.version plan.visits all)
+command_of plan (Cancel number) taken numbered all =
+    all_later plan.version (after_command plan (Cancel number)).visits (quiet_cancel plan (cancellable plan number) all)
 
 all_of : (plan : PlanState) (count : ℕ) (history : List Entry) → AreTakenFrom plan count history → IsNumbered plan.visits
     → Every (VisitIsOf plan.version) plan.visits → Every (VisitIsOf (after_entries plan history).version) (after_entries plan history).visits
@@ -197,3 +212,43 @@ pub bumps_of_entries : (airport : AirportParts) (history : List Entry) (visit : 
 bumps_of_entries airport history visit bump legal found =
     let plan = replay airport history in
     found_has (VisitIsOf plan.version) (has_number visit.number) plan.visits visit (all_of (empty_plan airport) 0 history legal.taken tt tt) found bump
+
+-- records of earlier entries are no record of the next one
+none_at : (version : ℕ) (place : Place) → PlaceIsOf version place → is_bumped_by (version + 1) place ≡ false
+none_at version (Unplaced None) of = refl
+none_at version (Unplaced (Some bump)) of = let old : bump.entry ≤ version = of.1 in grind (arith, nat_tests)
+none_at version (Planned stand) of = refl
+none_at version (Actual stand) of = refl
+
+none_from : (version : ℕ) (visit : Visit) (number : ℕ) (parts : List Part) → AllByRecursion (PartIsOf version) parts
+    → bumped_from (version + 1) visit number parts ≡ []
+none_from version visit number [] all = refl
+none_from version visit number (part ∷ parts) all =
+    rw (none_at version part.place all.0, none_from version visit (number + 1) parts all.1) refl
+
+none_bumped : (version : ℕ) (visits : List Visit) → Every (VisitIsOf version) visits → bumped_by (version + 1) visits ≡ []
+none_bumped version [] all = refl
+none_bumped version (visit ∷ visits) all =
+    rw (none_from version visit 1 visit.parts (of_each version visit.parts all.0)) (none_bumped version visits all.1)
+
+-- so none lost its stand by a command that takes none
+quiet_bumped : (plan after : PlanState) → after.version ≡ plan.version + 1 → Every (VisitIsOf plan.version) after.visits → last_bumped after ≡ []
+quiet_bumped plan after next all = ap (λ (n : ℕ). bumped_by n after.visits) next ∙ none_bumped plan.version after.visits all
+
+made_bumped : (plan : PlanState) (command : Command) → IsTaken plan command → Every (VisitIsOf plan.version) plan.visits
+    → bumped_in (made_told plan (plan.version + 1) command) ≡ last_bumped (after_command plan command)
+made_bumped plan (AddVisit new) taken all = sym (quiet_bumped plan (after_command plan (AddVisit new)) refl (quiet_visit plan new all))
+made_bumped plan (Commit desk draft base edits) taken all =
+    sym (quiet_bumped plan (after_command plan (Commit desk draft base edits)) (command_version plan (Commit desk draft base edits) taken)
+    (quiet_commit plan desk draft base edits taken all))
+made_bumped plan (Message desk message) taken all = refl
+made_bumped plan (Report desk number event) taken all = refl
+made_bumped plan (Cancel number) taken all =
+    sym (quiet_bumped plan (after_command plan (Cancel number)) (command_version plan (Cancel number) taken)
+    (quiet_cancel plan (cancellable plan number) all))
+
+-- the reply to an accepted command says exactly which parts lost their stands by its entry
+pub told_bumped : (airport : AirportParts) (history : List Entry) (command : Command) → IsLegal airport history → IsTaken (replay airport history) command
+    → bumped_in (made_told (replay airport history) ((replay airport history).version + 1) command) ≡ last_bumped (after_command (replay airport history) command)
+told_bumped airport history command legal taken =
+    made_bumped (replay airport history) command taken (all_of (empty_plan airport) 0 history legal.taken tt tt)

@@ -1,6 +1,6 @@
 -- What a keeper keeps of a history over its calls.
-use Rattle.std.proofs.Common.{◌≡◌, ◌∙◌, ◌+◌, ◌⊎◌, ◌∷◌, ◌++◌, [], ℕ, List, Result, Option, None, Some, Ok, IfSome, map, true, length, refl, ap, sym, subst, ⊎_elim, arith, length-append}
-use Rattle.std.proofs.lemmas.List.{map-append}
+use Rattle.std.proofs.Common.{◌≡◌, ◌∙◌, ◌+◌, ◌∷◌, ◌++◌, [], ℕ, List, Result, Option, None, Some, Ok, IfSome, map, true, length, refl, ap, sym, subst, ⊎_elim, arith, length-append}
+use Rattle.std.proofs.lemmas.List.{length-map, map-append}
 use Rattle.std.specs.Option.{option_map}
 use Rattle.apron_base.specs.Counts.{Counts}
 use Rattle.apron_base.specs.Keeper.{AddsEntry, FailsToAdd, IsRiskOf, KeeperState, with_last}
@@ -76,18 +76,12 @@ pub kept_ready : (airport : AirportParts) (history : List Entry) (before after :
 kept_ready airport history before after kept is = subst (IsKept airport history) (sym is) (record { entries = kept.entries; spells = kept.spells; number = kept.number; at_risk = kept.at_risk; safe = kept.safe })
 
 -- a keeper that has the texts of a history, and none at risk, keeps it
-opened_told : (texts : List (List ℕ)) (history : List Entry) (kept : Option (List (List ℕ))) → IfSome kept (λ es. es ≡ texts) → texts ≡ entry_texts history
-    → IfSome kept (λ es. es ≡ entry_texts history)
-opened_told texts history None same is = tt
-opened_told texts history (Some es) same is = same ∙ is
-
-pub kept_opened : (airport : AirportParts) (texts : List (List ℕ)) (history : List Entry) (keeper : KeeperState) → IfSome keeper.entries (λ es. es ≡ texts)
-    → keeper.number ≡ length texts → keeper.at_risk ≡ None → texts ≡ entry_texts history → length texts ≡ length history → Spells airport texts history
-    → IsKept airport history keeper
-kept_opened airport texts history keeper entries number none is counted spells = record {
-  entries = opened_told texts history keeper.entries entries is;
-  spells = subst (λ (ts : List (List ℕ)). Spells airport ts history) is spells;
-  number = number ∙ counted;
+pub kept_opened : (airport : AirportParts) (history : List Entry) (keeper : KeeperState) → IfSome keeper.entries (λ es. es ≡ entry_texts history)
+    → keeper.number ≡ length (entry_texts history) → keeper.at_risk ≡ None → Spells airport (entry_texts history) history → IsKept airport history keeper
+kept_opened airport history keeper entries number none spells = record {
+  entries = entries;
+  spells = spells;
+  number = number ∙ length-map history entry_text;
   at_risk = subst (λ o. IfSome o (IsNextText airport history)) (sym none) tt;
   safe = λ unfailed. none;
 }

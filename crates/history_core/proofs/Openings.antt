@@ -1,8 +1,9 @@
 -- Histories that are read entry for entry.
-use Rattle.std.proofs.Common.{◌≡◌, ◌≢◌, ◌∙◌, ◌<◌, ◌≤◌, ◌+◌, ◌∷◌, ◌++◌, [], ℕ, List, Result, Ok, Err, map, take, drop, drop-cons, get_or, suc, None, IfSome, length, refl, ap, sym, subst, arith}
-use Rattle.std.proofs.lemmas.List.{length-map, map-append, take-append-drop}
+use Rattle.std.proofs.Common.{◌≡◌, ◌≢◌, ◌∙◌, ◌<◌, ◌≤◌, ◌+◌, ◌∷◌, ◌++◌, [], ℕ, List, Result, Ok, Err, take, drop, drop-cons, get_or, suc, None, IfSome, length, refl, ap, sym, subst, arith}
+use Rattle.std.proofs.lemmas.List.{take-append-drop}
 use Rattle.apron_base.specs.Histories.{Rises}
 use Rattle.apron_base.specs.Keeper.{KeeperState, with_last}
+use Rattle.apron_base.specs.declared.numbers.PartId.{PartId}
 use Rattle.apron_rules.specs.declared.parts.AirportParts.{AirportParts}
 use Rattle.plan_core.specs.PlanState.{PlanState, empty_plan}
 use Rattle.desk_words.specs.Commands.{IsCommandOf}
@@ -14,12 +15,14 @@ use Rattle.history_core.specs.declared.opening.OpenFault.{OpenFault}
 use Rattle.history_core.specs.declared.opening.OpenFault.TheVariants.{BadEntry, WrongEntry, Memory}
 use Rattle.entry_bytes.specs.Entries.{decoded, entry_text}
 use Rattle.history_core.specs.Board.{BoardHeld, IsBoard, Spells, entry_texts}
+use Rattle.history_core.specs.Bumped.{bumped_in, last_bumped}
 use Rattle.history_core.specs.History.{AreTakenFrom, IsLegal, after_entries, call_limit, call_of, replay}
-use Rattle.history_core.specs.Opening.{CannotOpen, IsNotNext, IsPast, IsReadOn, next_from, not_read}
-use Rattle.history_core.specs.Steps.{Steps, accepted, after_command}
+use Rattle.history_core.specs.Opening.{CannotOpen, IsNotNext, IsOpening, IsPast, OpeningHeld, next_from, not_read}
+use Rattle.history_core.specs.Steps.{IsTaken, Steps, accepted, after_command, made_told}
 use Rattle.history_core.specs.Taking.{IsAnswered}
 use Rattle.history_core.proofs.Boards.{legal_pushed, plan_numbered, plan_version}
-use Rattle.history_core.proofs.Keepers.{kept_opened, spells_push, texts_push}
+use Rattle.history_core.proofs.Bumps.{told_bumped}
+use Rattle.history_core.proofs.Keepers.{kept_opened, spells_with}
 use Rattle.history_core.proofs.Replay.{after-push}
 use Rattle.history_core.proofs.Takings.{one_step}
 
@@ -80,21 +83,35 @@ past_pushed airport plan new history next entry past valid steps up last is = re
   next_is = sym (next_push 1 history entry);
 }
 
--- texts and readings of this many entries and one more
-pub texts_read_on : (airport : AirportParts) (front : List (List ℕ)) (before after : List Entry) (bytes : List ℕ) → front ≡ entry_texts before
-    → IsReadOn airport before after bytes → front ++ bytes ∷ [] ≡ entry_texts after
-texts_read_on airport front before after bytes is read =
-    ap (λ (ts : List (List ℕ)). ts ++ bytes ∷ []) is
-    ∙ (ap (λ (text : List ℕ). entry_texts before ++ text ∷ []) read.text ∙ (sym (texts_push before read.entry) ∙ ap entry_texts (sym read.last)))
-
-pub spells_read_on : (airport : AirportParts) (front : List (List ℕ)) (before after : List Entry) (bytes : List ℕ) → Spells airport front before
-    → IsReadOn airport before after bytes → Spells airport (front ++ bytes ∷ []) after
-spells_read_on airport front before after bytes spells read =
-    subst (Spells airport (front ++ bytes ∷ [])) (sym read.last) (spells_push airport front before bytes read.entry spells read.is)
-
 -- no entry was read yet
-pub past_begun : (airport : AirportParts) (plan : PlanState) → plan ≡ empty_plan airport → IsPast airport plan [] 1
-past_begun airport plan is = record { legal = record { taken = tt; numbers = omega arith }; plan_is = is; next_is = refl }
+pub opening_begun : (airport : AirportParts) (plan : PlanState) → plan ≡ empty_plan airport
+    → IsOpening plan [] 1 (record { airport = airport; history = [] })
+opening_begun airport plan is = record {
+  past = record { legal = record { taken = tt; numbers = omega arith }; plan_is = is; next_is = refl };
+  spells = refl;
+  bumped_is = sym (ap last_bumped is);
+}
+
+-- one more entry was read
+pub opening_pushed : (opening : OpeningHeld) (plan new : PlanState) (bumped lost : List PartId) (next : ℕ) (entry : Entry) (bytes : List ℕ) (history : List Entry)
+    → IsOpening plan bumped next opening → IsCommandOf opening.airport entry.command → Steps plan (length opening.history) entry.command accepted
+    → next ≤ entry.call → entry.call < call_limit → new ≡ after_command plan entry.command → history ≡ with_last entry opening.history
+    → decoded opening.airport bytes ≡ Ok entry → bytes ≡ entry_text entry
+    → lost ≡ bumped_in (made_told plan (plan.version + 1) entry.command)
+    → IsOpening new lost (entry.call + 1) (record { airport = opening.airport; history = history })
+opening_pushed opening plan new bumped lost next entry bytes history h valid steps up last is history_is read text lost_is =
+    let airport = opening.airport in
+    let before = opening.history in
+    let past : IsPast airport plan before next = h.past in
+    let made = told_bumped airport before entry.command past.legal
+    (subst (λ (p : PlanState). IsTaken p entry.command) past.plan_is steps.0) in
+    let at_plan : bumped_in (made_told plan (plan.version + 1) entry.command) ≡ last_bumped (after_command plan entry.command) =
+    subst (λ (p : PlanState). bumped_in (made_told p (p.version + 1) entry.command) ≡ last_bumped (after_command p entry.command)) (sym past.plan_is) made in
+    subst (λ (es : List Entry). IsOpening new lost (entry.call + 1) (record { airport = airport; history = es })) (sym history_is) (record {
+      past = past_pushed airport plan new before next entry past valid steps up last is;
+      spells = spells_with airport before entry h.spells (subst (λ (b : List ℕ). decoded airport b ≡ Ok entry) text read);
+      bumped_is = lost_is ∙ (at_plan ∙ ap last_bumped (sym is));
+    })
 
 -- the number that the next entry would have
 pub past_counted : (airport : AirportParts) (plan : PlanState) (history : List Entry) (next version : ℕ) → IsPast airport plan history next → version ≡ plan.version
@@ -122,6 +139,15 @@ stops_at airport entries front bytes back before (WrongEntry number) is spells l
     record { front = front; bytes = bytes; back = back; is = is; before = before; spells = spells; legal = legal; why = why }
 stops_at airport entries front bytes back before Memory is spells legal why = tt
 
+-- the same, after what was read so far
+pub stops_there : (opening : OpeningHeld) (plan : PlanState) (bumped : List PartId) (next : ℕ) (bytes : List ℕ) (fault : OpenFault)
+    → IsOpening plan bumped next opening → IsNotNext opening.airport opening.history bytes fault → (back : List (List ℕ))
+    → CannotOpen opening.airport (entry_texts opening.history ++ bytes ∷ back) fault
+stops_there opening plan bumped next bytes fault h why back =
+    let past : IsPast opening.airport plan opening.history next = h.past in
+    stops_at opening.airport (entry_texts opening.history ++ bytes ∷ back) (entry_texts opening.history) bytes back opening.history fault refl
+    h.spells past.legal why
+
 -- the bytes at a place, with those before and after them
 pub parted_at : (entries : List (List ℕ)) (place : ℕ) (bytes : List ℕ) → place < length entries → bytes ≡ get_or entries place bytes
     → entries ≡ take place entries ++ bytes ∷ drop (suc place) entries
@@ -129,18 +155,31 @@ parted_at entries place bytes within is =
     sym (take-append-drop place entries) ∙ ap (λ (rest : List (List ℕ)). take place entries ++ rest)
     (drop-cons entries place bytes within ∙ ap (λ (b : List ℕ). b ∷ drop (suc place) entries) (sym is))
 
+-- bytes of these entries that are not the next one, after all before them were read
+pub stops_among : (airport : AirportParts) (entries : List (List ℕ)) (opening : OpeningHeld) (place : ℕ) (bytes item : List ℕ) (fault : OpenFault)
+    → opening.airport ≡ airport → take place entries ≡ entry_texts opening.history → bytes ≡ item → place < length entries → item ≡ get_or entries place item
+    → ((back : List (List ℕ)) → CannotOpen opening.airport (entry_texts opening.history ++ bytes ∷ back) fault) → CannotOpen airport entries fault
+stops_among airport entries opening place bytes item fault airport_is front bytes_are within is stops =
+    let back = drop (suc place) entries in
+    let texts : entries ≡ entry_texts opening.history ++ bytes ∷ back = parted_at entries place item within is ∙ rw (front, bytes_are) refl in
+    subst (λ (a : AirportParts). CannotOpen a entries fault) airport_is
+    (subst (λ (es : List (List ℕ)). CannotOpen opening.airport es fault) (sym texts) (stops back))
+
 -- a board over a keeper that was just opened
-pub board_opened : {K : Type 0} (plan : PlanState) (keeper : KeeperState) (board : BoardHeld K) (texts : List (List ℕ))
-    → IsPast board.airport plan board.history board.next → IfSome keeper.entries (λ es. es ≡ texts) → keeper.number ≡ length texts → keeper.at_risk ≡ None
-    → texts ≡ entry_texts board.history → Spells board.airport texts board.history → IsBoard plan keeper board
-board_opened plan keeper board texts past entries number none is spells =
+pub board_opened : {K : Type 0} (plan : PlanState) (bumped : List PartId) (keeper : KeeperState) (board : BoardHeld K)
+    → IsOpening plan bumped board.next (record { airport = board.airport; history = board.history })
+    → IfSome keeper.entries (λ es. es ≡ entry_texts board.history) → keeper.number ≡ length (entry_texts board.history) → keeper.at_risk ≡ None
+    → IsBoard plan bumped keeper board
+board_opened plan bumped keeper board h entries number none =
+    let past : IsPast board.airport plan board.history board.next = h.past in
     let legal : IsLegal board.airport board.history = past.legal in
     let numbers = next_rises 1 call_limit board.history legal.numbers in
     let within = next_within 1 call_limit board.history legal.numbers in
     record {
       legal = legal;
       plan_is = past.plan_is;
+      bumped_is = h.bumped_is;
       numbers = subst (λ (n : ℕ). Rises call_of 1 n board.history) (sym past.next_is) numbers;
       calls = subst (λ (n : ℕ). n ≤ call_limit) (sym past.next_is) within;
-      kept = kept_opened board.airport texts board.history keeper entries number none is (ap length is ∙ length-map board.history entry_text) spells;
+      kept = kept_opened board.airport board.history keeper entries number none h.spells;
     }

@@ -2,12 +2,14 @@
 use Rattle.std.specs.Prelude.{◌≡◌, ◌≤◌, ℕ, List, map, length, IfSome, None, Ok}
 use Rattle.apron_base.specs.Histories.{Rises}
 use Rattle.apron_base.specs.Keeper.{KeeperState, with_last}
+use Rattle.apron_base.specs.declared.numbers.PartId.{PartId}
 use Rattle.apron_base.specs.Machine.{MachineState}
 use Rattle.apron_rules.specs.declared.parts.AirportParts.{AirportParts}
 use Rattle.plan_core.specs.PlanState.{PlanState}
 use Rattle.desk_words.specs.declared.asks.Entry.{Entry}
 use Rattle.entry_bytes.specs.Entries.{decoded, entry_text}
 use Rattle.history_core.specs.AtRisk.{entry_at_risk}
+use Rattle.history_core.specs.Bumped.{last_bumped}
 use Rattle.history_core.specs.History.{IsLegal, call_limit, call_of, replay}
 
 -- its keeper, its airport, its history, and the least number of its next call
@@ -42,12 +44,13 @@ pub record IsKept (airport : AirportParts) (history : List Entry) (keeper : Keep
   pub at_risk : IfSome keeper.at_risk (IsNextText airport history)
   pub safe : keeper.faults ≡ 0 → keeper.at_risk ≡ None
 
--- what holds of every board, with its plan and what its keeper exposes: its history is legal, the
--- plan is what the history makes, the entries are of calls before the next one, and the keeper
--- keeps them
-pub record IsBoard {K : Type 0} (plan : PlanState) (keeper : KeeperState) (board : BoardHeld K) : Type 0 where
+-- what holds of every board, with its plan, the parts that it keeps as bumped, and what its keeper
+-- exposes: its history is legal, the plan is what the history makes, the parts lost their stands by
+-- the last entry, the entries are of calls before the next one, and the keeper keeps them
+pub record IsBoard {K : Type 0} (plan : PlanState) (bumped : List PartId) (keeper : KeeperState) (board : BoardHeld K) : Type 0 where
   pub legal : IsLegal board.airport board.history
   pub plan_is : plan ≡ replay board.airport board.history
+  pub bumped_is : bumped ≡ last_bumped plan
   pub numbers : Rises call_of 1 board.next board.history
   pub calls : board.next ≤ call_limit
   pub kept : IsKept board.airport board.history keeper

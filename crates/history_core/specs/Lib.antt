@@ -2,6 +2,7 @@ pub mod Steps
 pub mod History
 pub mod Answer
 pub mod Taking
+pub mod Bumped
 pub mod AtRisk
 pub mod Board
 pub mod Opening

@@ -1,6 +1,7 @@
 -- What opening a board over kept entries gives.
-use Rattle.std.specs.Prelude.{◌≡◌, ◌+◌, ℕ, List, [], ◌∷◌, ◌++◌, map, length, Ok, Err}
+use Rattle.std.specs.Prelude.{◌≡◌, ◌+◌, ℕ, List, [], ◌∷◌, ◌++◌, length, Ok, Err}
 use Rattle.apron_base.specs.Keeper.{with_last}
+use Rattle.apron_base.specs.declared.numbers.PartId.{PartId}
 use Rattle.apron_rules.specs.declared.parts.AirportParts.{AirportParts}
 use Rattle.plan_core.specs.PlanState.{PlanState}
 use Rattle.desk_words.specs.declared.asks.Entry.{Entry}
@@ -10,6 +11,7 @@ use Rattle.entry_bytes.specs.Entries.{decoded, entry_text}
 use Rattle.history_core.specs.declared.opening.OpenFault.{OpenFault}
 use Rattle.history_core.specs.declared.opening.OpenFault.TheVariants.{BadEntry, WrongEntry, Memory}
 use Rattle.history_core.specs.Board.{BoardHeld, Spells, entry_texts}
+use Rattle.history_core.specs.Bumped.{last_bumped}
 use Rattle.history_core.specs.History.{IsLegal, replay}
 
 -- the least number of a call after these entries: one above the last one's, or this number if there
@@ -21,6 +23,12 @@ next_from next (entry ∷ entries) = next_from (entry.call + 1) entries
 -- the least number of a call after this history: 1 if it has no entry
 abbrev pub next_after : List Entry → ℕ
 next_after history = next_from 1 history
+
+-- a board that is being opened, as contracts see it: its airport, and the history of the entries
+-- that were read
+pub record OpeningHeld : Type 0 where
+  pub airport : AirportParts
+  pub history : List Entry
 
 -- a board was opened over the keeper of these bytes: the history is what they are read as, and is
 -- legal
@@ -76,3 +84,11 @@ pub record IsReadOn (airport : AirportParts) (before after : List Entry) (bytes 
   pub is : decoded airport bytes ≡ Ok entry
   pub text : bytes ≡ entry_text entry
   pub last : after ≡ with_last entry before
+
+-- what holds of every board that is being opened, with its plan, the parts that it keeps as bumped,
+-- and the least number of its next call: its history was read so far, its entries' bytes are read as
+-- it, and the parts lost their stands by the last entry
+pub record IsOpening (plan : PlanState) (bumped : List PartId) (next : ℕ) (opening : OpeningHeld) : Type 0 where
+  pub past : IsPast opening.airport plan opening.history next
+  pub spells : Spells opening.airport (entry_texts opening.history) opening.history
+  pub bumped_is : bumped ≡ last_bumped plan

@@ -8,19 +8,20 @@ ghost use Rattle.desk_words.specs.Commands.{IsCommandOf};
 ghost use Rattle.desk_words.specs.Replies.{IsTellable};
 ghost use Rattle.history_core.specs.Steps.{Steps, accepted, stepped_reply};
 ghost use Rattle.history_core.specs.History.{IsAskOf, IsLegal, call_limit, call_of, replay};
+ghost use Rattle.history_core.specs.Bumped.{last_bumped};
 ghost use Rattle.history_core.specs.Answer.{ActsAs, GivesText, acted_of, changes, is_keeper_fault, sought, told, visit_told};
 ghost use Rattle.history_core.specs.AtRisk.{LeavesAtRisk};
-ghost use Rattle.history_core.specs.Board.{IsKept, machine_state};
+ghost use Rattle.history_core.specs.Board.{IsKept, entry_texts, machine_state};
 ghost use Rattle.history_core.specs.Opening.{CannotOpen, Opens};
 ghost use Rattle.history_core.specs.Taking.{IsChangeOf};
 
-use crate::OpenFault;
-use crate::opening::{Past, past_of};
+use crate::bumped::bumped_in;
+use crate::opening::{OpenFault, Opening, opening_of};
 use crate::questions::{chart_told, day_told, entry_told, plan_told, unplaced_told};
 use crate::room::make_room;
 use crate::taking::{Taken, take};
 use crate::unanswered::Unanswered;
-use apron_base::{Acted, Keeper, Listed, Memory, VisitNo};
+use apron_base::{Acted, Keeper, Listed, Memory, PartId, VisitNo};
 use apron_rules::Airport;
 use desk_words::asks::{Ask, Command, Entry, What};
 use desk_words::replies::{Reply, Told, reply_bytes};
@@ -41,6 +42,7 @@ pub struct Board<'a, K: Keeper> {
     keeper: K,
     plan: Plan,
     history: Vec<Entry>,
+    bumped: Listed<PartId>,
     next: u64,
 }
 
@@ -51,7 +53,7 @@ impl<'a, K: Keeper> Model for Board<'a, K> {
 
     ghost view = { λ b. record { keeper = b.keeper; airport = b.airport.now; history = b.history.items; next = b.next } };
 
-    ghost invariant = { λ b. IsBoard b.plan.plan (K.state b.keeper)
+    ghost invariant = { λ b. IsBoard b.plan.plan b.bumped (K.state b.keeper)
         (record { keeper = b.keeper; airport = b.airport.now; history = b.history.items; next = b.next }) };
 }
 
@@ -73,20 +75,8 @@ impl<'a, K: Keeper> Board<'a, K> {
         ensures refused { IfErr result (λ refusal. CannotOpen airport.entry.now entries.items refusal.0) }
         ensures back { IfErr result (λ refusal. refusal.1 ≡ keeper) }
     {
-        match past_of(alloc, airport, entries.as_slice()) {
-            Ok(
-                Past {
-                    plan,
-                    history,
-                    next,
-                },
-            ) => Ok(Board {
-                airport,
-                keeper,
-                plan,
-                history,
-                next,
-            }),
+        match opening_of(alloc, airport, entries.as_slice()) {
+            Ok(opening) => Ok(opening.board(keeper)),
             Err(fault) => Err((fault, keeper)),
         }
     }
@@ -112,6 +102,13 @@ impl<'a, K: Keeper> Board<'a, K> {
         ensures replay { result.now.plan ≡ replay self.now.airport self.now.history }
     {
         &self.plan
+    }
+
+    /// The parts that lost their stands by the last entry, in order of visit and part.
+    pub fn bumped(&self) -> &[PartId]
+        ensures are { result.now ≡ last_bumped (replay self.now.airport self.now.history) }
+    {
+        self.bumped.as_slice()
     }
 
     /// The accepted commands in order. They are legal.
@@ -216,25 +213,25 @@ impl<'a, K: Keeper> Board<'a, K> {
     {
         let entries = self.history.as_slice().len();
         match take(alloc, self.airport, &self.plan, entries, command)? {
-            Taken::Accepted(change, reply) => self.accept(alloc, call, command, change, &reply),
+            Taken::Accepted(change, reply) => self.accept(alloc, call, command, change, reply),
             Taken::Answered(reply) => Ok(reply_bytes(alloc, self.airport, &reply)?),
         }
     }
 
     // Makes the entry with its bytes and those of the reply, takes all room, and gives the entry to
-    // the keeper. Only then it changes the history and the plan.
+    // the keeper. Only then it changes the history, the plan and the bumped parts.
     fn accept(
         &mut self,
         alloc: Global,
         call: u64,
         command: &Command,
         change: Change,
-        reply: &Reply,
+        reply: Reply,
     ) -> Result<Listed<u8>, Unanswered>
         requires valid { IsCommandOf self.old.airport command.now }
         requires taken { Steps (replay self.old.airport self.old.history) (length self.old.history) command.now accepted }
         requires change { IsChangeOf (replay self.old.airport self.old.history) command.now change }
-        requires reply { reply.now ≡ stepped_reply (replay self.old.airport self.old.history) command.now accepted }
+        requires reply { reply ≡ stepped_reply (replay self.old.airport self.old.history) command.now accepted }
         requires next { self.old.next ≤ call }
         requires last { call < call_limit }
         ensures airport { self.new.airport ≡ self.old.airport }
@@ -249,14 +246,36 @@ impl<'a, K: Keeper> Board<'a, K> {
             command: command.copy(alloc)?,
         };
         let text = encode_entry(alloc, &entry)?;
-        let bytes = reply_bytes(alloc, self.airport, reply)?;
+        let bytes = reply_bytes(alloc, self.airport, &reply)?;
         make_room(&mut self.plan, &mut self.history, &change)?;
         self.keeper.ready(alloc, text.len())?;
         self.keeper.append(text.as_slice())?;
         self.history.push_reserved(entry);
         self.plan.install(change);
+        self.bumped = bumped_in(alloc, reply.told);
         self.next = call + 1;
         Ok(bytes)
+    }
+}
+
+impl<'a> Opening<'a> {
+    /// The board over a keeper that has the entries that were read and none at risk. Its first call
+    /// may have a number above the last entry's, or any from 1 on if there is no entry.
+    pub fn board<K: Keeper>(self, keeper: K) -> Board<'a, K>
+        requires entries { IfSome (K.state keeper).entries (λ kept. kept ≡ entry_texts self.history) }
+        requires number { (K.state keeper).number ≡ length (entry_texts self.history) }
+        requires at_risk { (K.state keeper).at_risk ≡ None }
+        ensures opened { Opens self.entry.airport keeper (entry_texts self.entry.history) result }
+        ensures history { result.history ≡ self.entry.history }
+    {
+        Board {
+            airport: self.airport,
+            keeper,
+            plan: self.plan,
+            history: self.history,
+            bumped: self.bumped,
+            next: self.next,
+        }
     }
 }
 

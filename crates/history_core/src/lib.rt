@@ -3,6 +3,7 @@
 #![tactic(auto)]
 
 mod board;
+mod bumped;
 mod laws;
 mod machine;
 mod opening;
@@ -17,4 +18,4 @@ pub use laws::{
     drafts_are_of_entries, edits_are_of_the_last_entry, entries_of_legal_histories_make_versions,
     fronts_of_legal_histories_are_legal, legal_histories_make_sound_plans, visits_are_of_entries,
 };
-pub use opening::OpenFault;
+pub use opening::{OpenFault, Opening};

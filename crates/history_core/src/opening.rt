@@ -1,16 +1,20 @@
 // Reads kept entries as a history, and makes its plan.
-ghost use Rattle.std.specs.Prelude.{◌≡◌, IfErr, IfOk, OnOk};
-ghost use Rattle.history_core.specs.Board.{Spells, entry_texts};
-ghost use Rattle.history_core.specs.Opening.{CannotOpen, IsNotNext, IsPast, IsReadOn, not_read};
+ghost use Rattle.std.specs.Prelude.{◌≡◌, ◌++◌, ◌∷◌, [], ℕ, List, IfErr, IfOk, OnErr, OnOk};
+ghost use Rattle.history_core.specs.Board.{entry_texts};
+ghost use Rattle.history_core.specs.Bumped.{last_bumped};
+ghost use Rattle.history_core.specs.History.{IsLegal, replay};
+ghost use Rattle.history_core.specs.Opening.{CannotOpen, IsReadOn, not_read};
 
+use crate::bumped::bumped_in;
 use crate::room::make_room;
 use crate::taking::{Taken, take};
-use apron_base::{Listed, Memory};
+use apron_base::{Listed, Memory, PartId};
 use apron_rules::Airport;
 use desk_words::asks::Entry;
 use entry_bytes::{EntryFault, decode_entry};
 use plan_core::Plan;
 use std::alloc::Global;
+use std::marker::Model;
 
 /// Why no board is opened over kept entries. They are numbered from 1, and the first one that is
 /// refused is named.
@@ -36,47 +40,57 @@ impl From<Memory> for OpenFault {
     }
 }
 
-/// A history, the plan that it makes, and the least number of the next call.
+/// A board that is being opened: the entries that were read so far, as a history with the plan that
+/// it makes. It has no keeper yet.
+///
+/// Contracts see the airport and the history.
 #[derive(Drop)]
-pub(crate) struct Past {
+pub struct Opening<'a> {
+    pub(crate) airport: &'a Airport,
     pub(crate) plan: Plan,
     pub(crate) history: Vec<Entry>,
+    pub(crate) bumped: Listed<PartId>,
     pub(crate) next: u64,
 }
 
-/// The history that these bytes are read as, entry for entry, with its plan. `Err` names the first
-/// entry that is refused, or says that there is no memory.
-pub(crate) fn past_of(
-    alloc: Global,
-    airport: &Airport,
-    entries: &[Listed<u8>],
-) -> Result<Past, OpenFault>
-    ensures past { IfOk result (λ past. IsPast airport.now past.plan.plan past.history.items past.next) }
-    ensures spells { IfOk result (λ past. Spells airport.now entries.now past.history.items) }
-    ensures texts { IfOk result (λ past. entries.now ≡ entry_texts past.history.items) }
-    ensures refused { IfErr result (CannotOpen airport.now entries.now) }
-{
-    let mut past = Past {
-        plan: Plan::new(alloc, airport)?,
-        history: Vec::new(alloc),
-        next: 1,
-    };
-    for bytes in entries {
-        past.add(alloc, airport, bytes.as_slice())?;
-    }
-    Ok(past)
+impl<'a> Model for Opening<'a> {
+    ghost use Rattle.history_core.specs.Opening.{IsOpening, OpeningHeld};
+
+    ghost Value = { OpeningHeld };
+
+    ghost view = { λ o. record { airport = o.airport.now; history = o.history.items } };
+
+    ghost invariant = { λ o. IsOpening o.plan.plan o.bumped o.next
+        (record { airport = o.airport.now; history = o.history.items }) };
 }
 
-impl Past {
-    // Reads one more entry. `Err` if the bytes are not the next entry, or there is no memory.
-    fn add(&mut self, alloc: Global, airport: &Airport, bytes: &[u8]) -> Result<(), OpenFault>
-        requires past { IsPast airport.now self.old.plan.plan self.old.history.items self.old.next }
-        ensures past { OnOk result (IsPast airport.now self.new.plan.plan self.new.history.items self.new.next) }
-        ensures reads { OnOk result (IsReadOn airport.now self.old.history.items self.new.history.items bytes.now) }
-        ensures refused { IfErr result (IsNotNext airport.now self.old.history.items bytes.now) }
+impl<'a> Opening<'a> {
+    /// No entry was read yet. `Err` if there is no memory.
+    pub fn new(alloc: Global, airport: &'a Airport) -> Result<Opening<'a>, Memory>
+        ensures airport { IfOk result (λ opening. opening.airport ≡ airport.entry.now) }
+        ensures none { IfOk result (λ opening. opening.history ≡ []) }
+    {
+        Ok(Opening {
+            airport,
+            plan: Plan::new(alloc, airport)?,
+            history: Vec::new(alloc),
+            bumped: Listed::new(alloc),
+            next: 1,
+        })
+    }
+
+    /// Reads the bytes of one more entry. `Err` if they are not the next entry, or there is no
+    /// memory: the history is then as it was, and this is why no board is opened over its entries
+    /// with these bytes after them, whatever comes next.
+    pub fn read(&mut self, alloc: Global, bytes: &[u8]) -> Result<(), OpenFault>
+        ensures airport { self.new.airport ≡ self.old.airport }
+        ensures reads { OnOk result (IsReadOn self.old.airport self.old.history self.new.history bytes.now) }
+        ensures same { OnErr result (self.new.history ≡ self.old.history) }
+        ensures refused { IfErr result (λ fault. (back : List (List ℕ))
+            → CannotOpen self.old.airport (entry_texts self.old.history ++ bytes.now ∷ back) fault) }
     {
         let number = self.plan.version() + 1;
-        let entry = match decode_entry(alloc, airport, bytes) {
+        let entry = match decode_entry(alloc, self.airport, bytes) {
             Ok(entry) => entry,
             Err(fault) => return Err(not_read(number, fault)),
         };
@@ -84,17 +98,51 @@ impl Past {
             return Err(OpenFault::WrongEntry(number));
         }
         let entries = self.history.as_slice().len();
-        match take(alloc, airport, &self.plan, entries, &entry.command)? {
-            Taken::Accepted(change, _) => {
+        match take(alloc, self.airport, &self.plan, entries, &entry.command)? {
+            Taken::Accepted(change, reply) => {
                 make_room(&mut self.plan, &mut self.history, &change)?;
                 self.next = entry.call + 1;
                 self.history.push_reserved(entry);
                 self.plan.install(change);
+                self.bumped = bumped_in(alloc, reply.told);
                 Ok(())
             }
             Taken::Answered(_) => Err(OpenFault::WrongEntry(number)),
         }
     }
+
+    /// The plan that the history makes.
+    pub fn plan(&self) -> &Plan
+        ensures replay { result.now.plan ≡ replay self.now.airport self.now.history }
+        ensures legal { IsLegal self.now.airport self.now.history }
+    {
+        &self.plan
+    }
+
+    /// The parts that lost their stands by the last entry, in order of visit and part.
+    pub fn bumped(&self) -> &[PartId]
+        ensures are { result.now ≡ last_bumped (replay self.now.airport self.now.history) }
+    {
+        self.bumped.as_slice()
+    }
+}
+
+/// The history that these bytes are read as, entry for entry. `Err` names the first entry that is
+/// refused, or says that there is no memory.
+pub(crate) fn opening_of<'a>(
+    alloc: Global,
+    airport: &'a Airport,
+    entries: &[Listed<u8>],
+) -> Result<Opening<'a>, OpenFault>
+    ensures airport { IfOk result (λ opening. opening.airport ≡ airport.entry.now) }
+    ensures texts { IfOk result (λ opening. entries.now ≡ entry_texts opening.history) }
+    ensures refused { IfErr result (CannotOpen airport.entry.now entries.now) }
+{
+    let mut opening = Opening::new(alloc, airport)?;
+    for bytes in entries {
+        opening.read(alloc, bytes.as_slice())?;
+    }
+    Ok(opening)
 }
 
 // Why the entry of this number is refused, if reading its bytes gives this fault.

@@ -6,4 +6,5 @@ mod keepers;
 mod list_ends;
 mod listeners;
 mod shelves;
+mod taking;
 mod tcp;

@@ -3,5 +3,7 @@
 #![tactic(auto)]
 
 mod listening;
+mod taking;
 
 pub use listening::TcpDesks;
+pub use taking::{Doorway, Told, taken};

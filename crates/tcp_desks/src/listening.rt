@@ -1,20 +1,19 @@
 // The system's TCP listener.
 ghost use Rattle.std.specs.Prelude.{◌≡◌, IfOk};
-ghost use Rattle.tcp_desks.specs.Desks.{unused};
+ghost use Rattle.apron_base.specs.Listener.{Accepts};
+ghost use Rattle.tcp_desks.specs.Desks.{listener_state, unused};
 
+use crate::taking::{Doorway, Nobody, Told, taken};
 use apron_base::{Failed, Listener, Outcome, Reading, Writing};
 use std::io;
-use std::io::ErrorKind;
 use std::marker::Model;
 use std::net::{Net, SocketAddr, TcpListener, TcpStream};
 use std::sync::Wait;
 
-/// How many connections in a row, given up by their peers before they were accepted, are passed
-/// over before that counts as a fault.
-const MOST_RETRIES: u32 = 1_000;
-
-/// Connections over TCP. Each reply is sent at once. It counts each accept that failed. Contracts
-/// see that count, and how many connections were accepted and finished; it exposes no connection.
+/// Connections over TCP. Each reply is sent at once. While the system has no memory or descriptor
+/// for a connection, and where a connection was cut before it was accepted, accepting goes on. It
+/// counts each accept that failed for another cause. Contracts see that count, and how many
+/// connections were accepted and finished; it exposes no connection.
 #[derive(Drop)]
 pub struct TcpDesks {
     // `None` if it listens nowhere
@@ -82,11 +81,35 @@ impl TcpDesks {
         self.cause
     }
 
+    /// Accepts the first connection to come, as a `Listener` does, and tells how it waits.
+    pub fn accept_told<R: Wait, T: Told>(
+        &mut self,
+        rt: &R,
+        told: &mut T,
+    ) -> Result<(Reading<TcpStream>, Writing<TcpStream>), Failed>
+        ensures accepts { Accepts (listener_state self.old) (listener_state self.new) result }
+    {
+        match self.next_ends(rt, told) {
+            Some(ends) if self.accepted < u64::MAX => {
+                self.accepted += 1;
+                Ok(ends)
+            }
+            _ => {
+                self.faults = self.faults.saturating_add(1);
+                Err(Failed)
+            }
+        }
+    }
+
     // Both ends of the next connection. If there is none it keeps the cause.
-    fn next_ends(&mut self) -> Option<(Reading<TcpStream>, Writing<TcpStream>)>
+    fn next_ends<R: Wait, T: Told>(
+        &mut self,
+        rt: &R,
+        told: &mut T,
+    ) -> Option<(Reading<TcpStream>, Writing<TcpStream>)>
         ensures counts { self.new ≡ self.old }
     {
-        match ends_at(self.listener.as_ref()?) {
+        match taken(rt, self.listener.as_mut()?, told) {
             Ok(ends) => Some(ends),
             Err(cause) => {
                 self.cause = Some(cause);
@@ -109,25 +132,14 @@ impl TcpDesks {
 }
 
 impl Listener for TcpDesks {
-    ghost use Rattle.tcp_desks.specs.Desks.{listener_state};
-
     type In = Reading<TcpStream>;
 
     type Out = Writing<TcpStream>;
 
     ghost state = { listener_state };
 
-    fn accept<R: Wait>(&mut self, _rt: &R) -> Result<(Self::In, Self::Out), Failed> {
-        match self.next_ends() {
-            Some(ends) if self.accepted < u64::MAX => {
-                self.accepted += 1;
-                Ok(ends)
-            }
-            _ => {
-                self.faults = self.faults.saturating_add(1);
-                Err(Failed)
-            }
-        }
+    fn accept<R: Wait>(&mut self, rt: &R) -> Result<(Self::In, Self::Out), Failed> {
+        self.accept_told(rt, &mut Nobody)
     }
 
     /// It closes the connection.
@@ -136,25 +148,19 @@ impl Listener for TcpDesks {
     }
 }
 
-// Both ends of the next connection.
-fn ends_at(listener: &TcpListener) -> io::Result<(Reading<TcpStream>, Writing<TcpStream>)> {
-    let stream = next_stream(listener)?;
-    // If this fails, replies may be sent late, which is no fault.
-    let _sent_at_once = stream.set_nodelay(true);
-    let output = stream.try_clone()?;
-    Ok((Reading::new(stream), Writing::new(output)))
-}
+impl Doorway for TcpListener {
+    ghost use Rattle.std.specs.Prelude.{None};
 
-// The next connection whose peer is still there.
-fn next_stream(listener: &TcpListener) -> io::Result<TcpStream> {
-    for _ in 0..MOST_RETRIES {
-        match listener.accept() {
-            Ok((stream, _peer)) => return Ok(stream),
-            Err(error) if error.kind() == ErrorKind::ConnectionAborted => {}
-            Err(error) if error.kind() == ErrorKind::Interrupted => {}
-            Err(error) => return Err(error),
-        }
+    type Ends = (Reading<TcpStream>, Writing<TcpStream>);
+
+    ghost failures = { λ _. None };
+
+    // If the system has no descriptor for the second end, the connection is cut.
+    fn take(&mut self) -> io::Result<Self::Ends> {
+        let (stream, _peer) = self.accept()?;
+        // If this fails, replies may be sent late, which is no fault.
+        let _sent_at_once = stream.set_nodelay(true);
+        let output = stream.try_clone()?;
+        Ok((Reading::new(stream), Writing::new(output)))
     }
-    let (stream, _peer) = listener.accept()?;
-    Ok(stream)
 }

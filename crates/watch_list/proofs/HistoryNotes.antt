@@ -2,6 +2,7 @@
 use Rattle.std.proofs.Common.{◌≡◌, ◌∙◌, ◌≤◌, ◌+◌, ◌*◌, ◌++◌, ◌∷◌, [], ◌&&◌, ℕ, Bool, true, false, List, append_assoc, append-nil, length, length-append, refl, sym, ap, subst, arith, ⊎_elim, if◌then◌else◌}
 use Rattle.std.specs.Prelude.{Vec, nat_lt, vec_capacity, vec_len}
 use Rattle.std.proofs.lemmas.Bool.Decides.{nat_tests}
+use Rattle.apron_base.specs.declared.numbers.PartId.{PartId}
 use Rattle.apron_base.specs.declared.outside.Acted.{Acted}
 use Rattle.apron_rules.specs.declared.parts.AirportParts.{AirportParts}
 use Rattle.visit_book.specs.Numbers.{IsNumbered}
@@ -15,19 +16,23 @@ use Rattle.desk_words.specs.declared.asks.What.{What}
 use Rattle.desk_words.specs.declared.asks.What.TheVariants.{Change}
 use Rattle.history_core.specs.Answer.{ActsAs}
 use Rattle.history_core.specs.Board.{BoardHeld}
+use Rattle.history_core.specs.Bumped.{bumped_in, last_bumped}
 use Rattle.history_core.specs.History.{IsLegal, replay}
-use Rattle.history_core.specs.Steps.{after_command}
+use Rattle.history_core.specs.Opening.{IsReadOn, OpeningHeld}
+use Rattle.history_core.specs.Steps.{IsTaken, after_command, made_told}
+use Rattle.history_core.proofs.Bumps.{told_bumped}
 use Rattle.history_core.proofs.Happenings.{message_keeps, report_keeps}
 use Rattle.history_core.proofs.KeptVisits.{kept_length}
 use Rattle.history_core.proofs.Legal.{legal_counted}
-use Rattle.history_core.proofs.Replay.{after-push}
+use Rattle.history_core.proofs.Replay.{after-push, command_numbered, command_version}
 use Rattle.watch_list.specs.declared.note.Note.{Note}
 use Rattle.watch_list.specs.HistoryNotes.{HasNoteRoom, last_notes, may_bump, notes_after, notes_of}
 use Rattle.watch_list.specs.Notes.{notes_by}
 use Rattle.watch_list.proofs.Grown.{HasGrown, acts_leave}
-use Rattle.watch_list.proofs.Quiet.{quiet_command}
+use Rattle.watch_list.proofs.PartNotes.{few_bumped, no_notes}
 
-notes_push : (airport : AirportParts) (front entries : List Entry) (entry : Entry)
+-- the notes of a history with one more entry
+pub notes_push : (airport : AirportParts) (front entries : List Entry) (entry : Entry)
     → notes_after airport front (entries ++ entry ∷ []) ≡ notes_after airport front entries ++ last_notes airport (front ++ (entries ++ entry ∷ []))
 notes_push airport front [] entry = append-nil (last_notes airport (front ++ entry ∷ []))
 notes_push airport front (first ∷ entries) entry =
@@ -48,6 +53,24 @@ kept_count plan (Message desk message) bumps numbered =
 kept_count plan (Report desk visit event) bumps numbered =
     kept_length plan.visits (after_command plan (Report desk visit event)).visits (report_keeps plan visit event)
 kept_count plan (Cancel visit) bumps numbered = absurd (cc)
+
+-- any other command takes no stand, so it has no note
+told_none : (plan : PlanState) (entry : ℕ) (command : Command) → may_bump (Change command) ≡ false → bumped_in (made_told plan entry command) ≡ []
+told_none plan entry (AddVisit new) quiet = refl
+told_none plan entry (Commit desk draft base edits) quiet = refl
+told_none plan entry (Message desk message) quiet = absurd (cc)
+told_none plan entry (Report desk visit event) quiet = absurd (cc)
+told_none plan entry (Cancel visit) quiet = refl
+
+quiet_command : (airport : AirportParts) (history : List Entry) (command : Command) → may_bump (Change command) ≡ false → IsLegal airport history
+    → IsTaken (replay airport history) command → IsNumbered (replay airport history).visits
+    → notes_by ((replay airport history).version + 1) (after_command (replay airport history) command).visits ≡ []
+quiet_command airport history command quiet legal taken numbered =
+    let plan = replay airport history in
+    let after = after_command plan command in
+    let none : last_bumped after ≡ [] = sym (told_bumped airport history command legal taken) ∙ told_none plan (plan.version + 1) command quiet in
+    ap (λ (n : ℕ). notes_by n after.visits) (sym (command_version plan command taken))
+    ∙ no_notes after.version after.visits (command_numbered plan command taken numbered) none
 
 module _ (airport : AirportParts) (before : List Entry) (call : ℕ) (ask : Ask) (after : List Entry) where
   grown_plan : (grown : HasGrown airport before call ask.what after) → replay airport after ≡ after_command (replay airport before) grown.command
@@ -72,7 +95,7 @@ module _ (airport : AirportParts) (before : List Entry) (call : ℕ) (ask : Ask)
       let counted : old.version ≡ length before = legal_counted airport before legal in
       let longer : length after ≡ length before + 1 = ap length grown.last ∙ length-append before (record { call = call; command = grown.command } ∷ []) in
       let number : length after ≡ old.version + 1 = omega arith in
-      let none = quiet_command old grown.command (subst (λ (w : What). may_bump w ≡ false) grown.asked quiet) grown.taken plan in
+      let none = quiet_command airport before grown.command (subst (λ (w : What). may_bump w ≡ false) grown.asked quiet) legal grown.taken plan.numbered in
       rw (number, grown_plan grown) none
 
   notes_grown : (grown : HasGrown airport before call ask.what after) → notes_of airport after ≡ notes_of airport before ++ last_notes airport after
@@ -137,3 +160,22 @@ module _ {K : Type 0} (old new : BoardHeld K) (call : ℕ) (ask : Ask) (acted : 
       noted old.airport old.history call ask new.history acted after (nat_lt (length first) (length second)) room done (same ∙ is) acts found
       (subst (λ (a : AirportParts). IsLegal a new.history) airport left) (subst IsPlan old_is plan) same_airport more put
       ∙ ap (λ (a : AirportParts). notes_of a new.history) (sym airport)
+
+-- room for the notes of what is asked is room for those of the parts that lost their stands
+pub room_for_bumped : {A : Type 0} (notes : Vec Note A) (plan : PlanState) (what : What) (bumped : List PartId) → IsPlan plan → bumped ≡ last_bumped plan
+    → HasNoteRoom notes plan what → may_bump what ≡ true → vec_len notes + length bumped ≤ vec_capacity notes
+room_for_bumped notes plan what bumped is bumped_is room bumps =
+    let few = few_bumped plan is in
+    let most = room bumps in
+    let same : length bumped ≡ length (last_bumped plan) = ap length bumped_is in
+    omega arith
+
+-- the notes of a board that is being opened, after one more entry
+pub notes_read : (old new : OpeningHeld) (bytes : List ℕ) (before notes : List Note) → new.airport ≡ old.airport
+    → IsReadOn old.airport old.history new.history bytes → before ≡ notes_of old.airport old.history
+    → notes ≡ before ++ last_notes new.airport new.history → notes ≡ notes_of new.airport new.history
+notes_read old new bytes before notes airport read is put =
+    let more = subst (λ (h : List Entry). notes_of new.airport h ≡ notes_of new.airport old.history ++ last_notes new.airport h) (sym read.last)
+    (notes_push new.airport [] old.history read.entry) in
+    let same : before ≡ notes_of new.airport old.history = is ∙ ap (λ (a : AirportParts). notes_of a old.history) (sym airport) in
+    put ∙ (ap (λ (l : List Note). l ++ last_notes new.airport new.history) same ∙ sym more)

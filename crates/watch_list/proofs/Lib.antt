@@ -1,8 +1,7 @@
 pub mod Named
-pub mod EntryNotes
+pub mod PartNotes
 pub mod FeedNumbers
 pub mod Grown
-pub mod Quiet
 pub mod HistoryNotes
 pub mod LaterNotes
 pub mod Repeated

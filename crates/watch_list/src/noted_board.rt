@@ -1,22 +1,24 @@
 // A board with the notes of its history.
-ghost use Rattle.std.specs.Prelude.{◌≡◌, ◌≤◌, ◌<◌, ◌+◌, ◌++◌, ◌&&◌, [], IfOk, OnOk, if◌then◌else◌};
+ghost use Rattle.std.specs.Prelude.{◌≡◌, ◌≤◌, ◌<◌, ◌+◌, ◌++◌, ◌&&◌, [], length, None, IfErr, IfOk, IfSome, OnOk, if◌then◌else◌};
 ghost use Rattle.apron_base.specs.Counts.{Counts};
 ghost use Rattle.apron_base.specs.Keeper.{with_last};
 ghost use Rattle.apron_base.specs.Machine.{is_fault, standing};
 ghost use Rattle.plan_core.specs.PlanState.{IsPlan};
 ghost use Rattle.history_core.specs.Answer.{ActsAs};
 ghost use Rattle.history_core.specs.AtRisk.{LeavesAtRisk};
-ghost use Rattle.history_core.specs.Board.{machine_state};
+ghost use Rattle.history_core.specs.Board.{entry_texts, machine_state};
+ghost use Rattle.history_core.specs.Bumped.{last_bumped};
 ghost use Rattle.history_core.specs.History.{IsAskOf, IsLegal, call_limit};
-ghost use Rattle.watch_list.specs.HistoryNotes.{HasNoteRoom, may_bump, notes_of};
+ghost use Rattle.history_core.specs.Opening.{CannotOpen, Opens};
+ghost use Rattle.watch_list.specs.HistoryNotes.{HasNoteRoom, last_notes, may_bump, notes_of};
 ghost use Rattle.watch_list.specs.Notes.{notes_by};
 
 use crate::entry_notes::push_notes;
 use crate::note::Note;
-use apron_base::{Acted, Keeper, Memory, SteadyKeeper};
+use apron_base::{Acted, Keeper, Listed, Memory, PartId, SteadyKeeper};
 use apron_rules::Airport;
 use desk_words::asks::{Ask, Command, Entry, What};
-use history_core::Board;
+use history_core::{Board, OpenFault, Opening};
 use plan_core::Plan;
 use std::alloc::Global;
 use std::marker::Model;
@@ -50,6 +52,27 @@ impl<'a, K: Keeper> NotedBoard<'a, K> {
         ensures board { result ≡ board.entry }
     {
         NotedBoard { board, notes }
+    }
+
+    /// The board over a keeper of these entries, with the notes of its history. Each entry is read
+    /// once.
+    pub(crate) fn open(
+        alloc: Global,
+        airport: &'a Airport,
+        keeper: K,
+        entries: Vec<Listed<u8>>,
+    ) -> Result<NotedBoard<'a, K>, (OpenFault, K)>
+        requires entries { IfSome (K.state keeper).entries (λ kept. kept ≡ entries.items) }
+        requires number { (K.state keeper).number ≡ length entries.items }
+        requires at_risk { (K.state keeper).at_risk ≡ None }
+        ensures opened { IfOk result (Opens airport.entry.now keeper entries.items) }
+        ensures refused { IfErr result (λ refusal. CannotOpen airport.entry.now entries.items refusal.0) }
+        ensures back { IfErr result (λ refusal. refusal.1 ≡ keeper) }
+    {
+        match noted_opening(alloc, airport, entries.as_slice()) {
+            Ok((opening, notes)) => Ok(NotedBoard::of(opening.board(keeper), notes)),
+            Err(fault) => Err((fault, keeper)),
+        }
     }
 
     /// The board.
@@ -92,9 +115,47 @@ impl<'a, K: Keeper> NotedBoard<'a, K> {
         }
         let acted = self.board.ask(alloc, call, ask);
         let grown = self.board.history().len() > entries;
-        add_notes(&mut self.notes, self.board.plan(), &ask.what, grown);
+        add_notes(
+            &mut self.notes,
+            self.board.plan(),
+            self.board.bumped(),
+            &ask.what,
+            grown,
+        );
         acted
     }
+}
+
+// The board that is being opened over these entries, with the notes of its history; or why there is
+// none. Each entry is read once.
+fn noted_opening<'a>(
+    alloc: Global,
+    airport: &'a Airport,
+    entries: &[Listed<u8>],
+) -> Result<(Opening<'a>, Vec<Note>), OpenFault>
+    ensures airport { IfOk result (λ noted. noted.0.airport ≡ airport.entry.now) }
+    ensures texts { IfOk result (λ noted. entries.now ≡ entry_texts noted.0.history) }
+    ensures notes { IfOk result (λ noted. noted.1.items ≡ notes_of noted.0.airport noted.0.history) }
+    ensures refused { IfErr result (CannotOpen airport.entry.now entries.now) }
+{
+    let mut opening = Opening::new(alloc, airport)?;
+    let mut notes = Vec::new(alloc);
+    for bytes in entries {
+        opening.read(alloc, bytes.as_slice())?;
+        push_last(&mut notes, &opening)?;
+    }
+    Ok((opening, notes))
+}
+
+// Puts the notes of the last entry that was read last.
+fn push_last(notes: &mut Vec<Note>, opening: &Opening<'_>) -> Result<(), Memory>
+    ensures notes { OnOk result (notes.new.items
+        ≡ notes.old.items ++ last_notes opening.now.airport opening.now.history) }
+{
+    let bumped = opening.bumped();
+    notes.reserve(bumped.len())?;
+    push_notes(notes, opening.plan(), bumped);
+    Ok(())
 }
 
 impl<'a> NotedBoard<'a, SteadyKeeper> {
@@ -147,14 +208,18 @@ fn make_room(notes: &mut Vec<Note>, plan: &Plan, what: &What) -> Result<(), Memo
     Ok(())
 }
 
-// Puts the notes of the plan's last entry last, if what was asked made it and can have some.
-fn add_notes(notes: &mut Vec<Note>, plan: &Plan, what: &What, grown: bool)
+// Puts the notes of the plan's last entry last, by the parts that lost their stands by it, if what
+// was asked made it and can have some.
+fn add_notes(notes: &mut Vec<Note>, plan: &Plan, bumped: &[PartId], what: &What, grown: bool)
+    requires bumped { bumped.now ≡ last_bumped plan.now.plan }
     requires room { HasNoteRoom notes.old plan.now.plan what.now }
     ensures notes { notes.new.items ≡ notes.old.items
         ++ (if may_bump what.now && grown then notes_by plan.now.plan.version plan.now.plan.visits else []) }
 {
+    // What holds of every plan shows that each visit has at most three parts.
+    let _known = plan.visits();
     if may_bump(what) && grown {
-        push_notes(notes, plan.version(), plan.visits());
+        push_notes(notes, plan, bumped);
     }
 }
 

@@ -1,5 +1,5 @@
 // A board with the notes of its history and watches, as a machine.
-ghost use Rattle.std.specs.Prelude.{◌≡◌, ◌≤◌, ◌<◌, ◌+◌, IfErr, IfOk};
+ghost use Rattle.std.specs.Prelude.{◌≡◌, ◌≤◌, ◌<◌, ◌+◌, length, None, IfErr, IfOk, IfSome};
 ghost use Rattle.apron_base.specs.Counts.{Counts};
 ghost use Rattle.apron_base.specs.Histories.{Rises};
 ghost use Rattle.apron_base.specs.Machine.{is_fault, standing};
@@ -7,6 +7,7 @@ ghost use Rattle.history_core.specs.Answer.{ActsAs};
 ghost use Rattle.history_core.specs.AtRisk.{LeavesAtRisk};
 ghost use Rattle.history_core.specs.Board.{machine_state};
 ghost use Rattle.history_core.specs.History.{IsAskOf, IsLegal, call_limit, call_of, replay};
+ghost use Rattle.history_core.specs.Opening.{CannotOpen, Opens};
 ghost use Rattle.watch_list.specs.HistoryNotes.{notes_of};
 ghost use Rattle.watch_list.specs.WatchBoards.{fed, feed_reply, watch_fixed};
 
@@ -21,7 +22,7 @@ use crate::watches::Watches;
 use apron_base::{Acted, Keeper, Listed, Machine, Memory, Name};
 use apron_rules::Airport;
 use desk_words::asks::{Ask, Entry};
-use history_core::Board;
+use history_core::{Board, OpenFault};
 use std::alloc::Global;
 use std::marker::Model;
 
@@ -60,14 +61,46 @@ impl<'w, 'a, K: Keeper, R: Stated, T: NoteTest> WatchBoard<'w, 'a, K, R, T> {
         ensures made { IfOk result (λ made. made ≡ record { board = board.entry; watches = watches.entry.now; next = board.entry.next }) }
         ensures back { IfErr result (λ back. back ≡ board.entry) }
     {
-        let next = board.next_call();
         match notes_of(alloc, airport, board.history()) {
-            Ok(notes) => Ok(WatchBoard {
-                noted: NotedBoard::of(board, notes),
-                watches,
-                next,
-            }),
+            Ok(notes) => Ok(WatchBoard::of(NotedBoard::of(board, notes), watches)),
             Err(Memory) => Err(board),
+        }
+    }
+
+    /// The board over a keeper that has these entries and none at risk, with these watches. It is
+    /// the board that `Board::open` opens, and each entry is read once. `Err` names the first entry
+    /// that is refused, or says that there is no memory. Either way the keeper is as it was.
+    pub fn open(
+        alloc: Global,
+        airport: &'a Airport,
+        keeper: K,
+        entries: Vec<Listed<u8>>,
+        watches: &'w Watches<R, T>,
+    ) -> Result<WatchBoard<'w, 'a, K, R, T>, (OpenFault, K)>
+        requires entries { IfSome (K.state keeper).entries (λ kept. kept ≡ entries.items) }
+        requires number { (K.state keeper).number ≡ length entries.items }
+        requires at_risk { (K.state keeper).at_risk ≡ None }
+        ensures opened { IfOk result (λ made. Opens airport.entry.now keeper entries.items made.board) }
+        ensures watches { IfOk result (λ made. made.watches ≡ watches.entry.now) }
+        ensures next { IfOk result (λ made. made.next ≡ made.board.next) }
+        ensures refused { IfErr result (λ refusal. CannotOpen airport.entry.now entries.items refusal.0) }
+        ensures back { IfErr result (λ refusal. refusal.1 ≡ keeper) }
+    {
+        match NotedBoard::open(alloc, airport, keeper, entries) {
+            Ok(noted) => Ok(WatchBoard::of(noted, watches)),
+            Err(refusal) => Err(refusal),
+        }
+    }
+
+    // The board with its notes and these watches.
+    fn of(noted: NotedBoard<'a, K>, watches: &'w Watches<R, T>) -> WatchBoard<'w, 'a, K, R, T>
+        ensures made { result ≡ record { board = noted.entry; watches = watches.entry.now; next = noted.entry.next } }
+    {
+        let next = noted.board().next_call();
+        WatchBoard {
+            noted,
+            watches,
+            next,
         }
     }
 

@@ -7,8 +7,11 @@ mod cases;
 
 use apron_base::{Memory, Name, SteadyKeeper};
 use apron_rules::Airport;
-use boards::{airport, board_of, feed_reply};
-use cases::{ALL, BUMPED_TWICE, Bumped, CASES, Case, FEEDS, Fed, HIGH, ROWS, Row, note};
+use boards::{airport, board_of, feed_reply, opened_again};
+use cases::{
+    A_MESSAGE_BUMPS, ALL, BUMPED_TWICE, Bumped, CASES, Case, FEEDS, Fed, HIGH, ROWS, Row, note,
+};
+use history_core::OpenFault;
 use std::alloc::Global;
 use std::test::Fail;
 use watch_list::{
@@ -58,6 +61,56 @@ fn each_entry_has_the_notes_of_the_parts_that_it_bumped(rt: HostRuntime) -> Resu
     for case in &CASES {
         let holds = has_notes(rt.alloc(), &airport, case)?;
         assert!(rt; holds, "{}", case.name);
+    }
+    Ok(())
+}
+
+// Whether a board over the entries of the deeds has these notes.
+fn opens_with_notes(alloc: Global, airport: &Airport, case: &Case) -> Result<bool, Fail> {
+    let watches = no_watches(alloc)?;
+    let made = board_of(alloc, airport, &watches, case.deeds)?;
+    let Ok(board) = opened_again(alloc, airport, &watches, made, None)? else {
+        return Ok(false);
+    };
+    let all = board.board().history().len() == case.deeds.len();
+    Ok(all && has_both(alloc, &board, case.notes)?)
+}
+
+#[test]
+fn a_board_opened_over_its_entries_has_their_notes(rt: HostRuntime) -> Result<(), Fail> {
+    let airport = airport(rt.alloc())?;
+    for case in &CASES {
+        let holds = opens_with_notes(rt.alloc(), &airport, case)?;
+        assert!(rt; holds, "{}", case.name);
+    }
+    Ok(())
+}
+
+// Why no board is opened over the entries of a message that bumps and this one after them.
+fn fault_after(alloc: Global, airport: &Airport, more: &[u8]) -> Result<Option<OpenFault>, Fail> {
+    let watches = no_watches(alloc)?;
+    let made = board_of(alloc, airport, &watches, &A_MESSAGE_BUMPS)?;
+    match opened_again(alloc, airport, &watches, made, Some(more))? {
+        Ok(_) => Ok(None),
+        Err(fault) => Ok(Some(fault)),
+    }
+}
+
+#[test]
+fn the_first_entry_that_cannot_stand_is_named(rt: HostRuntime) -> Result<(), Fail> {
+    let airport = airport(rt.alloc())?;
+    // The second visit is cancelled by the sixth call and by the fifth; and an entry is cut short.
+    let rows: [(&[u8], Option<OpenFault>); 3] = [
+        (b"\x06\0\0\0\0\0\0\0\x05\x02\0\0\0", None),
+        (
+            b"\x05\0\0\0\0\0\0\0\x05\x02\0\0\0",
+            Some(OpenFault::WrongEntry(6)),
+        ),
+        (b"\x06\0\0\0\0\0\0\0\x05", Some(OpenFault::BadEntry(6))),
+    ];
+    for (more, want) in rows {
+        let is = fault_after(rt.alloc(), &airport, more)?;
+        assert_eq!(rt; is, want);
     }
     Ok(())
 }

@@ -10,7 +10,7 @@ use apron_base::{
 };
 use apron_rules::Airport;
 use desk_words::asks::{Ask, Command, What};
-use history_core::Board;
+use history_core::{Board, OpenFault};
 use mvt_grammar::{read_flight, read_mvt};
 use small_airports::{on_one_frontage, stand_on_n, type_of_40};
 use std::alloc::Global;
@@ -200,6 +200,38 @@ pub(super) fn board_of<'w, 'a>(
         done(alloc, airport, &mut board, deed)?;
     }
     Ok(board)
+}
+
+// The same entries once more.
+fn copies(alloc: Global, entries: &[Listed<u8>]) -> Result<Vec<Listed<u8>>, Fail>
+    ensures same { IfOk result (λ made. made.items ≡ entries.now) }
+{
+    let mut made = Vec::new(alloc);
+    for entry in entries {
+        made.push(Listed::from_vec(Vec::from_slice(alloc, entry.as_slice())?))?;
+    }
+    Ok(made)
+}
+
+/// The board over the entries that this one kept, and another one after them if it is given; or why
+/// there is none.
+pub(super) fn opened_again<'w, 'a>(
+    alloc: Global,
+    airport: &'a Airport,
+    watches: &'w Watches<Shown, Shown>,
+    board: WatchBoard<'w, 'a, SteadyKeeper, Shown, Shown>,
+    more: Option<&[u8]>,
+) -> Result<Result<WatchBoard<'w, 'a, SteadyKeeper, Shown, Shown>, OpenFault>, Fail> {
+    let kept = board.into_board().into_keeper();
+    let mut entries = copies(alloc, kept.entries())?;
+    if let Some(bytes) = more {
+        entries.push(Listed::from_vec(Vec::from_slice(alloc, bytes)?))?;
+    }
+    let keeper = SteadyKeeper::new(alloc, copies(alloc, entries.as_slice())?);
+    match WatchBoard::open(alloc, airport, keeper, entries, watches) {
+        Ok(board) => Ok(Ok(board)),
+        Err((fault, _)) => Ok(Err(fault)),
+    }
 }
 
 /// The reply to a feed of the watch of this name after an entry, where this version was seen.

@@ -1,12 +1,12 @@
-use Rattle.std.proofs.Common.{◌≡◌, ◌≤◌, ◌+◌, ◌*◌, ◌++◌, take}
+use Rattle.std.proofs.Common.{◌≡◌, ◌≤◌, ◌+◌, ◌++◌, take}
 use Rattle.std.specs.Prelude.{vec_capacity, vec_len}
-use Rattle.visit_book.specs.PartFields.{most_parts}
-use Rattle.watch_list.specs.Notes.{notes_by}
+use Rattle.std.specs.List.{flat_map}
+use Rattle.watch_list.specs.Notes.{notes_of_part}
 use Rattle.watch_list.proofs.entry_notes.push_notes.Given as goal
 
-abbrev pub invariant-loop-visit : goal.invariant-loop-visit
-invariant-loop-visit l = record {
-  notes : l.notes.items ≡ l.fn.notes.items ++ notes_by l.entry (take l.visit-index l.visits);
-  few : vec_len l.notes ≤ vec_len l.fn.notes + most_parts * l.visit-index;
+abbrev pub invariant-loop-part : goal.invariant-loop-part
+invariant-loop-part l = record {
+  notes : l.notes.items ≡ l.fn.notes.items ++ flat_map (notes_of_part l.plan.plan.version l.plan.plan.visits) (take l.part-index l.bumped);
+  few : vec_len l.notes ≤ vec_len l.fn.notes + l.part-index;
   capacity : vec_capacity l.notes ≡ vec_capacity l.fn.notes;
 }

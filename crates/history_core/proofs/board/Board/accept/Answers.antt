@@ -4,12 +4,15 @@ use Rattle.plan_core.specs.PlanState.{PlanState, installed}
 use Rattle.desk_words.specs.Commands.{IsCommandOf}
 use Rattle.desk_words.specs.declared.asks.Command.{Command}
 use Rattle.desk_words.specs.declared.asks.Entry.{Entry}
+use Rattle.desk_words.specs.declared.replies.Reply.{Reply}
 use Rattle.entry_bytes.specs.Entries.{decoded, entry_text}
 use Rattle.history_core.specs.Answer.{is_keeper_fault}
 use Rattle.history_core.specs.Board.{BoardHeld}
+use Rattle.history_core.specs.Bumped.{bumped_in, last_bumped}
 use Rattle.history_core.specs.History.{replay}
 use Rattle.history_core.specs.Steps.{accepted, after_command, stepped_reply}
 use Rattle.history_core.proofs.Boards.{IsNext, board_failed, board_pushed}
+use Rattle.history_core.proofs.Bumps.{told_bumped}
 use Rattle.history_core.proofs.Risks.{added_at_risk, failed_at_risk, fault_told, read_as, readied_at_risk}
 use Rattle.history_core.proofs.Texts.{accepted_text}
 use Rattle.history_core.proofs.board.Board.accept.Goals as goal
@@ -26,7 +29,7 @@ invariant_of-self-in_err-append g c =
     c.as_slice.ensures.items ∙ (c.in_ok-text.ensures.text ∙ ap (λ (command : Command). entry_text (record { call = c.args.call; command = command })) c.in_ok-copy.ensures.same) in
     let read : decoded inside.airport.now (entry_text entry) ≡ Ok entry =
     read_as inside.airport.now c.args.call c.args.command.now _ _ c.in_ok-copy.ensures.same c.in_ok-text.ensures.text c.in_ok-text.ensures.read_back next.valid in
-    board_failed inside.plan.plan c.make_room.new.plan.plan (tells inside.keeper) (tells c.ready.new.self) (tells c.append.new.self) board c.append.new.self
+    board_failed inside.plan.plan c.make_room.new.plan.plan inside.bumped (tells inside.keeper) (tells c.ready.new.self) (tells c.append.new.self) board c.append.new.self
     c.make_room.new.history.items entry c.self.invariant next read c.ready.ensures.kept
     (subst (FailsToAdd (tells c.ready.new.self) (tells c.append.new.self)) text c.in_err-append.ensures.err) c.make_room.ensures.entries c.make_room.ensures.plan
 
@@ -48,9 +51,14 @@ invariant_of-self-2 g c =
     c.install.ensures.plan ∙ (ap (λ (p : PlanState). installed p c.args.change) (c.make_room.ensures.plan ∙ c.self.invariant.plan_is) ∙ makes) in
     let items : c.push_reserved.new.self.items ≡ inside.history.items ++ entry ∷ [] =
     c.push_reserved.ensures.items ∙ rw (c.make_room.ensures.entries, c.in_ok-copy.ensures.same) refl in
-    board_pushed inside.plan.plan c.install.new.self.plan (tells inside.keeper) (tells c.ready.new.self) (tells c.append.new.self) board c.append.new.self
+    let told = subst (λ (b : BoardHeld g.row.K.Denot). c.args.reply ≡ stepped_reply (replay b.airport b.history) c.args.command.now accepted)
+    (sym c.self.view_is) c.requires.reply in
+    let lost : c.bumped_in.result ≡ last_bumped c.install.new.self.plan =
+    c.bumped_in.ensures.is ∙ (ap (λ (r : Reply). bumped_in r.told) told
+    ∙ (told_bumped inside.airport.now inside.history.items c.args.command.now c.self.invariant.legal next.steps.0 ∙ ap last_bumped (sym made))) in
+    board_pushed inside.plan.plan c.install.new.self.plan inside.bumped c.bumped_in.result (tells inside.keeper) (tells c.ready.new.self) (tells c.append.new.self) board c.append.new.self
     c.push_reserved.new.self.items entry c.self.invariant next read c.ready.ensures.kept
-    (subst (AddsEntry (tells c.ready.new.self) (tells c.append.new.self)) text c.in_ok-append.ensures.ok) items made
+    (subst (AddsEntry (tells c.ready.new.self) (tells c.append.new.self)) text c.in_ok-append.ensures.ok) items made lost
 
 pub returns-clause-gives : goal.returns-clause-gives
 returns-clause-gives g c =
@@ -58,12 +66,12 @@ returns-clause-gives g c =
     let entry : Entry = record { call = c.args.call; command = c.args.command.now } in
     let asked : IsNext c.args.self.now entry = record { valid = c.requires.valid; steps = c.requires.taken; up = c.requires.next; last = c.requires.last } in
     let next = subst (λ (b : BoardHeld g.row.K.Denot). IsNext b entry) (sym c.self.view_is) asked in
-    let is = subst (λ (b : BoardHeld g.row.K.Denot). c.args.reply.now ≡ stepped_reply (replay b.airport b.history) c.args.command.now accepted)
+    let is = subst (λ (b : BoardHeld g.row.K.Denot). c.args.reply ≡ stepped_reply (replay b.airport b.history) c.args.command.now accepted)
     (sym c.self.view_is) c.requires.reply in
     let items : c.push_reserved.new.self.items ≡ inside.history.items ++ entry ∷ [] =
     c.push_reserved.ensures.items ∙ rw (c.make_room.ensures.entries, c.in_ok-copy.ensures.same) refl in
     rw (← c.self.view_is)
-    (accepted_text inside.airport.now inside.history.items c.push_reserved.new.self.items c.args.call c.args.command.now c.args.reply.now c.in_ok-bytes.bytes
+    (accepted_text inside.airport.now inside.history.items c.push_reserved.new.self.items c.args.call c.args.command.now c.args.reply c.in_ok-bytes.bytes
     next.steps is c.in_ok-bytes.ensures.text items)
 
 pub returns-in_err-append-clause-at_risk : goal.returns-in_err-append-clause-at_risk

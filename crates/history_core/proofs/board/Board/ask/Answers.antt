@@ -14,7 +14,7 @@ invariant_of-self g c =
     let inside = c.self.inside in
     let board : BoardHeld g.row.K.Denot = record { keeper = inside.keeper; airport = inside.airport.now; history = inside.history.items; next = inside.next } in
     let up = subst (λ (b : BoardHeld g.row.K.Denot). b.next ≤ c.args.call + 1) (sym c.self.view_is) c.answer-answered.ensures.next in
-    board_called inside.plan.plan (g.K.Keeper.state inside.keeper) board (c.args.call + 1) c.self.invariant up (omega (arith, c.requires.last))
+    board_called inside.plan.plan inside.bumped (g.K.Keeper.state inside.keeper) board (c.args.call + 1) c.self.invariant up (omega (arith, c.requires.last))
 
 pub returns-clause-numbers : goal.returns-clause-numbers
 returns-clause-numbers g c =

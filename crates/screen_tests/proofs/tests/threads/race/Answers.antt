@@ -1,5 +1,5 @@
 use denote.Param.Send.{sendable}
-use Rattle.screen_tests.proofs.Crosses.{stage_send}
+use Rattle.screen_tests.proofs.tests.Crosses.{stage_send}
 use Rattle.screen_tests.proofs.tests.threads.race.Goals as goal
 
 pub join-is_each_shown-requires-send-F : goal.join-is_each_shown-requires-send-F

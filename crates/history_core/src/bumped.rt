@@ -1,0 +1,17 @@
+// The parts that lost their stands by an accepted command.
+ghost use Rattle.std.specs.Prelude.{◌≡◌};
+ghost use Rattle.history_core.specs.Bumped.{bumped_in};
+
+use apron_base::{Listed, PartId};
+use desk_words::replies::Told;
+use std::alloc::Global;
+
+/// The parts that a reply says to have lost their stands. It takes no memory.
+pub(crate) fn bumped_in(alloc: Global, told: Told) -> Listed<PartId>
+    ensures is { result ≡ bumped_in told }
+{
+    match told {
+        Told::Message { bumped, .. } | Told::Reported { bumped } => bumped,
+        _ => Listed::new(alloc),
+    }
+}

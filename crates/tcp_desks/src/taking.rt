@@ -1,0 +1,145 @@
+// How a connection is taken, also after a time at which none could be.
+ghost use Rattle.std.specs.Prelude.{◌≡◌, IfErr, IfSome, false};
+ghost use Rattle.std.specs.IoError.{error_kind, raw_os_error};
+ghost use Rattle.tcp_desks.specs.Taking.{EndsAt, IsTold, is_cut, is_passing, is_signal, is_tried_again, is_want, notices};
+
+use std::io;
+use std::io::ErrorKind;
+use std::sync::Wait;
+use std::sync::atomic::AtomicU64;
+use std::time::Duration;
+
+/// Where connections are taken: at the system's listener, or at one that a test makes.
+pub trait Doorway {
+    ghost use Rattle.std.specs.Prelude.{IfSome, List, Option};
+    ghost use Rattle.std.specs.declared.io.Error.{Error};
+    ghost use Rattle.tcp_desks.specs.Taking.{Gives};
+
+    /// The two ends of a connection.
+    type Ends;
+
+    /// The failures to come before the next connection, if it exposes them.
+    ghost failures: { Self → Option (List Error) };
+
+    /// Takes the next connection. If there is none it waits. `Err` says why none could be taken.
+    fn take(&mut self) -> io::Result<Self::Ends>
+        ensures gives { IfSome (failures self.old) (λ causes. Gives causes (failures self.new) result) };
+}
+
+/// Who is told that no connection could be taken for a time.
+pub trait Told {
+    ghost use Rattle.std.specs.Prelude.{List, Option, [], ◌∷◌};
+    ghost use Rattle.tcp_desks.specs.Taking.{IsTold, Notice, TakenAgain, Waits};
+
+    /// What it was told, if it exposes that.
+    ghost told: { Self → Option (List Notice) };
+
+    /// None could be taken, for this cause, and it is tried again until it succeeds.
+    fn waiting(&mut self, cause: &io::Error)
+        ensures told { IsTold (told self.old) (told self.new) (Waits cause.now ∷ []) };
+
+    /// One was taken again.
+    fn taken_again(&mut self)
+        ensures told { IsTold (told self.old) (told self.new) (TakenAgain ∷ []) };
+}
+
+/// Nobody is told.
+#[derive(Clone, Copy)]
+pub(crate) struct Nobody;
+
+impl Told for Nobody {
+    ghost use Rattle.std.specs.Prelude.{None};
+
+    ghost told = { λ _. None };
+
+    fn waiting(&mut self, _cause: &io::Error) {}
+
+    fn taken_again(&mut self) {}
+}
+
+/// Takes the next connection. If this fails for a cause that passes, it is tried again after a
+/// moment, as often as needed. Of each row of such failures it tells the first, and its end if a
+/// connection is taken then. `Err` has a cause that does not pass.
+pub fn taken<R: Wait, D: Doorway, T: Told>(
+    rt: &R,
+    doorway: &mut D,
+    told: &mut T,
+) -> io::Result<D::Ends>
+    ensures lasting { IfErr result (λ cause. is_tried_again cause ≡ false) }
+    ensures ends { IfSome (D.failures doorway.old) (λ causes. EndsAt causes result) }
+    ensures tells { IfSome (D.failures doorway.old) (λ causes. IsTold (T.told told.old) (T.told told.new) (notices causes)) }
+{
+    let mut is_told = false;
+    for _ in rt.forever() {
+        match doorway.take() {
+            Ok(ends) => {
+                if is_told {
+                    told.taken_again();
+                }
+                return Ok(ends);
+            }
+            // A signal came meanwhile, which is no failure.
+            Err(cause) if is_signal(cause.kind()) => {}
+            Err(cause) if passes(&cause) => {
+                if !is_told {
+                    told.waiting(&cause);
+                    is_told = true;
+                }
+                pause(rt);
+            }
+            Err(cause) => return Err(cause),
+        }
+    }
+    unreachable!()
+}
+
+// Whether a signal came meanwhile.
+fn is_signal(kind: ErrorKind) -> bool
+    ensures { result ≡ is_signal kind }
+{
+    matches!(kind, ErrorKind::Interrupted)
+}
+
+// Whether a failure with this cause passes.
+fn passes(cause: &io::Error) -> bool
+    ensures { result ≡ is_passing (raw_os_error cause.now) }
+{
+    let Some(number) = cause.raw_os_error() else {
+        return false;
+    };
+    match u32::try_from(number) {
+        Ok(number) => is_want(number) || is_cut(number),
+        Err(_) => false,
+    }
+}
+
+// Whether memory or descriptors are short: ENOMEM, ENFILE, EMFILE or ENOBUFS.
+fn is_want(number: u32) -> bool
+    ensures { result ≡ is_want number }
+{
+    number == 12 || number == 23 || number == 24 || number == 105
+}
+
+// Whether the connection was cut before it was accepted, by its peer or its network: ECONNABORTED
+// or one of the errors that accept(2) says to treat in this way.
+fn is_cut(number: u32) -> bool
+    ensures { result ≡ is_cut number }
+{
+    number == 103
+        || number == 64
+        || number == 71
+        || number == 92
+        || number == 95
+        || number == 100
+        || number == 101
+        || number == 112
+        || number == 113
+}
+
+// How long it waits until it tries again, in milliseconds.
+const MOMENT: u64 = 100;
+
+// Lets a moment pass. Nobody else has the word on which it sleeps.
+fn pause<R: Wait>(rt: &R) {
+    AtomicU64::new(0).park_timeout(rt, 0, Duration::from_millis(MOMENT));
+}
