@@ -5,6 +5,7 @@ import collections
 import os
 import re
 import resource
+import shutil
 import signal
 import socket
 import struct
@@ -73,12 +74,13 @@ def listens_at(port):
 
 
 class Server:
-    """The program as a server in a folder of its own."""
+    """The program as a server in a folder of its own, perhaps with screens that show a day."""
 
-    def __init__(self, program, room, workers, connections=MOST_CONNECTIONS, example="demo", host="127.0.0.1"):
+    def __init__(self, program, room, workers, connections=MOST_CONNECTIONS, example="demo", host="127.0.0.1", screens=0, day=1):
         self.program, self.room, self.files = program, room, files_of(example)
         self.workers, self.connections, self.host = workers, connections, host
         self.port = free_port(host.strip("[]") if host.startswith("[") else "127.0.0.1")
+        self.screens, self.day, self.screen_port = screens, day, free_port() if screens else None
         self.journal = os.path.join(room, "journal")
         self.process = None
 
@@ -94,8 +96,15 @@ class Server:
         assert ran.returncode == 0, f"apron {words[0]} ended with {ran.returncode}: {ran.stdout[:200]}"
         return ran.stdout
 
+    def copy(self):
+        """The path of a copy of the journal, for what only reads it while the server runs."""
+        return shutil.copy(self.journal, os.path.join(self.room, "copy"))
+
     def words(self):
-        return [self.program, "serve", *self.files, str(self.connections), f"{self.host}:{self.port}", str(self.workers), self.journal]
+        day = ["screen", str(self.day)] if self.screens else []
+        screens = [f"{self.host}:{self.screen_port}", str(self.screens)] if self.screens else []
+        desks = [f"{self.host}:{self.port}", str(self.workers)]
+        return [self.program, "serve", *self.files, str(self.connections), *day, *desks, *screens, self.journal]
 
     def start(self, most_blocks=None):
         """Starts it, and waits until it says that it listens. Files that it writes may have so many blocks of 512 bytes, as on a disk that is full then."""
@@ -106,6 +115,9 @@ class Server:
         while not LISTENING.search(self.said()[1]):
             assert self.process.poll() is None, f"the server ended with {self.process.returncode} before it listened"
             assert time.monotonic() < until, "the server does not say that it listens"
+            time.sleep(0.002)
+        while self.screens and not listens_at(self.screen_port):
+            assert time.monotonic() < until, "the server does not listen for screens"
             time.sleep(0.002)
 
     def make_room(self):
@@ -133,6 +145,19 @@ class Server:
 
     def link(self, patience=PATIENCE):
         return Link((self.host.strip("[]"), self.port), patience)
+
+    def look(self, patience=PATIENCE):
+        """What a screen shows: all that comes until the server closes the connection."""
+        with socket.create_connection((self.host, self.screen_port), patience) as link:
+            return read_all(link)
+
+
+def read_all(link):
+    """The bytes of a connection until the other end closes it."""
+    pieces = []
+    while piece := link.recv(65536):
+        pieces.append(piece)
+    return b"".join(pieces)
 
 
 class Link:

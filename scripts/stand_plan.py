@@ -1,8 +1,9 @@
 """The answers of a plan, worked out anew and apart from the program: visits, commits, cancels and reads of an airport, as docs/HTTP.md
 tells them, and the history in a journal's bytes of format 2, as docs/JOURNAL.md tells them. There are no messages and reports here, so that
-no part is ever on block or bumped."""
+no part is ever on block or bumped. Only a wall chart, which docs/CHART.md tells, is of any visits as replies tell them, with facts and bumps."""
 
 import csv
+import datetime
 import json
 import struct
 import tomllib
@@ -99,6 +100,19 @@ class Airport:
         on = {one["name"]: letter, two["name"]: other_letter}
         if any(on.get(it["a"], "") >= it["la"] and on.get(it["b"], "") >= it["lb"] for it in self.pairs):
             return "pair"
+        return None
+
+    def meeting(self, slot, other, begins=0, ends=MOST):
+        """The first of these minutes at which two slots of types clash, and the rule of that minute, or None."""
+        (type, stand, begin, end), (other_type, other_stand, other_begin, other_end) = slot, other
+        first, type, other_type = max(begin, other_begin, begins), self.types[type], self.types[other_type]
+        to, other_to = end - self.stands[stand]["buffer"], other_end - self.stands[other_stand]["buffer"]
+        for minute in sorted({first} | type.changes(begin, to) | other_type.changes(other_begin, other_to)):
+            if first <= minute < min(end, other_end, ends):
+                span, other_span = type.span_at(begin, to, minute), other_type.span_at(other_begin, other_to, minute)
+                rule = self.breaks(stand, span, other_stand, other_span)
+                if rule is not None:
+                    return minute, rule
         return None
 
     def unfit(self, stand, type):
@@ -252,19 +266,6 @@ class Plan:
             (stand, begin, end + self.airport.stands[stand]["buffer"], part)
             for part, (begin, end, stand) in enumerate(parts, 1) if stand is not None]
 
-    def meeting(self, slot, other):
-        """The first minute at which two slots of types clash, and the rule of that minute, or None."""
-        (type, stand, begin, end), (other_type, other_stand, other_begin, other_end) = slot, other
-        first, type, other_type = max(begin, other_begin), self.airport.types[type], self.airport.types[other_type]
-        to, other_to = end - self.airport.stands[stand]["buffer"], other_end - self.airport.stands[other_stand]["buffer"]
-        for minute in sorted({first} | type.changes(begin, to) | other_type.changes(other_begin, other_to)):
-            if first <= minute < min(end, other_end):
-                span, other_span = type.span_at(begin, to, minute), other_type.span_at(other_begin, other_to, minute)
-                rule = self.airport.breaks(stand, span, other_stand, other_span)
-                if rule is not None:
-                    return minute, rule
-        return None
-
     def first_clash(self, changed):
         """The first clash with these parts, of a plan that has none without them."""
         first = None
@@ -272,7 +273,7 @@ class Plan:
             type = self.visits[visit - 1].type
             for stand, begin, end, part in self.slots(parts):
                 for other_visit, other, other_begin, other_end, other_part in self.others(stand, changed, visit):
-                    met = self.meeting((type, stand, begin, end), (self.visits[other_visit - 1].type, other, other_begin, other_end))
+                    met = self.airport.meeting((type, stand, begin, end), (self.visits[other_visit - 1].type, other, other_begin, other_end))
                     if met is not None:
                         minute, rule = met
                         a, b = sorted([(visit, part), (other_visit, other_part)])
@@ -347,6 +348,11 @@ class Plan:
                 seen.add(visit)
         return self.told(visits=[self.visit(visit) for visit in sorted(seen)])
 
+    def chart(self, day):
+        """The bytes of the wall chart of a day."""
+        visits = [self.visit(number) for number in range(1, len(self.visits) + 1)]
+        return Chart(self.airport, day, visits).text(self.version)
+
     def unplaced(self, _):
         parts = []
         for visit, it in enumerate(self.visits, 1):
@@ -363,6 +369,101 @@ class Plan:
         self.version += 1
         self.history.append((call, ask))
         answer.install()
+
+
+QUARTER, QUARTERS = 15, 96
+
+
+def time_of(minute):
+    return f"{minute // DAY + 1}/{minute % DAY // 60:02}{minute % 60:02}"
+
+
+class Held(NamedTuple):
+    """A part that holds a stand, with the end of its buffer."""
+    stand: int
+    begin: int
+    visit: int
+    part: int
+    to: int
+    end: int
+    actual: bool
+    type: str
+
+    def cell(self):
+        return "#" if self.actual else "="
+
+
+class Chart:
+    """The wall chart of a day, of all visits of a plan as replies tell them: facts and bumps too."""
+
+    def __init__(self, airport, day, visits):
+        self.airport, self.day = airport, day
+        self.begins, self.ends = (day - 1) * DAY, day * DAY
+        self.held, waiting = [], []
+        for visit in visits:
+            for number, part in enumerate(visit["parts"], 1):
+                if part["stand"] is not None:
+                    self.hold(visit, number, part)
+                elif visit["state"] not in ("gone", "cancelled") and part["from"] < self.ends and part["to"] > self.begins:
+                    rank = visit["class"], visit["on"], visit["visit"], number
+                    waiting.append((rank, f"{visit['visit']}.{number} {visit['type']} {self.times(part)}{self.bumped(part['bump'])}"))
+        self.held.sort()
+        self.waiting = [line for _, line in sorted(waiting)]
+
+    def hold(self, visit, number, part):
+        stand = self.airport.stand_of[part["stand"]]
+        end = part["to"] + self.airport.stands[stand]["buffer"]
+        if part["from"] < self.ends and end > self.begins:
+            self.held.append(Held(stand, part["from"], visit["visit"], number, part["to"], end, part["actual"], visit["type"]))
+
+    @staticmethod
+    def times(part):
+        return f"{time_of(part['from'])}-{time_of(part['to'])}"
+
+    @staticmethod
+    def bumped(bump):
+        if bump is None:
+            return ""
+        blocker = f"{bump['blocker']['visit']}.{bump['blocker']['part']}"
+        return f" bumped by {blocker} in entry {bump['entry']} at {time_of(bump['minute'])} {bump['rule']}"
+
+    def cells(self, stand):
+        """A quarter of an hour each: what is there in fact goes before what is planned."""
+        cells = ["."] * QUARTERS
+        for it in sorted((it for it in self.held if it.stand == stand), key=lambda it: it.actual):
+            for quarter in range(QUARTERS):
+                begins = self.begins + quarter * QUARTER
+                if it.begin < begins + QUARTER and it.end > begins:
+                    cells[quarter] = it.cell()
+        return "".join(cells)
+
+    def alarms(self):
+        """The first minute of the day at which two parts that are there in fact clash."""
+        facts, found = [it for it in self.held if it.actual], []
+        for place, it in enumerate(facts):
+            for other in facts[:place]:
+                if it.visit != other.visit:
+                    met = self.airport.meeting(self.slot(it), self.slot(other), self.begins, self.ends)
+                    if met is not None:
+                        found.append((met[0], *sorted([(it.visit, it.part), (other.visit, other.part)]), met[1]))
+        return ["%s %d.%d %d.%d %s" % (time_of(minute), *one, *two, rule) for minute, one, two, rule in sorted(found)]
+
+    def slot(self, it):
+        return self.airport.type_of[it.type], it.stand, it.begin, it.end
+
+    def text(self, version):
+        """Its bytes, of a plan of this version."""
+        whole = self.airport.described["airport"]
+        date = datetime.date.fromisoformat(whole["first_day"]) + datetime.timedelta(self.day - 1)
+        names = [it["name"] for it in self.airport.stands]
+        lines = [f"STAND CHART {whole['station']} {date} VERSION {version}"]
+        lines += [f"{name:6} {self.cells(stand)}" for stand, name in enumerate(names)]
+        lines.append("PARTS")
+        for it in self.held:
+            times, kind = f"{time_of(it.begin)}-{time_of(it.to)}", "actual" if it.actual else "planned"
+            lines.append(f"{names[it.stand]:6} {it.visit}.{it.part} {it.type} {times} {kind}")
+        lines += ["UNPLACED", *self.waiting, "ALARMS", *self.alarms(), "END"]
+        return "".join(line + "\n" for line in lines).encode()
 
 
 TARGETS = {
