@@ -72,15 +72,7 @@ pub(crate) fn serve_desks<
         Ok(board) => board,
         Err((why, disk)) => return (Err(why), disk),
     };
-    let (served, board) = serve_watched(
-        rt,
-        alloc,
-        &files.airport,
-        board,
-        listeners,
-        screens,
-        task,
-    );
+    let (served, board) = serve_watched(rt, alloc, &files.airport, board, listeners, screens, task);
     let disk = close_board(board);
     match served {
         Ok(ends) => (Ok(served_end(&ends)), disk),
