@@ -130,7 +130,7 @@ passes_behind : {X : Type 0} (b : Bool) (y : X) (xs : List X) (x : X) → Contai
 passes_behind true y xs x (k, inside, at) = (suc k, omega arith, at)
 passes_behind false y xs x h = h
 
-any_passes : {X : Type 0} (p : X → Bool) (xs : List X) (x : X) → Contains xs x → p x ≡ true → list_any p xs ≡ true
+pub any_passes : {X : Type 0} (p : X → Bool) (xs : List X) (x : X) → Contains xs x → p x ≡ true → list_any p xs ≡ true
 any_passes p xs x (k, inside, at) h = list_any_at p xs k x inside (subst (λ z. p z ≡ true) (sym at) h)
 
 which_passes : {X : Type 0} (p : X → Bool) (xs : List X) → list_any p xs ≡ true → (x : X) × Contains xs x × (p x ≡ true)

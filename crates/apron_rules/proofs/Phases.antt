@@ -1,10 +1,12 @@
 -- The first minute at which two slots clash, with wing tips that are unfolded at the start and at
 -- the end.
-use Rattle.std.proofs.Common.{◌≡◌, ◌∙◌, ◌<◌, ◌≤◌, ◌+◌, ◌-◌, ◌==◌, ◌&&◌, ◌||◌, ◌⊎◌, inl, inr, max, ℕ, Bool, true, false, cond, refl, sym, ap, subst, arith, Option, None, Some, if◌then◌else◌}
+use Rattle.std.proofs.Common.{true≢false, ◌≡◌, ◌∙◌, ◌<◌, ◌≤◌, ◌+◌, ◌-◌, ◌==◌, ◌&&◌, ◌||◌, ◌⊎◌, inl, inr, max, ℕ, Bool, true, false, cond, refl, sym, ap, subst, arith, Option, None, Some, if◌then◌else◌}
 use Rattle.std.specs.Prelude.{nat_le, nat_lt, option_map}
 use Rattle.std.specs.Option.{option_or}
 use Rattle.std.proofs.lemmas.Bool.{cases_lt}
 use Rattle.std.proofs.lemmas.Bool.Decides.{nat_tests}
+use Rattle.std.specs.List.{list_any}
+use Rattle.std.specs.Prelude.{Contains}
 use Rattle.apron_base.specs.declared.numbers.PartId.{PartId}
 use Rattle.apron_base.specs.declared.slot.Slot.{Slot}
 use Rattle.apron_rules.specs.declared.parts.AirportParts.{AirportParts}
@@ -12,12 +14,13 @@ use Rattle.apron_rules.specs.declared.rules.Clash.{Clash}
 use Rattle.apron_rules.specs.declared.rules.Meeting.{Meeting}
 use Rattle.apron_rules.specs.declared.rules.Rule.{Rule}
 use Rattle.apron_rules.specs.declared.rules.Wing.TheVariants.{Full, Parked}
-use Rattle.apron_rules.specs.Clash.{IsAtMost, IsBefore, IsClashOf, IsFirstWithin, IsLeast, IsNoLater, breaks_at, is_held, meeting_below, rule_at, wing_of}
+use Rattle.apron_rules.specs.Clash.{IsAtMost, IsBefore, IsClashOf, IsFirstWithin, IsLeast, IsNoLater, NeverClash, breaks_at, is_held, meeting_below, rule_at, wing_of}
+use Rattle.apron_rules.specs.Neighbours.{neighbours_of}
 use Rattle.apron_rules.specs.Refusals.{fault_of}
 use Rattle.apron_rules.specs.Rules.{buffer_of, fold_of}
 use Rattle.apron_rules.specs.Starts.{AreStarts, unfolds}
 use Rattle.apron_rules.specs.declared.clash.Starts.{Starts}
-use Rattle.apron_rules.proofs.Bordering.{AreAsFull, fuller_rule}
+use Rattle.apron_rules.proofs.Bordering.{AreAsFull, any_passes, fuller_rule, neighbour_listed}
 
 as_full_by : (old new : Bool) → (old ≡ true → new ≡ true) → AreAsFull (if new then Full else Parked) (if old then Full else Parked)
 as_full_by old true h = inl refl
@@ -235,3 +238,21 @@ least_between airport p q (Some at) found order planned first is =
             | inr over ↦ no_later_by (record { minute = at.minute; a = p.part; b = q.part; rule = at.rule }) c over (sym h.a) (sym h.b)
           ],
     )
+
+-- slots that clash are on neighbouring stands
+pub rule_neighbour : (airport : AirportParts) (p q : Slot) (m : ℕ) (rule : Rule) → fault_of airport ≡ None → rule_at airport p q m ≡ Some rule → Contains (neighbours_of airport p.stand) q.stand
+rule_neighbour airport p q m rule none h =
+    neighbour_listed airport none p.stand q.stand p.kind (wing_of airport p m) q.kind (wing_of airport q m) rule (meets airport p q m rule h).breaks
+
+none_unless : (found : Option Rule) → ((rule : Rule) → found ≡ Some rule → ⊥) → found ≡ None
+none_unless None h = refl
+none_unless (Some rule) h = absurd (h rule refl)
+
+-- slots on stands that are no neighbours never clash
+pub never_apart : (airport : AirportParts) → fault_of airport ≡ None → (p q : Slot) (from end : ℕ) → list_any (λ listed. listed.0 == q.stand.0) (neighbours_of airport p.stand) ≡ false
+    → NeverClash airport p q from end
+never_apart airport none p q from end apart m low high =
+    let near = neighbours_of airport p.stand in
+    let same : (q.stand.0 == q.stand.0) ≡ true = grind (arith, nat_tests) in
+    none_unless (rule_at airport p q m) (λ rule h.
+      true≢false (sym (any_passes (λ listed. listed.0 == q.stand.0) near q.stand (rule_neighbour airport p q m rule none h) same) ∙ apart))

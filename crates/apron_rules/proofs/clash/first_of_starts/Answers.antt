@@ -1,6 +1,6 @@
 use Rattle.std.proofs.Common.{refl, Some}
 use Rattle.apron_rules.proofs.Phases.{first_tried}
-use Rattle.apron_rules.proofs.clash.first_meeting.Goals as goal
+use Rattle.apron_rules.proofs.clash.first_of_starts.Goals as goal
 
 pub returns-in-Some : goal.returns-in-Some
 returns-in-Some c = record {
