@@ -3,7 +3,7 @@
 ghost use Rattle.std.specs.Prelude.{◌≡◌, IfOk, length};
 ghost use Rattle.apron.specs.Desks.{connections_named, named_up_to, screens_named, workers_named};
 
-use crate::told_desks::ToldDesks;
+use crate::reporting_desks::ReportingDesks;
 use apron_base::{MAX_DIGITS, Memory, Sink, Word, number_of};
 use apron_run::{Status, is_plain_number};
 use apron_serve::{MAX_CONNECTIONS, MAX_LISTENERS, MAX_SCREENS, serve_all};
@@ -205,7 +205,7 @@ fn number_up_to(text: &str, most: u64) -> u64
 }
 
 // A listener for each worker of desks, and one for each screen.
-type Listeners<'a, R> = (Vec<ToldDesks<'a, R>>, Vec<ToldDesks<'a, R>>);
+type Listeners<'a, R> = (Vec<ReportingDesks<'a, R>>, Vec<ReportingDesks<'a, R>>);
 
 fn listeners_of<'a, R: Eprint + Net<Listener = TcpListener, Stream = TcpStream>>(
     rt: &'a R,
@@ -226,7 +226,7 @@ fn listeners_at<'a, R: Eprint + Net<Listener = TcpListener, Stream = TcpStream>>
     rt: &'a R,
     alloc: Global,
     place: Place<'a>,
-) -> Result<Vec<ToldDesks<'a, R>>, Memory>
+) -> Result<Vec<ReportingDesks<'a, R>>, Memory>
     ensures as_many { IfOk result (λ listeners. length listeners.items ≡ place.entry.listeners) }
 {
     let first = match TcpDesks::bind(rt, place.address) {
@@ -271,7 +271,7 @@ fn all_beside<'a, R: Eprint>(
     alloc: Global,
     place: Place<'a>,
     first: &TcpDesks,
-) -> Result<Vec<ToldDesks<'a, R>>, Memory>
+) -> Result<Vec<ReportingDesks<'a, R>>, Memory>
     ensures as_many { IfOk result (λ listeners. length listeners.items ≡ place.entry.listeners) }
 {
     let mut listeners = Vec::new(alloc);
@@ -280,7 +280,7 @@ fn all_beside<'a, R: Eprint>(
             Served::Desks(journal) if made == 0 => Some(journal),
             _ => None,
         };
-        listeners.push(ToldDesks::new(rt, place.address, journal, first.beside()))?;
+        listeners.push(ReportingDesks::new(rt, place.address, journal, first.beside()))?;
     }
     Ok(listeners)
 }

@@ -4,7 +4,7 @@
 
 mod desks;
 mod forms;
-mod told_desks;
+mod reporting_desks;
 mod unclear;
 mod watches;
 

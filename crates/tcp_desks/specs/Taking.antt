@@ -5,12 +5,13 @@ use Rattle.std.specs.declared.io.ErrorKind.TheVariants.{Interrupted}
 use Rattle.std.specs.declared.io.Error.{Error}
 use Rattle.std.specs.IoError.{error_kind, raw_os_error}
 
--- the system's numbers, on Linux, for want of memory or descriptors: ENOMEM, ENFILE, EMFILE and ENOBUFS
+-- the numbers of Linux for a lack of memory or descriptors: ENOMEM, ENFILE, EMFILE and ENOBUFS
 abbrev pub is_want : ℕ → Bool
 is_want number = number == 12 || number == 23 || number == 24 || number == 105
 
--- the numbers for a connection that its peer or its network cut before it was accepted, as accept(2) lists them: ECONNABORTED,
--- ENONET, EPROTO, ENOPROTOOPT, EOPNOTSUPP, ENETDOWN, ENETUNREACH, EHOSTDOWN and EHOSTUNREACH
+-- the numbers for a connection that its peer or its network cut before it was accepted, as
+-- accept(2) lists them: ECONNABORTED, ENONET, EPROTO, ENOPROTOOPT, EOPNOTSUPP, ENETDOWN,
+-- ENETUNREACH, EHOSTDOWN and EHOSTUNREACH
 abbrev pub is_cut : ℕ → Bool
 is_cut number =
     number == 103 || number == 64 || number == 71 || number == 92 || number == 95
@@ -36,29 +37,31 @@ abbrev pub first_lasting : List Error → Option Error
 first_lasting [] = None
 first_lasting (cause ∷ causes) = if is_tried_again cause then first_lasting causes else Some cause
 
--- a take at a doorway with these failures to come gives the first of them, or a connection if there is none
+-- with these failures to come a doorway gives the first of them, or a connection if there is none
 abbrev pub Gives : {Ends : Type 0} → List Error → Option (List Error) → Result Ends Error → Type 0
 Gives [] after result = IsOk result
 Gives (cause ∷ causes) after result = IsErrAnd result (λ failure. failure ≡ cause) × (after ≡ Some causes)
 
--- with these failures to come it ends at the first lasting one, or with a connection if there is none
+-- with these failures to come, taking ends at the first lasting one, or with a connection if
+-- there is none
 abbrev pub EndsAt : {Ends : Type 0} → List Error → Result Ends Error → Type 0
 EndsAt causes result = MatchResult result (λ _. first_lasting causes ≡ None) (λ cause. first_lasting causes ≡ Some cause)
 
--- what is told: that it waits, for which cause, and that a connection was taken again
+-- what is reported: that no connection can be taken, for which cause, and that one was taken again
 pub data Notice : Type 0 where
   Waits : Error → Notice
   TakenAgain : Notice
 
--- this was told after all that was told before, if that is exposed
-abbrev pub IsTold : Option (List Notice) → Option (List Notice) → List Notice → Type 0
-IsTold before after notices = IfSome before (λ said. after ≡ Some (said ++ notices))
+-- these notices were added to those before, if they are exposed
+abbrev pub IsReported : Option (List Notice) → Option (List Notice) → List Notice → Type 0
+IsReported before after notices = IfSome before (λ said. after ≡ Some (said ++ notices))
 
--- what is told at the end of a row of which these failures are left
+-- the notice at the end of a row of which these failures are left
 abbrev pub end_of_row : List Error → List Notice
 end_of_row causes = if is_none (first_lasting causes) then TakenAgain ∷ [] else []
 
--- what is told of these failures: the first that passes, and the end of its row if a connection is taken then
+-- the notices of these failures: of the first that passes, and of the end of its row if a
+-- connection comes then
 abbrev pub notices : List Error → List Notice
 notices [] = []
 notices (cause ∷ causes) =

@@ -6,4 +6,4 @@ mod listening;
 mod taking;
 
 pub use listening::TcpDesks;
-pub use taking::{Doorway, Told, taken};
+pub use taking::{Doorway, Reporter, take_next};

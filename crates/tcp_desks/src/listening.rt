@@ -3,7 +3,7 @@ ghost use Rattle.std.specs.Prelude.{◌≡◌, IfOk};
 ghost use Rattle.apron_base.specs.Listener.{Accepts};
 ghost use Rattle.tcp_desks.specs.Desks.{listener_state, unused};
 
-use crate::taking::{Doorway, Nobody, Told, taken};
+use crate::taking::{Doorway, Reporter, Unreported, take_next};
 use apron_base::{Failed, Listener, Outcome, Reading, Writing};
 use std::io;
 use std::marker::Model;
@@ -81,15 +81,15 @@ impl TcpDesks {
         self.cause
     }
 
-    /// Accepts the first connection to come, as a `Listener` does, and tells how it waits.
-    pub fn accept_told<R: Wait, T: Told>(
+    /// Accepts the first connection to come, as a `Listener` does, and reports how it waits.
+    pub fn accept_reporting<R: Wait, N: Reporter>(
         &mut self,
         rt: &R,
-        told: &mut T,
+        reporter: &mut N,
     ) -> Result<(Reading<TcpStream>, Writing<TcpStream>), Failed>
         ensures accepts { Accepts (listener_state self.old) (listener_state self.new) result }
     {
-        match self.next_ends(rt, told) {
+        match self.next_ends(rt, reporter) {
             Some(ends) if self.accepted < u64::MAX => {
                 self.accepted += 1;
                 Ok(ends)
@@ -102,14 +102,14 @@ impl TcpDesks {
     }
 
     // Both ends of the next connection. If there is none it keeps the cause.
-    fn next_ends<R: Wait, T: Told>(
+    fn next_ends<R: Wait, N: Reporter>(
         &mut self,
         rt: &R,
-        told: &mut T,
+        reporter: &mut N,
     ) -> Option<(Reading<TcpStream>, Writing<TcpStream>)>
         ensures counts { self.new ≡ self.old }
     {
-        match taken(rt, self.listener.as_mut()?, told) {
+        match take_next(rt, self.listener.as_mut()?, reporter) {
             Ok(ends) => Some(ends),
             Err(cause) => {
                 self.cause = Some(cause);
@@ -139,7 +139,7 @@ impl Listener for TcpDesks {
     ghost state = { listener_state };
 
     fn accept<R: Wait>(&mut self, rt: &R) -> Result<(Self::In, Self::Out), Failed> {
-        self.accept_told(rt, &mut Nobody)
+        self.accept_reporting(rt, &mut Unreported)
     }
 
     /// It closes the connection.

@@ -1,7 +1,7 @@
 // How a connection is taken, also after a time at which none could be.
 ghost use Rattle.std.specs.Prelude.{◌≡◌, IfErr, IfSome, false};
 ghost use Rattle.std.specs.IoError.{error_kind, raw_os_error};
-ghost use Rattle.tcp_desks.specs.Taking.{EndsAt, IsTold, is_cut, is_passing, is_signal, is_tried_again, is_want, notices};
+ghost use Rattle.tcp_desks.specs.Taking.{EndsAt, IsReported, is_cut, is_passing, is_signal, is_tried_again, is_want, notices};
 
 use std::io;
 use std::io::ErrorKind;
@@ -26,31 +26,31 @@ pub trait Doorway {
         ensures gives { IfSome (failures self.old) (λ causes. Gives causes (failures self.new) result) };
 }
 
-/// Who is told that no connection could be taken for a time.
-pub trait Told {
+/// Where it is reported that no connection could be taken for a time.
+pub trait Reporter {
     ghost use Rattle.std.specs.Prelude.{List, Option, [], ◌∷◌};
-    ghost use Rattle.tcp_desks.specs.Taking.{IsTold, Notice, TakenAgain, Waits};
+    ghost use Rattle.tcp_desks.specs.Taking.{IsReported, Notice, TakenAgain, Waits};
 
-    /// What it was told, if it exposes that.
-    ghost told: { Self → Option (List Notice) };
+    /// What was reported, if it exposes that.
+    ghost reported: { Self → Option (List Notice) };
 
-    /// None could be taken, for this cause, and it is tried again until it succeeds.
+    /// None could be taken, for this cause. Taking goes on until one comes.
     fn waiting(&mut self, cause: &io::Error)
-        ensures told { IsTold (told self.old) (told self.new) (Waits cause.now ∷ []) };
+        ensures reported { IsReported (reported self.old) (reported self.new) (Waits cause.now ∷ []) };
 
     /// One was taken again.
     fn taken_again(&mut self)
-        ensures told { IsTold (told self.old) (told self.new) (TakenAgain ∷ []) };
+        ensures reported { IsReported (reported self.old) (reported self.new) (TakenAgain ∷ []) };
 }
 
-/// Nobody is told.
+/// Nothing is reported anywhere.
 #[derive(Clone, Copy)]
-pub(crate) struct Nobody;
+pub(crate) struct Unreported;
 
-impl Told for Nobody {
+impl Reporter for Unreported {
     ghost use Rattle.std.specs.Prelude.{None};
 
-    ghost told = { λ _. None };
+    ghost reported = { λ _. None };
 
     fn waiting(&mut self, _cause: &io::Error) {}
 
@@ -58,32 +58,32 @@ impl Told for Nobody {
 }
 
 /// Takes the next connection. If this fails for a cause that passes, it is tried again after a
-/// moment, as often as needed. Of each row of such failures it tells the first, and its end if a
-/// connection is taken then. `Err` has a cause that does not pass.
-pub fn taken<R: Wait, D: Doorway, T: Told>(
+/// moment, as often as needed. It reports the first of each row of such failures, and the end of the row if a
+/// connection comes then. `Err` has a cause that does not pass.
+pub fn take_next<R: Wait, D: Doorway, N: Reporter>(
     rt: &R,
     doorway: &mut D,
-    told: &mut T,
+    reporter: &mut N,
 ) -> io::Result<D::Ends>
     ensures lasting { IfErr result (λ cause. is_tried_again cause ≡ false) }
     ensures ends { IfSome (D.failures doorway.old) (λ causes. EndsAt causes result) }
-    ensures tells { IfSome (D.failures doorway.old) (λ causes. IsTold (T.told told.old) (T.told told.new) (notices causes)) }
+    ensures reports { IfSome (D.failures doorway.old) (λ causes. IsReported (N.reported reporter.old) (N.reported reporter.new) (notices causes)) }
 {
-    let mut is_told = false;
+    let mut is_reported = false;
     for _ in rt.forever() {
         match doorway.take() {
             Ok(ends) => {
-                if is_told {
-                    told.taken_again();
+                if is_reported {
+                    reporter.taken_again();
                 }
                 return Ok(ends);
             }
             // A signal came meanwhile, which is no failure.
             Err(cause) if is_signal(cause.kind()) => {}
             Err(cause) if passes(&cause) => {
-                if !is_told {
-                    told.waiting(&cause);
-                    is_told = true;
+                if !is_reported {
+                    reporter.waiting(&cause);
+                    is_reported = true;
                 }
                 pause(rt);
             }

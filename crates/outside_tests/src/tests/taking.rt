@@ -1,7 +1,7 @@
 // Accepts that fail, and are tried again.
 use std::io;
 use std::sync::Wait;
-use tcp_desks::{Doorway, Told, taken};
+use tcp_desks::{Doorway, Reporter, take_next};
 
 // The failure with this number of the system.
 fn failure(number: i32) -> io::Error {
@@ -48,18 +48,18 @@ impl<'a> Doorway for LateDoorway<'a> {
     }
 }
 
-// What was told: the causes for which it waited, and how often a connection was taken again.
+// What was reported: the causes for which it waited, and how often a connection was taken again.
 #[derive(Clone, Copy)]
-struct Heard {
+struct Reported {
     last: Option<i32>,
     waited: u32,
     taken_again: u32,
 }
 
-impl Told for Heard {
+impl Reporter for Reported {
     ghost use Rattle.std.specs.Prelude.{None};
 
-    ghost told = { λ _. None };
+    ghost reported = { λ _. None };
 
     fn waiting(&mut self, cause: &io::Error) {
         self.last = cause.raw_os_error();
@@ -71,26 +71,26 @@ impl Told for Heard {
     }
 }
 
-// The number of the cause for which none was taken after these failures, and what was told.
-fn after<R: Wait>(rt: &R, causes: &[io::Error]) -> (Option<i32>, Heard) {
-    let mut heard = Heard {
+// The number of the cause for which none was taken after these failures, and what was reported.
+fn after<R: Wait>(rt: &R, causes: &[io::Error]) -> (Option<i32>, Reported) {
+    let mut reported = Reported {
         last: None,
         waited: 0,
         taken_again: 0,
     };
-    let failed = match taken(rt, &mut LateDoorway { causes }, &mut heard) {
+    let failed = match take_next(rt, &mut LateDoorway { causes }, &mut reported) {
         Ok(()) => None,
         Err(cause) => cause.raw_os_error(),
     };
-    (failed, heard)
+    (failed, reported)
 }
 
 // Whether a connection is taken after these failures, with one line for the first of them and one
 // for the end.
 fn is_taken_again<R: Wait>(rt: &R, causes: &[io::Error]) -> bool {
-    let (failed, heard) = after(rt, causes);
+    let (failed, reported) = after(rt, causes);
     let first = causes.first().and_then(io::Error::raw_os_error);
-    failed.is_none() && heard.last == first && heard.waited == 1 && heard.taken_again == 1
+    failed.is_none() && reported.last == first && reported.waited == 1 && reported.taken_again == 1
 }
 
 #[test]
@@ -102,19 +102,19 @@ fn an_accept_that_fails_once_is_tried_again(rt: HostRuntime) {
 }
 
 #[test]
-fn of_a_row_of_failures_the_first_and_the_end_are_told(rt: HostRuntime) {
+fn of_a_row_of_failures_the_first_and_the_end_are_reported(rt: HostRuntime) {
     let row = [EMFILE, EMFILE, ENFILE, EINTR, ECONNABORTED].map(failure);
     assert!(rt; is_taken_again(&rt, &row));
 }
 
-// Whether nothing is told of these failures, of which the last has this number, if it ends the worker.
+// Whether nothing is reported of these failures. The last has this number if it ends the worker.
 fn is_silent<R: Wait>(rt: &R, causes: &[io::Error], last: Option<i32>) -> bool {
-    let (failed, heard) = after(rt, causes);
-    failed == last && heard.waited == 0 && heard.taken_again == 0
+    let (failed, reported) = after(rt, causes);
+    failed == last && reported.waited == 0 && reported.taken_again == 0
 }
 
 #[test]
-fn without_a_failure_and_at_a_signal_nothing_is_told(rt: HostRuntime) {
+fn without_a_failure_and_at_a_signal_nothing_is_reported(rt: HostRuntime) {
     assert!(rt; is_silent(&rt, &[], None));
     assert!(rt; is_silent(&rt, &[failure(EINTR), failure(EINTR)], None));
 }
@@ -123,7 +123,7 @@ fn without_a_failure_and_at_a_signal_nothing_is_told(rt: HostRuntime) {
 fn another_cause_is_not_tried_again(rt: HostRuntime) {
     for cause in [EBADF, EINVAL] {
         assert!(rt; is_silent(&rt, &[failure(cause)], Some(cause)));
-        let (failed, heard) = after(&rt, &[failure(EMFILE), failure(cause)]);
-        assert!(rt; failed == Some(cause) && heard.waited == 1 && heard.taken_again == 0);
+        let (failed, reported) = after(&rt, &[failure(EMFILE), failure(cause)]);
+        assert!(rt; failed == Some(cause) && reported.waited == 1 && reported.taken_again == 0);
     }
 }

@@ -7,13 +7,13 @@ use std::io;
 use std::marker::Model;
 use std::net::TcpStream;
 use std::sync::Wait;
-use tcp_desks::{TcpDesks, Told};
+use tcp_desks::{Reporter, TcpDesks};
 
 /// Desks over TCP. Standard error says why an accept failed, and while none can succeed, that it is
 /// tried again. Before the first accept of those that have the journal's name, it says that the
 /// journal is open. Contracts see the desks.
 #[derive(Drop)]
-pub(crate) struct ToldDesks<'a, R> {
+pub(crate) struct ReportingDesks<'a, R> {
     notices: Notices<'a, R>,
     journal: Option<&'a str>,
     desks: TcpDesks,
@@ -27,10 +27,10 @@ struct Notices<'a, R> {
 }
 
 // If standard error fails too, there is no other place to say it.
-impl<'a, R: Eprint> Told for Notices<'a, R> {
+impl<'a, R: Eprint> Reporter for Notices<'a, R> {
     ghost use Rattle.std.specs.Prelude.{None};
 
-    ghost told = { λ _. None };
+    ghost reported = { λ _. None };
 
     fn waiting(&mut self, cause: &io::Error) {
         let address = self.address;
@@ -43,7 +43,7 @@ impl<'a, R: Eprint> Told for Notices<'a, R> {
     }
 }
 
-impl<'a, R> Model for ToldDesks<'a, R> {
+impl<'a, R> Model for ReportingDesks<'a, R> {
     ghost use Rattle.tcp_desks.specs.Desks.{DesksState};
 
     ghost Value = { DesksState };
@@ -51,7 +51,7 @@ impl<'a, R> Model for ToldDesks<'a, R> {
     ghost view = { λ d. d.desks };
 }
 
-impl<'a, R: Eprint> ToldDesks<'a, R> {
+impl<'a, R: Eprint> ReportingDesks<'a, R> {
     /// The desks that come to this address. They say that the journal is open if they have its
     /// name.
     pub(crate) fn new(
@@ -60,7 +60,7 @@ impl<'a, R: Eprint> ToldDesks<'a, R> {
         journal: Option<&'a str>,
         desks: TcpDesks,
     ) -> Self {
-        ToldDesks {
+        ReportingDesks {
             notices: Notices { rt, address },
             journal,
             desks,
@@ -84,7 +84,7 @@ impl<'a, R: Eprint> ToldDesks<'a, R> {
     }
 }
 
-impl<'a, R: Eprint> Listener for ToldDesks<'a, R> {
+impl<'a, R: Eprint> Listener for ReportingDesks<'a, R> {
     ghost use Rattle.tcp_desks.specs.Desks.{listener_state};
 
     type In = Reading<TcpStream>;
@@ -95,7 +95,7 @@ impl<'a, R: Eprint> Listener for ToldDesks<'a, R> {
 
     fn accept<W: Wait>(&mut self, rt: &W) -> Result<(Self::In, Self::Out), Failed> {
         self.tell_open();
-        let accepted = self.desks.accept_told(rt, &mut self.notices);
+        let accepted = self.desks.accept_reporting(rt, &mut self.notices);
         if accepted.is_err() {
             self.tell_cause();
         }
