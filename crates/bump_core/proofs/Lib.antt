@@ -19,3 +19,4 @@ pub mod Lost
 pub mod Made
 pub mod Untouched
 pub mod Records
+mod Taken

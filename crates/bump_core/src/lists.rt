@@ -173,13 +173,28 @@ fn is_taken(mets: &[Met], other: &Ranked) -> bool
 pub(crate) fn against_own(alloc: Global, mets: &[Met]) -> Result<Listed<Blocking>, Memory>
     ensures ok { IfOk result (λ blockings. blockings ≡ against_own mets.now) }
 {
+    let taking = by_actual(alloc, mets)?;
     let mut blockings = Listed::new(alloc);
     for met in mets {
-        push_unless_taken(&mut blockings, mets, met)?;
+        push_unless_taken(&mut blockings, taking.as_slice(), met)?;
     }
     Ok(blockings)
 }
 
+// The clashes of actual own parts.
+fn by_actual(alloc: Global, mets: &[Met]) -> Result<Listed<Met>, Memory>
+    ensures ok { IfOk result (λ found. found ≡ filter (λ met. met.own.slot.actual) mets.now) }
+{
+    let mut found = Listed::new(alloc);
+    for met in mets {
+        if met.own.slot.actual {
+            found.push(*met)?;
+        }
+    }
+    Ok(found)
+}
+
+// Adds what blocks the own part of a clash, unless one of these takes the other part.
 fn push_unless_taken(
     blockings: &mut Listed<Blocking>,
     mets: &[Met],
@@ -187,10 +202,11 @@ fn push_unless_taken(
 ) -> Result<(), Memory>
     ensures ok { OnOk result (blockings.new ≡ blockings.old ++ filter_map by_other (filter (λ met. not (is_taken mets.now met.other)) (met.now ∷ []))) }
 {
-    if is_taken(mets, &met.other) {
+    let blocking = by_other(met);
+    if blocking.is_some() && is_taken(mets, &met.other) {
         Ok(())
     } else {
-        push_blocking(blockings, by_other(met))
+        push_blocking(blockings, blocking)
     }
 }
 
@@ -238,9 +254,10 @@ fn push_unless_blocked(
 ) -> Result<(), Memory>
     ensures ok { OnOk result (blockings.new ≡ blockings.old ++ filter_map by_own (filter (λ met. not (is_blocked own.now met.own.slot.part)) (met.now ∷ []))) }
 {
-    if is_blocked(own, met.own.slot.part) {
+    let blocking = by_own(met);
+    if blocking.is_some() && is_blocked(own, met.own.slot.part) {
         Ok(())
     } else {
-        push_blocking(blockings, by_own(met))
+        push_blocking(blockings, blocking)
     }
 }
