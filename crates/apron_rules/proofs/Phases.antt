@@ -255,4 +255,4 @@ never_apart airport none p q from end apart m low high =
     let near = neighbours_of airport p.stand in
     let same : (q.stand.0 == q.stand.0) ≡ true = grind (arith, nat_tests) in
     none_unless (rule_at airport p q m) (λ rule h.
-      true≢false (sym (any_passes (λ listed. listed.0 == q.stand.0) near q.stand (rule_neighbour airport p q m rule none h) same) ∙ apart))
+    true≢false (sym (any_passes (λ listed. listed.0 == q.stand.0) near q.stand (rule_neighbour airport p q m rule none h) same) ∙ apart))
