@@ -15,6 +15,8 @@ import time
 
 HERE = os.path.dirname(os.path.abspath(__file__))
 EXAMPLES = os.path.normpath(os.path.join(HERE, "..", "examples"))
+# Where a folder is in memory, or None if there is no such place: then it is where the system makes its own.
+IN_MEMORY = "/dev/shm" if os.path.isdir("/dev/shm") else None
 MOST_CONNECTIONS = 1_000_000
 # How many seconds a peer waits for a reply, and a server for its port.
 PATIENCE = 30
