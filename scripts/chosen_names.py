@@ -22,7 +22,7 @@ def state_of(desk):
 
 
 def places_for(count):
-    """How many places a table has that was made for so many names."""
+    """How many places a table for this many names has."""
     places = 1
     while NAMES_OF_A_PLACE * places < count:
         places *= 2
@@ -30,7 +30,8 @@ def places_for(count):
 
 
 def chosen(desk, count):
-    """So many numbers of drafts of a desk, in rising order, by which all of them come to the first 64th of the places, or to the first one."""
+    """This many numbers of a desk's drafts, in rising order, that all come to the first 64th of the places of a table for them, or to its first
+    place."""
     state, multiplier, places = state_of(desk), MULTIPLIER ^ 8, places_for(count)
     mask, most = places - 1, max(1, places // SHARE)
     numbers, number = [], 0

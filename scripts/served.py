@@ -50,6 +50,18 @@ def files_of(example):
     return [os.path.join(EXAMPLES, example, name) for name in ("airport.toml", "types.csv")]
 
 
+def processor_time(process):
+    """The seconds of a processor that a process has taken since it began: those of all its threads, and of the system for them."""
+    # The clock of a process has this number.
+    return time.clock_gettime(~process.pid << 3 | 2)
+
+
+def peak_of(process):
+    """The most memory that the process has had resident, in kB."""
+    with open(f"/proc/{process.pid}/status") as lines:
+        return next(int(line.split()[1]) for line in lines if line.startswith("VmHWM:"))
+
+
 def end_when_told():
     """Has a SIGTERM end this script as an exit does, so that the server that it started is ended too."""
     signal.signal(signal.SIGTERM, lambda *_: sys.exit(128 + signal.SIGTERM))
