@@ -14,6 +14,7 @@ use Rattle.apron_base.proofs.Sorting.{listed_first, listed_later}
 use Rattle.clash_check.specs.Indexed.{all_slots, slots_at}
 use Rattle.clash_check.proofs.Looked.{of_stand}
 use Rattle.stand_index.specs.Slots.{AddsSlot, AreSlotsAt, HasMinutes, IsIndex, KeepsOrder, KeepsOtherStands, KeepsSlots, RemovesPart, StandSlots, actual_with, at_stand, insert_by_start, is_of_part, no_slots, planned_with}
+use Rattle.stand_index.proofs.Order.{insert_by_start_permutes}
 use Rattle.stand_index.proofs.Stands.{stand_with_room, stand_with_slot, stand_without_part}
 use Rattle.plan_core.specs.Indexing.{KeepsRoom, is_off}
 use Rattle.plan_core.specs.PlanState.{is_on}
@@ -110,22 +111,14 @@ pub room_both : (first second third : List StandSlots) → KeepsRoom first secon
 room_both first second third h k = record { stands = k.stands ∙ h.stands; spare = λ stand. omega (arith, h.spare stand, k.spare stand) }
 
 -- one more slot of a stand
-insert_permutes : (slot : Slot) (xs : List Slot) → IsPermutation (slot ∷ xs) (insert_by_start slot xs)
-insert_permutes slot [] = IsPermutation-refl (slot ∷ [])
-insert_permutes slot (x ∷ xs) = by (nat_le slot.from x.from) (insert_permutes slot xs)
-  where
-    by : (b : Bool) → IsPermutation (slot ∷ xs) (insert_by_start slot xs) → IsPermutation (slot ∷ x ∷ xs) (if b then slot ∷ x ∷ xs else x ∷ insert_by_start slot xs)
-    by true rest = IsPermutation-refl (slot ∷ x ∷ xs)
-    by false rest =
-        IsPermutation-trans (slot ∷ x ∷ xs) (x ∷ slot ∷ xs) (x ∷ insert_by_start slot xs) (IsPermutation-middle (slot ∷ []) x xs)
-        (IsPermutation-cons x (slot ∷ xs) (insert_by_start slot xs) rest)
-
 added_permutes : (slot : Slot) (planned actual : List Slot) (b : Bool)
-    → IsPermutation (slot ∷ (planned ++ actual)) ((if b then planned else insert_by_start slot planned) ++ (if b then actual ++ slot ∷ [] else actual))
+    → IsPermutation (slot ∷ (planned ++ actual)) ((if b then planned else insert_by_start slot planned) ++ (if b then insert_by_start slot actual else actual))
 added_permutes slot planned actual true =
-    subst (IsPermutation (slot ∷ (planned ++ actual))) (append_assoc planned actual (slot ∷ [])) (IsPermutation-append_comm (slot ∷ []) (planned ++ actual))
+    IsPermutation-trans (slot ∷ (planned ++ actual)) (planned ++ slot ∷ actual) (planned ++ insert_by_start slot actual)
+    (IsPermutation-sym (planned ++ slot ∷ actual) (slot ∷ (planned ++ actual)) (IsPermutation-middle planned slot actual))
+    (IsPermutation-append planned planned (slot ∷ actual) (insert_by_start slot actual) (IsPermutation-refl planned) (insert_by_start_permutes slot actual))
 added_permutes slot planned actual false =
-    IsPermutation-append (slot ∷ planned) (insert_by_start slot planned) actual actual (insert_permutes slot planned) (IsPermutation-refl actual)
+    IsPermutation-append (slot ∷ planned) (insert_by_start slot planned) actual actual (insert_by_start_permutes slot planned) (IsPermutation-refl actual)
 
 slot_permutes : (slot : Slot) (before after : StandSlots) → AddsSlot before after slot → IsPermutation (slot ∷ slots_at before) (slots_at after)
 slot_permutes slot before after added =

@@ -4,7 +4,7 @@ use Rattle.std.specs.Prelude.{◌≢◌, All, AllPairs, Contains, IsPermutation,
 use Rattle.std.proofs.lemmas.Bool.Decides.{nat_tests}
 use Rattle.std.proofs.lemmas.List.{ext_get_or, get_or-take, get_or_default, length-take}
 use Rattle.std.proofs.lemmas.List.Elements.{All-contains, Contains-append_left, Contains-get_or}
-use Rattle.std.proofs.lemmas.List.Sorted.{All-permutation, Contains-permutation, IsPermutation-append_comm, IsPermutation-append_left, IsPermutation-append_right, IsPermutation-refl, IsPermutation-sym, IsPermutation-trans, sum_by-IsPermutation}
+use Rattle.std.proofs.lemmas.List.Sorted.{All-permutation, Contains-permutation, IsPermutation-append_comm, IsPermutation-append_left, IsPermutation-append_right, IsPermutation-middle, IsPermutation-refl, IsPermutation-sym, IsPermutation-trans, sum_by-IsPermutation}
 use Rattle.std.proofs.lemmas.List.Sums.{sum_by-cons}
 use Rattle.apron_base.specs.declared.numbers.PartId.{PartId}
 use Rattle.apron_base.specs.declared.slot.Slot.{Slot}
@@ -13,20 +13,10 @@ use Rattle.apron_rules.specs.declared.parts.AirportParts.{AirportParts}
 use Rattle.apron_rules.specs.Clash.{IsSlotOf, IsSound}
 use Rattle.apron_rules.proofs.Bordering.{filter_passed}
 use Rattle.stand_index.specs.Slots.{AddsSlot, HasNoSlots, IsEarlier, KeepsOrder, KeepsOtherStands, KeepsSlots, StandSlots, actual_with, at_stand, insert_by_start, is_of_part, no_slots, planned_with}
+use Rattle.stand_index.proofs.Order.{insert_by_start_permutes}
 use Rattle.clash_check.specs.Clear.{HasPartsOnce, IsClear, is_of_other, others_of}
 use Rattle.clash_check.specs.Indexed.{all_slots, slots_at}
 use Rattle.clash_check.proofs.Looked.{of_index}
-
-inserted : (slot : Slot) (xs : List Slot) → IsPermutation (slot ∷ xs) (insert_by_start slot xs)
-inserted slot [] = IsPermutation-refl (slot ∷ [])
-inserted slot (x ∷ xs) = cases (inserted slot xs) (nat_le slot.from x.from)
-  where
-    cases : IsPermutation (slot ∷ xs) (insert_by_start slot xs) → (b : Bool) → IsPermutation (slot ∷ x ∷ xs) (cond b (slot ∷ x ∷ xs) (x ∷ insert_by_start slot xs))
-    cases rest true = IsPermutation-refl (slot ∷ x ∷ xs)
-    cases rest false =
-        IsPermutation-trans (slot ∷ x ∷ xs) (x ∷ slot ∷ xs) (x ∷ insert_by_start slot xs)
-        (IsPermutation-append_left xs (slot ∷ x ∷ []) (x ∷ slot ∷ []) (IsPermutation-append_comm (slot ∷ []) (x ∷ [])))
-        (IsPermutation-append_right (x ∷ []) (slot ∷ xs) (insert_by_start slot xs) rest)
 
 -- a stand with one more slot
 with_slot : (before after : StandSlots) (slot : Slot) → after.planned ≡ planned_with slot before.planned → after.actual ≡ actual_with slot before.actual → IsPermutation (slot ∷ slots_at before) (slots_at after)
@@ -34,9 +24,12 @@ with_slot before after slot planned actual =
     subst (λ (xs : List Slot). IsPermutation (slot ∷ slots_at before) (xs ++ after.actual)) (sym planned)
     (subst (λ (ys : List Slot). IsPermutation (slot ∷ slots_at before) (planned_with slot before.planned ++ ys)) (sym actual) (cases slot.actual))
   where
-    cases : (b : Bool) → IsPermutation (slot ∷ slots_at before) (cond b before.planned (insert_by_start slot before.planned) ++ cond b (before.actual ++ slot ∷ []) before.actual)
-    cases true = subst (IsPermutation (slot ∷ slots_at before)) (append_assoc before.planned before.actual (slot ∷ [])) (IsPermutation-append_comm (slot ∷ []) (slots_at before))
-    cases false = IsPermutation-append_left before.actual (slot ∷ before.planned) (insert_by_start slot before.planned) (inserted slot before.planned)
+    cases : (b : Bool) → IsPermutation (slot ∷ slots_at before) (cond b before.planned (insert_by_start slot before.planned) ++ cond b (insert_by_start slot before.actual) before.actual)
+    cases true =
+        IsPermutation-trans (slot ∷ slots_at before) (before.planned ++ slot ∷ before.actual) (before.planned ++ insert_by_start slot before.actual)
+        (IsPermutation-sym (before.planned ++ slot ∷ before.actual) (slot ∷ slots_at before) (IsPermutation-middle before.planned slot before.actual))
+        (IsPermutation-append_right before.planned (slot ∷ before.actual) (insert_by_start slot before.actual) (insert_by_start_permutes slot before.actual))
+    cases false = IsPermutation-append_left before.actual (slot ∷ before.planned) (insert_by_start slot before.planned) (insert_by_start_permutes slot before.planned)
 
 -- an index with one more slot at one stand
 with_stand : (slot : Slot) (n : ℕ) (before after : List StandSlots) → n < length before → length after ≡ length before

@@ -1,9 +1,9 @@
 -- One stand of an index.
-use Rattle.std.proofs.Common.{◌≡◌, ◌∙◌, ◌<◌, ◌⊎◌, inl, inr, ℕ, Bool, true, false, List, [], ◌∷◌, ◌++◌, length, get_or, set, refl, sym, ap, arith, subst, get_or-set_same, get_or-set_other, length-set}
+use Rattle.std.proofs.Common.{◌≡◌, ◌∙◌, ◌<◌, ◌⊎◌, inl, inr, ℕ, Bool, true, false, List, length, get_or, set, refl, sym, ap, arith, subst, get_or-set_same, get_or-set_other, length-set}
 use Rattle.std.specs.Prelude.{All, AllPairs, not}
 use Rattle.std.proofs.lemmas.Bool.{cases_eq, cases_lt}
 use Rattle.std.proofs.lemmas.List.{get_or_read, get_or_past}
-use Rattle.std.proofs.lemmas.List.Elements.{All-filter, All-push, All-nil}
+use Rattle.std.proofs.lemmas.List.Elements.{All-filter, All-nil}
 use Rattle.std.proofs.lemmas.List.Kept.{AllPairs-filter}
 use Rattle.apron_base.specs.declared.numbers.PartId.{PartId}
 use Rattle.apron_base.specs.declared.numbers.StandNo.{StandNo}
@@ -43,10 +43,10 @@ added_by : (stand : StandNo) (slot : Slot) (planned actual : List Slot) (b : Boo
     → AllPairs IsEarlier new_planned × All (IsSlotAt stand false) new_planned × All (IsSlotAt stand true) new_actual
 added_by stand slot planned actual true kind at minutes rise each each_actual order new_planned new_actual e e_actual =
     let same : new_planned ≡ planned = e ∙ (rw kind refl) in
-    let grown : new_actual ≡ actual ++ slot ∷ [] = e_actual ∙ (rw kind refl) in (
+    let grown : new_actual ≡ insert_by_start slot actual = e_actual ∙ (rw kind refl) in (
       subst (AllPairs IsEarlier) (sym same) rise,
       subst (All (IsSlotAt stand false)) (sym same) each,
-      subst (All (IsSlotAt stand true)) (sym grown) (All-push (IsSlotAt stand true) actual slot each_actual (record { stand = at; kind = kind; minutes = minutes })),
+      subst (All (IsSlotAt stand true)) (sym grown) (All-insert_by_start (IsSlotAt stand true) slot actual (record { stand = at; kind = kind; minutes = minutes }) each_actual),
     )
 added_by stand slot planned actual false kind at minutes rise each each_actual order new_planned new_actual e e_actual =
     let grown : new_planned ≡ insert_by_start slot planned = e ∙ (rw kind refl) in

@@ -1,8 +1,14 @@
 -- The slots of each stand, and what calls change of them.
-use Rattle.std.specs.Prelude.{◌≡◌, ◌≢◌, ◌<◌, ◌≤◌, ◌+◌, ◌⊎◌, ◌==◌, ◌&&◌, ℕ, Bool, true, false, not, min, max, nat_lt, nat_le, List, [], ◌∷◌, ◌++◌, length, filter, All, AllPairs, slice_index_or, if◌then◌else◌}
+use Rattle.std.specs.Prelude.{◌≡◌, ◌≢◌, ◌<◌, ◌≤◌, ◌+◌, ◌⊎◌, ◌==◌, ◌&&◌, ℕ, Bool, true, false, not, min, max, nat_lt, List, [], ◌∷◌, ◌++◌, length, filter, All, AllPairs, slice_index_or, if◌then◌else◌}
+use Rattle.std.specs.List.Sorted.{IsNonDecreasingBy}
 use Rattle.apron_base.specs.declared.numbers.PartId.{PartId}
 use Rattle.apron_base.specs.declared.numbers.StandNo.{StandNo}
 use Rattle.apron_base.specs.declared.slot.Slot.{Slot}
+
+-- slots of one kind on one stand, and how many more there is room for
+pub record SlotsWithRoom : Type 0 where
+  pub slots : List Slot
+  pub spare : ℕ
 
 -- the slots of one stand, and how many more it has room for, whatever their kind
 pub record StandSlots : Type 0 where
@@ -54,18 +60,26 @@ is_hit from end slot = nat_lt (max from slot.from) (min end slot.end)
 abbrev pub hits_of : StandSlots → ℕ → ℕ → List Slot
 hits_of slots from end = filter (is_hit from end) slots.planned ++ filter (is_hit from end) slots.actual
 
--- the slots with one more, before the first that doesn't start earlier
+-- no slot starts earlier than one before it
+abbrev pub IsByStart : List Slot → Type 0
+IsByStart slots = IsNonDecreasingBy (λ slot. slot.from) slots
+
+-- the second slot starts earlier than the first
+abbrev pub starts_earlier : Slot → Slot → Bool
+starts_earlier slot other = nat_lt other.from slot.from
+
+-- the slots that start earlier, then the slot, then the others
 abbrev pub insert_by_start : Slot → List Slot → List Slot
-insert_by_start slot [] = slot ∷ []
-insert_by_start slot (first ∷ others) = if nat_le slot.from first.from then slot ∷ first ∷ others else first ∷ insert_by_start slot others
+insert_by_start slot slots =
+    filter (starts_earlier slot) slots ++ slot ∷ filter (λ other. not (starts_earlier slot other)) slots
 
 -- the planned slots with one more, if it is planned
 abbrev pub planned_with : Slot → List Slot → List Slot
 planned_with slot planned = if slot.actual then planned else insert_by_start slot planned
 
--- the actual slots with one more, if it is actual: it comes last
+-- the actual slots with one more, if it is actual
 abbrev pub actual_with : Slot → List Slot → List Slot
-actual_with slot actual = if slot.actual then actual ++ slot ∷ [] else actual
+actual_with slot actual = if slot.actual then insert_by_start slot actual else actual
 
 -- each planned slot is earlier or later than this one, if this one is planned
 abbrev pub KeepsOrder : Slot → StandSlots → Type 0

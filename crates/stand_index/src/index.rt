@@ -10,8 +10,8 @@ use std::marker::Model;
 use std::sync::ledger::Ledger;
 
 /// The slots of each stand. Contracts see of each stand its planned slots, whose starts and ends
-/// both rise strictly; its actual slots, in the order in which they came; and how many more of
-/// either kind can be added without taking memory.
+/// both rise strictly; its actual slots, by their start; and how many more of either kind can be
+/// added without taking memory.
 #[derive(Debug, Drop)]
 pub struct StandIndex {
     stands: Vec<OneStand>,
@@ -60,8 +60,7 @@ impl StandIndex {
         self.stands[stand.0 as usize].reserve(more as usize)
     }
 
-    /// Adds a slot to its stand: a planned one by its start, an actual one last. It takes no
-    /// memory.
+    /// Adds a slot to its stand, by its start among those of its kind. It takes no memory.
     pub fn insert(&mut self, slot: Slot)
         requires stand { slot.stand.0 < length self.old }
         requires spare { 1 ≤ (at_stand self.old slot.stand).spare }
@@ -84,7 +83,7 @@ impl StandIndex {
     }
 
     /// The slots of a stand that have a minute in `from <= m < end`: the planned ones by their
-    /// start, then the actual ones as they came. Each slot that is looked at is a step. The only
+    /// start, then the actual ones by theirs. Each slot that is looked at is a step. The only
     /// error is a lack of memory.
     pub fn hits<L: Ledger>(
         &self,

@@ -5,5 +5,6 @@
 mod index;
 mod one_stand;
 mod search;
+mod slot_list;
 
 pub use index::StandIndex;

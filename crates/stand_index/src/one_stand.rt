@@ -1,32 +1,33 @@
 // The slots of one stand.
-ghost use Rattle.std.specs.Prelude.{◌≡◌, ◌≤◌, ◌<◌, ◌+◌, All, AllPairs, IfOk, OnOk, vec_len, vec_capacity};
-ghost use Rattle.stand_index.specs.Slots.{AddsSlot, HasMinutes, HasNoSlots, IsEarlier, KeepsSlots, RemovesPart, hits_of, insert_by_start, is_of_part, remove_part};
+ghost use Rattle.std.specs.Prelude.{◌≡◌, ◌≤◌, ◌+◌, All, AllPairs, IfOk, OnOk};
+ghost use Rattle.stand_index.specs.Slots.{AddsSlot, HasMinutes, HasNoSlots, IsEarlier, KeepsSlots, RemovesPart, hits_of};
 ghost use Rattle.stand_index.specs.Steps.{most_steps};
 
 use crate::search::{hits_of_rising, push_hits};
+use crate::slot_list::SlotList;
 use apron_base::{Memory, Minute, PartId, Slot, Steps};
 use std::alloc::Global;
 use std::marker::Model;
 use std::sync::ledger::Ledger;
 
-/// Slots of one stand: the planned ones by their start, the actual ones as they came. Contracts
-/// also see how many more of either kind can be added without taking memory.
+/// Slots of one stand, planned and actual ones, each by their start. Contracts also see how many
+/// more of either kind can be added without taking memory.
 #[derive(Debug, Drop)]
 pub(crate) struct OneStand {
-    planned: Vec<Slot>,
-    actual: Vec<Slot>,
+    planned: SlotList,
+    actual: SlotList,
 }
 
 impl Model for OneStand {
-    ghost use Rattle.std.specs.Prelude.{◌-◌, min, vec_capacity, vec_len};
+    ghost use Rattle.std.specs.Prelude.{min};
     ghost use Rattle.stand_index.specs.Slots.{StandSlots};
 
     ghost Value = { StandSlots };
 
     ghost view = { λ slots. record {
-      planned = slots.planned.items;
-      actual = slots.actual.items;
-      spare = min (vec_capacity slots.planned - vec_len slots.planned) (vec_capacity slots.actual - vec_len slots.actual);
+      planned = slots.planned.slots;
+      actual = slots.actual.slots;
+      spare = min slots.planned.spare slots.actual.spare;
     } };
 }
 
@@ -36,8 +37,8 @@ impl OneStand {
         ensures none { HasNoSlots result }
     {
         OneStand {
-            planned: Vec::new(alloc),
-            actual: Vec::new(alloc),
+            planned: SlotList::new(alloc),
+            actual: SlotList::new(alloc),
         }
     }
 
@@ -54,13 +55,12 @@ impl OneStand {
     /// Adds a slot. It takes no memory.
     pub(crate) fn insert(&mut self, slot: Slot)
         requires spare { 1 ≤ self.old.spare }
-        requires rise { AllPairs IsEarlier self.old.planned }
         ensures slots { AddsSlot self.old self.new slot }
     {
         if slot.actual {
-            self.actual.push_reserved(slot);
+            self.actual.insert(slot);
         } else {
-            insert_by_start(&mut self.planned, slot);
+            self.planned.insert(slot);
         }
     }
 
@@ -68,8 +68,8 @@ impl OneStand {
     pub(crate) fn remove(&mut self, part: PartId)
         ensures slots { RemovesPart self.old self.new part }
     {
-        remove_part(&mut self.planned, part);
-        remove_part(&mut self.actual, part);
+        self.planned.remove(part);
+        self.actual.remove(part);
     }
 
     /// The slots that have a minute in `from <= m < end`, the planned ones first.
@@ -89,32 +89,4 @@ impl OneStand {
         push_hits(&mut hits, &self.actual, from, end, steps)?;
         Ok(hits)
     }
-}
-
-// Puts a slot before the first that doesn't start earlier. There is room for it.
-fn insert_by_start(slots: &mut Vec<Slot>, slot: Slot)
-    requires room { vec_len slots.old < vec_capacity slots.old }
-    requires rise { AllPairs IsEarlier slots.old.items }
-    ensures items { slots.new.items ≡ insert_by_start slot slots.old.items }
-    ensures len { vec_len slots.new ≡ vec_len slots.old + 1 }
-    ensures capacity { vec_capacity slots.new ≡ vec_capacity slots.old }
-{
-    let place = slots.partition_point(|other| other.from < slot.from);
-    let put: Result<_, _> = slots.insert(place, slot);
-    let _ = put.unwrap();
-}
-
-// Removes the slots of a part, and leaves the others in their order.
-fn remove_part(slots: &mut Vec<Slot>, part: PartId)
-    ensures items { slots.new.items ≡ remove_part part slots.old.items }
-    ensures len { vec_len slots.new ≤ vec_len slots.old }
-    ensures capacity { vec_capacity slots.new ≡ vec_capacity slots.old }
-{
-    slots.retain(|slot| !is_of_part(part, slot));
-}
-
-fn is_of_part(part: PartId, slot: &Slot) -> bool
-    ensures is { result ≡ is_of_part part slot.now }
-{
-    slot.part == part
 }

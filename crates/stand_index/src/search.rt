@@ -1,9 +1,11 @@
 // Finding the slots that have a minute of a range. Each slot that is looked at is a step.
-ghost use Rattle.std.specs.Prelude.{◌≡◌, ◌≤◌, ◌<◌, ◌+◌, ◌++◌, All, AllPairs, IfOk, OnOk, filter, length};
+ghost use Rattle.std.specs.Prelude.{◌≡◌, ◌≤◌, ◌<◌, ◌+◌, ◌*◌, ◌++◌, ◌∷◌, [], All, AllPairs, IfOk, OnOk, filter, length};
 ghost use Rattle.std.specs.List.{AllWithin};
+ghost use Rattle.stand_index.specs.Blocks.{block, count_blocks};
 ghost use Rattle.stand_index.specs.Slots.{HasMinutes, IsEarlier, is_hit};
-ghost use Rattle.stand_index.specs.Steps.{binary_digits};
+ghost use Rattle.stand_index.specs.Steps.{binary_digits, block_steps, blocks_steps};
 
+use crate::slot_list::{BLOCK, SlotList};
 use apron_base::{Memory, Minute, Slot, Steps};
 use std::alloc::Global;
 use std::sync::ledger::Ledger;
@@ -11,42 +13,41 @@ use std::sync::ledger::Ledger;
 /// The slots that have a minute in `from <= m < end`, out of slots whose starts and ends rise.
 pub(crate) fn hits_of_rising<L: Ledger>(
     alloc: Global,
-    slots: &[Slot],
+    slots: &SlotList,
     from: Minute,
     end: Minute,
     steps: &mut Steps<L>,
 ) -> Result<Vec<Slot>, Memory>
-    requires rise { AllPairs IsEarlier slots.now }
-    requires minutes { All HasMinutes slots.now }
-    ensures hits { IfOk result (λ hits. hits.items ≡ filter (is_hit from end) slots.now) }
-    ensures steps { steps.new ≤ steps.old + binary_digits (length slots.now) + 1 + length (filter (is_hit from end) slots.now) }
+    requires rise { AllPairs IsEarlier slots.now.slots }
+    requires minutes { All HasMinutes slots.now.slots }
+    ensures hits { IfOk result (λ hits. hits.items ≡ filter (is_hit from end) slots.now.slots) }
+    ensures steps { steps.new ≤ steps.old + binary_digits (length slots.now.slots) + 1 + length (filter (is_hit from end) slots.now.slots) }
 {
     let mut hits = Vec::new(alloc);
     let first = count_ended(slots, from, steps);
     for index in first..slots.len() {
-        steps.tick();
-        if !is_hit(from, end, &slots[index]) {
+        let slot = slots.read(index, steps);
+        if !is_hit(from, end, &slot) {
             return Ok(hits);
         }
-        hits.push(slots[index])?;
+        hits.push(slot)?;
     }
     Ok(hits)
 }
 
 // How many of the slots have ended when this minute begins, by halving.
-fn count_ended<L: Ledger>(slots: &[Slot], minute: Minute, steps: &mut Steps<L>) -> usize
-    requires rise { AllPairs IsEarlier slots.now }
-    ensures inside { result ≤ length slots.now }
-    ensures before { AllWithin (λ slot. slot.end ≤ minute) slots.now 0 result }
-    ensures after { AllWithin (λ slot. minute < slot.end) slots.now result (length slots.now) }
-    ensures steps { steps.new ≤ steps.old + binary_digits (length slots.now) }
+fn count_ended<L: Ledger>(slots: &SlotList, minute: Minute, steps: &mut Steps<L>) -> usize
+    requires rise { AllPairs IsEarlier slots.now.slots }
+    ensures inside { result ≤ length slots.now.slots }
+    ensures before { AllWithin (λ slot. slot.end ≤ minute) slots.now.slots 0 result }
+    ensures after { AllWithin (λ slot. minute < slot.end) slots.now.slots result (length slots.now.slots) }
+    ensures steps { steps.new ≤ steps.old + binary_digits (length slots.now.slots) }
 {
     let mut low = 0;
     let mut high = slots.len();
     while low < high {
-        steps.tick();
         let middle = low + (high - low) / 2;
-        if slots[middle].end <= minute {
+        if slots.read(middle, steps).end <= minute {
             low = middle + 1;
         } else {
             high = middle;
@@ -55,22 +56,54 @@ fn count_ended<L: Ledger>(slots: &[Slot], minute: Minute, steps: &mut Steps<L>) 
     low
 }
 
-/// Adds at the end the slots that have a minute in `from <= m < end`.
+/// Adds at the end the slots that have a minute in `from <= m < end`. It passes over the blocks
+/// that are not reached.
 pub(crate) fn push_hits<L: Ledger>(
     hits: &mut Vec<Slot>,
-    slots: &[Slot],
+    slots: &SlotList,
     from: Minute,
     end: Minute,
     steps: &mut Steps<L>,
 ) -> Result<(), Memory>
-    ensures hits { OnOk result (hits.new.items ≡ hits.old.items ++ filter (is_hit from end) slots.now) }
-    ensures steps { steps.new ≤ steps.old + length slots.now }
+    ensures hits { OnOk result (hits.new.items ≡ hits.old.items ++ filter (is_hit from end) slots.now.slots) }
+    ensures steps { steps.new ≤ steps.old + blocks_steps from end slots.now.slots (count_blocks slots.now.slots) }
 {
-    for slot in slots {
-        steps.tick();
-        if is_hit(from, end, slot) {
-            hits.push(*slot)?;
-        }
+    for number in 0..slots.blocks() {
+        push_block_hits(hits, slots, number, from, end, steps)?;
+    }
+    Ok(())
+}
+
+// Adds at the end those of one block.
+fn push_block_hits<L: Ledger>(
+    hits: &mut Vec<Slot>,
+    slots: &SlotList,
+    number: usize,
+    from: Minute,
+    end: Minute,
+    steps: &mut Steps<L>,
+) -> Result<(), Memory>
+    requires inside { number * 64 < length slots.now.slots }
+    ensures hits { OnOk result (hits.new.items ≡ hits.old.items ++ filter (is_hit from end) (block slots.now.slots number)) }
+    ensures steps { steps.new ≤ steps.old + block_steps from end (block slots.now.slots number) }
+{
+    if !slots.is_reached(number, from, end, steps) {
+        return Ok(());
+    }
+    let count = slots.len();
+    let first = number * BLOCK;
+    for place in 0..(count - first).min(BLOCK) {
+        push_hit(hits, slots.read(first + place, steps), from, end)?;
+    }
+    Ok(())
+}
+
+// Adds the slot at the end, if it has a minute in `from <= m < end`.
+fn push_hit(hits: &mut Vec<Slot>, slot: Slot, from: Minute, end: Minute) -> Result<(), Memory>
+    ensures hits { OnOk result (hits.new.items ≡ hits.old.items ++ filter (is_hit from end) (slot ∷ [])) }
+{
+    if is_hit(from, end, &slot) {
+        hits.push(slot)?;
     }
     Ok(())
 }

@@ -3,11 +3,6 @@ use Rattle.stand_index.specs.Slots.{StandSlots, AreSlotsAt, KeepsOrder, at_stand
 use Rattle.stand_index.proofs.Stands.{at_read, written_index, stand_with_slot}
 use Rattle.stand_index.proofs.index.StandIndex.insert.Goals as goal
 
-pub insert-requires-clause-rise : goal.insert-requires-clause-rise
-insert-requires-clause-rise c =
-    let at = at_read c.self.inside.stands.items c.args.slot.stand c.index_mut.result.now (search rules) c.index_mut.ensures.value in
-    (subst (AreSlotsAt c.args.slot.stand) at (c.self.invariant c.args.slot.stand)).rise
-
 pub invariant_of-self : goal.invariant_of-self
 invariant_of-self c =
     let inside = c.self.inside.stands.items in

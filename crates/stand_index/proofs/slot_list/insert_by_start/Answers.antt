@@ -1,12 +1,11 @@
 use Rattle.std.proofs.Common.{rules, ◌≡◌, ◌∙◌, ◌<◌, ◌≤◌, ℕ, List, true, false, sym, subst, arith, ltb, length, take, drop, ◌++◌, ◌∷◌}
-use Rattle.std.specs.Prelude.{AllPairs}
 use Rattle.std.specs.List.{AllWithin}
 use Rattle.std.proofs.lemmas.Bool.Decides.{nat_tests}
 use Rattle.std.proofs.lemmas.List.Sorted.{IsPartitionPoint-from_clause, IsPartitionedBy-ltb}
 use Rattle.apron_base.specs.declared.slot.Slot.{Slot}
-use Rattle.stand_index.specs.Slots.{IsEarlier}
-use Rattle.stand_index.proofs.Order.{insert_by_start_at, starts_rise}
-use Rattle.stand_index.proofs.one_stand.insert_by_start.Goals as goal
+use Rattle.stand_index.specs.Slots.{IsByStart}
+use Rattle.stand_index.proofs.Order.{insert_by_start_at}
+use Rattle.stand_index.proofs.slot_list.insert_by_start.Goals as goal
 
 started : (m n : ℕ) → ltb m n ≡ true → m < n
 started m n h = grind (arith, nat_tests)
@@ -19,8 +18,8 @@ returns-clause-items c =
     let xs = c.args.slots.now.items in
     let slot = c.args.slot in
     let same : c.deref.result.now ≡ xs = c.deref.ensures.value in
-    let rise : AllPairs IsEarlier c.deref.result.now = subst (AllPairs IsEarlier) (sym same) c.requires.rise in
-    let point = IsPartitionPoint-from_clause (λ (x : Slot). ltb x.from slot.from) _ _ c.partition_point-place.ensures.partitioned (IsPartitionedBy-ltb (λ (x : Slot). x.from) c.deref.result.now slot.from (starts_rise c.deref.result.now rise)) (λ a r q k. search rules) in
+    let order : IsByStart c.deref.result.now = subst IsByStart (sym same) c.requires.order in
+    let point = IsPartitionPoint-from_clause (λ (x : Slot). ltb x.from slot.from) _ _ c.partition_point-place.ensures.partitioned (IsPartitionedBy-ltb (λ (x : Slot). x.from) c.deref.result.now slot.from order) (λ a r q k. search rules) in
     let i = c.partition_point-place.result in
     let before : AllWithin (λ (other : Slot). other.from < slot.from) xs 0 i =
     subst (λ (ys : List Slot). AllWithin (λ (other : Slot). other.from < slot.from) ys 0 i) same (λ k d low high. started _ _ (point.0 k d low high)) in
