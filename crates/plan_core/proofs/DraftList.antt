@@ -1,10 +1,14 @@
 -- The drafts of a plan as one more is kept.
-use Rattle.std.proofs.Common.{◌≡◌, ◌<◌, ◌≤◌, ◌+◌, ◌++◌, ◌∙◌, ℕ, Bool, true, false, List, [], ◌∷◌, refl, arith, Option, None, Some, IfSome}
+use Rattle.std.proofs.Common.{◌≡◌, ◌<◌, ◌≤◌, ◌+◌, ◌++◌, ◌∙◌, ℕ, zero, suc, Bool, true, false, cond, List, [], ◌∷◌, length, take, ap, refl, subst, sym, arith, Option, None, Some, IfSome}
+use Rattle.std.specs.BTreeMap.{BTreeMap, get, is_at}
+use Rattle.std.specs.Prelude.{slice_get, slice_index_or}
+use Rattle.std.proofs.lemmas.List.{length_push, take-append-le, take_more}
+use Rattle.std.proofs.lemmas.Option.{slice_get_read}
 use Rattle.apron_base.specs.Histories.{Rises}
 use Rattle.plan_core.specs.declared.drafts.DraftId.{DraftId}
 use Rattle.plan_core.specs.declared.drafts.Drafted.{Drafted}
-use Rattle.plan_core.specs.Drafts.{AreDifferent, AreDraftsAt, draft_version, is_draft, version_of, with_draft}
-use Rattle.plan_core.proofs.DraftIndex.{draft_either_way, version_pushed}
+use Rattle.plan_core.specs.Drafts.{AreDifferent, AreDraftsAt, AreIndexed, IsIndexOf, compare_drafts, draft_version, is_draft, version_of, with_draft}
+use Rattle.plan_core.proofs.DraftIndex.{draft_either_way, index_pushed, version_pushed}
 
 -- a later end
 rises_up : (low high up : ℕ) (drafts : List Drafted) → high ≤ up → Rises version_of low high drafts → Rises version_of low up drafts
@@ -32,6 +36,48 @@ different_push (d ∷ drafts) last new h =
       rw (version_pushed drafts last d.id.desk d.id.number false other (λ never. absurd (cc))) h.0,
       different_push drafts last first.1 h.1,
     )
+
+-- a draft is none that comes before it
+other_than : (drafts : List Drafted) (i : ℕ) (last : Drafted) (desk : List ℕ) (number : ℕ) → draft_version drafts desk number ≡ None
+    → slice_get drafts i ≡ Some last → is_draft desk number last.id ≡ false
+other_than [] i last desk number none at = absurd (cc)
+other_than (d ∷ drafts) zero last desk number none at =
+    let same : d ≡ last = cc in
+    subst (λ (e : Drafted). is_draft desk number e.id ≡ false) same (not_first d drafts desk number (is_draft desk number d.id) refl none).0
+other_than (d ∷ drafts) (suc i) last desk number none at =
+    other_than drafts i last desk number (not_first d drafts desk number (is_draft desk number d.id) refl none).1 at
+
+new_there : (drafts : List Drafted) (i : ℕ) (last : Drafted) → AreDifferent drafts → slice_get drafts i ≡ Some last
+    → draft_version (take i drafts) last.id.desk last.id.number ≡ None
+new_there [] i last h at = absurd (cc)
+new_there (d ∷ drafts) zero last h at = refl
+new_there (d ∷ drafts) (suc i) last h at =
+    let other : is_draft last.id.desk last.id.number d.id ≡ false =
+    draft_either_way last.id.desk d.id.desk last.id.number d.id.number ∙ other_than drafts i last d.id.desk d.id.number h.0 at in
+    rw other (new_there drafts i last h.1 at)
+
+-- the index with one more draft
+pub indexed_more : (old new : BTreeMap DraftId ℕ) (drafts : List Drafted) (i : ℕ) (last : Drafted) → AreIndexed old i drafts → i < length drafts
+    → last ≡ slice_index_or drafts i last
+    → ((id : DraftId) → get compare_drafts new id ≡ cond (is_at (compare_drafts last.id) id) (Some last.version) (get compare_drafts old id))
+    → AreIndexed new (i + 1) drafts
+indexed_more old new drafts i last h within is puts =
+    let next : take (i + 1) drafts ≡ take i drafts ++ last ∷ [] = take_more drafts i last within ∙ ap (λ (d : Drafted). take i drafts ++ d ∷ []) (sym is) in
+    record {
+      different = h.different;
+      few = omega arith;
+      index = subst (IsIndexOf new) (sym next) (index_pushed old new (take i drafts) last h.index
+          (new_there drafts i last h.different (slice_get_read drafts (length drafts) i last refl within is)) puts);
+    }
+
+-- a draft that comes last and is not in the index
+pub indexed_push : (versions : BTreeMap DraftId ℕ) (indexed : ℕ) (drafts : List Drafted) (last : Drafted) → AreIndexed versions indexed drafts
+    → draft_version drafts last.id.desk last.id.number ≡ None → AreIndexed versions indexed (drafts ++ last ∷ [])
+indexed_push versions indexed drafts last h new = record {
+  different = different_push drafts last new h.different;
+  few = omega (arith, h.few, length_push drafts last);
+  index = subst (IsIndexOf versions) (sym (take-append-le indexed drafts (last ∷ []) h.few)) h.index;
+}
 
 -- the drafts of the next version, with one more or not
 pub drafts_kept : (version next : ℕ) (drafts : List Drafted) (draft : Option DraftId) → next ≡ version + 1

@@ -1,17 +1,21 @@
 -- The places of names as visits are put in.
-use Rattle.std.proofs.Common.{◌≡◌, ◌≤◌, ◌+◌, ◌==◌, ◌∙◌, ℕ, zero, suc, Bool, true, false, cond, List, [], ◌∷◌, ◌++◌, arith, ap, length, length-set, refl, subst, sym, Option, None, Some}
+use Rattle.std.proofs.Common.{◌≡◌, ◌≤◌, ◌<◌, ◌+◌, ◌==◌, ◌∙◌, ℕ, zero, suc, Bool, true, false, cond, not, List, [], ◌∷◌, ◌++◌, arith, ap, drop, length, length-set, length-take, refl, subst, sym, take, Option, None, Some}
 use Rattle.std.specs.Prelude.{nat_lt, position, slice_get, slice_index_or, slice_set}
-use Rattle.std.specs.Cmp.Lexicographic.{bytes_decides, nat_list_eq_equiv}
-use Rattle.std.specs.HashMap.{HashMap, get_by}
+use Rattle.std.specs.BTreeMap.{BTreeMap, get, is_at}
+use Rattle.std.specs.Cmp.Lexicographic.{bytes_decides, nat_list_eq_equiv, slice_cmp, texts_ties}
 use Rattle.std.specs.List.{position_or_len}
 use Rattle.std.specs.Option.{option_or}
+use Rattle.std.specs.Ordering.{nat_cmp}
 use Rattle.std.specs.Str.{bytes_eq}
 use Rattle.std.proofs.lemmas.Bool.Decides.{nat_tests}
-use Rattle.std.proofs.lemmas.List.{length_push}
-use Rattle.std.proofs.lemmas.List.Folds.{find_at, position_or_len-set, position_or_len_push}
+use Rattle.std.proofs.lemmas.List.{get_or-take, length_push, length-take-le, take-append-drop, take-append-le, take_more}
+use Rattle.std.proofs.lemmas.List.Folds.{find-append, find_at, position_or_len_push}
 use Rattle.std.proofs.lemmas.List.Sums.{prefix_len-le-length}
+use Rattle.std.proofs.lemmas.Option.{slice_get_read}
 use Rattle.visit_book.specs.declared.visits.Visit.{Visit}
 use Rattle.plan_core.specs.Names.{HaveDifferentNames, has_name, visit_named}
+use Rattle.plan_core.specs.Visits.{AreNamed}
+use Rattle.plan_core.proofs.ByNumber.{found_by, not_found_by}
 
 -- whether two names are the same does not depend on their order
 name_either_way : (a b : List ℕ) → bytes_eq a b ≡ bytes_eq b a
@@ -59,19 +63,6 @@ different_push (x ∷ visits) last new h =
     let first = found_then (has_name last.name x) x (visit_named visits last.name) new in
     (unnamed_push x.name visits last h.0 (name_either_way x.name last.name ∙ first.0), different_push visits last first.1 h.1)
 
-found_there : (visits : List Visit) (i : ℕ) (old : Visit) → slice_get visits i ≡ Some old → slice_index_or visits i old ≡ old
-found_there [] i old at = absurd (cc)
-found_there (x ∷ visits) zero old at = cc
-found_there (x ∷ visits) (suc i) old at = found_there visits i old at
-
--- the place of a name stays after a visit is replaced by one of its name
-pub place_set : (name : List ℕ) (visits : List Visit) (i : ℕ) (old new : Visit) → slice_get visits i ≡ Some old → new.name ≡ old.name
-    → position (has_name name) (slice_set visits i new) ≡ position (has_name name) visits
-place_set name visits i old new at same =
-    let alike : has_name name new ≡ has_name name (slice_index_or visits i old) =
-    ap (bytes_eq name) (same ∙ ap (λ (v : Visit). v.name) (sym (found_there visits i old at))) in
-    rw (position_or_len-set (has_name name) visits i new old alike, length-set visits i new) refl
-
 push_by : (b : Bool) (k n : ℕ) → k ≤ n
     → cond (nat_lt (cond (k == n) (n + cond b 0 1) k) (n + 1)) (Some (cond (k == n) (n + cond b 0 1) k)) None ≡ option_or (cond (nat_lt k n) (Some k) None) (cond b (Some n) None)
 push_by true k n h = grind (arith, nat_tests)
@@ -106,13 +97,101 @@ unplaced name visits none =
     rw test refl
 
 -- a map with one more place is the index of the visits with one more
-pub index_push : {S : Type 0} (old new : HashMap (List ℕ) ℕ S) (visits : List Visit) (last : Visit)
-    → ((name : List ℕ) → get_by (bytes_eq name) old ≡ position (has_name name) visits) → visit_named visits last.name ≡ None
-    → ((name : List ℕ) → get_by (bytes_eq name) new ≡ cond (bytes_eq last.name name) (Some (length visits)) (get_by (bytes_eq name) old))
-    → (name : List ℕ) → get_by (bytes_eq name) new ≡ position (has_name name) (visits ++ last ∷ [])
+index_push : (old new : BTreeMap (List ℕ) ℕ) (visits : List Visit) (last : Visit)
+    → ((name : List ℕ) → get (slice_cmp nat_cmp) old name ≡ position (has_name name) visits) → visit_named visits last.name ≡ None
+    → ((name : List ℕ) → get (slice_cmp nat_cmp) new name ≡ cond (is_at (slice_cmp nat_cmp last.name) name) (Some (length visits)) (get (slice_cmp nat_cmp) old name))
+    → (name : List ℕ) → get (slice_cmp nat_cmp) new name ≡ position (has_name name) (visits ++ last ∷ [])
 index_push old new visits last index none puts name =
-    let free : bytes_eq last.name name ≡ true → position (has_name name) visits ≡ None = λ same.
-    subst (λ n. position (has_name n) visits ≡ None) ((bytes_decides last.name name).0 same) (unplaced last.name visits none) in
-    puts name ∙ (rw (index name) (same_by (bytes_eq last.name name) (length visits) (position (has_name name) visits) free)
+    let same : is_at (slice_cmp nat_cmp last.name) name ≡ bytes_eq last.name name = sym (texts_ties last.name name) in
+    let free : bytes_eq last.name name ≡ true → position (has_name name) visits ≡ None = λ is.
+    subst (λ n. position (has_name n) visits ≡ None) ((bytes_decides last.name name).0 is) (unplaced last.name visits none) in
+    puts name ∙ (rw (same, index name) (same_by (bytes_eq last.name name) (length visits) (position (has_name name) visits) free)
     ∙ (ap (λ b. option_or (position (has_name name) visits) (cond b (Some (length visits)) None)) (name_either_way last.name name)
     ∙ sym (place_push name visits last)))
+
+-- a visit has the name of none that comes before it
+other_than : (visits : List Visit) (i : ℕ) (last : Visit) (name : List ℕ) → visit_named visits name ≡ None → slice_get visits i ≡ Some last
+    → has_name name last ≡ false
+other_than [] i last name none at = absurd (cc)
+other_than (x ∷ visits) zero last name none at =
+    let same : x ≡ last = cc in
+    subst (λ (v : Visit). has_name name v ≡ false) same (found_then (has_name name x) x (visit_named visits name) none).0
+other_than (x ∷ visits) (suc i) last name none at =
+    other_than visits i last name (found_then (has_name name x) x (visit_named visits name) none).1 at
+
+new_there : (visits : List Visit) (i : ℕ) (last : Visit) → HaveDifferentNames visits → slice_get visits i ≡ Some last
+    → visit_named (take i visits) last.name ≡ None
+new_there [] i last h at = absurd (cc)
+new_there (x ∷ visits) zero last h at = refl
+new_there (x ∷ visits) (suc i) last h at =
+    let other : has_name last.name x ≡ false = name_either_way last.name x.name ∙ other_than visits i last x.name h.0 at in
+    rw other (new_there visits i last h.1 at)
+
+-- the map with the place of one more visit
+pub named_more : (old new : BTreeMap (List ℕ) ℕ) (visits : List Visit) (i : ℕ) (last : Visit) → AreNamed old i visits → i < length visits
+    → last ≡ slice_index_or visits i last
+    → ((name : List ℕ) → get (slice_cmp nat_cmp) new name ≡ cond (is_at (slice_cmp nat_cmp last.name) name) (Some i) (get (slice_cmp nat_cmp) old name))
+    → AreNamed new (i + 1) visits
+named_more old new visits i last h within is puts =
+    let next : take (i + 1) visits ≡ take i visits ++ last ∷ [] = take_more visits i last within ∙ ap (λ (v : Visit). take i visits ++ v ∷ []) (sym is) in
+    let size : i ≡ length (take i visits) = sym (length-take-le i visits (omega arith)) in
+    record {
+      different = h.different;
+      few = omega arith;
+      index = λ name.
+          index_push old new (take i visits) last h.index (new_there visits i last h.different (slice_get_read visits (length visits) i last refl within is))
+          (λ n. puts n ∙ ap (λ (place : ℕ). cond (is_at (slice_cmp nat_cmp last.name) n) (Some place) (get (slice_cmp nat_cmp) old n)) size) name
+          ∙ ap (position (has_name name)) (sym next);
+    }
+
+-- a visit that comes last and is not in the map
+pub named_push : (places : BTreeMap (List ℕ) ℕ) (named : ℕ) (visits : List Visit) (last : Visit) → AreNamed places named visits
+    → visit_named visits last.name ≡ None → AreNamed places named (visits ++ last ∷ [])
+named_push places named visits last h new = record {
+  different = different_push visits last new h.different;
+  few = omega (arith, h.few, length_push visits last);
+  index = λ name. h.index name ∙ ap (position (has_name name)) (sym (take-append-le named visits (last ∷ []) h.few));
+}
+
+place_kept : (name : List ℕ) (n : ℕ) (visits : List Visit) (i : ℕ) (old new : Visit) → slice_get visits i ≡ Some old → new.name ≡ old.name
+    → position_or_len (has_name name) (take n (slice_set visits i new)) ≡ position_or_len (has_name name) (take n visits)
+place_kept name zero visits i old new at same = refl
+place_kept name (suc n) [] i old new at same = refl
+place_kept name (suc n) (x ∷ visits) zero old new at same =
+    let is : x ≡ old = cc in
+    ap (λ b. cond (not b) (1 + position_or_len (has_name name) (take n visits)) 0) (ap (bytes_eq name) (same ∙ ap (λ (v : Visit). v.name) (sym is)))
+place_kept name (suc n) (x ∷ visits) (suc i) old new at same =
+    ap (λ k. cond (not (has_name name x)) (1 + k) 0) (place_kept name n visits i old new at same)
+
+-- a visit that is replaced by one of its name
+pub named_set : (places : BTreeMap (List ℕ) ℕ) (named : ℕ) (visits : List Visit) (i : ℕ) (old new : Visit) → AreNamed places named visits
+    → slice_get visits i ≡ Some old → new.name ≡ old.name → AreNamed places named (slice_set visits i new)
+named_set places named visits i old new h at same =
+    let size : length (take named (slice_set visits i new)) ≡ length (take named visits) =
+    omega (arith, length-take named (slice_set visits i new), length-take named visits, length-set visits i new) in
+    record {
+      different = different_set visits i old new at same h.different;
+      few = omega (arith, h.few, length-set visits i new);
+      index = λ name. h.index name ∙ sym (rw (place_kept name named visits i old new at same, size) refl);
+    }
+
+-- a name is found among the first visits, or else among the others
+named_split : (visits : List Visit) (named : ℕ) (name : List ℕ)
+    → visit_named visits name ≡ option_or (visit_named (take named visits) name) (visit_named (drop named visits) name)
+named_split visits named name =
+    ap (λ (vs : List Visit). visit_named vs name) (sym (take-append-drop named visits)) ∙ find-append (has_name name) (take named visits) (drop named visits)
+
+pub named_first : (visits : List Visit) (named : ℕ) (name : List ℕ) (place : ℕ) (d : Visit) → position (has_name name) (take named visits) ≡ Some place
+    → (place < length visits) × (visit_named visits name ≡ Some (slice_index_or visits place d))
+named_first visits named name place d at =
+    let found = found_by (has_name name) (take named visits) place d at in
+    let size : length (take named visits) ≡ _ = length-take named visits in
+    let within : place < length (take named visits) = found.0 in
+    let there : slice_index_or (take named visits) place d ≡ slice_index_or visits place d = get_or-take named visits place d (omega arith) in (
+      omega arith,
+      rw (named_split visits named name, found.1) (ap (λ (v : Visit). Some v) there),
+    )
+
+pub named_later : (visits : List Visit) (named : ℕ) (name : List ℕ) → position (has_name name) (take named visits) ≡ None
+    → visit_named visits name ≡ visit_named (drop named visits) name
+named_later visits named name at = rw (named_split visits named name, not_found_by (has_name name) (take named visits) at) refl

@@ -1,6 +1,6 @@
 -- What a chain of results gives.
-use Rattle.std.proofs.Common.{◌≡◌, refl, Option, None, Some, Result, Ok, Err, ok_or}
-use Rattle.std.specs.Prelude.{OnOk}
+use Rattle.std.proofs.Common.{◌≡◌, false, refl, Option, None, Some, Result, Ok, Err, ok_or}
+use Rattle.std.specs.Prelude.{OnOk, is_err}
 use Rattle.apron_base.specs.ResultChain.{◌>>=◌}
 
 -- if a chain gives a value, its first part gave one, from which the rest made that value
@@ -26,3 +26,7 @@ not_both x y e = cc
 pub on_ok : {T E P : Type 0} (r : Result T E) (x : T) → r ≡ Ok x → OnOk r P → P
 on_ok (Ok y) x e h = h
 on_ok (Err fault) x e h = absurd (cc)
+
+pub not_err : {T E P : Type 0} (r : Result T E) → is_err r ≡ false → OnOk r P → P
+not_err (Ok x) e h = h
+not_err (Err fault) e h = absurd (cc)

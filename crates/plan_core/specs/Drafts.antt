@@ -1,7 +1,10 @@
 -- The drafts of desks, and those that became commits.
-use Rattle.std.specs.Prelude.{◌≡◌, ◌+◌, ◌++◌, ◌∷◌, [], ◌==◌, ◌&&◌, ℕ, Bool, List, Option, None, Some, find}
-use Rattle.std.specs.HashMap.{HashMap, get_by}
+use Rattle.std.specs.Prelude.{◌≡◌, ◌≤◌, ◌+◌, ◌++◌, ◌∷◌, [], ◌==◌, ◌&&◌, ℕ, Bool, List, Option, None, Some, find, length, take}
+use Rattle.std.specs.BTreeMap.{BTreeMap, get}
+use Rattle.std.specs.Cmp.Lexicographic.{slice_cmp}
 use Rattle.std.specs.Option.{option_map}
+use Rattle.std.specs.Ordering.{nat_cmp, ordering_then}
+use Rattle.std.specs.declared.cmp.Ordering.{Ordering}
 use Rattle.std.specs.Str.{bytes_eq}
 use Rattle.apron_base.specs.Histories.{Rises}
 use Rattle.visit_book.specs.declared.edits.Edit.{Edit}
@@ -57,6 +60,17 @@ pub record DraftsHeld : Type 0 where
   pub kept : List Drafted
   pub room : ℕ
 
+-- the order of drafts: by the desk, and then by the number
+abbrev pub compare_drafts : DraftId → DraftId → Ordering
+compare_drafts id other = ordering_then (slice_cmp nat_cmp id.desk other.desk) (nat_cmp id.number other.number)
+
 -- the map has for each draft the version of its commit
-abbrev pub IsIndexOf : {S : Type 0} → HashMap DraftId ℕ S → List Drafted → Type 0
-IsIndexOf versions drafts = (desk : List ℕ) (number : ℕ) → get_by (is_draft desk number) versions ≡ draft_version drafts desk number
+abbrev pub IsIndexOf : BTreeMap DraftId ℕ → List Drafted → Type 0
+IsIndexOf versions drafts = (id : DraftId) → get compare_drafts versions id ≡ draft_version drafts id.desk id.number
+
+-- no two of the drafts have the same desk and number, and the map has the versions of this many
+-- first ones
+pub record AreIndexed (versions : BTreeMap DraftId ℕ) (indexed : ℕ) (drafts : List Drafted) : Type 0 where
+  pub different : AreDifferent drafts
+  pub few : indexed ≤ length drafts
+  pub index : IsIndexOf versions (take indexed drafts)
