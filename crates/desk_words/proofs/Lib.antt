@@ -1,11 +1,10 @@
 pub mod Apart
-pub mod Bodies
 pub mod Dates
-pub mod Floats
 pub mod Flights
 pub mod Heads
+pub mod Items
+pub mod Joined
 pub mod Lines
-pub mod Mapped
-pub mod Names
 pub mod Numbered
+pub mod PlainTexts
 pub mod Versions

@@ -1,4 +1,5 @@
 pub mod Commands
+pub mod JsonText
 pub mod Texts
 pub mod Fixed
 pub mod Early

@@ -75,6 +75,11 @@ visit_members airport visit more =
 abbrev pub number_member : Visit → Members
 number_member visit = member (codes "visit") (whole visit.number.0) no_members
 
+-- the last members of a visit: the plan's version if it is given, and the number
+abbrev pub last_members : Option ℕ → Visit → Members
+last_members None visit = number_member visit
+last_members (Some version) visit = member (codes "version") (whole version) (number_member visit)
+
 -- the members of a visit among others
 abbrev pub listed_visit_members : AirportParts → Visit → Members
 listed_visit_members airport visit = visit_members airport visit (number_member visit)

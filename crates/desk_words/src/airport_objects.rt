@@ -1,189 +1,224 @@
 // An airport, as replies give it.
-ghost use Rattle.std.specs.Prelude.{◌≡◌, ◌<◌, map, string_bytes, IfOk};
+#![tactic(auto, unfolding(serde_json::proofs::OnLiterals::serde_json_on_literals))]
+
+ghost use Rattle.std.specs.Prelude.{◌≡◌, ◌++◌, map, OnOk};
 ghost use Rattle.std.specs.Option.{option_map};
-ghost use Rattle.serde_json.specs.View.{members_view, view};
+ghost use Rattle.serde_json.specs.Data.{array, string};
+ghost use Rattle.serde_json.specs.View.{items_of};
+ghost use Rattle.serde_json.specs.Written.{compact_text};
 ghost use Rattle.apron_dates.specs.Dates.{IsFirstDay};
-ghost use Rattle.desk_words.specs.AirportObjects.{airport_data, airport_members, date_text, frontage_data, letter_text, pair_data, stand_row_data, type_row_data};
+ghost use Rattle.desk_words.specs.AirportObjects.{airport_data, date_text, frontage_data, letter_text, pair_data, stand_row_data, type_row_data};
 ghost use Rattle.desk_words.specs.PartObjects.{name_data, whole};
 
-use crate::part_objects::name_value;
-use apron_base::{Letter, letter_of};
+use crate::json_text::{
+    push_comma_if, push_member, push_name, push_name_if, push_null, push_number, push_text,
+};
+use apron_base::{Letter, Memory, letter_of};
 use apron_dates::Date;
 use apron_rules::{AirportParts, Frontage, PairRow, StandRow, TypeRow};
-use serde_json::{Map, Value, json, put};
-use std::alloc::{AllocError, Global};
 
 /// The airport of a plan of this version.
-pub(crate) fn airport_value(
-    alloc: Global,
+pub(crate) fn push_airport(
+    bytes: &mut Vec<u8>,
     airport: &AirportParts,
     version: u32,
-) -> Result<Value, AllocError>
+) -> Result<(), Memory>
     requires first { IsFirstDay airport.now.first }
-    ensures is { IfOk result (λ v. view v ≡ airport_data airport.now version) }
+    ensures text { OnOk result
+        (bytes.new.items ≡ bytes.old.items ++ compact_text (airport_data airport.now version)) }
 {
-    Ok(Value::Object(airport_members(alloc, airport, version)?))
-}
-
-fn airport_members(
-    alloc: Global,
-    airport: &AirportParts,
-    version: u32,
-) -> Result<Map<String, Value>, AllocError>
-    requires first { IsFirstDay airport.now.first }
-    ensures are { IfOk result (λ members. members_view members.entries ≡ airport_members airport.now version) }
-{
-    let first_day = date_text(alloc, airport.first)?;
-    let frontages = frontage_values(alloc, airport.frontages.as_slice())?;
-    let pairs = pair_values(alloc, airport.pairs.as_slice())?;
-    let stands = stand_values(alloc, airport.stands.as_slice())?;
-    let station = Value::try_from_str(alloc, airport.station.text())?;
-    let types = type_values(alloc, airport.types.as_slice())?;
-    let mut members = Map::new(alloc);
-    put(&mut members, alloc, "days", Value::from(airport.days))?;
-    put(&mut members, alloc, "first_day", Value::from(first_day))?;
-    put(&mut members, alloc, "frontages", Value::from(frontages))?;
-    put(&mut members, alloc, "pairs", Value::from(pairs))?;
-    put(&mut members, alloc, "stands", Value::from(stands))?;
-    put(&mut members, alloc, "station", station)?;
-    put(&mut members, alloc, "taxi_in", Value::from(airport.taxi_in))?;
-    put(&mut members, alloc, "tow", Value::from(airport.tow))?;
-    put(&mut members, alloc, "types", Value::from(types))?;
-    put(&mut members, alloc, "version", Value::from(version))?;
-    Ok(members)
+    push_member(bytes, b"{\"days\":", airport.days)?;
+    bytes.extend_from_slice(b",\"first_day\":")?;
+    push_date(bytes, airport.first)?;
+    bytes.extend_from_slice(b",\"frontages\":")?;
+    push_frontages(bytes, airport.frontages.as_slice())?;
+    bytes.extend_from_slice(b",\"pairs\":")?;
+    push_pairs(bytes, airport.pairs.as_slice())?;
+    bytes.extend_from_slice(b",\"stands\":")?;
+    push_stand_rows(bytes, airport.stands.as_slice())?;
+    bytes.extend_from_slice(b",\"station\":")?;
+    push_name(bytes, &airport.station)?;
+    push_member(bytes, b",\"taxi_in\":", airport.taxi_in)?;
+    push_member(bytes, b",\"tow\":", airport.tow)?;
+    bytes.extend_from_slice(b",\"types\":")?;
+    push_type_rows(bytes, airport.types.as_slice())?;
+    push_member(bytes, b",\"version\":", version)?;
+    bytes.push(b'}')?;
+    Ok(())
 }
 
 // YYYY-MM-DD. The year has four digits.
-fn date_text(alloc: Global, date: Date) -> Result<String, AllocError>
+#[tactic(auto, using(crate::proofs::Dates::date_quoted))]
+fn push_date(bytes: &mut Vec<u8>, date: Date) -> Result<(), Memory>
     requires first { IsFirstDay date }
-    ensures text { IfOk result (λ text. string_bytes text ≡ date_text date) }
+    ensures text { OnOk result
+        (bytes.new.items ≡ bytes.old.items ++ compact_text (string (date_text date))) }
 {
-    format!(in alloc;
-        "{}-{}{}-{}{}",
-        date.year,
-        date.month / 10,
-        date.month % 10,
-        date.day / 10,
-        date.day % 10
-    )
+    push_member(bytes, b"\"", date.year)?;
+    push_member(bytes, b"-", date.month / 10)?;
+    push_number(bytes, date.month % 10)?;
+    push_member(bytes, b"-", date.day / 10)?;
+    push_number(bytes, date.day % 10)?;
+    bytes.push(b'"')?;
+    Ok(())
 }
 
-fn letter_word(letter: Letter) -> &'static str
-    ensures text { result.now ≡ letter_text letter }
+fn push_letter(bytes: &mut Vec<u8>, letter: Letter) -> Result<(), Memory>
+    ensures text { OnOk result
+        (bytes.new.items ≡ bytes.old.items ++ compact_text (string (letter_text letter))) }
 {
     match letter {
-        Letter::A => "A",
-        Letter::B => "B",
-        Letter::C => "C",
-        Letter::D => "D",
-        Letter::E => "E",
-        Letter::F => "F",
+        Letter::A => push_text(bytes, b"A"),
+        Letter::B => push_text(bytes, b"B"),
+        Letter::C => push_text(bytes, b"C"),
+        Letter::D => push_text(bytes, b"D"),
+        Letter::E => push_text(bytes, b"E"),
+        Letter::F => push_text(bytes, b"F"),
     }
 }
 
-fn frontage_values(alloc: Global, frontages: &[Frontage]) -> Result<Vec<Value>, AllocError>
-    ensures are { IfOk result (λ values. map view values.items ≡ map frontage_data frontages.now) }
+fn push_frontages(bytes: &mut Vec<u8>, frontages: &[Frontage]) -> Result<(), Memory>
+    ensures text { OnOk result
+        (bytes.new.items
+        ≡ bytes.old.items
+        ++ compact_text (array (items_of (map frontage_data frontages.now)))) }
 {
-    let mut values = Vec::new(alloc);
-    for frontage in frontages {
-        values.push(frontage_value(alloc, frontage)?)?;
+    bytes.push(b'[')?;
+    for (i, frontage) in frontages.iter().enumerate() {
+        push_comma_if(bytes, i > 0)?;
+        push_frontage(bytes, frontage)?;
     }
-    Ok(values)
+    bytes.push(b']')?;
+    Ok(())
 }
 
-fn frontage_value(alloc: Global, frontage: &Frontage) -> Result<Value, AllocError>
-    ensures is { IfOk result (λ v. view v ≡ frontage_data frontage.now) }
+fn push_frontage(bytes: &mut Vec<u8>, frontage: &Frontage) -> Result<(), Memory>
+    ensures text { OnOk result
+        (bytes.new.items ≡ bytes.old.items ++ compact_text (frontage_data frontage.now)) }
 {
-    let objects = place_values(alloc, frontage.objects.as_slice())?;
-    json!(in alloc; {"name": frontage.name.text(), "objects": objects})
+    bytes.extend_from_slice(b"{\"name\":")?;
+    push_name(bytes, &frontage.name)?;
+    bytes.extend_from_slice(b",\"objects\":")?;
+    push_places(bytes, frontage.objects.as_slice())?;
+    bytes.push(b'}')?;
+    Ok(())
 }
 
 // The places of objects.
-fn place_values(alloc: Global, places: &[u32]) -> Result<Vec<Value>, AllocError>
-    ensures are { IfOk result (λ values. map view values.items ≡ map whole places.now) }
+fn push_places(bytes: &mut Vec<u8>, places: &[u32]) -> Result<(), Memory>
+    ensures text { OnOk result
+        (bytes.new.items
+        ≡ bytes.old.items ++ compact_text (array (items_of (map whole places.now)))) }
 {
-    let mut values = Vec::new(alloc);
-    for place in places {
-        values.push(Value::from(*place))?;
+    bytes.push(b'[')?;
+    for (i, place) in places.iter().enumerate() {
+        push_comma_if(bytes, i > 0)?;
+        push_number(bytes, *place)?;
     }
-    Ok(values)
+    bytes.push(b']')?;
+    Ok(())
 }
 
-fn pair_values(alloc: Global, pairs: &[PairRow]) -> Result<Vec<Value>, AllocError>
-    ensures are { IfOk result (λ values. map view values.items ≡ map pair_data pairs.now) }
+fn push_pairs(bytes: &mut Vec<u8>, pairs: &[PairRow]) -> Result<(), Memory>
+    ensures text { OnOk result
+        (bytes.new.items
+        ≡ bytes.old.items ++ compact_text (array (items_of (map pair_data pairs.now)))) }
 {
-    let mut values = Vec::new(alloc);
-    for pair in pairs {
-        values.push(pair_value(alloc, pair)?)?;
+    bytes.push(b'[')?;
+    for (i, pair) in pairs.iter().enumerate() {
+        push_comma_if(bytes, i > 0)?;
+        push_pair(bytes, pair)?;
     }
-    Ok(values)
+    bytes.push(b']')?;
+    Ok(())
 }
 
-fn pair_value(alloc: Global, pair: &PairRow) -> Result<Value, AllocError>
-    ensures is { IfOk result (λ v. view v ≡ pair_data pair.now) }
+fn push_pair(bytes: &mut Vec<u8>, pair: &PairRow) -> Result<(), Memory>
+    ensures text { OnOk result
+        (bytes.new.items ≡ bytes.old.items ++ compact_text (pair_data pair.now)) }
 {
-    json!(in alloc; {
-        "a": pair.a.text(),
-        "b": pair.b.text(),
-        "la": letter_word(pair.la),
-        "lb": letter_word(pair.lb)
-    })
+    bytes.extend_from_slice(b"{\"a\":")?;
+    push_name(bytes, &pair.a)?;
+    bytes.extend_from_slice(b",\"b\":")?;
+    push_name(bytes, &pair.b)?;
+    bytes.extend_from_slice(b",\"la\":")?;
+    push_letter(bytes, pair.la)?;
+    bytes.extend_from_slice(b",\"lb\":")?;
+    push_letter(bytes, pair.lb)?;
+    bytes.push(b'}')?;
+    Ok(())
 }
 
-fn stand_values(alloc: Global, stands: &[StandRow]) -> Result<Vec<Value>, AllocError>
-    ensures are { IfOk result (λ values. map view values.items ≡ map stand_row_data stands.now) }
+fn push_stand_rows(bytes: &mut Vec<u8>, stands: &[StandRow]) -> Result<(), Memory>
+    ensures text { OnOk result
+        (bytes.new.items
+        ≡ bytes.old.items ++ compact_text (array (items_of (map stand_row_data stands.now)))) }
 {
-    let mut values = Vec::new(alloc);
-    for stand in stands {
-        values.push(stand_row_value(alloc, stand)?)?;
+    bytes.push(b'[')?;
+    for (i, stand) in stands.iter().enumerate() {
+        push_comma_if(bytes, i > 0)?;
+        push_stand_row(bytes, stand)?;
     }
-    Ok(values)
+    bytes.push(b']')?;
+    Ok(())
 }
 
-fn stand_row_value(alloc: Global, stand: &StandRow) -> Result<Value, AllocError>
-    ensures is { IfOk result (λ v. view v ≡ stand_row_data stand.now) }
+fn push_stand_row(bytes: &mut Vec<u8>, stand: &StandRow) -> Result<(), Memory>
+    ensures text { OnOk result
+        (bytes.new.items ≡ bytes.old.items ++ compact_text (stand_row_data stand.now)) }
 {
-    let half_of = name_value(alloc, &stand.half_of)?;
-    json!(in alloc; {
-        "buffer": stand.buffer,
-        "centre": stand.centre,
-        "frontage": stand.frontage.text(),
-        "half_of": half_of,
-        "letter": letter_word(stand.letter),
-        "name": stand.name.text()
-    })
+    push_member(bytes, b"{\"buffer\":", stand.buffer)?;
+    push_member(bytes, b",\"centre\":", stand.centre)?;
+    bytes.extend_from_slice(b",\"frontage\":")?;
+    push_name(bytes, &stand.frontage)?;
+    bytes.extend_from_slice(b",\"half_of\":")?;
+    push_name_if(bytes, &stand.half_of)?;
+    bytes.extend_from_slice(b",\"letter\":")?;
+    push_letter(bytes, stand.letter)?;
+    bytes.extend_from_slice(b",\"name\":")?;
+    push_name(bytes, &stand.name)?;
+    bytes.push(b'}')?;
+    Ok(())
 }
 
-fn type_values(alloc: Global, types: &[TypeRow]) -> Result<Vec<Value>, AllocError>
-    ensures are { IfOk result (λ values. map view values.items ≡ map type_row_data types.now) }
+fn push_type_rows(bytes: &mut Vec<u8>, types: &[TypeRow]) -> Result<(), Memory>
+    ensures text { OnOk result
+        (bytes.new.items
+        ≡ bytes.old.items ++ compact_text (array (items_of (map type_row_data types.now)))) }
 {
-    let mut values = Vec::new(alloc);
-    for kind in types {
-        values.push(type_row_value(alloc, kind)?)?;
+    bytes.push(b'[')?;
+    for (i, kind) in types.iter().enumerate() {
+        push_comma_if(bytes, i > 0)?;
+        push_type_row(bytes, kind)?;
     }
-    Ok(values)
+    bytes.push(b']')?;
+    Ok(())
 }
 
-fn type_row_value(alloc: Global, kind: &TypeRow) -> Result<Value, AllocError>
-    ensures is { IfOk result (λ v. view v ≡ type_row_data kind.now) }
+fn push_type_row(bytes: &mut Vec<u8>, kind: &TypeRow) -> Result<(), Memory>
+    ensures text { OnOk result
+        (bytes.new.items ≡ bytes.old.items ++ compact_text (type_row_data kind.now)) }
 {
-    let letter = letter_value(alloc, letter_of(kind.span))?;
-    json!(in alloc; {
-        "fold": kind.fold,
-        "least": kind.least,
-        "letter": letter,
-        "name": kind.name.text(),
-        "parked": kind.parked,
-        "span": kind.span
-    })
+    push_member(bytes, b"{\"fold\":", kind.fold)?;
+    push_member(bytes, b",\"least\":", kind.least)?;
+    bytes.extend_from_slice(b",\"letter\":")?;
+    push_letter_if(bytes, letter_of(kind.span))?;
+    bytes.extend_from_slice(b",\"name\":")?;
+    push_name(bytes, &kind.name)?;
+    push_member(bytes, b",\"parked\":", kind.parked)?;
+    push_member(bytes, b",\"span\":", kind.span)?;
+    bytes.push(b'}')?;
+    Ok(())
 }
 
 // A code letter, or null if there is none.
-fn letter_value(alloc: Global, letter: Option<Letter>) -> Result<Value, AllocError>
-    ensures is { IfOk result (λ v. view v ≡ name_data (option_map letter_text letter)) }
+fn push_letter_if(bytes: &mut Vec<u8>, letter: Option<Letter>) -> Result<(), Memory>
+    ensures text { OnOk result
+        (bytes.new.items
+        ≡ bytes.old.items ++ compact_text (name_data (option_map letter_text letter))) }
 {
     match letter {
-        Some(letter) => json!(in alloc; letter_word(letter)),
-        None => Ok(Value::Null),
+        Some(letter) => push_letter(bytes, letter),
+        None => push_null(bytes),
     }
 }

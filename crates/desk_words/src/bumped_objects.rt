@@ -1,54 +1,72 @@
 // What came of a message or a report, as replies give it.
-ghost use Rattle.std.specs.Prelude.{◌≡◌, map, IfOk};
-ghost use Rattle.serde_json.specs.View.{view};
+#![tactic(auto, unfolding(serde_json::proofs::OnLiterals::serde_json_on_literals))]
+
+ghost use Rattle.std.specs.Prelude.{◌≡◌, ◌++◌, map, OnOk};
+ghost use Rattle.serde_json.specs.Data.{array};
+ghost use Rattle.serde_json.specs.View.{items_of};
+ghost use Rattle.serde_json.specs.Written.{compact_text};
 ghost use Rattle.desk_words.specs.PartObjects.{part_data};
 ghost use Rattle.desk_words.specs.Replies.{message_data, reported_data, visit_if};
 
-use crate::part_objects::part_value;
-use apron_base::{PartId, VisitNo};
-use serde_json::{Value, json};
-use std::alloc::{AllocError, Global};
+use crate::json_text::{push_comma_if, push_member, push_null, push_number};
+use crate::part_objects::push_part;
+use apron_base::{Memory, PartId, VisitNo};
 
-pub(crate) fn message_value(
-    alloc: Global,
+pub(crate) fn push_message(
+    bytes: &mut Vec<u8>,
     bumped: &[PartId],
     visit: Option<VisitNo>,
     version: u32,
-) -> Result<Value, AllocError>
-    ensures is { IfOk result (λ v. view v ≡ message_data bumped.now visit version) }
+) -> Result<(), Memory>
+    ensures text { OnOk result
+        (bytes.new.items
+        ≡ bytes.old.items ++ compact_text (message_data bumped.now visit version)) }
 {
-    let bumped = part_values(alloc, bumped)?;
-    let visit = visit_if(alloc, visit)?;
-    json!(in alloc; {"bumped": bumped, "version": version, "visit": visit})
+    bytes.extend_from_slice(b"{\"bumped\":")?;
+    push_parts(bytes, bumped)?;
+    push_member(bytes, b",\"version\":", version)?;
+    bytes.extend_from_slice(b",\"visit\":")?;
+    push_visit_if(bytes, visit)?;
+    bytes.push(b'}')?;
+    Ok(())
 }
 
-pub(crate) fn reported_value(
-    alloc: Global,
+pub(crate) fn push_reported(
+    bytes: &mut Vec<u8>,
     bumped: &[PartId],
     version: u32,
-) -> Result<Value, AllocError>
-    ensures is { IfOk result (λ v. view v ≡ reported_data bumped.now version) }
+) -> Result<(), Memory>
+    ensures text { OnOk result
+        (bytes.new.items ≡ bytes.old.items ++ compact_text (reported_data bumped.now version)) }
 {
-    let bumped = part_values(alloc, bumped)?;
-    json!(in alloc; {"bumped": bumped, "version": version})
+    bytes.extend_from_slice(b"{\"bumped\":")?;
+    push_parts(bytes, bumped)?;
+    push_member(bytes, b",\"version\":", version)?;
+    bytes.push(b'}')?;
+    Ok(())
 }
 
 // A visit's number, or null if there is none.
-fn visit_if(alloc: Global, visit: Option<VisitNo>) -> Result<Value, AllocError>
-    ensures is { IfOk result (λ v. view v ≡ visit_if visit) }
+fn push_visit_if(bytes: &mut Vec<u8>, visit: Option<VisitNo>) -> Result<(), Memory>
+    ensures text { OnOk result
+        (bytes.new.items ≡ bytes.old.items ++ compact_text (visit_if visit)) }
 {
     match visit {
-        Some(visit) => json!(in alloc; visit.0),
-        None => Ok(Value::Null),
+        Some(visit) => push_number(bytes, visit.0),
+        None => push_null(bytes),
     }
 }
 
-fn part_values(alloc: Global, parts: &[PartId]) -> Result<Vec<Value>, AllocError>
-    ensures are { IfOk result (λ values. map view values.items ≡ map part_data parts.now) }
+fn push_parts(bytes: &mut Vec<u8>, parts: &[PartId]) -> Result<(), Memory>
+    ensures text { OnOk result
+        (bytes.new.items
+        ≡ bytes.old.items ++ compact_text (array (items_of (map part_data parts.now)))) }
 {
-    let mut values = Vec::new(alloc);
-    for part in parts {
-        values.push(part_value(alloc, *part)?)?;
+    bytes.push(b'[')?;
+    for (i, part) in parts.iter().enumerate() {
+        push_comma_if(bytes, i > 0)?;
+        push_part(bytes, *part)?;
     }
-    Ok(values)
+    bytes.push(b']')?;
+    Ok(())
 }

@@ -1,59 +1,66 @@
 // Parts of visits, stands, types and rules, as replies give them.
-ghost use Rattle.std.specs.Prelude.{◌≡◌, IfOk};
-ghost use Rattle.serde_json.specs.View.{view};
-ghost use Rattle.desk_words.specs.PartObjects.{name_data, part_data, rule_word, stand_data, type_data};
+#![tactic(auto, unfolding(serde_json::proofs::OnLiterals::serde_json_on_literals))]
 
-use apron_base::{Name, PartId, StandNo, TypeNo};
+ghost use Rattle.std.specs.Prelude.{◌≡◌, ◌++◌, true, OnOk};
+ghost use Rattle.serde_json.specs.Data.{string};
+ghost use Rattle.serde_json.specs.Written.{compact_text};
+ghost use Rattle.desk_words.specs.JsonText.{is_plain};
+ghost use Rattle.desk_words.specs.PartObjects.{part_data, rule_word, stand_data, type_data};
+
+use crate::json_text::{push_member, push_name, push_null, push_text};
+use apron_base::{Memory, PartId, StandNo, TypeNo};
 use apron_rules::{AirportParts, Rule};
-use serde_json::{Value, json};
-use std::alloc::{AllocError, Global};
 
-pub(crate) fn part_value(alloc: Global, part: PartId) -> Result<Value, AllocError>
-    ensures is { IfOk result (λ v. view v ≡ part_data part) }
+/// Writes a part at the end, as `{"part":P,"visit":N}`. At `Err` memory has run out.
+pub fn push_part(bytes: &mut Vec<u8>, part: PartId) -> Result<(), Memory>
+    ensures text { OnOk result
+        (bytes.new.items ≡ bytes.old.items ++ compact_text (part_data part)) }
 {
-    json!(in alloc; {"part": part.part, "visit": part.visit.0})
+    push_member(bytes, b"{\"part\":", part.part)?;
+    push_member(bytes, b",\"visit\":", part.visit.0)?;
+    bytes.push(b'}')?;
+    Ok(())
 }
 
-// A name, or null if there is none.
-pub(crate) fn name_value(alloc: Global, name: &Option<Name>) -> Result<Value, AllocError>
-    ensures is { IfOk result (λ v. view v ≡ name_data name.now) }
-{
-    match name {
-        Some(name) => json!(in alloc; name.text()),
-        None => Ok(Value::Null),
-    }
-}
-
-// The name of a stand, or null if the airport has none of this number.
-pub(crate) fn stand_value(
-    alloc: Global,
-    airport: &AirportParts,
-    stand: StandNo,
-) -> Result<Value, AllocError>
-    ensures is { IfOk result (λ v. view v ≡ stand_data airport.now stand) }
+/// Writes the name of a stand at the end, or null if the airport has none of this number. At `Err`
+/// memory has run out.
+pub fn push_stand(bytes: &mut Vec<u8>, airport: &AirportParts, stand: StandNo) -> Result<(), Memory>
+    ensures text { OnOk result
+        (bytes.new.items ≡ bytes.old.items ++ compact_text (stand_data airport.now stand)) }
 {
     match airport.stands.as_slice().get(stand.0 as usize) {
-        Some(row) => json!(in alloc; row.name.text()),
-        None => Ok(Value::Null),
+        Some(row) => push_name(bytes, &row.name),
+        None => push_null(bytes),
     }
 }
 
 // The name of a type, or null if the airport has none of this number.
-pub(crate) fn type_value(
-    alloc: Global,
+pub(crate) fn push_type(
+    bytes: &mut Vec<u8>,
     airport: &AirportParts,
     kind: TypeNo,
-) -> Result<Value, AllocError>
-    ensures is { IfOk result (λ v. view v ≡ type_data airport.now kind) }
+) -> Result<(), Memory>
+    ensures text { OnOk result
+        (bytes.new.items ≡ bytes.old.items ++ compact_text (type_data airport.now kind)) }
 {
     match airport.types.as_slice().get(kind.0 as usize) {
-        Some(row) => json!(in alloc; row.name.text()),
-        None => Ok(Value::Null),
+        Some(row) => push_name(bytes, &row.name),
+        None => push_null(bytes),
     }
 }
 
-pub(crate) fn rule_word(rule: Rule) -> &'static str
+/// Writes the word of a rule at the end. At `Err` memory has run out.
+pub fn push_rule(bytes: &mut Vec<u8>, rule: Rule) -> Result<(), Memory>
+    ensures text { OnOk result
+        (bytes.new.items ≡ bytes.old.items ++ compact_text (string (rule_word rule))) }
+{
+    push_text(bytes, rule_word(rule).as_bytes())
+}
+
+/// The word of a rule.
+pub fn rule_word(rule: Rule) -> &'static str
     ensures text { result.now ≡ rule_word rule }
+    ensures plain { is_plain result.now ≡ true }
 {
     match rule {
         Rule::Same => "same",

@@ -1,29 +1,42 @@
 // Replies whose cause the plan gave, and their bytes.
-ghost use Rattle.std.specs.Prelude.{◌≡◌, ◌∷◌, [], length, string_bytes, IfOk};
-ghost use Rattle.serde_json.specs.View.{view};
+ghost use Rattle.std.specs.Prelude.{◌≡◌, ◌∷◌, ◌++◌, [], string_bytes, IfOk, OnOk};
+ghost use Rattle.serde_json.specs.Written.{compact_text};
 ghost use Rattle.apron_dates.specs.Dates.{IsFirstDay};
 ghost use Rattle.desk_words.specs.Texts.{head_of, text_of, version_line};
-ghost use Rattle.desk_words.specs.Replies.{IsTellable, body_text, code_of, fault_code, media_of, reply_text, told_data};
+ghost use Rattle.desk_words.specs.Replies.{IsTellable, added_data, body_text, code_of, fault_code, media_of, reply_text, version_data};
 
-use crate::airport_objects::airport_value;
+use crate::airport_objects::push_airport;
 use crate::asks::EntryKind;
-use crate::bumped_objects::{message_value, reported_value};
-use crate::entry_objects::entry_value;
-use crate::fault_objects::{denial_word, fault_value, other_name_value, refused_value};
-use crate::row_objects::{plan_value, unplaced_value};
-use crate::visit_objects::{day_value, visit_value};
+use crate::bumped_objects::{push_message, push_reported};
+use crate::entry_objects::push_entry;
+use crate::fault_objects::{denial_word, push_fault, push_other_name, push_refused};
+use crate::json_text::push_member;
+use crate::row_objects::{push_plan, push_unplaced};
+use crate::visit_objects::{push_day, push_visit};
 use apron_base::{Listed, Memory, Name, PartId, VisitNo};
 use apron_rules::{Airport, AirportParts};
 use http::StatusCode;
-use serde_json::{Value, json};
 use std::alloc::{AllocError, Global};
 use visit_book::{EditFault, Part, Visit};
 
-// The media type of a body that is JSON.
-const JSON: &str = "application/json";
+/// The media type of a body that is JSON.
+pub const JSON: &str = "application/json";
 
 // The media type of a wall chart.
 const PLAIN: &str = "text/plain";
+
+// The greatest bytes of an item in a list, with its comma: of a part's numbers, of a part on a
+// stand, of a part that waits for one, and of a visit with its three parts.
+const MOST_PART: usize = 32;
+
+const MOST_PLACED: usize = 104;
+
+const MOST_WAITING: usize = 198;
+
+const MOST_VISIT: usize = 876;
+
+// More than the bytes of any body but its listed items, unless it is the airport's.
+const MOST_OTHER: usize = 256;
 
 /// A part with its numbers.
 #[derive(Clone, Copy, Debug, PartialEq, Eq)]
@@ -133,7 +146,7 @@ pub fn reply_bytes(alloc: Global, airport: &Airport, reply: &Reply) -> Result<Li
     ensures text { IfOk result (λ bytes. bytes ≡ reply_text airport.now reply.now) }
 {
     let body = told_body(alloc, airport.parts(), reply.version, &reply.told)?;
-    text(
+    text_of(
         alloc,
         code(&reply.told),
         media(&reply.told),
@@ -184,29 +197,32 @@ fn media(told: &Told) -> &'static str
     }
 }
 
-// The text of a reply with this body, which shows this version.
-fn text(
+/// The text of a reply of this code with this body, of this media type, which shows this version.
+/// At `Err` memory has run out.
+pub fn text_of(
     alloc: Global,
     code: StatusCode,
     media: &str,
     version: u32,
     body: &[u8],
 ) -> Result<Listed<u8>, Memory>
-    ensures text { IfOk result (λ bytes. bytes ≡ text_of code media.now (version_line version ∷ []) body.now) }
+    ensures text { IfOk result
+        (λ bytes. bytes ≡ text_of code media.now (version_line version ∷ []) body.now) }
 {
-    let mut bytes = head(alloc, code, media, body.len(), version)?.into_bytes();
+    let mut bytes = head_of(alloc, code, media, version, body.len())?.into_bytes();
     bytes.extend_from_slice(body)?;
     Ok(Listed::from_vec(bytes))
 }
 
-fn head(
+fn head_of(
     alloc: Global,
     code: StatusCode,
     media: &str,
-    length: usize,
     version: u32,
+    length: usize,
 ) -> Result<String, AllocError>
-    ensures text { IfOk result (λ s. string_bytes s ≡ head_of code media.now (version_line version ∷ []) length) }
+    ensures text { IfOk result
+        (λ s. string_bytes s ≡ head_of code media.now (version_line version ∷ []) length) }
 {
     format!(in alloc;
         "HTTP/1.1 {code}\r\nContent-Type: {media}\r\nContent-Length: {length}\r\nX-Version: {version}\r\n\r\n"
@@ -218,53 +234,91 @@ fn told_body(
     airport: &AirportParts,
     version: u32,
     told: &Told,
-) -> Result<Vec<u8>, AllocError>
+) -> Result<Vec<u8>, Memory>
     requires first { IsFirstDay airport.now.first }
     requires tellable { IsTellable told.now }
-    ensures text { IfOk result (λ v. v.items ≡ body_text airport.now version told.now) }
+    ensures text { IfOk result (λ body. body.items ≡ body_text airport.now version told.now) }
 {
-    match told {
-        Told::Chart { text } => Vec::from_slice(alloc, text.as_slice()),
-        _ => told_value(alloc, airport, version, told)?.to_vec(alloc),
-    }
+    let mut body = Vec::with_capacity(alloc, room_for(told))?;
+    push_body(&mut body, airport, version, told)?;
+    Ok(body)
 }
 
-fn told_value(
-    alloc: Global,
+// Bytes in which most bodies are written without asking for memory again. An airport may take more.
+fn room_for(told: &Told) -> usize {
+    let listed = match told {
+        Told::Message { bumped, .. } | Told::Reported { bumped } => {
+            bumped.as_slice().len().saturating_mul(MOST_PART)
+        }
+        Told::Plan { parts } => parts.as_slice().len().saturating_mul(MOST_PLACED),
+        Told::Unplaced { parts } => parts.as_slice().len().saturating_mul(MOST_WAITING),
+        Told::Day { visits } => visits.as_slice().len().saturating_mul(MOST_VISIT),
+        Told::Visit(_) => MOST_VISIT,
+        Told::Chart { text } => text.as_slice().len(),
+        _ => 0,
+    };
+    listed.saturating_add(MOST_OTHER)
+}
+
+fn push_body(
+    body: &mut Vec<u8>,
     airport: &AirportParts,
     version: u32,
     told: &Told,
-) -> Result<Value, AllocError>
+) -> Result<(), Memory>
     requires first { IsFirstDay airport.now.first }
     requires tellable { IsTellable told.now }
-    ensures is { IfOk result (λ v. view v ≡ told_data airport.now version told.now) }
+    ensures text { OnOk result
+        (body.new.items ≡ body.old.items ++ body_text airport.now version told.now) }
 {
     match told {
-        Told::Added { entry, visit } => { json!(in alloc; {"version": *entry, "visit": visit.0}) }
-        Told::Committed { entry } => json!(in alloc; {"version": *entry}),
-        Told::Message { bumped, visit } => {
-            message_value(alloc, bumped.as_slice(), *visit, version)
+        Told::Added { entry, visit } => push_added(body, *entry, *visit),
+        Told::Committed { entry } => push_version(body, *entry),
+        Told::Message { bumped, visit } => push_message(body, bumped.as_slice(), *visit, version),
+        Told::Reported { bumped } => push_reported(body, bumped.as_slice(), version),
+        Told::Cancelled | Told::Version => push_version(body, version),
+        Told::Visit(visit) => push_visit(body, airport, visit, Some(version)),
+        Told::Plan { parts } => push_plan(body, airport, parts.as_slice(), version),
+        Told::Unplaced { parts } => push_unplaced(body, airport, parts.as_slice(), version),
+        Told::Chart { text } => {
+            body.extend_from_slice(text.as_slice())?;
+            Ok(())
         }
-        Told::Reported { bumped } => reported_value(alloc, bumped.as_slice(), version),
-        Told::Cancelled | Told::Version => json!(in alloc; {"version": version}),
-        Told::Visit(visit) => visit_value(alloc, airport, visit, version),
-        Told::Plan { parts } => plan_value(alloc, airport, parts.as_slice(), version),
-        Told::Unplaced { parts } => unplaced_value(alloc, airport, parts.as_slice(), version),
-        Told::Chart { .. } => Ok(Value::Null),
         Told::Entry {
             entry,
             call,
             desk,
             kind,
-        } => entry_value(alloc, *entry, *call, desk, *kind, version),
-        Told::Airport => airport_value(alloc, airport, version),
-        Told::Day { visits } => day_value(alloc, airport, visits.as_slice(), version),
-        Told::NoVisit => refused_value(alloc, "visit", version),
-        Told::NoEntry => refused_value(alloc, "entry", version),
-        Told::Ahead => refused_value(alloc, "ahead", version),
-        Told::Full => refused_value(alloc, "full", version),
-        Told::OtherName { visit } => other_name_value(alloc, *visit, version),
-        Told::Edit(fault) => fault_value(alloc, *fault, version),
-        Told::Denied(why) => refused_value(alloc, denial_word(*why), version),
+        } => push_entry(body, *entry, *call, desk, *kind, version),
+        Told::Airport => push_airport(body, airport, version),
+        Told::Day { visits } => push_day(body, airport, visits.as_slice(), version),
+        Told::NoVisit => push_refused(body, b"visit", version),
+        Told::NoEntry => push_refused(body, b"entry", version),
+        Told::Ahead => push_refused(body, b"ahead", version),
+        Told::Full => push_refused(body, b"full", version),
+        Told::OtherName { visit } => push_other_name(body, *visit, version),
+        Told::Edit(fault) => push_fault(body, *fault, version),
+        Told::Denied(why) => push_refused(body, denial_word(*why), version),
     }
+}
+
+#[tactic(auto, unfolding(serde_json::proofs::OnLiterals::serde_json_on_literals))]
+fn push_added(body: &mut Vec<u8>, entry: u32, visit: VisitNo) -> Result<(), Memory>
+    ensures text { OnOk result
+        (body.new.items ≡ body.old.items ++ compact_text (added_data entry visit)) }
+{
+    push_member(body, b"{\"version\":", entry)?;
+    push_member(body, b",\"visit\":", visit.0)?;
+    body.push(b'}')?;
+    Ok(())
+}
+
+#[tactic(auto, unfolding(serde_json::proofs::OnLiterals::serde_json_on_literals))]
+fn push_version(body: &mut Vec<u8>, version: u32) -> Result<(), Memory>
+    ensures text { OnOk result
+        (body.new.items ≡ body.old.items ++ compact_text (version_data version)) }
+{
+    push_member(body, b"{\"version\":", version)?;
+    body.push(b'}')?;
+    Ok(())
 }

@@ -1,215 +1,230 @@
 // A visit, as replies give it.
-ghost use Rattle.std.specs.Prelude.{◌≡◌, map, string_bytes, All, IfOk, IfSome};
-ghost use Rattle.std.specs.Str.{IsAscii};
-ghost use Rattle.serde_json.specs.View.{members_view, view};
+#![tactic(auto, unfolding(serde_json::proofs::OnLiterals::serde_json_on_literals))]
+
+ghost use Rattle.std.specs.Prelude.{◌≡◌, ◌++◌, map, true, All, IfSome, OnOk};
+ghost use Rattle.serde_json.specs.Data.{array, boolean, object, string};
+ghost use Rattle.serde_json.specs.View.{items_of};
+ghost use Rattle.serde_json.specs.Written.{compact_text, members_text};
 ghost use Rattle.mvt_grammar.specs.Canonical.{flight_text};
 ghost use Rattle.mvt_grammar.specs.Readable.{IsFlight};
+ghost use Rattle.visit_book.specs.Places.{is_actual};
 ghost use Rattle.visit_book.specs.NewVisits.{HasFlight, IsNewVisit, new_of};
-ghost use Rattle.desk_words.specs.VisitObjects.{bump_data, day_data, key_data, listed_visit_data, listed_visit_members, place_bump_data, place_stand_data, stay_data, state_word, visit_data};
+ghost use Rattle.desk_words.specs.VisitObjects.{bump_data, day_data, key_data, last_members, listed_visit_data, place_bump_data, place_stand_data, stay_data, state_word, visit_members};
 
-use crate::part_objects::{part_value, rule_word, stand_value, type_value};
+use crate::json_text::{push_bool, push_comma_if, push_member, push_name, push_null, push_text};
+use crate::part_objects::{push_part, push_rule, push_stand, push_type};
 use apron_base::Memory;
 use apron_rules::AirportParts;
 use mvt_grammar::{Flight, push_flight};
-use serde_json::{Map, Value, json, put};
-use std::alloc::{AllocError, Global};
 use visit_book::{Bump, End, Key, Part, Place, Visit};
 
 /// The visits of a day of a plan of this version.
-pub(crate) fn day_value(
-    alloc: Global,
+pub(crate) fn push_day(
+    bytes: &mut Vec<u8>,
     airport: &AirportParts,
     visits: &[Visit],
     version: u32,
-) -> Result<Value, AllocError>
+) -> Result<(), Memory>
     requires new { All (λ visit. IsNewVisit (new_of visit)) visits.now }
-    ensures is { IfOk result (λ v. view v ≡ day_data airport.now visits.now version) }
+    ensures text { OnOk result
+        (bytes.new.items
+        ≡ bytes.old.items ++ compact_text (day_data airport.now visits.now version)) }
 {
-    let visits = visit_values(alloc, airport, visits)?;
-    json!(in alloc; {"version": version, "visits": visits})
+    push_member(bytes, b"{\"version\":", version)?;
+    bytes.extend_from_slice(b",\"visits\":")?;
+    push_visits(bytes, airport, visits)?;
+    bytes.push(b'}')?;
+    Ok(())
 }
 
-fn visit_values(
-    alloc: Global,
-    airport: &AirportParts,
-    visits: &[Visit],
-) -> Result<Vec<Value>, AllocError>
+fn push_visits(bytes: &mut Vec<u8>, airport: &AirportParts, visits: &[Visit]) -> Result<(), Memory>
     requires new { All (λ visit. IsNewVisit (new_of visit)) visits.now }
-    ensures are { IfOk result (λ values. map view values.items ≡ map (listed_visit_data airport.now) visits.now) }
+    ensures text { OnOk result
+        (bytes.new.items
+        ≡ bytes.old.items
+        ++ compact_text (array (items_of (map (listed_visit_data airport.now) visits.now)))) }
 {
-    let mut values = Vec::new(alloc);
-    for visit in visits {
-        values.push(listed_visit_value(alloc, airport, visit)?)?;
+    bytes.push(b'[')?;
+    for (i, visit) in visits.iter().enumerate() {
+        push_comma_if(bytes, i > 0)?;
+        push_visit(bytes, airport, visit, None)?;
     }
-    Ok(values)
+    bytes.push(b']')?;
+    Ok(())
 }
 
-// A visit among others.
-fn listed_visit_value(
-    alloc: Global,
+/// A visit. If it stands alone, the plan's version is among its members.
+pub(crate) fn push_visit(
+    bytes: &mut Vec<u8>,
     airport: &AirportParts,
     visit: &Visit,
-) -> Result<Value, AllocError>
+    version: Option<u32>,
+) -> Result<(), Memory>
     requires new { IsNewVisit (new_of visit.now) }
-    ensures is { IfOk result (λ v. view v ≡ listed_visit_data airport.now visit.now) }
+    ensures text { OnOk result
+        (bytes.new.items
+        ≡ bytes.old.items
+        ++ compact_text (object (visit_members airport.now visit.now (last_members version visit.now)))) }
 {
-    Ok(Value::Object(listed_visit_members(alloc, airport, visit)?))
+    bytes.extend_from_slice(b"{\"arr\":")?;
+    push_key(bytes, &visit.arr)?;
+    push_member(bytes, b",\"class\":", visit.class)?;
+    bytes.extend_from_slice(b",\"dep\":")?;
+    push_key(bytes, &visit.dep)?;
+    push_member(bytes, b",\"edited\":", visit.edited)?;
+    bytes.extend_from_slice(b",\"name\":")?;
+    push_name(bytes, &visit.name)?;
+    push_member(bytes, b",\"off\":", visit.off)?;
+    push_member(bytes, b",\"on\":", visit.on)?;
+    bytes.extend_from_slice(b",\"parts\":")?;
+    push_stays(bytes, airport, visit.parts.as_slice())?;
+    bytes.extend_from_slice(b",\"state\":")?;
+    push_state(bytes, visit)?;
+    bytes.extend_from_slice(b",\"type\":")?;
+    push_type(bytes, airport, visit.kind)?;
+    push_last_members(bytes, visit, version)?;
+    Ok(())
 }
 
-/// A visit alone, with the plan's version among its members.
-pub(crate) fn visit_value(
-    alloc: Global,
-    airport: &AirportParts,
-    visit: &Visit,
-    version: u32,
-) -> Result<Value, AllocError>
-    requires new { IsNewVisit (new_of visit.now) }
-    ensures is { IfOk result (λ v. view v ≡ visit_data airport.now visit.now version) }
+// The version, if one is given, the visit's number, and the end of its object.
+fn push_last_members(bytes: &mut Vec<u8>, visit: &Visit, version: Option<u32>) -> Result<(), Memory>
+    ensures text { OnOk result
+        (bytes.new.items ≡ bytes.old.items ++ members_text true (last_members version visit.now)) }
 {
-    let mut members = listed_visit_members(alloc, airport, visit)?;
-    put(&mut members, alloc, "version", Value::from(version))?;
-    Ok(Value::Object(members))
-}
-
-fn listed_visit_members(
-    alloc: Global,
-    airport: &AirportParts,
-    visit: &Visit,
-) -> Result<Map<String, Value>, AllocError>
-    requires new { IsNewVisit (new_of visit.now) }
-    ensures are { IfOk result (λ members. members_view members.entries ≡ listed_visit_members airport.now visit.now) }
-{
-    let arr = key_value(alloc, &visit.arr)?;
-    let dep = key_value(alloc, &visit.dep)?;
-    let name = Value::try_from_str(alloc, visit.name.text())?;
-    let parts = stay_values(alloc, airport, visit.parts.as_slice())?;
-    let state = Value::try_from_str(alloc, state_word(visit))?;
-    let kind = type_value(alloc, airport, visit.kind)?;
-    let mut members = Map::new(alloc);
-    put(&mut members, alloc, "arr", arr)?;
-    put(&mut members, alloc, "class", Value::from(visit.class))?;
-    put(&mut members, alloc, "dep", dep)?;
-    put(&mut members, alloc, "edited", Value::from(visit.edited))?;
-    put(&mut members, alloc, "name", name)?;
-    put(&mut members, alloc, "off", Value::from(visit.off))?;
-    put(&mut members, alloc, "on", Value::from(visit.on))?;
-    put(&mut members, alloc, "parts", Value::from(parts))?;
-    put(&mut members, alloc, "state", state)?;
-    put(&mut members, alloc, "type", kind)?;
-    put(&mut members, alloc, "visit", Value::from(visit.number.0))?;
-    Ok(members)
+    match version {
+        Some(version) => {
+            push_member(bytes, b",\"version\":", version)?;
+            push_member(bytes, b",\"visit\":", visit.number.0)?;
+        }
+        None => push_member(bytes, b",\"visit\":", visit.number.0)?,
+    }
+    bytes.push(b'}')?;
+    Ok(())
 }
 
 // A flight and its day, or null if there is none.
-fn key_value(alloc: Global, key: &Option<Key>) -> Result<Value, AllocError>
+fn push_key(bytes: &mut Vec<u8>, key: &Option<Key>) -> Result<(), Memory>
     requires flight { IfSome key.now HasFlight }
-    ensures is { IfOk result (λ v. view v ≡ key_data key.now) }
+    ensures text { OnOk result
+        (bytes.new.items ≡ bytes.old.items ++ compact_text (key_data key.now)) }
 {
     match key {
         Some(key) => {
-            let flight = flight_text(alloc, &key.flight)?;
-            json!(in alloc; {"day": key.day, "flight": flight})
+            push_member(bytes, b"{\"day\":", key.day)?;
+            bytes.extend_from_slice(b",\"flight\":")?;
+            push_flight_text(bytes, &key.flight)?;
+            bytes.push(b'}')?;
+            Ok(())
         }
-        None => Ok(Value::Null),
+        None => push_null(bytes),
     }
 }
 
-fn flight_text(alloc: Global, flight: &Flight) -> Result<String, AllocError>
+#[tactic(auto, using(crate::proofs::Flights::flight_quoted))]
+fn push_flight_text(bytes: &mut Vec<u8>, flight: &Flight) -> Result<(), Memory>
     requires flight { IsFlight flight.now }
-    ensures text { IfOk result (λ text. string_bytes text ≡ flight_text flight.now) }
+    ensures text { OnOk result
+        (bytes.new.items ≡ bytes.old.items ++ compact_text (string (flight_text flight.now))) }
 {
-    let mut bytes = Vec::new(alloc);
-    match push_flight(&mut bytes, flight) {
-        Ok(()) => Ok(ascii_text(bytes)),
-        Err(Memory) => Err(AllocError),
-    }
+    bytes.push(b'"')?;
+    push_flight(bytes, flight)?;
+    bytes.push(b'"')?;
+    Ok(())
 }
 
-fn ascii_text(bytes: Vec<u8>) -> String
-    requires ascii { IsAscii bytes.items }
-    ensures text { string_bytes result ≡ bytes.items }
-{
-    match String::from_utf8(bytes) {
-        Ok(text) => text,
-        Err(_) => unreachable!(),
-    }
-}
-
-fn state_word(visit: &Visit) -> &'static str
-    ensures text { result.now ≡ state_word visit.now.end visit.now.on_block }
+fn push_state(bytes: &mut Vec<u8>, visit: &Visit) -> Result<(), Memory>
+    ensures text { OnOk result
+        (bytes.new.items
+        ≡ bytes.old.items
+        ++ compact_text (string (state_word visit.now.end visit.now.on_block))) }
 {
     match visit.end {
-        End::Cancelled => "cancelled",
-        End::Gone => "gone",
-        End::Live if visit.on_block => "onblock",
-        End::Live => "expected",
+        End::Cancelled => push_text(bytes, b"cancelled"),
+        End::Gone => push_text(bytes, b"gone"),
+        End::Live if visit.on_block => push_text(bytes, b"onblock"),
+        End::Live => push_text(bytes, b"expected"),
     }
 }
 
-fn stay_values(
-    alloc: Global,
-    airport: &AirportParts,
-    parts: &[Part],
-) -> Result<Vec<Value>, AllocError>
-    ensures are { IfOk result (λ values. map view values.items ≡ map (stay_data airport.now) parts.now) }
+fn push_stays(bytes: &mut Vec<u8>, airport: &AirportParts, parts: &[Part]) -> Result<(), Memory>
+    ensures text { OnOk result
+        (bytes.new.items
+        ≡ bytes.old.items
+        ++ compact_text (array (items_of (map (stay_data airport.now) parts.now)))) }
 {
-    let mut values = Vec::new(alloc);
-    for part in parts {
-        values.push(stay_value(alloc, airport, part)?)?;
+    bytes.push(b'[')?;
+    for (i, part) in parts.iter().enumerate() {
+        push_comma_if(bytes, i > 0)?;
+        push_stay(bytes, airport, part)?;
     }
-    Ok(values)
+    bytes.push(b']')?;
+    Ok(())
 }
 
-fn stay_value(alloc: Global, airport: &AirportParts, part: &Part) -> Result<Value, AllocError>
-    ensures is { IfOk result (λ v. view v ≡ stay_data airport.now part.now) }
+fn push_stay(bytes: &mut Vec<u8>, airport: &AirportParts, part: &Part) -> Result<(), Memory>
+    ensures text { OnOk result
+        (bytes.new.items ≡ bytes.old.items ++ compact_text (stay_data airport.now part.now)) }
 {
-    let bump = place_bump_value(alloc, airport, part.place)?;
-    let stand = place_stand_value(alloc, airport, part.place)?;
-    json!(in alloc; {
-        "actual": matches!(part.place, Place::Actual(_)),
-        "bump": bump,
-        "from": part.from,
-        "stand": stand,
-        "to": part.to
-    })
+    bytes.extend_from_slice(b"{\"actual\":")?;
+    push_actual(bytes, part.place)?;
+    bytes.extend_from_slice(b",\"bump\":")?;
+    push_place_bump(bytes, airport, part.place)?;
+    push_member(bytes, b",\"from\":", part.from)?;
+    bytes.extend_from_slice(b",\"stand\":")?;
+    push_place_stand(bytes, airport, part.place)?;
+    push_member(bytes, b",\"to\":", part.to)?;
+    bytes.push(b'}')?;
+    Ok(())
 }
 
-pub(crate) fn place_bump_value(
-    alloc: Global,
-    airport: &AirportParts,
-    place: Place,
-) -> Result<Value, AllocError>
-    ensures is { IfOk result (λ v. view v ≡ place_bump_data airport.now place) }
+// Whether a part is on its stand in fact.
+pub(crate) fn push_actual(bytes: &mut Vec<u8>, place: Place) -> Result<(), Memory>
+    ensures text { OnOk result
+        (bytes.new.items ≡ bytes.old.items ++ compact_text (boolean (is_actual place))) }
 {
-    match place {
-        Place::Unplaced(Some(bump)) => bump_value(alloc, airport, bump),
-        Place::Unplaced(None) | Place::Planned(_) | Place::Actual(_) => Ok(Value::Null),
-    }
+    push_bool(bytes, matches!(place, Place::Actual(_)))
 }
 
-pub(crate) fn place_stand_value(
-    alloc: Global,
+pub(crate) fn push_place_bump(
+    bytes: &mut Vec<u8>,
     airport: &AirportParts,
     place: Place,
-) -> Result<Value, AllocError>
-    ensures is { IfOk result (λ v. view v ≡ place_stand_data airport.now place) }
+) -> Result<(), Memory>
+    ensures text { OnOk result
+        (bytes.new.items ≡ bytes.old.items ++ compact_text (place_bump_data airport.now place)) }
 {
     match place {
-        Place::Unplaced(_) => Ok(Value::Null),
-        Place::Planned(stand) | Place::Actual(stand) => stand_value(alloc, airport, stand),
+        Place::Unplaced(Some(bump)) => push_bump(bytes, airport, bump),
+        Place::Unplaced(None) | Place::Planned(_) | Place::Actual(_) => push_null(bytes),
     }
 }
 
-fn bump_value(alloc: Global, airport: &AirportParts, bump: Bump) -> Result<Value, AllocError>
-    ensures is { IfOk result (λ v. view v ≡ bump_data airport.now bump) }
+pub(crate) fn push_place_stand(
+    bytes: &mut Vec<u8>,
+    airport: &AirportParts,
+    place: Place,
+) -> Result<(), Memory>
+    ensures text { OnOk result
+        (bytes.new.items ≡ bytes.old.items ++ compact_text (place_stand_data airport.now place)) }
 {
-    let blocker = part_value(alloc, bump.blocker)?;
-    let stand = stand_value(alloc, airport, bump.stand)?;
-    json!(in alloc; {
-        "blocker": blocker,
-        "entry": bump.entry,
-        "minute": bump.minute,
-        "rule": rule_word(bump.rule),
-        "stand": stand
-    })
+    match place {
+        Place::Unplaced(_) => push_null(bytes),
+        Place::Planned(stand) | Place::Actual(stand) => push_stand(bytes, airport, stand),
+    }
+}
+
+fn push_bump(bytes: &mut Vec<u8>, airport: &AirportParts, bump: Bump) -> Result<(), Memory>
+    ensures text { OnOk result
+        (bytes.new.items ≡ bytes.old.items ++ compact_text (bump_data airport.now bump)) }
+{
+    bytes.extend_from_slice(b"{\"blocker\":")?;
+    push_part(bytes, bump.blocker)?;
+    push_member(bytes, b",\"entry\":", bump.entry)?;
+    push_member(bytes, b",\"minute\":", bump.minute)?;
+    bytes.extend_from_slice(b",\"rule\":")?;
+    push_rule(bytes, bump.rule)?;
+    bytes.extend_from_slice(b",\"stand\":")?;
+    push_stand(bytes, airport, bump.stand)?;
+    bytes.push(b'}')?;
+    Ok(())
 }

@@ -6,6 +6,7 @@ ghost use Rattle.wall_chart.specs.Rows.{filled_up, part_text, row_text, stand_te
 use crate::times::{push_number, push_span};
 use apron_base::{Memory, PartId, StandNo, VisitNo};
 use apron_rules::{AirportParts, Rule};
+use desk_words::part_objects::rule_word;
 use desk_words::replies::PartRow;
 use plan_core::Plan;
 
@@ -85,15 +86,4 @@ pub fn push_rule(text: &mut Vec<u8>, rule: Rule) -> Result<(), Memory>
 {
     text.extend_from_slice(rule_word(rule).as_bytes())?;
     Ok(())
-}
-
-fn rule_word(rule: Rule) -> &'static str
-    ensures text { result.now ≡ rule_word rule }
-{
-    match rule {
-        Rule::Same => "same",
-        Rule::Split => "split",
-        Rule::Clearance => "clearance",
-        Rule::Pair => "pair",
-    }
 }

@@ -1,6 +1,5 @@
 pub mod Named
 pub mod PartNotes
-pub mod FeedNumbers
 pub mod Grown
 pub mod HistoryNotes
 pub mod LaterNotes

@@ -1,18 +1,25 @@
 // The replies to feeds, byte for byte.
-ghost use Rattle.std.specs.Prelude.{◌≡◌, ◌∷◌, [], map, string_bytes, IfOk};
-ghost use Rattle.serde_json.specs.View.{view};
+ghost use Rattle.std.specs.Prelude.{◌≡◌, ◌++◌, map, IfOk, OnOk};
+ghost use Rattle.serde_json.specs.Data.{array};
+ghost use Rattle.serde_json.specs.View.{items_of};
 ghost use Rattle.serde_json.specs.Written.{compact_text};
-ghost use Rattle.desk_words.specs.FaultObjects.{refused_data};
-ghost use Rattle.desk_words.specs.PartObjects.{part_data, rule_word, stand_data};
-ghost use Rattle.desk_words.specs.Texts.{head_of, json_media, text_of, version_line};
 ghost use Rattle.watch_list.specs.FeedReplies.{fed_code, fed_data, fed_text, note_data, notes_data};
 
 use crate::note::Note;
-use apron_base::{Listed, Memory, PartId, StandNo};
-use apron_rules::{Airport, AirportParts, Rule};
+use apron_base::{Listed, Memory};
+use apron_rules::{Airport, AirportParts};
+use desk_words::fault_objects::push_refused;
+use desk_words::json_text::{push_comma_if, push_member};
+use desk_words::part_objects::{push_part, push_rule, push_stand};
+use desk_words::replies::{JSON, text_of};
 use http::StatusCode;
-use serde_json::{Value, json};
-use std::alloc::{AllocError, Global};
+use std::alloc::Global;
+
+// The greatest bytes of a note in a list, with its comma.
+const MOST_NOTE: usize = 176;
+
+// More than the bytes of any body but its notes.
+const MOST_OTHER: usize = 64;
 
 /// What a feed comes to.
 #[derive(Debug, Drop)]
@@ -25,7 +32,8 @@ pub(crate) enum Fed {
     Notes { notes: Listed<Note> },
 }
 
-/// The reply's whole text, head and body, for a plan of this airport and version. The only error is a lack of memory.
+/// The reply's whole text, head and body, for a plan of this airport and version. The only error is
+/// a lack of memory.
 pub(crate) fn fed_bytes(
     alloc: Global,
     airport: &Airport,
@@ -35,7 +43,7 @@ pub(crate) fn fed_bytes(
     ensures text { IfOk result (λ bytes. bytes ≡ fed_text airport.now version fed.now) }
 {
     let body = fed_body(alloc, airport.parts(), version, fed)?;
-    text(alloc, fed_code(fed), version, body.as_slice())
+    text_of(alloc, fed_code(fed), JSON, version, body.as_slice())
 }
 
 fn fed_code(fed: &Fed) -> StatusCode
@@ -53,116 +61,92 @@ fn fed_body(
     airport: &AirportParts,
     version: u32,
     fed: &Fed,
-) -> Result<Vec<u8>, AllocError>
-    ensures text { IfOk result (λ v. v.items ≡ compact_text (fed_data airport.now version fed.now)) }
+) -> Result<Vec<u8>, Memory>
+    ensures text { IfOk result
+        (λ body. body.items ≡ compact_text (fed_data airport.now version fed.now)) }
 {
-    fed_value(alloc, airport, version, fed)?.to_vec(alloc)
+    let mut body = Vec::with_capacity(alloc, room_for(fed))?;
+    push_fed(&mut body, airport, version, fed)?;
+    Ok(body)
 }
 
-fn fed_value(
-    alloc: Global,
+// Bytes in which each body is written without asking for memory again.
+fn room_for(fed: &Fed) -> usize {
+    let listed = match fed {
+        Fed::Notes { notes } => notes.as_slice().len().saturating_mul(MOST_NOTE),
+        Fed::Ahead | Fed::NoWatch => 0,
+    };
+    listed.saturating_add(MOST_OTHER)
+}
+
+fn push_fed(
+    bytes: &mut Vec<u8>,
     airport: &AirportParts,
     version: u32,
     fed: &Fed,
-) -> Result<Value, AllocError>
-    ensures is { IfOk result (λ v. view v ≡ fed_data airport.now version fed.now) }
+) -> Result<(), Memory>
+    ensures text { OnOk result
+        (bytes.new.items ≡ bytes.old.items ++ compact_text (fed_data airport.now version fed.now)) }
 {
     match fed {
-        Fed::Ahead => refused_value(alloc, "ahead", version),
-        Fed::NoWatch => refused_value(alloc, "watch", version),
-        Fed::Notes { notes } => notes_value(alloc, airport, notes.as_slice(), version),
+        Fed::Ahead => push_refused(bytes, b"ahead", version),
+        Fed::NoWatch => push_refused(bytes, b"watch", version),
+        Fed::Notes { notes } => push_notes(bytes, airport, notes.as_slice(), version),
     }
 }
 
-fn refused_value(alloc: Global, error: &str, version: u32) -> Result<Value, AllocError>
-    ensures is { IfOk result (λ v. view v ≡ refused_data error.now version) }
-{
-    json!(in alloc; {"error": error, "version": version})
-}
-
-fn notes_value(
-    alloc: Global,
+#[tactic(auto, unfolding(serde_json::proofs::OnLiterals::serde_json_on_literals))]
+fn push_notes(
+    bytes: &mut Vec<u8>,
     airport: &AirportParts,
     notes: &[Note],
     version: u32,
-) -> Result<Value, AllocError>
-    ensures is { IfOk result (λ v. view v ≡ notes_data airport.now notes.now version) }
+) -> Result<(), Memory>
+    ensures text { OnOk result
+        (bytes.new.items
+        ≡ bytes.old.items ++ compact_text (notes_data airport.now notes.now version)) }
 {
-    let bumps = note_values(alloc, airport, notes)?;
-    json!(in alloc; {"bumps": bumps, "version": version})
+    bytes.extend_from_slice(b"{\"bumps\":")?;
+    push_note_items(bytes, airport, notes)?;
+    push_member(bytes, b",\"version\":", version)?;
+    bytes.push(b'}')?;
+    Ok(())
 }
 
-fn note_values(
-    alloc: Global,
+fn push_note_items(
+    bytes: &mut Vec<u8>,
     airport: &AirportParts,
     notes: &[Note],
-) -> Result<Vec<Value>, AllocError>
-    ensures are { IfOk result (λ values. map view values.items ≡ map (note_data airport.now) notes.now) }
+) -> Result<(), Memory>
+    ensures text { OnOk result
+        (bytes.new.items
+        ≡ bytes.old.items
+        ++ compact_text (array (items_of (map (note_data airport.now) notes.now)))) }
 {
-    let mut values = Vec::new(alloc);
-    for note in notes {
-        values.push(note_value(alloc, airport, note)?)?;
+    bytes.push(b'[')?;
+    for (i, note) in notes.iter().enumerate() {
+        push_comma_if(bytes, i > 0)?;
+        push_note(bytes, airport, note)?;
     }
-    Ok(values)
+    bytes.push(b']')?;
+    Ok(())
 }
 
-fn note_value(alloc: Global, airport: &AirportParts, note: &Note) -> Result<Value, AllocError>
-    ensures is { IfOk result (λ v. view v ≡ note_data airport.now note.now) }
+fn push_note(bytes: &mut Vec<u8>, airport: &AirportParts, note: &Note) -> Result<(), Memory>
+    ensures text { OnOk result
+        (bytes.new.items ≡ bytes.old.items ++ compact_text (note_data airport.now note.now)) }
 {
-    let blocker = part_value(alloc, note.blocker)?;
-    let part = part_value(alloc, note.part)?;
-    let stand = stand_value(alloc, airport, note.stand)?;
-    json!(in alloc; {
-        "blocker": blocker,
-        "class": note.class,
-        "entry": note.entry,
-        "minute": note.minute,
-        "part": part,
-        "rule": rule_word(note.rule),
-        "stand": stand
-    })
-}
-
-fn part_value(alloc: Global, part: PartId) -> Result<Value, AllocError>
-    ensures is { IfOk result (λ v. view v ≡ part_data part) }
-{
-    json!(in alloc; {"part": part.part, "visit": part.visit.0})
-}
-
-// The name of a stand, or null where the airport has none of this number.
-fn stand_value(alloc: Global, airport: &AirportParts, stand: StandNo) -> Result<Value, AllocError>
-    ensures is { IfOk result (λ v. view v ≡ stand_data airport.now stand) }
-{
-    match airport.stands.as_slice().get(stand.0 as usize) {
-        Some(row) => json!(in alloc; row.name.text()),
-        None => Ok(Value::Null),
-    }
-}
-
-fn rule_word(rule: Rule) -> &'static str
-    ensures text { result.now ≡ rule_word rule }
-{
-    match rule {
-        Rule::Same => "same",
-        Rule::Split => "split",
-        Rule::Clearance => "clearance",
-        Rule::Pair => "pair",
-    }
-}
-
-// The text of a reply with this body, that shows this version.
-fn text(alloc: Global, code: StatusCode, version: u32, body: &[u8]) -> Result<Listed<u8>, Memory>
-    ensures text { IfOk result (λ bytes. bytes ≡ text_of code json_media (version_line version ∷ []) body.now) }
-{
-    let mut bytes = head(alloc, code, body.len(), version)?.into_bytes();
-    bytes.extend_from_slice(body)?;
-    Ok(Listed::from_vec(bytes))
-}
-
-fn head(alloc: Global, code: StatusCode, length: usize, version: u32) -> Result<String, AllocError>
-    ensures text { IfOk result (λ s. string_bytes s ≡ head_of code json_media (version_line version ∷ []) length) }
-{
-    format!(in alloc;
-        "HTTP/1.1 {code}\r\nContent-Type: application/json\r\nContent-Length: {length}\r\nX-Version: {version}\r\n\r\n"
-    )
+    bytes.extend_from_slice(b"{\"blocker\":")?;
+    push_part(bytes, note.blocker)?;
+    push_member(bytes, b",\"class\":", note.class)?;
+    push_member(bytes, b",\"entry\":", note.entry)?;
+    push_member(bytes, b",\"minute\":", note.minute)?;
+    bytes.extend_from_slice(b",\"part\":")?;
+    push_part(bytes, note.part)?;
+    bytes.extend_from_slice(b",\"rule\":")?;
+    push_rule(bytes, note.rule)?;
+    bytes.extend_from_slice(b",\"stand\":")?;
+    push_stand(bytes, airport, note.stand)?;
+    bytes.push(b'}')?;
+    Ok(())
 }

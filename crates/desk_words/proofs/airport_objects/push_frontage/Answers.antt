@@ -1,0 +1,17 @@
+use Rattle.std.proofs.Common.{[], ◌∷◌}
+use Rattle.serde_json.proofs.OnLiterals.{serde_json_on_literals}
+use Rattle.desk_words.proofs.Joined.{joined}
+use Rattle.desk_words.proofs.airport_objects.push_frontage.Goals as goal
+
+pub returns : goal.returns
+unfolding serde_json_on_literals
+returns c = record {
+  text = rw (
+    c.in_ok-push.ensures.items,
+    c.in_ok-push_places.ensures.text,
+    c.in_ok-extend_from_slice-2.ensures.items,
+    c.in_ok-push_name.ensures.text,
+    c.in_ok-extend_from_slice.ensures.items,
+    c.as_slice.ensures.items,
+  ) (joined c.args.bytes.now.items (_ ∷ _ ∷ _ ∷ _ ∷ _ ∷ []));
+}

@@ -1,0 +1,20 @@
+use Rattle.std.proofs.Common.{[], ◌∷◌}
+use Rattle.serde_json.proofs.OnLiterals.{serde_json_on_literals}
+use Rattle.desk_words.proofs.Joined.{joined}
+use Rattle.desk_words.proofs.row_objects.push_placed.Goals as goal
+
+pub returns : goal.returns
+unfolding serde_json_on_literals
+returns c = record {
+  text = rw (
+    c.in_ok-push.ensures.items,
+    c.in_ok-push_member-4.ensures.text,
+    c.in_ok-push_member-3.ensures.text,
+    c.in_ok-push_place_stand.ensures.text,
+    c.in_ok-extend_from_slice-2.ensures.items,
+    c.in_ok-push_member-2.ensures.text,
+    c.in_ok-push_member.ensures.text,
+    c.in_ok-push_actual.ensures.text,
+    c.in_ok-extend_from_slice.ensures.items,
+  ) (joined c.args.bytes.now.items (_ ∷ _ ∷ _ ∷ _ ∷ _ ∷ _ ∷ _ ∷ _ ∷ _ ∷ _ ∷ _ ∷ _ ∷ _ ∷ []));
+}
