@@ -12,7 +12,7 @@ use Rattle.airport_files.specs.declared.keys.WalkFault.{WalkFault}
 use Rattle.airport_files.specs.declared.keys.WalkFault.TheVariants.{Wrong}
 use Rattle.airport_files.specs.Forms.{number_of}
 use Rattle.apron_base.specs.ResultChain.{◌>>=◌}
-use Rattle.airport_files.specs.Rows.{numbers_from}
+use Rattle.airport_files.specs.Walk.{numbers_from}
 
 abbrev pub joined : List ℕ → Result (List ℕ) WalkFault → Result (List ℕ) WalkFault
 joined found rest = rest >>= (λ more. Ok (found ++ more))

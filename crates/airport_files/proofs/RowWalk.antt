@@ -10,7 +10,7 @@ use Rattle.toml.proofs.Views.{items_view-drop}
 use Rattle.airport_files.specs.declared.keys.WalkFault.{WalkFault}
 use Rattle.airport_files.specs.declared.keys.WalkFault.TheVariants.{Memory}
 use Rattle.apron_base.specs.ResultChain.{◌>>=◌}
-use Rattle.airport_files.specs.Layout.{is_table, are_tables, rows_from}
+use Rattle.airport_files.specs.Walk.{is_table, are_tables, rows_from}
 
 -- the rows found so far, and those of the rest
 abbrev pub joined : {A : Type 0} → List A → Result (List A) WalkFault → Result (List A) WalkFault

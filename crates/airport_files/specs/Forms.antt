@@ -1,7 +1,7 @@
 -- The forms of values in an airport file, and what a key holds in a form.
-use Rattle.std.specs.Prelude.{ℕ, ℤ, pos, negsuc, ◌^◌, ◌&&◌, ◌||◌, ◌==◌, nat_lt, nat_le, Bool, List, length, slice_index, Option, Some, None, Result, Ok, Err, option_and_then, if◌then◌else◌}
+use Rattle.std.specs.Prelude.{ℕ, ℤ, pos, negsuc, ◌^◌, ◌&&◌, ◌||◌, ◌==◌, nat_lt, nat_le, Bool, List, [], ◌∷◌, length, slice_index, Option, Some, None, is_some, Result, Ok, Err, option_and_then, filter_map, if◌then◌else◌}
 use Rattle.std.specs.List.{list_all}
-use Rattle.toml.specs.Data.{Data, as_integer, as_str}
+use Rattle.toml.specs.Data.{Data, Items, Members, as_integer, as_str, as_table, array, item, no_items}
 use Rattle.apron_base.specs.declared.letter.Letter.{Letter}
 use Rattle.apron_base.specs.declared.letter.Letter.TheVariants.{A, B, C, D, E, F}
 use Rattle.apron_dates.specs.Dates.{read_date}
@@ -73,6 +73,32 @@ in_u32 (negsuc n) = None
 -- a whole number from 0 to 4294967295
 abbrev pub number_of : Data → Option ℕ
 number_of d = option_and_then in_u32 (as_integer d)
+
+-- the items of an array, as a list
+abbrev pub items_of : Items → List Data
+items_of no_items = []
+items_of (item d ds) = d ∷ items_of ds
+
+-- the value is of the form
+abbrev pub is_in_form : {A : Type 0} → (Data → Option A) → Data → Bool
+is_in_form form d = is_some (form d)
+
+-- the items of an array in a form, if each of them is of it
+abbrev pub all_of : {A : Type 0} → (Data → Option A) → Items → Option (List A)
+all_of form ds = if list_all (is_in_form form) (items_of ds) then Some (filter_map form (items_of ds)) else None
+
+-- an array of values of one form
+abbrev pub array_of : {A : Type 0} → (Data → Option A) → Data → Option (List A)
+array_of form (array ds) = all_of form ds
+array_of form _ = None
+
+-- an array of whole numbers
+abbrev pub numbers_of : Data → Option (List ℕ)
+numbers_of = array_of number_of
+
+-- an array of tables
+abbrev pub tables_of : Data → Option (List Members)
+tables_of = array_of as_table
 
 -- a value in a form, or a fault at its key
 abbrev pub in_form : {A : Type 0} → Key → Option A → Result A WalkFault

@@ -1,7 +1,9 @@
 pub mod Words
 pub mod Forms
+pub mod Keys
 pub mod Rows
 pub mod Layout
+pub mod Walk
 pub mod Document
 pub mod TypeRows
 pub mod Table

@@ -1,6 +1,6 @@
 use Rattle.std.proofs.Common.{◌≡◌, ◌+◌, drop}
 use Rattle.toml.specs.View.{items_view}
-use Rattle.airport_files.specs.Layout.{rows_from}
+use Rattle.airport_files.specs.Walk.{rows_from}
 use Rattle.airport_files.proofs.RowWalk.{joined}
 use Rattle.airport_files.proofs.layout.rows_from.Given as goal
 

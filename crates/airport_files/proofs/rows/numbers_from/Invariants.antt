@@ -1,6 +1,6 @@
 use Rattle.std.proofs.Common.{◌≡◌, drop}
 use Rattle.toml.specs.View.{items_view}
-use Rattle.airport_files.specs.Rows.{numbers_from}
+use Rattle.airport_files.specs.Walk.{numbers_from}
 use Rattle.airport_files.proofs.NumberWalk.{joined}
 use Rattle.airport_files.proofs.rows.numbers_from.Given as goal
 
