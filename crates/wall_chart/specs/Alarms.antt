@@ -46,7 +46,10 @@ alarms_with airport day slots slot = filter_map (alarm airport day slot) slots
 abbrev pub alarms : AirportParts → ℕ → List Slot → List Clash
 alarms airport day slots = in_order alarm_order (flat_map (alarms_with airport day slots) slots)
 
+-- TIME PART, and a space after each
+abbrev pub alarm_head : Clash → List ℕ
+alarm_head clash = time_text clash.minute ++ codes " " ++ part_text clash.a ++ codes " "
+
 -- TIME PART PART RULE
 abbrev pub alarm_line : Clash → List ℕ
-alarm_line clash =
-    time_text clash.minute ++ codes " " ++ part_text clash.a ++ codes " " ++ part_text clash.b ++ codes " " ++ rule_word clash.rule ++ codes "\n"
+alarm_line clash = alarm_head clash ++ part_text clash.b ++ codes " " ++ rule_word clash.rule ++ codes "\n"

@@ -33,11 +33,23 @@ holds_in_fact stand minutes slot = is_on stand slot && slot.actual && is_held_at
 abbrev pub holds_by_plan : StandNo → List ℕ → Slot → Bool
 holds_by_plan stand minutes slot = is_on stand slot && not slot.actual && is_held_at_some minutes slot
 
--- # if an actual part holds the stand at some of these minutes; otherwise = if a planned part does;
--- otherwise a dot
+-- a hash: an actual part holds the stand
+abbrev pub actual_mark : ℕ
+actual_mark = 35
+
+-- an equals sign: a planned part holds it
+abbrev pub planned_mark : ℕ
+planned_mark = 61
+
+-- a dot: no part holds it
+abbrev pub free_mark : ℕ
+free_mark = 46
+
+-- how the stand is held at some of these minutes: an actual part goes before a planned one
 abbrev pub cell : List Slot → StandNo → List ℕ → ℕ
 cell slots stand minutes =
-    if list_any (holds_in_fact stand minutes) slots then 35 else (if list_any (holds_by_plan stand minutes) slots then 61 else 46)
+    if list_any (holds_in_fact stand minutes) slots then actual_mark
+    else (if list_any (holds_by_plan stand minutes) slots then planned_mark else free_mark)
 
 -- the cells of a stand, a quarter of an hour each
 abbrev pub cells : List Slot → ℕ → StandNo → List ℕ

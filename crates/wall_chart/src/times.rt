@@ -23,7 +23,19 @@ pub(crate) fn day_start(day: u32) -> Minute
 pub fn push_number(text: &mut Vec<u8>, number: u32) -> Result<(), Memory>
     ensures text { OnOk result (text.new.items ≡ text.old.items ++ decimal number) }
 {
+    if number < 10 {
+        return push_digit(text, number);
+    }
     text.extend_from_slice(Buffer::new().format(number).as_bytes())?;
+    Ok(())
+}
+
+// Days and parts are numbers of one digit, nearly all of them.
+fn push_digit(text: &mut Vec<u8>, number: u32) -> Result<(), Memory>
+    requires small { number < 10 }
+    ensures text { OnOk result (text.new.items ≡ text.old.items ++ decimal number) }
+{
+    text.push(b'0' + number as u8)?;
     Ok(())
 }
 
@@ -32,9 +44,8 @@ pub(crate) fn push_two(text: &mut Vec<u8>, number: u32) -> Result<(), Memory>
     requires small { number < 100 }
     ensures text { OnOk result (text.new.items ≡ text.old.items ++ two_text number) }
 {
-    let tens = b'0' + (number / 10) as u8;
-    let ones = b'0' + (number % 10) as u8;
-    text.extend_from_slice(&[tens, ones])?;
+    text.push(b'0' + (number / 10) as u8)?;
+    text.push(b'0' + (number % 10) as u8)?;
     Ok(())
 }
 
