@@ -153,6 +153,15 @@ plan_slot_of airport a index visits slot same clear indexed listed =
     let is : IsSlotOf a slot = All-contains (IsSlotOf a) (all_slots index) slot clear.slots ((indexed.slots slot).1 there) in
     subst (λ (b : AirportParts). IsSlotOf b slot) (sym same) is
 
+-- the items that pass a test, item after item
+pub filter_is : {X : Type 0} (p : X → Bool) (xs : List X) → flat_map (λ x. cond (p x) (x ∷ []) []) xs ≡ filter p xs
+filter_is p [] = refl
+filter_is {X} p (x ∷ xs) = one (p x) ∙ ap (λ (rest : List X). cond (p x) (x ∷ rest) rest) (filter_is p xs)
+  where
+    one : (b : Bool) → cond b (x ∷ []) [] ++ flat_map (λ y. cond (p y) (y ∷ []) []) xs ≡ cond b (x ∷ flat_map (λ y. cond (p y) (y ∷ []) []) xs) (flat_map (λ y. cond (p y) (y ∷ []) []) xs)
+    one true = refl
+    one false = refl
+
 -- what is put last for one actual slot
 pub alarms_more : (airport a : AirportParts) (index : List StandSlots) (visits : List Visit) (day more : ℕ) (slot : Slot) (clashes kept old new : List Clash) → airport ≡ a → IsClear a index []
     → IsIndexed a index visits → by_part (all_slots index) ≡ slots_of a visits → Contains (slots_of airport visits) slot → slot.actual ≡ true → more ≡ day_length

@@ -1,5 +1,5 @@
 -- Lists in order of numbers, as sorts by keys leave them.
-use Rattle.std.proofs.Common.{◌≡◌, ◌∙◌, ℕ, Bool, true, false, cond, ◌&&◌, ◌||◌, ◌==◌, nat_lt, List, [], ◌∷◌, refl, ap, length}
+use Rattle.std.proofs.Common.{◌≡◌, ◌∙◌, ℕ, Bool, true, false, cond, ◌&&◌, ◌||◌, ◌==◌, nat_lt, List, [], ◌∷◌, refl, ap, length, map}
 use Rattle.std.specs.List.Sorted.{IsSortedBy, IsSortedByKey, IsStableBy, IsStableByKey}
 use Rattle.std.specs.Ordering.{nat_cmp, is_lt, ordering_then}
 use Rattle.std.specs.declared.cmp.Ordering.{Ordering}
@@ -11,7 +11,9 @@ use Rattle.visit_book.specs.Places.{stand_of}
 use Rattle.bump_core.specs.Ranks.{is_lower}
 use Rattle.desk_words.specs.declared.replies.PartRow.{PartRow}
 use Rattle.plan_lists.proofs.Ranks.{order_by}
+use Rattle.wall_chart.specs.declared.alarms.Alarm.{Alarm}
 use Rattle.wall_chart.specs.Alarms.{alarm_order}
+use Rattle.wall_chart.specs.KeptAlarms.{clash_of}
 use Rattle.wall_chart.specs.Order.{in_order, lower_by}
 use Rattle.wall_chart.specs.Parts.{part_order, stand_number}
 use Rattle.wall_chart.proofs.Sorted.{sorted_is}
@@ -104,8 +106,34 @@ clashes_lower clash other =
     (then_lower clash.a.visit.0 other.a.visit.0 (ordering_then second last) (clash.a.part ∷ clash.b.visit.0 ∷ clash.b.part ∷ []) (other.a.part ∷ other.b.visit.0 ∷ other.b.part ∷ [])
     (then_lower clash.a.part other.a.part last (clash.b.visit.0 ∷ clash.b.part ∷ []) (other.b.visit.0 ∷ other.b.part ∷ []) (parts_lower clash.b other.b)))
 
--- a stable sort of clashes
-pub sorted_clashes : (clashes sorted : List Clash) → IsSortedByKey clash_key compare_clashes sorted → IsStableByKey clash_key compare_clashes clashes sorted
-    → sorted ≡ in_order alarm_order clashes
-sorted_clashes clashes sorted up stable =
-    sorted_in_order alarm_order 5 (λ clash. refl) (λ clash other. is_lt (compare_clashes (clash_key clash) (clash_key other))) clashes_lower clashes sorted up stable
+-- the key of an alarm is that of its clash
+abbrev pub alarm_key : Alarm → ClashKey
+alarm_key alarm = clash_key (clash_of alarm)
+
+mapped_first : {X Y : Type 0} (f : X → Y) (b : Bool) (xs ys : List X) → map f (cond b xs ys) ≡ cond b (map f xs) (map f ys)
+mapped_first f true xs ys = refl
+mapped_first f false xs ys = refl
+
+-- an order of what a function makes of items is kept by the function
+insert_map : {X Y : Type 0} (f : X → Y) (lt : Y → Y → Bool) (item : X) (xs : List X) → map f (insert_by (λ x y. lt (f x) (f y)) item xs) ≡ insert_by lt (f item) (map f xs)
+insert_map f lt item [] = refl
+insert_map {X} {Y} f lt item (x ∷ xs) =
+    mapped_first f (lt (f x) (f item)) (x ∷ insert_by (λ y z. lt (f y) (f z)) item xs) (item ∷ x ∷ xs)
+    ∙ ap (λ (ys : List Y). cond (lt (f x) (f item)) (f x ∷ ys) (f item ∷ f x ∷ map f xs)) (insert_map f lt item xs)
+
+sorted_map : {X Y : Type 0} (f : X → Y) (lt : Y → Y → Bool) (xs : List X) → map f (sorted_by (λ x y. lt (f x) (f y)) xs) ≡ sorted_by lt (map f xs)
+sorted_map f lt [] = refl
+sorted_map f lt (x ∷ xs) = insert_map f lt x (sorted_by (λ y z. lt (f y) (f z)) xs) ∙ ap (insert_by lt (f x)) (sorted_map f lt xs)
+
+in_order_map : {X Y : Type 0} (f : X → Y) (numbers : Y → List ℕ) (xs : List X) → map f (in_order (λ x. numbers (f x)) xs) ≡ in_order numbers (map f xs)
+unfolding in_order
+in_order_map f numbers xs = sorted_map f (lower_by numbers) xs
+
+-- a stable sort of alarms
+pub sorted_alarms : (alarms sorted : List Alarm) → IsSortedByKey alarm_key compare_clashes sorted → IsStableByKey alarm_key compare_clashes alarms sorted
+    → map clash_of sorted ≡ in_order alarm_order (map clash_of alarms)
+sorted_alarms alarms sorted up stable =
+    ap (λ (found : List Alarm). map clash_of found)
+    (sorted_in_order (λ alarm. alarm_order (clash_of alarm)) 5 (λ alarm. refl) (λ alarm other. is_lt (compare_clashes (alarm_key alarm) (alarm_key other)))
+    (λ alarm other. clashes_lower (clash_of alarm) (clash_of other)) alarms sorted up stable)
+    ∙ in_order_map clash_of alarm_order alarms

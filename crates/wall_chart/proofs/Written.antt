@@ -1,6 +1,6 @@
 -- Texts that grow by pieces.
-use Rattle.std.proofs.Common.{◌≡◌, ◌∙◌, ◌≤◌, ◌+◌, ◌-◌, ◌++◌, ◌∷◌, [], ℕ, suc, List, sym, ap, arith, append_assoc, length, map, replicate, take}
-use Rattle.std.specs.Prelude.{codes}
+use Rattle.std.proofs.Common.{◌≡◌, ◌∙◌, ◌≤◌, ◌+◌, ◌-◌, ◌++◌, ◌∷◌, [], ℕ, suc, List, refl, sym, ap, arith, append_assoc, length, map, replicate, take}
+use Rattle.std.specs.Prelude.{codes, Result, Ok, Err, OnOk}
 use Rattle.std.specs.List.{flat_map, range_with_len}
 use Rattle.std.proofs.lemmas.List.{flat_map_more, take-replicate}
 use Rattle.std.proofs.lemmas.List.FromFn.{map-range_with_len_more}
@@ -11,6 +11,16 @@ use Rattle.visit_book.specs.Slots.{slots_of}
 use Rattle.plan_core.specs.PlanState.{PlanState}
 use Rattle.wall_chart.specs.Chart.{alarm_lines, chart_text, first_line, part_lines, stand_lines, unplaced_lines}
 use Rattle.wall_chart.specs.Rows.{filled_up}
+
+-- what follows from the promise of a call that went well
+pub ok_then : {T E : Type 0} (r : Result T E) (P Q : Type 0) → (P → Q) → OnOk r P → OnOk r Q
+ok_then (Ok x) P Q follows h = follows h
+ok_then (Err e) P Q follows h = h
+
+-- the pieces of what a function makes of items
+pub flat_map-map : {X Y Z : Type 0} (f : X → Y) (g : Y → List Z) (xs : List X) → flat_map (λ x. g (f x)) xs ≡ flat_map g (map f xs)
+flat_map-map f g [] = refl
+flat_map-map {X} {Y} {Z} f g (x ∷ xs) = ap (λ (ys : List Z). g (f x) ++ ys) (flat_map-map f g xs)
 
 -- a name and the spaces after it
 pub filled_by : (old name before after : List ℕ) (spaces : ℕ) → before ≡ old ++ name → spaces ≡ 6 - length name → after ≡ before ++ take spaces (replicate 6 32) → after ≡ old ++ filled_up name

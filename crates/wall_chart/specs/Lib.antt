@@ -5,4 +5,5 @@ pub mod Cells
 pub mod Parts
 pub mod Unplaced
 pub mod Alarms
+pub mod KeptAlarms
 pub mod Chart

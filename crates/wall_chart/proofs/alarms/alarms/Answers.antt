@@ -8,7 +8,7 @@ use Rattle.visit_book.specs.Slots.{slots_of}
 use Rattle.wall_chart.specs.Order.{in_order}
 use Rattle.wall_chart.specs.Alarms.{alarm_order, alarms_with, is_actual_on}
 use Rattle.wall_chart.proofs.Clashes.{actual_listed, alarms_are}
-use Rattle.wall_chart.proofs.Ordered.{clash_key, sorted_clashes}
+use Rattle.wall_chart.proofs.Ordered.{alarm_key, sorted_alarms}
 use Rattle.wall_chart.proofs.alarms.alarms.Goals as goal
 
 pub push_alarms_with-requires-clause-slot : goal.push_alarms_with-requires-clause-slot
@@ -30,10 +30,10 @@ returns g c =
     let all = slots_of airport c.args.plan.now.plan.visits in
     let are = c.deref-slot-items.ensures.value ∙ c.in_ok-slots.ensures.are ∙ ap (λ (visits : List Visit). filter (is_actual_on day) (slots_of airport visits)) c.visits.ensures.value in
     let computes = answers_always _ _ _ (λ f a r g h. search rules) in
-    let up = c.in_ok-sort_by_key.ensures.sorted clash_key computes in
-    let stable = c.sort_by_key.ensures.stable clash_key computes in
+    let up = c.in_ok-sort_by_key.ensures.sorted alarm_key computes in
+    let stable = c.sort_by_key.ensures.stable alarm_key computes in
     record {
-      are = sorted_clashes c.loop-slot.found.items c.sort_by_key.new.self.items up stable
+      are = sorted_alarms c.loop-slot.found.items c.sort_by_key.new.self.items up stable
           ∙ (ap (in_order alarm_order)
           (c.loop-slot.invariant ∙ ap (λ (slots : List Slot). flat_map (alarms_with airport day all) slots) (take_all c.loop-slot.slot-index c.deref-slot-items.result.now c.loop-slot-test.false ∙ are))
           ∙ alarms_are airport day all);
