@@ -5,7 +5,6 @@ ghost use Rattle.apron_dates.specs.Dates.{IsFirstDay};
 ghost use Rattle.apron_rules.specs.Names.{is_station};
 ghost use Rattle.toml.specs.Data.{Data, get_member};
 ghost use Rattle.airport_files.specs.declared.keys.WalkFault.{WalkFault};
-ghost use Rattle.airport_files.specs.Forms.{number_of, name_of, letter_of};
 ghost use Rattle.airport_files.specs.Rows.{Reads, head_in, frontage_in, stand_in, pair_in};
 ghost use Rattle.airport_files.specs.Walk.{head_number, head_of, numbers_from, numbers_at, frontage_name, frontage_objects, frontage_value, stand_name, stand_number, stand_letter, stand_half, stand_value, pair_name, pair_letter, pair_value};
 
