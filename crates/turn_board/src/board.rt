@@ -6,6 +6,7 @@ ghost use Rattle.turn_board.specs.Board.{Closes, GotTurn, Meets, Opens, Sits};
 use crate::plays::{InTurns, Look, Shares};
 use crate::steps::{Place, SERVING, draw, finish, take};
 use crate::view::View;
+use crate::wait::Sleepers;
 use apron_base::{Acted, CALL_END, Machine};
 use atomic_table::Table;
 use std::alloc::Global;
@@ -37,6 +38,7 @@ impl<M: Machine> Model for Seat<M> {
 /// A machine that seats ask in turns, from any thread.
 pub struct TurnBoard<M: Machine> {
     table: Table<Option<M>, View<M::Entry, M::Fixed>, Snapshot<M>, InTurns, Global>,
+    sleepers: Sleepers,
 }
 
 impl<M: Machine> Model for TurnBoard<M> {
@@ -78,7 +80,10 @@ impl<M: Machine> TurnBoard<M> {
             return Err(machine_of(failed.value));
         }
         match Table::new(alloc, &words, slots, &about) {
-            Ok((table, place)) => Ok((TurnBoard { table }, Seat { place })),
+            Ok((table, place)) => {
+                let sleepers = Sleepers::new();
+                Ok((TurnBoard { table, sleepers }, Seat { place }))
+            }
             Err(refused) => {
                 let mut slots = refused.slots;
                 let Some(slot) = slots.pop() else {
@@ -90,7 +95,8 @@ impl<M: Machine> TurnBoard<M> {
         }
     }
 
-    /// Draws a number, waits until it is served, and gives the machine's answer. The answer is
+    /// Waits until the machine is free, draws a number, and gives the machine's answer. A seat that
+    /// others overtake too often draws first and waits until its number is served. The answer is
     /// `Spent` exactly if the numbers have run out, and then nothing was drawn or asked. A lack of
     /// memory and faults are the machine's.
     pub fn ask<R: Wait>(&self, rt: &R, alloc: Global, seat: &mut Seat<M>, ask: &M::Ask) -> Acted
@@ -103,15 +109,16 @@ impl<M: Machine> TurnBoard<M> {
         ensures answered { result ≢ Spent → GotTurn M.state M.number M.adds M.answers seat.old (record { ask = ask.now; answer = result }) seat.new }
     {
         let table = &self.table.shared;
+        let sleepers = &self.sleepers;
         let place = &mut seat.place;
-        let Some(call) = draw(rt, table, place) else {
+        let Some(call) = draw(rt, table, sleepers, place) else {
             return Acted::Spent;
         };
-        let mut machine = take(rt, table, place, call);
+        let mut machine = take(rt, table, sleepers, place, call);
         let before = machine.length();
         let answer = machine.act(alloc, call, ask);
         let added = machine.length() > before;
-        finish(table, place, machine, added);
+        finish(table, sleepers, place, machine, added);
         answer
     }
 
@@ -147,7 +154,7 @@ impl<M: Machine> TurnBoard<M> {
         requires share { seat.share ≡ SHARES }
         ensures closes { Closes M.number self seat (M.state result) }
     {
-        let TurnBoard { table } = self;
+        let TurnBoard { table, sleepers: _ } = self;
         let Seat { place } = seat;
         let mut closed = table.close_with(place);
         let slot = closed.take(0);

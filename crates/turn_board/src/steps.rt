@@ -9,7 +9,7 @@ ghost use Rattle.turn_board.specs.declared.view.Start.{Start};
 
 use crate::plays::{Count, Draw, End, InTurns, Note, Take};
 use crate::view::View;
-use crate::wait::Patience;
+use crate::wait::{Patience, Sleepers};
 use apron_base::{CALL_END, Machine};
 use atomic_table::{Seat, Shared};
 use std::snapshot::Snapshot;
@@ -45,10 +45,12 @@ fn after(ticket: u64) -> u64
     }
 }
 
-/// The next number; `None` if they have run out.
+/// The next number, drawn once the machine is free or patience is over; `None` if the numbers have
+/// run out.
 pub(crate) fn draw<M: Machine, R: Wait>(
     rt: &R,
     table: &SharedTable<M>,
+    sleepers: &Sleepers,
     place: &mut Place<M>,
 ) -> Option<u64>
     requires table { IsSeatOf table.now.table_id place.old.table_id }
@@ -59,17 +61,25 @@ pub(crate) fn draw<M: Machine, R: Wait>(
     ensures drawn { IfSome result (λ number. (number < call_end) × (place.new.me.0 ≡ drawn number place.old.me.0)
         × AreBelow number place.old.me.0.calls × (place.old.me.0.exhausted ≡ false)) }
 {
-    let mut guess = table.peek(TICKET);
+    let mut patience = Patience::new();
     for _ in rt.forever() {
+        // The number served only rises, up to the ticket: if they are equal in this order and the
+        // draw succeeds, the machine is free.
+        let serving = table.peek(SERVING);
+        let guess = table.peek(TICKET);
+        if guess != serving && !patience.is_over() {
+            patience.wait(rt, table, sleepers, serving);
+            continue;
+        }
         let next = after(guess);
         let found = table.compare_exchange::<Draw>(place, TICKET, guess, next);
         if found == CALL_END {
             return None;
         }
         if found == guess {
+            patience.pass_on(sleepers);
             return Some(found);
         }
-        guess = found;
     }
     unreachable!()
 }
@@ -78,6 +88,7 @@ pub(crate) fn draw<M: Machine, R: Wait>(
 pub(crate) fn take<M: Machine, R: Wait>(
     rt: &R,
     table: &SharedTable<M>,
+    sleepers: &Sleepers,
     place: &mut Place<M>,
     number: u64,
 ) -> M
@@ -96,7 +107,7 @@ pub(crate) fn take<M: Machine, R: Wait>(
             };
             return machine;
         }
-        patience.wait(rt, table, found, number);
+        patience.wait(rt, table, sleepers, found);
     }
     unreachable!()
 }
@@ -126,21 +137,22 @@ fn count<M: Machine>(table: &SharedTable<M>, place: &mut Place<M>, added: bool)
     }
 }
 
-// Gives the machine back to its slot, lets the next number be served, and wakes a seat after that
-// one.
-fn end<M: Machine>(table: &SharedTable<M>, place: &mut Place<M>)
+// Gives the machine back to its slot, lets the next number be served, and wakes a seat that sleeps.
+fn end<M: Machine>(table: &SharedTable<M>, sleepers: &Sleepers, place: &mut Place<M>)
     requires table { IsSeatOf table.now.table_id place.old.table_id }
     requires over { (machine : _) × IsOver M.state place.old.me machine }
     ensures table { place.new.table_id ≡ place.old.table_id }
     ensures ended { place.new.me ≡ (ended place.old.me.0, []) }
 {
+    let is_awaited = table.peek(TICKET).saturating_sub(table.peek(SERVING)) > 1;
     table.fetch_add::<End>(place, SERVING, 1);
-    table.wake_one(SERVING);
+    sleepers.wake(table, is_awaited);
 }
 
 /// Ends a call after the machine's act: the machine is back before the next number is served.
 pub(crate) fn finish<M: Machine>(
     table: &SharedTable<M>,
+    sleepers: &Sleepers,
     place: &mut Place<M>,
     machine: M,
     added: bool,
@@ -156,5 +168,5 @@ pub(crate) fn finish<M: Machine>(
 {
     note(table, place, machine);
     count(table, place, added);
-    end(table, place);
+    end(table, sleepers, place);
 }

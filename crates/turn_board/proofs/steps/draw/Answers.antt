@@ -8,5 +8,5 @@ compare_exchange-found-requires g c =
     let same = kept.3 in (
       kept.2 ∙ c.requires.table.1,
       (let a = c.requires.table.0.0 in omega arith),
-      draws _ _ _ _ _ c.loop.place.me c.loop.guess c.after-next.result (ap (λ m. m.0.stage) same ∙ c.requires.idle.0) (let a = ap (λ m. m.0.share) same in let b = c.requires.idle.1 in omega arith) c.after-next.ensures.next c.after-next.ensures.full,
+      draws _ _ _ _ _ c.loop.place.me c.peek-guess.result c.after-next.result (ap (λ m. m.0.stage) same ∙ c.requires.idle.0) (let a = ap (λ m. m.0.share) same in let b = c.requires.idle.1 in omega arith) c.after-next.ensures.next c.after-next.ensures.full,
     )
