@@ -12,7 +12,7 @@ use std::time::Duration;
 /// How often a seat looks before it sleeps: about as long as a few short acts take.
 const LOOKS: u32 = 100;
 /// How often a seat sleeps before it draws a number although the machine is not free.
-const SLEEPS: u32 = 20;
+const SLEEPS: u32 = 10;
 /// A seat sleeps for one millisecond at first if no wake comes, and each time for twice as long, up
 /// to this many times.
 const DOUBLINGS: u32 = 6;
