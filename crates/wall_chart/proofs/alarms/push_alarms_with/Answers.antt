@@ -1,4 +1,4 @@
-use Rattle.std.proofs.Common.{◌∙◌, ◌+◌, ◌-◌, ◌++◌, ℕ, List, ap, arith, map}
+use Rattle.std.proofs.Common.{◌∙◌, ◌+◌, ◌-◌, ℕ, List, ap, arith, map}
 use Rattle.std.specs.List.{flat_map}
 use Rattle.apron_rules.specs.declared.rules.Clash.{Clash}
 use Rattle.stand_index.specs.Slots.{StandSlots}
