@@ -48,7 +48,6 @@ pub(crate) fn push_airport(
 }
 
 // YYYY-MM-DD. The year has four digits.
-#[tactic(auto, using(crate::proofs::Dates::date_quoted))]
 fn push_date(bytes: &mut Vec<u8>, date: Date) -> Result<(), Memory>
     requires first { IsFirstDay date }
     ensures text { OnOk result

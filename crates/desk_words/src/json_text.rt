@@ -1,4 +1,4 @@
-// JSON that is written at the end of a text, byte for byte as `serde_json` would write it.
+// JSON that is written at the end of bytes, as `serde_json` would write it.
 ghost use Rattle.std.specs.Prelude.{◌≡◌, ◌++◌, true, OnOk};
 ghost use Rattle.serde_json.specs.Data.{boolean, null, string};
 ghost use Rattle.serde_json.specs.Written.{comma_if, compact_text};
@@ -8,8 +8,7 @@ ghost use Rattle.desk_words.specs.PartObjects.{name_data};
 use apron_base::{Memory, Name};
 use itoa::{Buffer, Integer};
 
-/// Writes a whole number at the end. At `Err` memory has run out.
-pub fn push_number<I: Integer>(bytes: &mut Vec<u8>, number: I) -> Result<(), Memory>
+pub(crate) fn push_number<I: Integer>(bytes: &mut Vec<u8>, number: I) -> Result<(), Memory>
     ensures text { OnOk result (bytes.new.items ≡ bytes.old.items ++ I.text number) }
 {
     bytes.extend_from_slice(Buffer::new().format(number).as_bytes())?;
@@ -25,8 +24,7 @@ pub fn push_member<I: Integer>(bytes: &mut Vec<u8>, before: &[u8], number: I) ->
     push_number(bytes, number)
 }
 
-/// Writes `null` at the end. At `Err` memory has run out.
-pub fn push_null(bytes: &mut Vec<u8>) -> Result<(), Memory>
+pub(crate) fn push_null(bytes: &mut Vec<u8>) -> Result<(), Memory>
     ensures text { OnOk result (bytes.new.items ≡ bytes.old.items ++ compact_text null) }
 {
     bytes.extend_from_slice(b"null")?;
@@ -44,9 +42,8 @@ pub(crate) fn push_bool(bytes: &mut Vec<u8>, holds: bool) -> Result<(), Memory>
     Ok(())
 }
 
-/// Writes a text at the end, in quotation marks. It needs no escape. At `Err` memory has run out.
-#[tactic(auto, using(crate::proofs::PlainTexts::quoted_plain))]
-pub fn push_text(bytes: &mut Vec<u8>, text: &[u8]) -> Result<(), Memory>
+// A text that needs no escape, in quotation marks.
+pub(crate) fn push_text(bytes: &mut Vec<u8>, text: &[u8]) -> Result<(), Memory>
     requires plain { is_plain text.now ≡ true }
     ensures text { OnOk result
         (bytes.new.items ≡ bytes.old.items ++ compact_text (string text.now)) }

@@ -53,7 +53,7 @@ fn push_visits(bytes: &mut Vec<u8>, airport: &AirportParts, visits: &[Visit]) ->
     Ok(())
 }
 
-/// A visit. If it stands alone, the plan's version is among its members.
+/// A visit. If it stands alone the plan's version is given, and is among its members.
 pub(crate) fn push_visit(
     bytes: &mut Vec<u8>,
     airport: &AirportParts,
@@ -64,7 +64,8 @@ pub(crate) fn push_visit(
     ensures text { OnOk result
         (bytes.new.items
         ≡ bytes.old.items
-        ++ compact_text (object (visit_members airport.now visit.now (last_members version visit.now)))) }
+        ++ compact_text (object
+        (visit_members airport.now visit.now (last_members version visit.now)))) }
 {
     bytes.extend_from_slice(b"{\"arr\":")?;
     push_key(bytes, &visit.arr)?;
@@ -120,7 +121,6 @@ fn push_key(bytes: &mut Vec<u8>, key: &Option<Key>) -> Result<(), Memory>
     }
 }
 
-#[tactic(auto, using(crate::proofs::Flights::flight_quoted))]
 fn push_flight_text(bytes: &mut Vec<u8>, flight: &Flight) -> Result<(), Memory>
     requires flight { IsFlight flight.now }
     ensures text { OnOk result
