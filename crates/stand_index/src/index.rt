@@ -83,8 +83,8 @@ impl StandIndex {
     }
 
     /// The slots of a stand that have a minute in `from <= m < end`: the planned ones by their
-    /// start, then the actual ones by theirs. Each slot that is looked at is a step. The only
-    /// error is a lack of memory.
+    /// start, then the actual ones by theirs. Each slot that is looked at is a step, and so is each
+    /// block of actual ones. The only error is a lack of memory.
     pub fn hits<L: Ledger>(
         &self,
         alloc: Global,
