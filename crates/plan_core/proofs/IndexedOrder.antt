@@ -1,6 +1,6 @@
 -- The slots of visits in order of number: each is of a smaller part than those after it, and
 -- earlier if they are of one visit on one stand.
-use Rattle.std.proofs.Common.{◌≡◌, ◌<◌, ◌≤◌, ◌+◌, ◌⊎◌, inl, inr, ℕ, Bool, true, false, cond, List, [], ◌∷◌, ◌++◌, refl, sym, ap, arith, Option, None, Some, length, get_or, option_map, option_to_list}
+use Rattle.std.proofs.Common.{◌≡◌, ◌<◌, ◌≤◌, ◌+◌, ◌⊎◌, inl, inr, ℕ, Bool, true, false, cond, List, [], ◌∷◌, refl, sym, ap, arith, Option, None, Some, length, get_or, option_map, option_to_list}
 use Rattle.std.specs.Prelude.{All, AllPairs, count_by}
 use Rattle.std.proofs.lemmas.Bool.Decides.{nat_tests}
 use Rattle.std.proofs.lemmas.List.Elements.{All-append, All-cons, All-head, All-nil, All-tail, All-weaker}
@@ -16,7 +16,7 @@ use Rattle.apron_rules.specs.Clash.{IsBefore}
 use Rattle.apron_rules.specs.Rules.{buffer_of}
 use Rattle.clash_check.specs.Clear.{HasPartsOnce}
 use Rattle.stand_index.specs.Slots.{HasMinutes, IsEarlier, is_of_part}
-use Rattle.stand_index.proofs.Order.{pairs_head, pairs_tail}
+use Rattle.stand_index.proofs.Order.{pairs_append, pairs_head, pairs_tail}
 use Rattle.visit_book.specs.declared.visits.Part.{Part}
 use Rattle.visit_book.specs.declared.visits.Visit.{Visit}
 use Rattle.visit_book.specs.Numbers.{IsNumberedAbove}
@@ -64,12 +64,6 @@ IsOrdered slot other = (slot.part.visit.0 < other.part.visit.0)
 
 pairs_none : {X : Type 0} (R : X → X → Type 0) → AllPairs R []
 pairs_none R i j d less inside = absurd (omega (arith, inside))
-
-pairs_append : {X : Type 0} (R : X → X → Type 0) (xs ys : List X) → AllPairs R xs → AllPairs R ys → All (λ x. All (R x) ys) xs → AllPairs R (xs ++ ys)
-pairs_append R [] ys h k across = k
-pairs_append R (x ∷ xs) ys h k across =
-    AllPairs-cons R x (xs ++ ys) (All-append (R x) xs ys (pairs_head R x xs h) (All-head (λ z. All (R z) ys) x xs across))
-    (pairs_append R xs ys (pairs_tail R x xs h) k (All-tail (λ z. All (R z) ys) x xs across))
 
 from_ordered : (a : AirportParts) (v : Visit) (tow k start : ℕ) (parts : List Part) → IsSpaced tow start parts → AllPairs IsOrdered (slots_from a v k parts)
 from_ordered a v tow k start [] h = pairs_none IsOrdered
