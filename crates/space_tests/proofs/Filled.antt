@@ -1,6 +1,6 @@
 -- An index that is filled slot by slot.
 use Rattle.std.proofs.Common.{◌≡◌, ◌∙◌, ◌<◌, ◌≤◌, ◌⊎◌, inl, ℕ, zero, suc, Bool, true, false, cond, List, [], ◌∷◌, ◌++◌, refl, sym, ap, subst, arith, length, get_or, take, append_assoc}
-use Rattle.std.specs.Prelude.{◌≢◌, All, AllPairs, Contains, IsPermutation, count_by, nat_le}
+use Rattle.std.specs.Prelude.{◌≢◌, All, AllPairs, Contains, IsPermutation, count_by}
 use Rattle.std.proofs.lemmas.Bool.Decides.{nat_tests}
 use Rattle.std.proofs.lemmas.List.{ext_get_or, get_or-take, get_or_default, length-take}
 use Rattle.std.proofs.lemmas.List.Elements.{All-contains, Contains-append_left, Contains-get_or}
