@@ -145,13 +145,23 @@ pub fn reply_bytes(alloc: Global, airport: &Airport, reply: &Reply) -> Result<Li
     requires tellable { IsTellable reply.now.told }
     ensures text { IfOk result (λ bytes. bytes ≡ reply_text airport.now reply.now) }
 {
+    if let Told::Chart { text } = &reply.told {
+        // It may have 100 megabytes, so it is copied once.
+        return with_body(alloc, reply, text.as_slice());
+    }
     let body = told_body(alloc, airport.parts(), reply.version, &reply.told)?;
+    with_body(alloc, reply, body.as_slice())
+}
+
+fn with_body(alloc: Global, reply: &Reply, body: &[u8]) -> Result<Listed<u8>, Memory>
+    ensures text { IfOk result (λ bytes. bytes ≡ text_of (code_of reply.now.told) (media_of reply.now.told) (version_line reply.now.version ∷ []) body.now) }
+{
     text_of(
         alloc,
         code(&reply.told),
         media(&reply.told),
         reply.version,
-        body.as_slice(),
+        body,
     )
 }
 
