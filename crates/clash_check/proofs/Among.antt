@@ -1,5 +1,5 @@
 -- The first clash among slots, with one more.
-use Rattle.std.proofs.Common.{◌≡◌, ◌∙◌, ◌<◌, ◌≤◌, ◌+◌, ◌⊎◌, inl, inr, ℕ, zero, suc, Bool, true, false, List, [], ◌∷◌, ◌++◌, refl, sym, ap, subst, arith, Option, None, length, append_assoc, append-nil, take, get_or}
+use Rattle.std.proofs.Common.{◌≡◌, ◌∙◌, ◌<◌, ◌≤◌, ◌+◌, ◌⊎◌, inl, inr, ℕ, zero, suc, Bool, true, false, List, [], ◌∷◌, ◌++◌, refl, sym, ap, subst, arith, Option, None, Some, length, append_assoc, append-nil, take, get_or}
 use Rattle.std.specs.Prelude.{Contains, filter}
 use Rattle.std.specs.List.{flat_map}
 use Rattle.std.proofs.lemmas.List.{flat_map_more, take_all, take_more}
@@ -30,9 +30,14 @@ with_more airport slot xs ys all first second found is h k sooner =
     (λ c p. (p.0, Contains-append_left xs ys p.0 p.1, p.2))
     (λ c q. (q.0, Contains-append_right xs ys q.0 q.1, q.2)))
 
-the_one : (y x : Slot) → Contains (y ∷ []) x → y ≡ x
+pub the_one : (y x : Slot) → Contains (y ∷ []) x → y ≡ x
 the_one y x (zero, inside, at) = at
 the_one y x (suc k, inside, at) = absurd (omega (arith, inside))
+
+-- a clash is no later than none
+pub sooner_none : (first : Option Clash) → IsSooner first None first
+sooner_none None = refl
+sooner_none (Some clash) = refl
 
 -- with one slot, either way round
 pub with_one : (airport : AirportParts) (slot other : Slot) (first second found : Option Clash) → IsLeast (IsClashOf airport slot other) first → IsLeast (IsClashOf airport other slot) second → IsSooner first second found

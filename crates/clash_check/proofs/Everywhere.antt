@@ -30,8 +30,9 @@ use Rattle.stand_index.specs.Slots.{IsIndex, StandSlots, at_stand, hits_of, is_h
 use Rattle.clash_check.specs.Clear.{HasPartsOnce}
 use Rattle.clash_check.specs.Indexed.{all_slots, slots_at}
 use Rattle.clash_check.specs.Steps.{steps_near, steps_within}
-use Rattle.clash_check.specs.Meetings.{by_part, clash_with, clash_within, clashes_with, clashes_within, is_smaller, meeting, meeting_from}
-use Rattle.clash_check.proofs.Looked.{of_stand, rule_hit_within, rule_neighbour}
+use Rattle.clash_check.specs.Meetings.{by_part, clash_with, clash_within, clashes_with, clashes_within, is_smaller, meeting_from}
+use Rattle.apron_rules.proofs.Phases.{rule_neighbour}
+use Rattle.clash_check.proofs.Looked.{of_stand, rule_hit_within}
 use Rattle.clash_check.proofs.Meetings.{from_below, from_first, whole_meeting}
 use Rattle.clash_check.proofs.Ordered.{IsOnce, NeverFalls, Rises, falls_nowhere, is_part, ordered_from, ordered_rises, ordered_to, part_of, rises_once, rises_one}
 

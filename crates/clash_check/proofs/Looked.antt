@@ -1,5 +1,5 @@
 -- What a look at the neighbours of a slot's stand leaves out clashes with it at no minute.
-use Rattle.std.proofs.Common.{◌≡◌, ◌∙◌, ◌<◌, ◌≤◌, ◌==◌, ◌&&◌, inl, inr, ℕ, zero, suc, Bool, true, false, List, [], ◌∷◌, refl, sym, subst, arith, Option, None, Some, length, get_or, if◌then◌else◌, min, max}
+use Rattle.std.proofs.Common.{◌≡◌, ◌∙◌, ◌<◌, ◌≤◌, ◌&&◌, inl, inr, ℕ, zero, suc, true, false, List, [], ◌∷◌, sym, subst, arith, None, Some, length, get_or, min, max}
 use Rattle.std.specs.Prelude.{All, Contains, filter, nat_le, nat_lt}
 use Rattle.std.specs.List.{flat_map}
 use Rattle.std.proofs.lemmas.Bool.Decides.{nat_tests}
@@ -10,17 +10,17 @@ use Rattle.apron_base.specs.declared.slot.Slot.{Slot}
 use Rattle.apron_rules.specs.declared.parts.AirportParts.{AirportParts}
 use Rattle.apron_rules.specs.declared.rules.Clash.{Clash}
 use Rattle.apron_rules.specs.declared.rules.Rule.{Rule}
-use Rattle.apron_rules.specs.Clash.{IsSound, rule_at, wing_of}
+use Rattle.apron_rules.specs.Clash.{IsSound, NeverClash, rule_at}
 use Rattle.apron_rules.specs.Neighbours.{neighbours_of}
 use Rattle.apron_rules.specs.Refusals.{fault_of}
-use Rattle.apron_rules.proofs.Bordering.{filter_passed, neighbour_listed, neighbours_within, passes_filter}
-use Rattle.apron_rules.proofs.Phases.{meets}
+use Rattle.apron_rules.proofs.Bordering.{filter_passed, neighbours_within, passes_filter}
+use Rattle.apron_rules.proofs.Phases.{meets, rule_neighbour}
 use Rattle.apron_rules.proofs.Symmetry.{rule_at_sym}
 use Rattle.stand_index.specs.Slots.{AreSlotsAt, IsIndex, IsSlotAt, StandSlots, at_stand, hits_of, is_hit, no_slots}
 use Rattle.clash_check.specs.Clear.{IsClear, is_of_other, others_of}
-use Rattle.clash_check.specs.FirstWith.{IsClashOfBoth}
+use Rattle.clash_check.specs.FirstWith.{IsClashOfBoth, IsFirstWith}
 use Rattle.clash_check.specs.Indexed.{all_slots, slots_at}
-use Rattle.clash_check.proofs.Among.{others_none}
+use Rattle.clash_check.proofs.Among.{others_none, the_one}
 
 -- an item of the lists together is an item of one of them
 pub found_in : {X A : Type 0} (f : X → List A) (xs : List X) (y : A) (d : X) → Contains (flat_map f xs) y → (k : ℕ) × (k < length xs) × Contains (f (get_or xs k d)) y
@@ -102,15 +102,19 @@ hit_within m first last from end f e low high held held_too = hit_by m (max firs
 pub rule_hit_within : (airport : AirportParts) (p q : Slot) (m from end : ℕ) (rule : Rule) → rule_at airport p q m ≡ Some rule → from ≤ m → m < end → is_hit (max from p.from) (min end p.end) q ≡ true
 rule_hit_within airport p q m from end rule h low high = let met = meets airport p q m rule h in hit_within m from end p.from p.end q.from q.end low high met.held met.held_too
 
--- and their stands are neighbours
-pub rule_neighbour : (airport : AirportParts) (p q : Slot) (m : ℕ) (rule : Rule) → fault_of airport ≡ None → rule_at airport p q m ≡ Some rule → Contains (neighbours_of airport p.stand) q.stand
-rule_neighbour airport p q m rule none h =
-    neighbour_listed airport none p.stand q.stand p.kind (wing_of airport p m) q.kind (wing_of airport q m) rule (meets airport p q m rule h).breaks
-
 -- slots that clash have a rule, whichever part is the smaller
 rule_of_both : (airport : AirportParts) (p q : Slot) (c : Clash) → IsClashOfBoth airport p q c → rule_at airport p q c.minute ≡ Some c.rule
 rule_of_both airport p q c (inl clash) = clash.rule
 rule_of_both airport p q c (inr clash) = rule_at_sym airport p q c.minute ∙ clash.rule
+
+-- slots that clash at no minute of the first have no clash
+pub passed_over : (airport : AirportParts) (p q : Slot) → NeverClash airport p q p.from p.end → IsFirstWith airport p (q ∷ []) None
+passed_over airport p q never c (other, listed, both) =
+    let here : IsClashOfBoth airport p q c = subst (λ x. IsClashOfBoth airport p x c) (sym (the_one q other listed)) both in
+    let rule = rule_of_both airport p q c here in
+    let held : (nat_le p.from c.minute && nat_lt c.minute p.end) ≡ true = (meets airport p q c.minute c.rule rule).held in
+    let none = never c.minute (grind (arith, nat_tests, held)) (grind (arith, nat_tests, held)) in
+    absurd (cc)
 
 -- a clash with one of other visits is with one of the hits
 pub clash_to_hit : (airport : AirportParts) (slots : StandSlots) (without : List VisitNo) (p : Slot) (c : Clash)

@@ -9,7 +9,7 @@ ghost use Rattle.stand_index.specs.Slots.{IsIndex, at_stand};
 ghost use Rattle.stand_index.specs.Steps.{most_steps};
 
 use apron_base::{Memory, Slot, StandNo, Steps, VisitNo};
-use apron_rules::{Airport, Clash, clash_between, sooner};
+use apron_rules::{Airport, Clash, clash_between, may_meet, sooner};
 use stand_index::StandIndex;
 use std::alloc::Global;
 use std::sync::ledger::Ledger;
@@ -147,7 +147,9 @@ pub fn first_among<L: Ledger>(
     let mut first = None;
     for other in slots {
         steps.tick();
-        first = sooner(first, clash_of_both(airport, slot, other));
+        if may_meet(airport, slot, other, slot.from, slot.end) {
+            first = sooner(first, clash_of_both(airport, slot, other));
+        }
     }
     first
 }

@@ -1,4 +1,4 @@
-use Rattle.std.proofs.Common.{◌≡◌, ◌∙◌, ◌≤◌, ◌+◌, min, max, refl, subst, arith, List}
+use Rattle.std.proofs.Common.{◌∙◌}
 use Rattle.std.proofs.lemmas.Result.{IfOk-weaker}
 use Rattle.clash_check.specs.Indexed.{all_slots}
 use Rattle.clash_check.specs.Meetings.{by_part}
