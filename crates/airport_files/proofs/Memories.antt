@@ -6,7 +6,7 @@ use Rattle.apron_rules.specs.declared.parts.AirportParts.{AirportParts}
 use Rattle.apron_rules.specs.declared.parts.TypeRow.{TypeRow}
 use Rattle.apron_rules.specs.declared.refusals.AirportFault.{AirportFault}
 use Rattle.apron_rules.specs.declared.refusals.AirportFault.TheVariants as refused
-use Rattle.apron_rules.specs.Refusals.{fault_of, later_fault_of, duplicate_of, unknown_of, bad_half_of, limit_of, bad_fold_of, bad_span_of}
+use Rattle.apron_rules.specs.Refusals.{airport_fault, later_fault_of, duplicate_of, unknown_of, bad_half_of, limit_of, bad_fold_of, bad_span_of}
 use Rattle.airport_files.specs.declared.keys.WalkFault.{WalkFault}
 use Rattle.airport_files.specs.declared.keys.WalkFault.TheVariants as walk
 use Rattle.airport_files.specs.declared.layout.Layout.{Layout}
@@ -17,10 +17,10 @@ use Rattle.airport_files.specs.declared.read.FileFault.TheVariants as file
 use Rattle.airport_files.specs.Document.{document}
 use Rattle.airport_files.specs.Keys.{KeyForm, fault_with, fault_at, first_fault, unless_fault}
 use Rattle.airport_files.specs.Layout.{file_keys, file_values, layout_of}
-use Rattle.airport_files.specs.Table.{in_form as row_in_form, rows_after, rows_from as records_from, table_of, table_in}
+use Rattle.airport_files.specs.Table.{in_form as row_in_form, rows_after, type_rows_from as records_from, table_of, table_in}
 use Rattle.airport_files.specs.declared.type_rows.Columns.{Columns}
 use Rattle.airport_files.specs.TypeRows.{columns_of, row_of}
-use Rattle.airport_files.specs.Meaning.{named_layout, layout_of_table, layout_in, types_of_table, types_in, parts_of, made_of, unless_refused, meaning}
+use Rattle.airport_files.specs.Meaning.{named_layout, layout_of_table, layout_in, types_of_table, types_in, airport_parts, airport_of_parts, unless_refused, meaning}
 
 -- a step, and then the next if it went well
 abbrev after : {A B E : Type 0} → Result A E → (A → Result B E) → Result B E
@@ -130,8 +130,8 @@ reason : {A : Type 0} (made : A → AirportFault) → ((x : A) → made x ≢ re
 reason made h None = λ p. cc
 reason made h (Some x) = λ p. h x cc
 
-fault-reason : (parts : AirportParts) → IsReason (fault_of parts)
-unfolding fault_of later_fault_of
+fault-reason : (parts : AirportParts) → IsReason (airport_fault parts)
+unfolding airport_fault later_fault_of
 fault-reason parts =
     either _ _ (reason refused.DuplicateName (λ x p. cc) (duplicate_of parts)) (either _ _ (reason refused.UnknownName (λ x p. cc) (unknown_of parts)) (either _ _ (reason refused.BadHalf (λ x p. cc) (bad_half_of parts)) (either _ _ (reason refused.LimitPassed (λ x p. cc) (limit_of parts)) (either _ _ (reason refused.BadSpan (λ x p. cc) (bad_span_of parts)) (either _ _ (reason refused.BadFold (λ x p. cc) (bad_fold_of parts)) (λ p. cc))))))
 
@@ -139,10 +139,10 @@ said_unless : (parts : AirportParts) (fault : Option AirportFault) → IsReason 
 said_unless parts None h = (λ p. cc, λ p. cc)
 said_unless parts (Some fault) h = (λ p. cc, λ p. h (let same : fault ≡ refused.Memory = cc in ap Some same))
 
-said_made : (parts : AirportParts) → IsSaid (made_of parts)
-unfolding made_of
-said_made parts = said_unless parts (fault_of parts) (fault-reason parts)
+said_made : (parts : AirportParts) → IsSaid (airport_of_parts parts)
+unfolding airport_of_parts
+said_made parts = said_unless parts (airport_fault parts) (fault-reason parts)
 
 pub meaning-said : (airport types : List ℕ) → (meaning airport types ≢ Err file.Memory) × (meaning airport types ≢ Err (file.Airport refused.Memory))
 unfolding meaning
-meaning-said airport types = said_next _ _ (said_layout airport) (λ layout. said_next _ _ (said_types types) (λ rows. said_made (parts_of layout rows)))
+meaning-said airport types = said_next _ _ (said_layout airport) (λ layout. said_next _ _ (said_types types) (λ rows. said_made (airport_parts layout rows)))

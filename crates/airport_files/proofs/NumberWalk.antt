@@ -7,12 +7,12 @@ use Rattle.toml.specs.declared.value.Value.{Value}
 use Rattle.toml.specs.Data.{item}
 use Rattle.toml.specs.View.{view, items_view}
 use Rattle.toml.proofs.Views.{items_view-drop}
-use Rattle.airport_files.specs.declared.keys.Key.{Key}
+use Rattle.airport_files.specs.declared.keys.FileKey.{FileKey}
 use Rattle.airport_files.specs.declared.keys.WalkFault.{WalkFault}
 use Rattle.airport_files.specs.declared.keys.WalkFault.TheVariants.{Wrong}
-use Rattle.airport_files.specs.Forms.{number_of}
+use Rattle.airport_files.specs.Forms.{toml_number}
 use Rattle.apron_base.specs.ResultChain.{◌>>=◌}
-use Rattle.airport_files.specs.Walk.{numbers_from}
+use Rattle.airport_files.specs.Walk.{toml_numbers}
 
 abbrev pub joined : List ℕ → Result (List ℕ) WalkFault → Result (List ℕ) WalkFault
 joined found rest = rest >>= (λ more. Ok (found ++ more))
@@ -24,18 +24,18 @@ joined-cons found n (Err e) = refl
 here : (vs : List Value) (i : ℕ) (v : Value) → i < length vs → v ≡ get_or vs i v → items_view (drop i vs) ≡ item (view v) (items_view (drop (i + 1) vs))
 here vs i v h at = items_view-drop vs i v h ∙ ap (λ w. item (view w) (items_view (drop (i + 1) vs))) (sym at)
 
-pub step-ok : (k : Key) (vs : List Value) (i : ℕ) (v : Value) (found : List ℕ) (n : ℕ) → i < length vs → v ≡ get_or vs i v → number_of (view v) ≡ Some n
-    → joined found (numbers_from k (items_view (drop i vs))) ≡ joined (found ++ n ∷ []) (numbers_from k (items_view (drop (i + 1) vs)))
-unfolding numbers_from
+pub step-ok : (k : FileKey) (vs : List Value) (i : ℕ) (v : Value) (found : List ℕ) (n : ℕ) → i < length vs → v ≡ get_or vs i v → toml_number (view v) ≡ Some n
+    → joined found (toml_numbers k (items_view (drop i vs))) ≡ joined (found ++ n ∷ []) (toml_numbers k (items_view (drop (i + 1) vs)))
+unfolding toml_numbers
 step-ok k vs i v found n h at ok = rw (here vs i v h at, ok) (joined-cons found n _)
 
-pub step-err : (k : Key) (vs : List Value) (i : ℕ) (v : Value) (found : List ℕ) → i < length vs → v ≡ get_or vs i v → number_of (view v) ≡ None
-    → joined found (numbers_from k (items_view (drop i vs))) ≡ Err (Wrong k)
-unfolding numbers_from
+pub step-err : (k : FileKey) (vs : List Value) (i : ℕ) (v : Value) (found : List ℕ) → i < length vs → v ≡ get_or vs i v → toml_number (view v) ≡ None
+    → joined found (toml_numbers k (items_view (drop i vs))) ≡ Err (Wrong k)
+unfolding toml_numbers
 step-err k vs i v found h at bad = rw (here vs i v h at, bad)
 
-pub step-end : (k : Key) (vs : List Value) (i : ℕ) (found : List ℕ) → length vs ≤ i → joined found (numbers_from k (items_view (drop i vs))) ≡ Ok found
-unfolding numbers_from
+pub step-end : (k : FileKey) (vs : List Value) (i : ℕ) (found : List ℕ) → length vs ≤ i → joined found (toml_numbers k (items_view (drop i vs))) ≡ Ok found
+unfolding toml_numbers
 step-end k vs i found h = rw (drop_all i vs h, append-nil found)
 
 -- what a call that wasn't refused promises

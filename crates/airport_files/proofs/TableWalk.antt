@@ -10,7 +10,7 @@ use Rattle.airport_files.specs.declared.types.TableFault.TheVariants.{BadRow}
 use Rattle.airport_files.specs.declared.type_rows.Columns.{Columns}
 use Rattle.airport_files.specs.TypeRows.{columns_of, row_of}
 use Rattle.apron_base.specs.ResultChain.{◌>>=◌}
-use Rattle.airport_files.specs.Table.{rows_from, table_of, rows_left, table_from}
+use Rattle.airport_files.specs.Table.{type_rows_from, table_of, rows_left, table_from}
 
 -- the rows found so far, and those of the rest
 abbrev pub joined : List TypeRow → Result (List TypeRow) TableFault → Result (List TypeRow) TableFault
@@ -26,7 +26,7 @@ joined-nil (Err e) = refl
 
 pub step-row : (columns : Columns) (k j m n : ℕ) (s : State) (left : List ℕ) (p : Read) (found : List TypeRow) (row : TypeRow) → j ≡ k + 1 → m ≡ n + 1 → next_record default_config s [] [] left ≡ Some p → row_of columns p.0 ≡ Some row
     → joined found (rows_left columns k m s left) ≡ joined (found ++ row ∷ []) (rows_left columns j n p.1 p.2)
-unfolding records_from rows_from
+unfolding records_from type_rows_from
 step-row columns k j m n s left p found row after turn next good = rw (after, turn, add-one n, next, good) (joined-cons found row _)
 
 pub walk-start : (columns : Columns) (m n : ℕ) (s : State) (left : List ℕ) (found : List TypeRow) → found ≡ [] → m ≡ n → joined found (rows_left columns 2 m s left) ≡ rows_left columns 2 n s left
@@ -34,16 +34,16 @@ walk-start columns m n s left found none same = rw (none, same) (joined-nil (row
 
 pub step-bad : (columns : Columns) (k m n : ℕ) (s : State) (left : List ℕ) (p : Read) (found : List TypeRow) → m ≡ n + 1 → next_record default_config s [] [] left ≡ Some p → row_of columns p.0 ≡ None
     → joined found (rows_left columns k m s left) ≡ Err (BadRow k)
-unfolding records_from rows_from
+unfolding records_from type_rows_from
 step-bad columns k m n s left p found turn next bad = rw (turn, add-one, next, bad)
 
 pub step-end : (columns : Columns) (k n : ℕ) (s : State) (left : List ℕ) (found : List TypeRow) → next_record default_config s [] [] left ≡ None → joined found (rows_left columns k n s left) ≡ Ok found
-unfolding records_from rows_from
+unfolding records_from type_rows_from
 step-end columns k zero s left found none = rw (append-nil found)
 step-end columns k (suc n) s left found none = rw (none, append-nil found)
 
 pub out_of_turns : (columns : Columns) (k n : ℕ) (s : State) (left : List ℕ) (found : List TypeRow) → n ≡ 0 → joined found (rows_left columns k n s left) ≡ Ok found
-unfolding records_from rows_from
+unfolding records_from type_rows_from
 out_of_turns columns k n s left found over = rw (over, append-nil found)
 
 pub header-none : (n : ℕ) (s : State) (left : List ℕ) → next_record default_config s [] [] left ≡ None → table_from (n + 1) s left ≡ Err (BadRow 1)

@@ -7,7 +7,7 @@ use Rattle.apron_base.specs.declared.letter.Letter.TheVariants.{A, B, C, D, E, F
 use Rattle.apron_dates.specs.Dates.{read_date}
 use Rattle.apron_dates.specs.declared.day.Date.{Date}
 use Rattle.apron_rules.specs.Names.{is_station}
-use Rattle.airport_files.specs.declared.keys.Key.{Key}
+use Rattle.airport_files.specs.declared.keys.FileKey.{FileKey}
 use Rattle.airport_files.specs.declared.keys.WalkFault.{WalkFault}
 use Rattle.airport_files.specs.declared.keys.WalkFault.TheVariants.{Missing, Wrong}
 
@@ -71,8 +71,8 @@ in_u32 (pos n) = if nat_lt n (2 ^ 32) then Some n else None
 in_u32 (negsuc n) = None
 
 -- a whole number from 0 to 4294967295
-abbrev pub number_of : Data → Option ℕ
-number_of d = option_and_then in_u32 (as_integer d)
+abbrev pub toml_number : Data → Option ℕ
+toml_number d = option_and_then in_u32 (as_integer d)
 
 -- the items of an array, as a list
 abbrev pub items_of : Items → List Data
@@ -93,29 +93,29 @@ array_of form (array ds) = all_of form ds
 array_of form _ = None
 
 -- an array of whole numbers
-abbrev pub numbers_of : Data → Option (List ℕ)
-numbers_of = array_of number_of
+abbrev pub toml_number_list : Data → Option (List ℕ)
+toml_number_list = array_of toml_number
 
 -- an array of tables
 abbrev pub tables_of : Data → Option (List Members)
 tables_of = array_of as_table
 
 -- a value in a form, or a fault at its key
-abbrev pub in_form : {A : Type 0} → Key → Option A → Result A WalkFault
+abbrev pub in_form : {A : Type 0} → FileKey → Option A → Result A WalkFault
 in_form at None = Err (Wrong at)
 in_form at (Some x) = Ok x
 
 -- what a key holds, in a form
-abbrev pub at_key : {A : Type 0} → (Data → Option A) → Key → Option Data → Result A WalkFault
+abbrev pub at_key : {A : Type 0} → (Data → Option A) → FileKey → Option Data → Result A WalkFault
 at_key form at None = Err (Missing at)
 at_key form at (Some d) = in_form at (form d)
 
 -- a value in a form, if there is one, or a fault at its key
-abbrev pub in_form_if_there : {A : Type 0} → Key → Option A → Result (Option A) WalkFault
+abbrev pub in_form_if_there : {A : Type 0} → FileKey → Option A → Result (Option A) WalkFault
 in_form_if_there at None = Err (Wrong at)
 in_form_if_there at (Some x) = Ok (Some x)
 
 -- the same for a key that may be missing
-abbrev pub if_there : {A : Type 0} → (Data → Option A) → Key → Option Data → Result (Option A) WalkFault
+abbrev pub if_there : {A : Type 0} → (Data → Option A) → FileKey → Option Data → Result (Option A) WalkFault
 if_there form at None = Ok None
 if_there form at (Some d) = in_form_if_there at (form d)

@@ -2,24 +2,24 @@
 use Rattle.std.specs.Prelude.{List, [], ◌∷◌, Bool, true, false, Option, Some, None, Result, Ok, Err, option_and_then, if◌then◌else◌}
 use Rattle.std.specs.Option.{option_or, unwrap_or}
 use Rattle.toml.specs.Data.{Data}
-use Rattle.airport_files.specs.declared.keys.Key.{Key}
+use Rattle.airport_files.specs.declared.keys.FileKey.{FileKey}
 use Rattle.airport_files.specs.declared.keys.WalkFault.{WalkFault}
 use Rattle.airport_files.specs.declared.keys.WalkFault.TheVariants.{Missing, Wrong}
 use Rattle.airport_files.specs.Forms.{is_in_form}
 
 -- a key, the form that its value is to have, and what the file has there
 pub record KeyForm : Type 0 where
-  pub key : Key
+  pub key : FileKey
   pub is_in_form : Data → Bool
   pub may_be_missing : Bool
   pub held : Option Data
 
 -- a key that has to be there, with a value of this form
-abbrev pub needed : {A : Type 0} → (Data → Option A) → Key → Option Data → KeyForm
+abbrev pub needed : {A : Type 0} → (Data → Option A) → FileKey → Option Data → KeyForm
 needed form key held = record { key = key; is_in_form = is_in_form form; may_be_missing = false; held = held }
 
 -- a key that may be missing; if it is there, its value is of this form
-abbrev pub optional : {A : Type 0} → (Data → Option A) → Key → Option Data → KeyForm
+abbrev pub optional : {A : Type 0} → (Data → Option A) → FileKey → Option Data → KeyForm
 optional form key held = record { key = key; is_in_form = is_in_form form; may_be_missing = true; held = held }
 
 -- the fault of a key with or without a value

@@ -1,8 +1,8 @@
 -- All that an airport file says, or the first fault along its keys.
 use Rattle.std.specs.Prelude.{ℕ, ◌+◌, List, [], ◌∷◌, ◌++◌, map, Option, Result, codes}
 use Rattle.toml.specs.Data.{Data, Members, get_member, as_table, no_members}
-use Rattle.airport_files.specs.declared.keys.Key.{Key}
-use Rattle.airport_files.specs.declared.keys.Key.TheVariants as key
+use Rattle.airport_files.specs.declared.keys.FileKey.{FileKey}
+use Rattle.airport_files.specs.declared.keys.FileKey.TheVariants as key
 use Rattle.airport_files.specs.declared.keys.WalkFault.{WalkFault}
 use Rattle.airport_files.specs.declared.layout.Layout.{Layout}
 use Rattle.airport_files.specs.Forms.{tables_of}
@@ -19,7 +19,7 @@ abbrev pub tables_in : Option Data → List Members
 tables_in held = value_or [] tables_of held
 
 -- the key of an array of tables, which may be missing, and the keys of its tables
-abbrev pub array_keys : Key → (ℕ → Members → List KeyForm) → Option Data → List KeyForm
+abbrev pub array_keys : FileKey → (ℕ → Members → List KeyForm) → Option Data → List KeyForm
 array_keys at keys held = optional tables_of at held ∷ keys_from keys 1 (tables_in held)
 
 -- the table `airport`

@@ -5,7 +5,7 @@ use Rattle.toml.specs.Data.{Members}
 use Rattle.apron_rules.specs.declared.parts.AirportParts.{AirportParts}
 use Rattle.apron_rules.specs.declared.parts.TypeRow.{TypeRow}
 use Rattle.apron_rules.specs.declared.refusals.AirportFault.{AirportFault}
-use Rattle.apron_rules.specs.Refusals.{fault_of}
+use Rattle.apron_rules.specs.Refusals.{airport_fault}
 use Rattle.airport_files.specs.declared.keys.WalkFault.{WalkFault}
 use Rattle.airport_files.specs.declared.keys.WalkFault.TheVariants as walk
 use Rattle.airport_files.specs.declared.types.TableFault.{TableFault}
@@ -24,19 +24,19 @@ Means (Ok x) meant = meant ≡ Ok x
 Means (Err e) meant = (e ≡ file.Memory) ⊎ (meant ≡ Err e)
 
 -- a fault along the keys, with the text of its key
-abbrev pub named : WalkFault → FileFault
-named (walk.Missing key) = file.MissingKey (key_text key)
-named (walk.Wrong key) = file.WrongKind (key_text key)
-named walk.Memory = file.Memory
+abbrev pub file_fault : WalkFault → FileFault
+file_fault (walk.Missing key) = file.MissingKey (key_text key)
+file_fault (walk.Wrong key) = file.WrongKind (key_text key)
+file_fault walk.Memory = file.Memory
 
 -- the same, unless there was no memory for the text
 abbrev pub IsNamed : WalkFault → FileFault → Type 0
-IsNamed fault e = (e ≡ file.Memory) ⊎ (e ≡ named fault)
+IsNamed fault e = (e ≡ file.Memory) ⊎ (e ≡ file_fault fault)
 
 -- the layout, or the fault with the text of its key
 abbrev pub named_layout : Result Layout WalkFault → Result Layout FileFault
 named_layout (Ok layout) = Ok layout
-named_layout (Err fault) = Err (named fault)
+named_layout (Err fault) = Err (file_fault fault)
 
 -- the layout of a table, if there is one
 abbrev pub layout_of_table : Option Members → Result Layout FileFault
@@ -58,8 +58,8 @@ unfoldable pub types_in : List ℕ → Result (List TypeRow) FileFault
 types_in types = types_of_table (table_in types)
 
 -- the parts of an airport with these types
-abbrev pub parts_of : Layout → List TypeRow → AirportParts
-parts_of layout types = record {
+abbrev pub airport_parts : Layout → List TypeRow → AirportParts
+airport_parts layout types = record {
   station = layout.head.station;
   first = layout.head.first;
   days = layout.head.days;
@@ -77,8 +77,8 @@ unless_refused parts None = Ok parts
 unless_refused parts (Some fault) = Err (file.Airport fault)
 
 -- the airport of these parts
-unfoldable pub made_of : AirportParts → Result AirportParts FileFault
-made_of parts = unless_refused parts (fault_of parts)
+unfoldable pub airport_of_parts : AirportParts → Result AirportParts FileFault
+airport_of_parts parts = unless_refused parts (airport_fault parts)
 
 -- the two files together: first the airport file, then the type file, then the airport that they
 -- make
@@ -86,4 +86,4 @@ unfoldable pub meaning : List ℕ → List ℕ → Result AirportParts FileFault
 meaning airport types = do
   layout ← layout_in airport
   rows ← types_in types
-  made_of (parts_of layout rows)
+  airport_of_parts (airport_parts layout rows)

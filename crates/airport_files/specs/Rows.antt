@@ -15,18 +15,18 @@ use Rattle.airport_files.specs.declared.keys.StandKey.{StandKey}
 use Rattle.airport_files.specs.declared.keys.StandKey.TheVariants as stand
 use Rattle.airport_files.specs.declared.keys.PairKey.{PairKey}
 use Rattle.airport_files.specs.declared.keys.PairKey.TheVariants as pair
-use Rattle.airport_files.specs.declared.keys.Key.TheVariants as key
+use Rattle.airport_files.specs.declared.keys.FileKey.TheVariants as key
 use Rattle.airport_files.specs.declared.keys.WalkFault.{WalkFault}
 use Rattle.airport_files.specs.declared.keys.WalkFault.TheVariants.{Memory}
-use Rattle.airport_files.specs.declared.rows.Head.{Head}
-use Rattle.airport_files.specs.Forms.{number_of, numbers_of, station_of, date_of, name_of, letter_of}
+use Rattle.airport_files.specs.declared.rows.AirportTable.{AirportTable}
+use Rattle.airport_files.specs.Forms.{toml_number, toml_number_list, station_of, date_of, name_of, letter_of}
 use Rattle.airport_files.specs.Keys.{KeyForm, needed, optional, read_in, value_or}
 use Rattle.airport_files.specs.Words.{head_word, frontage_word, stand_word, pair_word}
 
 -- what was read is what the definition reads, unless memory ran out
-abbrev pub Reads : {A : Type 0} → Result A WalkFault → Result A WalkFault → Type 0
-Reads (Ok x) read = read ≡ Ok x
-Reads (Err e) read = (e ≡ Memory) ⊎ (read ≡ Err e)
+abbrev pub ReadsRow : {A : Type 0} → Result A WalkFault → Result A WalkFault → Type 0
+ReadsRow (Ok x) read = read ≡ Ok x
+ReadsRow (Err e) read = (e ≡ Memory) ⊎ (read ≡ Err e)
 
 -- the value of a key of the table `airport`
 abbrev pub head_held : Members → HeadKey → Option Data
@@ -41,9 +41,9 @@ abbrev pub head_keys : Members → List KeyForm
 head_keys ms =
     head_key ms Station station_of
     ∷ head_key ms FirstDay date_of
-    ∷ head_key ms Days number_of
-    ∷ head_key ms TaxiIn number_of
-    ∷ head_key ms Tow number_of
+    ∷ head_key ms Days toml_number
+    ∷ head_key ms TaxiIn toml_number
+    ∷ head_key ms Tow toml_number
     ∷ []
 
 -- a date that stands for one that is not there
@@ -51,17 +51,17 @@ abbrev pub no_date : Date
 no_date = record { year = 0; month = 0; day = 0 }
 
 -- the values of the table `airport`
-abbrev pub head_values : Members → Head
+abbrev pub head_values : Members → AirportTable
 head_values ms = record {
   station = value_or [] station_of (head_held ms Station);
   first = value_or no_date date_of (head_held ms FirstDay);
-  days = value_or 0 number_of (head_held ms Days);
-  taxi_in = value_or 0 number_of (head_held ms TaxiIn);
-  tow = value_or 0 number_of (head_held ms Tow);
+  days = value_or 0 toml_number (head_held ms Days);
+  taxi_in = value_or 0 toml_number (head_held ms TaxiIn);
+  tow = value_or 0 toml_number (head_held ms Tow);
 }
 
 -- what the table `airport` says
-unfoldable pub head_in : Members → Result Head WalkFault
+unfoldable pub head_in : Members → Result AirportTable WalkFault
 head_in ms = read_in (head_keys ms) (head_values ms)
 
 -- the value of a key of a frontage
@@ -72,14 +72,14 @@ frontage_held ms word = get_member (frontage_word word) ms
 abbrev pub frontage_keys : ℕ → Members → List KeyForm
 frontage_keys k ms =
     needed name_of (key.Frontage k frontage.Name) (frontage_held ms frontage.Name)
-    ∷ needed numbers_of (key.Frontage k frontage.Objects) (frontage_held ms frontage.Objects)
+    ∷ needed toml_number_list (key.Frontage k frontage.Objects) (frontage_held ms frontage.Objects)
     ∷ []
 
 -- the values of a frontage
 abbrev pub frontage_values : Members → Frontage
 frontage_values ms = record {
   name = value_or [] name_of (frontage_held ms frontage.Name);
-  objects = value_or [] numbers_of (frontage_held ms frontage.Objects);
+  objects = value_or [] toml_number_list (frontage_held ms frontage.Objects);
 }
 
 -- what the k-th frontage says
@@ -99,9 +99,9 @@ abbrev pub stand_keys : ℕ → Members → List KeyForm
 stand_keys k ms =
     stand_key k ms stand.Name name_of
     ∷ stand_key k ms stand.Frontage name_of
-    ∷ stand_key k ms stand.Centre number_of
+    ∷ stand_key k ms stand.Centre toml_number
     ∷ stand_key k ms stand.Letter letter_of
-    ∷ stand_key k ms stand.Buffer number_of
+    ∷ stand_key k ms stand.Buffer toml_number
     ∷ optional name_of (key.Stand k stand.HalfOf) (stand_held ms stand.HalfOf)
     ∷ []
 
@@ -110,9 +110,9 @@ abbrev pub stand_values : Members → StandRow
 stand_values ms = record {
   name = value_or [] name_of (stand_held ms stand.Name);
   frontage = value_or [] name_of (stand_held ms stand.Frontage);
-  centre = value_or 0 number_of (stand_held ms stand.Centre);
+  centre = value_or 0 toml_number (stand_held ms stand.Centre);
   letter = value_or letter.A letter_of (stand_held ms stand.Letter);
-  buffer = value_or 0 number_of (stand_held ms stand.Buffer);
+  buffer = value_or 0 toml_number (stand_held ms stand.Buffer);
   half_of = option_and_then name_of (stand_held ms stand.HalfOf);
 }
 

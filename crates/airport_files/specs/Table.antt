@@ -16,17 +16,17 @@ in_form k None = Err (BadRow k)
 in_form k (Some row) = Ok row
 
 -- the types of these records, of which the first is record k, or the first bad record
-unfoldable pub rows_from : Columns → ℕ → List (List (List ℕ)) → Result (List TypeRow) TableFault
-rows_from columns k [] = Ok []
-rows_from columns k (fields ∷ rest) = do
+unfoldable pub type_rows_from : Columns → ℕ → List (List (List ℕ)) → Result (List TypeRow) TableFault
+type_rows_from columns k [] = Ok []
+type_rows_from columns k (fields ∷ rest) = do
   row ← in_form k (row_of columns fields)
-  more ← rows_from columns (k + 1) rest
+  more ← type_rows_from columns (k + 1) rest
   Ok (row ∷ more)
 
 -- the types of the records after a header with these columns
 abbrev pub rows_after : Option Columns → List (List (List ℕ)) → Result (List TypeRow) TableFault
 rows_after None rows = Err (BadRow 1)
-rows_after (Some columns) rows = rows_from columns 2 rows
+rows_after (Some columns) rows = type_rows_from columns 2 rows
 
 -- the types of the records after the header
 unfoldable pub table_of : List (List (List ℕ)) → Result (List TypeRow) TableFault
@@ -36,7 +36,7 @@ table_of (header ∷ rows) = rows_after (columns_of header) rows
 -- the types of at most `turns` further records, read from this state and the bytes that are left
 abbrev pub rows_left : Columns → ℕ → ℕ → State → List ℕ → Result (List TypeRow) TableFault
 rows_left columns k turns s left =
-    rows_from columns k (records_from default_config turns s left)
+    type_rows_from columns k (records_from default_config turns s left)
 
 -- the table of at most `turns` records, the header included
 abbrev pub table_from : ℕ → State → List ℕ → Result (List TypeRow) TableFault

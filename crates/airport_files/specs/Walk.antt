@@ -11,43 +11,43 @@ use Rattle.airport_files.specs.declared.keys.FrontageKey.TheVariants as frontage
 use Rattle.airport_files.specs.declared.keys.StandKey.{StandKey}
 use Rattle.airport_files.specs.declared.keys.StandKey.TheVariants as stand
 use Rattle.airport_files.specs.declared.keys.PairKey.{PairKey}
-use Rattle.airport_files.specs.declared.keys.Key.{Key}
-use Rattle.airport_files.specs.declared.keys.Key.TheVariants as key
+use Rattle.airport_files.specs.declared.keys.FileKey.{FileKey}
+use Rattle.airport_files.specs.declared.keys.FileKey.TheVariants as key
 use Rattle.airport_files.specs.declared.keys.WalkFault.{WalkFault}
 use Rattle.airport_files.specs.declared.keys.WalkFault.TheVariants.{Missing, Wrong}
-use Rattle.airport_files.specs.declared.rows.Head.{Head}
-use Rattle.airport_files.specs.Forms.{number_of, name_of, letter_of, in_form, at_key, if_there}
+use Rattle.airport_files.specs.declared.rows.AirportTable.{AirportTable}
+use Rattle.airport_files.specs.Forms.{toml_number, name_of, letter_of, in_form, at_key, if_there}
 use Rattle.airport_files.specs.Rows.{head_in, head_held, frontage_in, frontage_held, stand_in, stand_held, pair_in, pair_held}
 
 -- a number of the table `airport`
 abbrev pub head_number : Members → HeadKey → Result ℕ WalkFault
-head_number ms word = at_key number_of (key.Head word) (head_held ms word)
+head_number ms word = at_key toml_number (key.Head word) (head_held ms word)
 
 -- the table `airport`, if it is a table
-abbrev pub head_value : Option Data → Result Head WalkFault
+abbrev pub head_value : Option Data → Result AirportTable WalkFault
 head_value None = Err (Missing key.Airport)
 head_value (Some (table ms)) = head_in ms
 head_value (Some _) = Err (Wrong key.Airport)
 
 -- the table `airport` of a document
-abbrev pub head_of : Members → Result Head WalkFault
-head_of ms = head_value (get_member (codes "airport") ms)
+abbrev pub head_table : Members → Result AirportTable WalkFault
+head_table ms = head_value (get_member (codes "airport") ms)
 
 -- an array of numbers
-unfoldable pub numbers_from : Key → Items → Result (List ℕ) WalkFault
-numbers_from at no_items = Ok []
-numbers_from at (item d ds) = do
-  first ← in_form at (number_of d)
-  rest ← numbers_from at ds
+unfoldable pub toml_numbers : FileKey → Items → Result (List ℕ) WalkFault
+toml_numbers at no_items = Ok []
+toml_numbers at (item d ds) = do
+  first ← in_form at (toml_number d)
+  rest ← toml_numbers at ds
   Ok (first ∷ rest)
 
 -- an array of numbers, if it is an array
-abbrev pub numbers_value : Key → Data → Result (List ℕ) WalkFault
-numbers_value at (array ds) = numbers_from at ds
+abbrev pub numbers_value : FileKey → Data → Result (List ℕ) WalkFault
+numbers_value at (array ds) = toml_numbers at ds
 numbers_value at _ = Err (Wrong at)
 
 -- an array of numbers at a key
-abbrev pub numbers_at : Key → Option Data → Result (List ℕ) WalkFault
+abbrev pub numbers_at : FileKey → Option Data → Result (List ℕ) WalkFault
 numbers_at at None = Err (Missing at)
 numbers_at at (Some d) = numbers_value at d
 
@@ -65,12 +65,12 @@ frontage_value k (table ms) = frontage_in k ms
 frontage_value k _ = Err (Wrong key.Frontages)
 
 -- a name of the k-th stand
-abbrev pub stand_name : ℕ → Members → StandKey → Result (List ℕ) WalkFault
-stand_name k ms word = at_key name_of (key.Stand k word) (stand_held ms word)
+abbrev pub stand_row_name : ℕ → Members → StandKey → Result (List ℕ) WalkFault
+stand_row_name k ms word = at_key name_of (key.Stand k word) (stand_held ms word)
 
 -- a number of the k-th stand
-abbrev pub stand_number : ℕ → Members → StandKey → Result ℕ WalkFault
-stand_number k ms word = at_key number_of (key.Stand k word) (stand_held ms word)
+abbrev pub stand_row_number : ℕ → Members → StandKey → Result ℕ WalkFault
+stand_row_number k ms word = at_key toml_number (key.Stand k word) (stand_held ms word)
 
 -- the letter of the k-th stand
 abbrev pub stand_letter : ℕ → Members → Result Letter WalkFault
@@ -99,11 +99,11 @@ pair_value k (table ms) = pair_in k ms
 pair_value k _ = Err (Wrong key.Pairs)
 
 -- the rows from the k-th on, each read in turn
-unfoldable pub rows_from : {A : Type 0} → (ℕ → Data → Result A WalkFault) → ℕ → Items → Result (List A) WalkFault
-rows_from read k no_items = Ok []
-rows_from read k (item d ds) = do
+unfoldable pub walk_rows_from : {A : Type 0} → (ℕ → Data → Result A WalkFault) → ℕ → Items → Result (List A) WalkFault
+walk_rows_from read k no_items = Ok []
+walk_rows_from read k (item d ds) = do
   first ← read k d
-  rest ← rows_from read (k + 1) ds
+  rest ← walk_rows_from read (k + 1) ds
   Ok (first ∷ rest)
 
 -- a table
@@ -116,11 +116,11 @@ are_tables no_items = true
 are_tables (item d ds) = if is_table d then are_tables ds else false
 
 -- an array with another item is wrong before any row is looked at
-abbrev pub rows_in : {A : Type 0} → (ℕ → Data → Result A WalkFault) → Key → Items → Result (List A) WalkFault
-rows_in read at ds = if are_tables ds then rows_from read 1 ds else Err (Wrong at)
+abbrev pub rows_in : {A : Type 0} → (ℕ → Data → Result A WalkFault) → FileKey → Items → Result (List A) WalkFault
+rows_in read at ds = if are_tables ds then walk_rows_from read 1 ds else Err (Wrong at)
 
 -- a missing array is empty
-abbrev pub rows_value : {A : Type 0} → (ℕ → Data → Result A WalkFault) → Key → Option Data → Result (List A) WalkFault
+abbrev pub rows_value : {A : Type 0} → (ℕ → Data → Result A WalkFault) → FileKey → Option Data → Result (List A) WalkFault
 rows_value read at None = Ok []
 rows_value read at (Some (array ds)) = rows_in read at ds
 rows_value read at (Some _) = Err (Wrong at)

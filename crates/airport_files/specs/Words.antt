@@ -8,8 +8,8 @@ use Rattle.airport_files.specs.declared.keys.StandKey.{StandKey}
 use Rattle.airport_files.specs.declared.keys.StandKey.TheVariants as stand
 use Rattle.airport_files.specs.declared.keys.PairKey.{PairKey}
 use Rattle.airport_files.specs.declared.keys.PairKey.TheVariants as pair
-use Rattle.airport_files.specs.declared.keys.Key.{Key}
-use Rattle.airport_files.specs.declared.keys.Key.TheVariants as key
+use Rattle.airport_files.specs.declared.keys.FileKey.{FileKey}
+use Rattle.airport_files.specs.declared.keys.FileKey.TheVariants as key
 
 -- the keys of the table `airport`
 abbrev pub head_word : HeadKey → List ℕ
@@ -41,16 +41,16 @@ pair_word pair.B = codes "b"
 pair_word pair.Lb = codes "lb"
 
 -- the number of a row, counted from 1, and its key
-abbrev pub row_text : ℕ → List ℕ → List ℕ
-row_text k word = decimal k ++ (codes "." ++ word)
+abbrev pub row_key_text : ℕ → List ℕ → List ℕ
+row_key_text k word = decimal k ++ (codes "." ++ word)
 
 -- the text of a key
-abbrev pub key_text : Key → List ℕ
+abbrev pub key_text : FileKey → List ℕ
 key_text key.Airport = codes "airport"
 key_text (key.Head word) = codes "airport." ++ head_word word
 key_text key.Frontages = codes "frontage"
-key_text (key.Frontage k word) = codes "frontage " ++ row_text k (frontage_word word)
+key_text (key.Frontage k word) = codes "frontage " ++ row_key_text k (frontage_word word)
 key_text key.Stands = codes "stand"
-key_text (key.Stand k word) = codes "stand " ++ row_text k (stand_word word)
+key_text (key.Stand k word) = codes "stand " ++ row_key_text k (stand_word word)
 key_text key.Pairs = codes "pair"
-key_text (key.Pair k word) = codes "pair " ++ row_text k (pair_word word)
+key_text (key.Pair k word) = codes "pair " ++ row_key_text k (pair_word word)

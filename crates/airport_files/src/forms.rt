@@ -5,9 +5,9 @@ ghost use Rattle.toml.specs.Data.{get_member};
 ghost use Rattle.toml.specs.View.{view, table_view};
 ghost use Rattle.apron_dates.specs.Dates.{IsFirstDay};
 ghost use Rattle.apron_rules.specs.Names.{is_station};
-ghost use Rattle.airport_files.specs.Forms.{number_of, station_of, is_capital, text_if, is_short_byte, is_short_name, name_of, date_of, letter_of_byte, letter_named, letter_of, at_key, if_there};
+ghost use Rattle.airport_files.specs.Forms.{toml_number, station_of, is_capital, text_if, is_short_byte, is_short_name, name_of, date_of, letter_of_byte, letter_named, letter_of, at_key, if_there};
 
-use crate::keys::{Key, WalkFault};
+use crate::keys::{FileKey, WalkFault};
 use apron_base::{Letter, Name};
 use apron_dates::{Date, date_in};
 use toml::{Table, Value};
@@ -29,8 +29,8 @@ pub(crate) fn find<'a>(table: &'a Table, word: &str) -> Option<&'a Value>
 }
 
 /// The number at a key: a whole number from 0 to 4294967295.
-pub(crate) fn number_at(table: &Table, word: &str, at: Key) -> Result<u32, WalkFault>
-    ensures value { result ≡ at_key number_of at (get_member word.now (table_view table.now)) }
+pub(crate) fn number_at(table: &Table, word: &str, at: FileKey) -> Result<u32, WalkFault>
+    ensures value { result ≡ at_key toml_number at (get_member word.now (table_view table.now)) }
 {
     match find(table, word) {
         None => Err(WalkFault::Missing(at)),
@@ -40,7 +40,7 @@ pub(crate) fn number_at(table: &Table, word: &str, at: Key) -> Result<u32, WalkF
 
 /// The number that a value is.
 pub(crate) fn number(value: &Value) -> Option<u32>
-    ensures value { result ≡ number_of (view value.now) }
+    ensures value { result ≡ toml_number (view value.now) }
 {
     match value.as_integer() {
         Some(n) if n >= 0 && n <= u32::MAX as i64 => Some(n as u32),
@@ -49,7 +49,7 @@ pub(crate) fn number(value: &Value) -> Option<u32>
 }
 
 /// The station at a key: three capitals.
-pub(crate) fn station_at(table: &Table, word: &str, at: Key) -> Result<Name, WalkFault>
+pub(crate) fn station_at(table: &Table, word: &str, at: FileKey) -> Result<Name, WalkFault>
     ensures value { result ≡ at_key station_of at (get_member word.now (table_view table.now)) }
     ensures station { IfOk result (λ name. IsTrue (is_station name)) }
 {
@@ -93,7 +93,7 @@ fn are_capitals(text: &[u8]) -> bool
 }
 
 /// The date at a key: YYYY-MM-DD, of the years 2000 to 2099.
-pub(crate) fn date_at(table: &Table, word: &str, at: Key) -> Result<Date, WalkFault>
+pub(crate) fn date_at(table: &Table, word: &str, at: FileKey) -> Result<Date, WalkFault>
     ensures value { result ≡ at_key date_of at (get_member word.now (table_view table.now)) }
     ensures first { IfOk result IsFirstDay }
 {
@@ -114,7 +114,7 @@ fn date(value: &Value) -> Option<Date>
 }
 
 /// The name at a key: 1 to 6 capitals or digits.
-pub(crate) fn name_at(table: &Table, word: &str, at: Key) -> Result<Name, WalkFault>
+pub(crate) fn name_at(table: &Table, word: &str, at: FileKey) -> Result<Name, WalkFault>
     ensures value { result ≡ at_key name_of at (get_member word.now (table_view table.now)) }
 {
     match find(table, word) {
@@ -124,7 +124,11 @@ pub(crate) fn name_at(table: &Table, word: &str, at: Key) -> Result<Name, WalkFa
 }
 
 /// The name at a key that may be missing.
-pub(crate) fn name_if_there(table: &Table, word: &str, at: Key) -> Result<Option<Name>, WalkFault>
+pub(crate) fn name_if_there(
+    table: &Table,
+    word: &str,
+    at: FileKey,
+) -> Result<Option<Name>, WalkFault>
     ensures value { result ≡ if_there name_of at (get_member word.now (table_view table.now)) }
 {
     match find(table, word) {
@@ -177,7 +181,7 @@ fn is_short_byte(b: u8) -> bool
 }
 
 /// The code letter at a key: one of A to F.
-pub(crate) fn letter_at(table: &Table, word: &str, at: Key) -> Result<Letter, WalkFault>
+pub(crate) fn letter_at(table: &Table, word: &str, at: FileKey) -> Result<Letter, WalkFault>
     ensures value { result ≡ at_key letter_of at (get_member word.now (table_view table.now)) }
 {
     match find(table, word) {

@@ -44,7 +44,7 @@ pub(crate) enum PairKey {
 
 /// A key of the file. Frontages, stands and pair restrictions are counted from 1.
 #[derive(Clone, Copy, Debug, PartialEq, Eq)]
-pub(crate) enum Key {
+pub(crate) enum FileKey {
     Airport,
     Head(HeadKey),
     Frontages,
@@ -58,8 +58,8 @@ pub(crate) enum Key {
 /// The first fault along the keys, or a lack of memory.
 #[derive(Clone, Copy, Debug, PartialEq, Eq)]
 pub(crate) enum WalkFault {
-    Missing(Key),
-    Wrong(Key),
+    Missing(FileKey),
+    Wrong(FileKey),
     Memory,
 }
 
@@ -121,18 +121,18 @@ impl PairKey {
 }
 
 /// The text by which a fault names a key, as `airport.tow` or `stand 3.letter`.
-pub(crate) fn key_text(alloc: Global, key: Key) -> Result<Listed<u8>, Memory>
+pub(crate) fn key_text(alloc: Global, key: FileKey) -> Result<Listed<u8>, Memory>
     ensures text { IfOk result (λ text. text ≡ key_text key) }
 {
     let text = match key {
-        Key::Airport => format!(in alloc; "airport")?,
-        Key::Head(word) => format!(in alloc; "airport.{}", word.word())?,
-        Key::Frontages => format!(in alloc; "frontage")?,
-        Key::Frontage(k, word) => format!(in alloc; "frontage {}.{}", k, word.word())?,
-        Key::Stands => format!(in alloc; "stand")?,
-        Key::Stand(k, word) => format!(in alloc; "stand {}.{}", k, word.word())?,
-        Key::Pairs => format!(in alloc; "pair")?,
-        Key::Pair(k, word) => format!(in alloc; "pair {}.{}", k, word.word())?,
+        FileKey::Airport => format!(in alloc; "airport")?,
+        FileKey::Head(word) => format!(in alloc; "airport.{}", word.word())?,
+        FileKey::Frontages => format!(in alloc; "frontage")?,
+        FileKey::Frontage(k, word) => format!(in alloc; "frontage {}.{}", k, word.word())?,
+        FileKey::Stands => format!(in alloc; "stand")?,
+        FileKey::Stand(k, word) => format!(in alloc; "stand {}.{}", k, word.word())?,
+        FileKey::Pairs => format!(in alloc; "pair")?,
+        FileKey::Pair(k, word) => format!(in alloc; "pair {}.{}", k, word.word())?,
     };
     Ok(Listed::from_vec(text.into_bytes()))
 }

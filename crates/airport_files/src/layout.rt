@@ -5,13 +5,13 @@ ghost use Rattle.toml.specs.Data.{get_member};
 ghost use Rattle.toml.specs.View.{view, table_view, array_view};
 ghost use Rattle.apron_dates.specs.Dates.{IsFirstDay};
 ghost use Rattle.apron_rules.specs.Names.{is_station};
-ghost use Rattle.airport_files.specs.Rows.{Reads};
+ghost use Rattle.airport_files.specs.Rows.{ReadsRow};
 ghost use Rattle.airport_files.specs.Layout.{layout_of};
-ghost use Rattle.airport_files.specs.Walk.{is_table, are_tables, rows_from, frontages_of, stands_of, pairs_of, rows_value};
+ghost use Rattle.airport_files.specs.Walk.{is_table, are_tables, walk_rows_from, frontages_of, stands_of, pairs_of, rows_value};
 
 use crate::forms::find;
-use crate::keys::{Key, WalkFault};
-use crate::rows::{Head, Row, head_of};
+use crate::keys::{FileKey, WalkFault};
+use crate::rows::{AirportTable, Row, head_of};
 use apron_base::Listed;
 use apron_rules::{Frontage, PairRow, StandRow};
 use std::alloc::Global;
@@ -21,7 +21,7 @@ use toml::{Table, Value};
 /// The airport without its types.
 #[derive(Debug, Drop)]
 pub(crate) struct Layout {
-    pub(crate) head: Head,
+    pub(crate) head: AirportTable,
     pub(crate) frontages: Listed<Frontage>,
     pub(crate) stands: Listed<StandRow>,
     pub(crate) pairs: Listed<PairRow>,
@@ -29,7 +29,7 @@ pub(crate) struct Layout {
 
 /// What a document says, or the first fault along its keys, or a lack of memory.
 pub(crate) fn layout_of(alloc: Global, document: &Table) -> Result<Layout, WalkFault>
-    ensures layout { Reads result (layout_of (table_view document.now)) }
+    ensures layout { ReadsRow result (layout_of (table_view document.now)) }
     ensures station { IfOk result (λ layout. IsTrue (is_station layout.head.station)) }
     ensures first { IfOk result (λ layout. IsFirstDay layout.head.first) }
 {
@@ -46,21 +46,21 @@ pub(crate) fn layout_of(alloc: Global, document: &Table) -> Result<Layout, WalkF
 }
 
 fn frontages_of(alloc: Global, document: &Table) -> Result<Listed<Frontage>, WalkFault>
-    ensures value { Reads result (frontages_of (table_view document.now)) }
+    ensures value { ReadsRow result (frontages_of (table_view document.now)) }
 {
-    rows_at(alloc, document, "frontage", Key::Frontages)
+    rows_at(alloc, document, "frontage", FileKey::Frontages)
 }
 
 fn stands_of(alloc: Global, document: &Table) -> Result<Listed<StandRow>, WalkFault>
-    ensures value { Reads result (stands_of (table_view document.now)) }
+    ensures value { ReadsRow result (stands_of (table_view document.now)) }
 {
-    rows_at(alloc, document, "stand", Key::Stands)
+    rows_at(alloc, document, "stand", FileKey::Stands)
 }
 
 fn pairs_of(alloc: Global, document: &Table) -> Result<Listed<PairRow>, WalkFault>
-    ensures value { Reads result (pairs_of (table_view document.now)) }
+    ensures value { ReadsRow result (pairs_of (table_view document.now)) }
 {
-    rows_at(alloc, document, "pair", Key::Pairs)
+    rows_at(alloc, document, "pair", FileKey::Pairs)
 }
 
 // The rows of the array at a key; none if the key is missing.
@@ -68,9 +68,9 @@ fn rows_at<T: Row>(
     alloc: Global,
     document: &Table,
     word: &str,
-    at: Key,
+    at: FileKey,
 ) -> Result<Listed<T>, WalkFault>
-    ensures value { Reads result (rows_value T.read_of at (get_member word.now (table_view document.now))) }
+    ensures value { ReadsRow result (rows_value T.read_of at (get_member word.now (table_view document.now))) }
 {
     match find(document, word) {
         None => Ok(Listed::new(alloc)),
@@ -80,7 +80,7 @@ fn rows_at<T: Row>(
 }
 
 fn rows_from<T: Row>(alloc: Global, array: &Array) -> Result<Listed<T>, WalkFault>
-    ensures value { Reads result (rows_from T.read_of 1 (array_view array.now)) }
+    ensures value { ReadsRow result (walk_rows_from T.read_of 1 (array_view array.now)) }
 {
     let mut rows = Listed::new(alloc);
     for (i, value) in array.iter().enumerate() {

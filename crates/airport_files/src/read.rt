@@ -3,7 +3,7 @@ ghost use Rattle.std.specs.Prelude.{◌≡◌, ◌⊎◌, ◌<◌, ◌^◌, IfOk
 ghost use Rattle.apron_dates.specs.Dates.{IsFirstDay};
 ghost use Rattle.apron_rules.specs.Names.{is_station};
 ghost use Rattle.airport_files.specs.Layout.{layout_of};
-ghost use Rattle.airport_files.specs.Meaning.{Means, IsNamed, parts_of, named_layout, layout_in, types_in, made_of, meaning};
+ghost use Rattle.airport_files.specs.Meaning.{Means, IsNamed, airport_parts, named_layout, layout_in, types_in, airport_of_parts, meaning};
 ghost use Rattle.toml.specs.View.{table_view};
 
 use crate::keys::{WalkFault, key_text};
@@ -43,7 +43,7 @@ pub fn read_airport(alloc: Global, airport: &[u8], types: &[u8]) -> Result<Airpo
 {
     let layout = layout_in(alloc, airport)?;
     let rows = types_in(alloc, types)?;
-    made_of(alloc, parts_of(layout, rows))
+    airport_of_parts(alloc, airport_parts(layout, rows))
 }
 
 fn layout_in(alloc: Global, airport: &[u8]) -> Result<Layout, FileFault>
@@ -65,12 +65,12 @@ fn layout_from(alloc: Global, table: &Table) -> Result<Layout, FileFault>
 {
     match layout_of(alloc, table) {
         Ok(layout) => Ok(layout),
-        Err(fault) => Err(named(alloc, fault)),
+        Err(fault) => Err(file_fault(alloc, fault)),
     }
 }
 
 // The fault with the text of its key.
-fn named(alloc: Global, fault: WalkFault) -> FileFault
+fn file_fault(alloc: Global, fault: WalkFault) -> FileFault
     ensures named { IsNamed fault result }
 {
     match fault {
@@ -97,8 +97,8 @@ fn types_in(alloc: Global, types: &[u8]) -> Result<Listed<TypeRow>, FileFault>
     }
 }
 
-fn parts_of(layout: Layout, types: Listed<TypeRow>) -> AirportParts
-    ensures value { result ≡ parts_of layout types }
+fn airport_parts(layout: Layout, types: Listed<TypeRow>) -> AirportParts
+    ensures value { result ≡ airport_parts layout types }
 {
     let Layout {
         head,
@@ -119,18 +119,18 @@ fn parts_of(layout: Layout, types: Listed<TypeRow>) -> AirportParts
     }
 }
 
-fn made_of(alloc: Global, parts: AirportParts) -> Result<Airport, FileFault>
+fn airport_of_parts(alloc: Global, parts: AirportParts) -> Result<Airport, FileFault>
     requires station { IsTrue (is_station parts.station) }
     requires first { IsFirstDay parts.first }
-    ensures value { Means result (made_of parts) }
+    ensures value { Means result (airport_of_parts parts) }
 {
     match Airport::new(alloc, parts) {
         Ok(airport) => Ok(airport),
-        Err(fault) => Err(refused(fault)),
+        Err(fault) => Err(airport_refused(fault)),
     }
 }
 
-fn refused(fault: AirportFault) -> FileFault
+fn airport_refused(fault: AirportFault) -> FileFault
     ensures memory { fault ≡ AirportFault.Memory → result ≡ FileFault.Memory }
     ensures named { (result ≡ FileFault.Memory) ⊎ (result ≡ FileFault.Airport fault) }
 {

@@ -5,13 +5,13 @@ ghost use Rattle.apron_dates.specs.Dates.{IsFirstDay};
 ghost use Rattle.apron_rules.specs.Names.{is_station};
 ghost use Rattle.toml.specs.Data.{Data, get_member};
 ghost use Rattle.airport_files.specs.declared.keys.WalkFault.{WalkFault};
-ghost use Rattle.airport_files.specs.Rows.{Reads, head_in, frontage_in, stand_in, pair_in};
-ghost use Rattle.airport_files.specs.Walk.{head_number, head_of, numbers_from, numbers_at, frontage_name, frontage_objects, frontage_value, stand_name, stand_number, stand_letter, stand_half, stand_value, pair_name, pair_letter, pair_value};
+ghost use Rattle.airport_files.specs.Rows.{ReadsRow, head_in, frontage_in, stand_in, pair_in};
+ghost use Rattle.airport_files.specs.Walk.{head_number, head_table, toml_numbers, numbers_at, frontage_name, frontage_objects, frontage_value, stand_row_name, stand_row_number, stand_letter, stand_half, stand_value, pair_name, pair_letter, pair_value};
 
 use crate::forms::{
     date_at, find, letter_at, name_at, name_if_there, number, number_at, station_at,
 };
-use crate::keys::{FrontageKey, HeadKey, Key, PairKey, StandKey, WalkFault};
+use crate::keys::{FileKey, FrontageKey, HeadKey, PairKey, StandKey, WalkFault};
 use apron_base::{Letter, Listed, Name};
 use apron_dates::Date;
 use apron_rules::{Frontage, PairRow, StandRow};
@@ -21,7 +21,7 @@ use toml::{Table, Value};
 
 /// The table `airport`.
 #[derive(Clone, Copy, Debug)]
-pub(crate) struct Head {
+pub(crate) struct AirportTable {
     pub(crate) station: Name,
     pub(crate) first: Date,
     pub(crate) days: u32,
@@ -30,33 +30,37 @@ pub(crate) struct Head {
 }
 
 /// The table `airport` of a document, or the first fault along its keys.
-pub(crate) fn head_of(document: &Table) -> Result<Head, WalkFault>
-    ensures head { result ≡ head_of (table_view document.now) }
+pub(crate) fn head_of(document: &Table) -> Result<AirportTable, WalkFault>
+    ensures head { result ≡ head_table (table_view document.now) }
     ensures station { IfOk result (λ head. IsTrue (is_station head.station)) }
     ensures first { IfOk result (λ head. IsFirstDay head.first) }
 {
     match find(document, "airport") {
-        None => Err(WalkFault::Missing(Key::Airport)),
+        None => Err(WalkFault::Missing(FileKey::Airport)),
         Some(Value::Table(table)) => head_in(table),
-        Some(_) => Err(WalkFault::Wrong(Key::Airport)),
+        Some(_) => Err(WalkFault::Wrong(FileKey::Airport)),
     }
 }
 
-fn head_in(table: &Table) -> Result<Head, WalkFault>
+fn head_in(table: &Table) -> Result<AirportTable, WalkFault>
     ensures head { result ≡ head_in (table_view table.now) }
     ensures station { IfOk result (λ head. IsTrue (is_station head.station)) }
     ensures first { IfOk result (λ head. IsFirstDay head.first) }
 {
-    let station = station_at(table, HeadKey::Station.word(), Key::Head(HeadKey::Station))?;
+    let station = station_at(
+        table,
+        HeadKey::Station.word(),
+        FileKey::Head(HeadKey::Station),
+    )?;
     let first = date_at(
         table,
         HeadKey::FirstDay.word(),
-        Key::Head(HeadKey::FirstDay),
+        FileKey::Head(HeadKey::FirstDay),
     )?;
     let days = head_number(table, HeadKey::Days)?;
     let taxi_in = head_number(table, HeadKey::TaxiIn)?;
     let tow = head_number(table, HeadKey::Tow)?;
-    Ok(Head {
+    Ok(AirportTable {
         station,
         first,
         days,
@@ -68,7 +72,7 @@ fn head_in(table: &Table) -> Result<Head, WalkFault>
 fn head_number(table: &Table, key: HeadKey) -> Result<u32, WalkFault>
     ensures value { result ≡ head_number (table_view table.now) key }
 {
-    number_at(table, key.word(), Key::Head(key))
+    number_at(table, key.word(), FileKey::Head(key))
 }
 
 /// A row of an array of the file.
@@ -78,7 +82,7 @@ pub(crate) trait Row: Drop + Sized {
 
     /// Reads the k-th row, counted from 1.
     fn read(alloc: Global, value: &Value, k: usize) -> Result<Self, WalkFault>
-        ensures value { Reads result (read_of k (view value.now)) };
+        ensures value { ReadsRow result (read_of k (view value.now)) };
 }
 
 impl Row for Frontage {
@@ -87,13 +91,13 @@ impl Row for Frontage {
     fn read(alloc: Global, value: &Value, k: usize) -> Result<Frontage, WalkFault> {
         match value {
             Value::Table(table) => frontage_in(alloc, table, k),
-            _ => Err(WalkFault::Wrong(Key::Frontages)),
+            _ => Err(WalkFault::Wrong(FileKey::Frontages)),
         }
     }
 }
 
 fn frontage_in(alloc: Global, table: &Table, k: usize) -> Result<Frontage, WalkFault>
-    ensures value { Reads result (frontage_in k (table_view table.now)) }
+    ensures value { ReadsRow result (frontage_in k (table_view table.now)) }
 {
     let name = frontage_name(table, k)?;
     let objects = frontage_objects(alloc, table, k)?;
@@ -103,19 +107,24 @@ fn frontage_in(alloc: Global, table: &Table, k: usize) -> Result<Frontage, WalkF
 fn frontage_name(table: &Table, k: usize) -> Result<Name, WalkFault>
     ensures value { result ≡ frontage_name k (table_view table.now) }
 {
-    let at = Key::Frontage(k, FrontageKey::Name);
+    let at = FileKey::Frontage(k, FrontageKey::Name);
     name_at(table, FrontageKey::Name.word(), at)
 }
 
 fn frontage_objects(alloc: Global, table: &Table, k: usize) -> Result<Listed<u32>, WalkFault>
-    ensures value { Reads result (frontage_objects k (table_view table.now)) }
+    ensures value { ReadsRow result (frontage_objects k (table_view table.now)) }
 {
-    let at = Key::Frontage(k, FrontageKey::Objects);
+    let at = FileKey::Frontage(k, FrontageKey::Objects);
     numbers_at(alloc, table, FrontageKey::Objects.word(), at)
 }
 
-fn numbers_at(alloc: Global, table: &Table, word: &str, at: Key) -> Result<Listed<u32>, WalkFault>
-    ensures value { Reads result (numbers_at at (get_member word.now (table_view table.now))) }
+fn numbers_at(
+    alloc: Global,
+    table: &Table,
+    word: &str,
+    at: FileKey,
+) -> Result<Listed<u32>, WalkFault>
+    ensures value { ReadsRow result (numbers_at at (get_member word.now (table_view table.now))) }
 {
     match find(table, word) {
         None => Err(WalkFault::Missing(at)),
@@ -124,8 +133,8 @@ fn numbers_at(alloc: Global, table: &Table, word: &str, at: Key) -> Result<Liste
     }
 }
 
-fn numbers_from(alloc: Global, array: &Array, at: Key) -> Result<Listed<u32>, WalkFault>
-    ensures value { Reads result (numbers_from at (array_view array.now)) }
+fn numbers_from(alloc: Global, array: &Array, at: FileKey) -> Result<Listed<u32>, WalkFault>
+    ensures value { ReadsRow result (toml_numbers at (array_view array.now)) }
 {
     let mut numbers = Listed::new(alloc);
     for value in array {
@@ -145,7 +154,7 @@ impl Row for StandRow {
     fn read(_alloc: Global, value: &Value, k: usize) -> Result<StandRow, WalkFault> {
         match value {
             Value::Table(table) => stand_in(table, k),
-            _ => Err(WalkFault::Wrong(Key::Stands)),
+            _ => Err(WalkFault::Wrong(FileKey::Stands)),
         }
     }
 }
@@ -153,11 +162,11 @@ impl Row for StandRow {
 fn stand_in(table: &Table, k: usize) -> Result<StandRow, WalkFault>
     ensures value { result ≡ stand_in k (table_view table.now) }
 {
-    let name = stand_name(table, k, StandKey::Name)?;
-    let frontage = stand_name(table, k, StandKey::Frontage)?;
-    let centre = stand_number(table, k, StandKey::Centre)?;
+    let name = stand_row_name(table, k, StandKey::Name)?;
+    let frontage = stand_row_name(table, k, StandKey::Frontage)?;
+    let centre = stand_row_number(table, k, StandKey::Centre)?;
     let letter = stand_letter(table, k)?;
-    let buffer = stand_number(table, k, StandKey::Buffer)?;
+    let buffer = stand_row_number(table, k, StandKey::Buffer)?;
     let half_of = stand_half(table, k)?;
     Ok(StandRow {
         name,
@@ -169,16 +178,16 @@ fn stand_in(table: &Table, k: usize) -> Result<StandRow, WalkFault>
     })
 }
 
-fn stand_name(table: &Table, k: usize, key: StandKey) -> Result<Name, WalkFault>
-    ensures value { result ≡ stand_name k (table_view table.now) key }
+fn stand_row_name(table: &Table, k: usize, key: StandKey) -> Result<Name, WalkFault>
+    ensures value { result ≡ stand_row_name k (table_view table.now) key }
 {
-    name_at(table, key.word(), Key::Stand(k, key))
+    name_at(table, key.word(), FileKey::Stand(k, key))
 }
 
-fn stand_number(table: &Table, k: usize, key: StandKey) -> Result<u32, WalkFault>
-    ensures value { result ≡ stand_number k (table_view table.now) key }
+fn stand_row_number(table: &Table, k: usize, key: StandKey) -> Result<u32, WalkFault>
+    ensures value { result ≡ stand_row_number k (table_view table.now) key }
 {
-    number_at(table, key.word(), Key::Stand(k, key))
+    number_at(table, key.word(), FileKey::Stand(k, key))
 }
 
 fn stand_letter(table: &Table, k: usize) -> Result<Letter, WalkFault>
@@ -187,7 +196,7 @@ fn stand_letter(table: &Table, k: usize) -> Result<Letter, WalkFault>
     letter_at(
         table,
         StandKey::Letter.word(),
-        Key::Stand(k, StandKey::Letter),
+        FileKey::Stand(k, StandKey::Letter),
     )
 }
 
@@ -197,7 +206,7 @@ fn stand_half(table: &Table, k: usize) -> Result<Option<Name>, WalkFault>
     name_if_there(
         table,
         StandKey::HalfOf.word(),
-        Key::Stand(k, StandKey::HalfOf),
+        FileKey::Stand(k, StandKey::HalfOf),
     )
 }
 
@@ -207,7 +216,7 @@ impl Row for PairRow {
     fn read(_alloc: Global, value: &Value, k: usize) -> Result<PairRow, WalkFault> {
         match value {
             Value::Table(table) => pair_in(table, k),
-            _ => Err(WalkFault::Wrong(Key::Pairs)),
+            _ => Err(WalkFault::Wrong(FileKey::Pairs)),
         }
     }
 }
@@ -225,11 +234,11 @@ fn pair_in(table: &Table, k: usize) -> Result<PairRow, WalkFault>
 fn pair_name(table: &Table, k: usize, key: PairKey) -> Result<Name, WalkFault>
     ensures value { result ≡ pair_name k (table_view table.now) key }
 {
-    name_at(table, key.word(), Key::Pair(k, key))
+    name_at(table, key.word(), FileKey::Pair(k, key))
 }
 
 fn pair_letter(table: &Table, k: usize, key: PairKey) -> Result<Letter, WalkFault>
     ensures value { result ≡ pair_letter k (table_view table.now) key }
 {
-    letter_at(table, key.word(), Key::Pair(k, key))
+    letter_at(table, key.word(), FileKey::Pair(k, key))
 }

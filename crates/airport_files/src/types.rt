@@ -30,7 +30,7 @@ impl From<Memory> for TableFault {
 }
 
 // Reads the first record, the header, and returns its columns.
-fn read_header(rdr: &mut Reader<&[u8]>, row: &mut ByteRecord) -> Result<Columns, TableFault>
+fn read_type_header(rdr: &mut Reader<&[u8]>, row: &mut ByteRecord) -> Result<Columns, TableFault>
     ensures ok { IfOk result (λ columns. (turns : ℕ) (s : State) (left : List ℕ)
         → IsReading (λ b. Some b.now) rdr.old s left
         → (t : State) × (rest : List ℕ) × IsReading (λ b. Some b.now) rdr.new t rest
@@ -84,6 +84,6 @@ pub(crate) fn read_table(alloc: Global, text: &[u8]) -> Result<Listed<TypeRow>, 
 {
     let mut rdr = start(alloc, text);
     let mut row = ByteRecord::new(alloc);
-    let columns = read_header(&mut rdr, &mut row)?;
+    let columns = read_type_header(&mut rdr, &mut row)?;
     read_rows(alloc, &mut rdr, &mut row, columns, text.len())
 }

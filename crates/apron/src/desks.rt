@@ -7,7 +7,7 @@ use crate::reporting_desks::ReportingDesks;
 use apron_base::{MAX_DIGITS, Memory, Sink, Word, number_of};
 use apron_run::{Status, is_plain_number};
 use apron_serve::{MAX_CONNECTIONS, MAX_LISTENERS, MAX_SCREENS, serve_all};
-use host_files::{FileDisk, FileShelf, tell};
+use host_files::{FileDisk, FileShelf, report_cause};
 use std::alloc::Global;
 use std::fmt;
 use std::fs::File;
@@ -79,24 +79,24 @@ fn why_ended(status: u8) -> &'static str {
 // The words of `serve` and after it, without places and journal; where desks are served, and where
 // screens are shown if the words ask for any; and the journal's path.
 #[derive(Clone, Copy)]
-struct Order<'a> {
+struct ServeWords<'a> {
     words: &'a [Word],
-    desks: Place<'a>,
-    screens: Option<Place<'a>>,
+    desks: Endpoint<'a>,
+    screens: Option<Endpoint<'a>>,
     journal: &'a str,
 }
 
 // An address, how many listeners there are at it, each of one worker, and whom they serve.
 #[derive(Clone, Copy)]
-struct Place<'a> {
+struct Endpoint<'a> {
     address: &'a str,
     listeners: u64,
-    served: Served<'a>,
+    served: Peers<'a>,
 }
 
 // Whom a place serves.
 #[derive(Clone, Copy)]
-enum Served<'a> {
+enum Peers<'a> {
     // the desks at the journal of this path
     Desks(&'a str),
     // the screens of this day
@@ -104,7 +104,7 @@ enum Served<'a> {
 }
 
 // What the words order, if they ask for desks.
-fn order_in(words: &[Word]) -> Option<Order<'_>> {
+fn order_in(words: &[Word]) -> Option<ServeWords<'_>> {
     match words {
         [word, _, _, connections, rest @ ..]
             if word.text() == "serve" && connections_of(connections.text()) > 0 => {
@@ -115,9 +115,9 @@ fn order_in(words: &[Word]) -> Option<Order<'_>> {
 }
 
 // What the words order, by those after the number of connections.
-fn order_after<'a>(words: &'a [Word], rest: &'a [Word]) -> Option<Order<'a>> {
+fn order_after<'a>(words: &'a [Word], rest: &'a [Word]) -> Option<ServeWords<'a>> {
     match rest {
-        [address, workers, journal] => Some(Order {
+        [address, workers, journal] => Some(ServeWords {
             words: words.get(..4)?,
             desks: desks_at(address, workers, journal)?,
             screens: None,
@@ -132,7 +132,7 @@ fn order_after<'a>(words: &'a [Word], rest: &'a [Word]) -> Option<Order<'a>> {
             screens,
             journal,
         ] if screen.text() == "screen" => {
-            Some(Order {
+            Some(ServeWords {
                 words: words.get(..6)?,
                 desks: desks_at(address, workers, journal)?,
                 screens: Some(screens_at(screen_address, screens, day)?),
@@ -144,31 +144,31 @@ fn order_after<'a>(words: &'a [Word], rest: &'a [Word]) -> Option<Order<'a>> {
 }
 
 // The place of desks, if the word names a number of workers.
-fn desks_at<'a>(address: &'a Word, workers: &Word, journal: &'a Word) -> Option<Place<'a>> {
+fn desks_at<'a>(address: &'a Word, workers: &Word, journal: &'a Word) -> Option<Endpoint<'a>> {
     match workers_of(workers.text()) {
         0 => None,
-        listeners => Some(Place {
+        listeners => Some(Endpoint {
             address: address.text(),
             listeners,
-            served: Served::Desks(journal.text()),
+            served: Peers::Desks(journal.text()),
         }),
     }
 }
 
 // The place of screens, if the words name a number of screens and a day.
-fn screens_at<'a>(address: &'a Word, screens: &Word, day: &'a Word) -> Option<Place<'a>> {
+fn screens_at<'a>(address: &'a Word, screens: &Word, day: &'a Word) -> Option<Endpoint<'a>> {
     match screens_of(screens.text()) {
-        listeners if listeners > 0 && is_day(day.text()) => Some(Place {
+        listeners if listeners > 0 && is_day_word(day.text()) => Some(Endpoint {
             address: address.text(),
             listeners,
-            served: Served::Screens(day.text()),
+            served: Peers::Screens(day.text()),
         }),
         _ => None,
     }
 }
 
 /// Whether the word can name a day of a plan: digits, of which the first is no zero.
-pub(crate) fn is_day(text: &str) -> bool {
+pub(crate) fn is_day_word(text: &str) -> bool {
     is_plain_number(text.as_bytes()) && text != "0"
 }
 
@@ -210,7 +210,7 @@ type Listeners<'a, R> = (Vec<ReportingDesks<'a, R>>, Vec<ReportingDesks<'a, R>>)
 fn listeners_of<'a, R: Eprint + Net<Listener = TcpListener, Stream = TcpStream>>(
     rt: &'a R,
     alloc: Global,
-    order: Order<'a>,
+    order: ServeWords<'a>,
 ) -> Result<Listeners<'a, R>, Memory> {
     let desks = listeners_at(rt, alloc, order.desks)?;
     let screens = match order.screens {
@@ -225,7 +225,7 @@ fn listeners_of<'a, R: Eprint + Net<Listener = TcpListener, Stream = TcpStream>>
 fn listeners_at<'a, R: Eprint + Net<Listener = TcpListener, Stream = TcpStream>>(
     rt: &'a R,
     alloc: Global,
-    place: Place<'a>,
+    place: Endpoint<'a>,
 ) -> Result<Vec<ReportingDesks<'a, R>>, Memory>
     ensures as_many { IfOk result (λ listeners. length listeners.items ≡ place.entry.listeners) }
 {
@@ -235,7 +235,7 @@ fn listeners_at<'a, R: Eprint + Net<Listener = TcpListener, Stream = TcpStream>>
             first
         }
         Err(cause) => {
-            tell(rt, place.address, &cause);
+            report_cause(rt, place.address, &cause);
             TcpDesks::nowhere()
         }
     };
@@ -243,7 +243,7 @@ fn listeners_at<'a, R: Eprint + Net<Listener = TcpListener, Stream = TcpStream>>
 }
 
 // Says where it listens, with the port that the system chose if none was asked for.
-fn tell_listening<R: Eprint>(rt: &R, place: Place<'_>, first: &TcpDesks) {
+fn tell_listening<R: Eprint>(rt: &R, place: Endpoint<'_>, first: &TcpDesks) {
     match first.address() {
         Some(bound) => tell_served(rt, place, bound),
         None => tell_served(rt, place, place.address),
@@ -251,14 +251,14 @@ fn tell_listening<R: Eprint>(rt: &R, place: Place<'_>, first: &TcpDesks) {
 }
 
 // Says whom the place serves, at the address as it is bound.
-fn tell_served<R: Eprint, A: fmt::Display + Drop>(rt: &R, place: Place<'_>, bound: A) {
+fn tell_served<R: Eprint, A: fmt::Display + Drop>(rt: &R, place: Endpoint<'_>, bound: A) {
     let listeners = place.listeners;
     // If standard error fails too, all are served all the same.
     let _ = match place.served {
-        Served::Desks(journal) => {
+        Peers::Desks(journal) => {
             eprintln!(rt; "apron: listening at {bound}, workers: {listeners}, journal: {journal}")
         }
-        Served::Screens(day) => {
+        Peers::Screens(day) => {
             eprintln!(rt; "apron: screens at {bound}, screens: {listeners}, day: {day}")
         }
     };
@@ -269,7 +269,7 @@ fn tell_served<R: Eprint, A: fmt::Display + Drop>(rt: &R, place: Place<'_>, boun
 fn all_beside<'a, R: Eprint>(
     rt: &'a R,
     alloc: Global,
-    place: Place<'a>,
+    place: Endpoint<'a>,
     first: &TcpDesks,
 ) -> Result<Vec<ReportingDesks<'a, R>>, Memory>
     ensures as_many { IfOk result (λ listeners. length listeners.items ≡ place.entry.listeners) }
@@ -277,7 +277,7 @@ fn all_beside<'a, R: Eprint>(
     let mut listeners = Vec::new(alloc);
     for made in 0..place.listeners {
         let journal = match place.served {
-            Served::Desks(journal) if made == 0 => Some(journal),
+            Peers::Desks(journal) if made == 0 => Some(journal),
             _ => None,
         };
         listeners.push(ReportingDesks::new(rt, place.address, journal, first.beside()))?;

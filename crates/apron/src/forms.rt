@@ -25,7 +25,7 @@ pub(crate) struct Form {
 
 impl Form {
     /// Whether as many words come after the first one as there have to be.
-    pub(crate) fn takes(&self, rest: &[Word]) -> bool {
+    pub(crate) fn takes_words(&self, rest: &[Word]) -> bool {
         self.counts.contains(&rest.len())
     }
 }
@@ -114,7 +114,7 @@ pub(crate) fn form_of(word: &Word) -> Option<Form> {
 pub(crate) fn journal_use(words: &[Word]) -> Option<JournalUse> {
     let (word, rest) = words.split_first()?;
     let form = form_of(word)?;
-    if form.takes(rest) {
+    if form.takes_words(rest) {
         Some(form.journal)
     } else {
         None

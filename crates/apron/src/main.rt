@@ -8,10 +8,10 @@ mod reporting_desks;
 mod unclear;
 mod watches;
 
-use apron_base::{Memory, Reading, Word, Writing};
+use apron_base::{Memory, ReaderSource, Word, WriterSink};
 use apron_run::{Status, run_with};
 use forms::{JournalUse, journal_use};
-use host_files::{FileDisk, FileShelf, ToldStream, tell};
+use host_files::{FileDisk, FileShelf, ToldStream, report_cause};
 use journal_disk::{Disk, MemoryDisk, Room};
 use std::alloc::Global;
 use std::fs::File;
@@ -27,16 +27,21 @@ fn main(rt: HostRuntime) -> ExitCode {
     let _kept = match null_devices(&rt) {
         Ok(files) => files,
         Err(cause) => {
-            tell(&rt, NULL_DEVICE, &cause);
+            report_cause(&rt, NULL_DEVICE, &cause);
             return ExitCode::from(Status::WriteFault.code());
         }
     };
     let status = match words_and_watches(&rt) {
         Ok((words, watches)) if desks::are_asked(words.as_slice()) => {
             let output = ToldStream::new(&rt, OUTPUT, rt.stdout());
-            desks::serve_words(&rt, words.as_slice(), &watches, &mut Writing::new(output))
+            desks::serve_words(
+                &rt,
+                words.as_slice(),
+                &watches,
+                &mut WriterSink::new(output),
+            )
         }
-        Ok((words, watches)) => run_words(&rt, words.as_slice(), &watches),
+        Ok((words, watches)) => run_program(&rt, words.as_slice(), &watches),
         Err(Memory) => Status::Memory.code(),
     };
     ExitCode::from(status)
@@ -65,7 +70,7 @@ fn null_devices<R: Files<File = File>>(rt: &R) -> io::Result<(File, File, File)>
 
 // Does what the words ask for. If they ask for nothing, standard error says what was not
 // understood.
-fn run_words(rt: &HostRuntime, words: &[Word], watches: &Watches<Shown, Shown>) -> u8 {
+fn run_program(rt: &HostRuntime, words: &[Word], watches: &Watches<Shown, Shown>) -> u8 {
     let status = run_with_journal(rt, words, watches);
     if status == Status::Usage.code() {
         unclear::tell_unclear(rt, words);
@@ -112,8 +117,8 @@ fn run_on<D: Disk + Drop>(
 ) -> u8 {
     let mut disk = disk;
     let mut shelf = FileShelf::new(rt);
-    let mut source = Reading::new(ToldStream::new(rt, INPUT, rt.stdin()));
-    let mut sink = Writing::new(ToldStream::new(rt, OUTPUT, rt.stdout()));
+    let mut source = ReaderSource::new(ToldStream::new(rt, INPUT, rt.stdin()));
+    let mut sink = WriterSink::new(ToldStream::new(rt, OUTPUT, rt.stdout()));
     run_with(
         rt.alloc(),
         words,

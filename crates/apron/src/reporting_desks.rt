@@ -1,8 +1,8 @@
 // Desks that come over TCP, and what standard error says of them.
 ghost use Rattle.std.specs.Prelude.{◌≡◌};
 
-use apron_base::{Failed, Listener, Outcome, Reading, Writing};
-use host_files::tell;
+use apron_base::{Failed, Listener, Outcome, ReaderSource, WriterSink};
+use host_files::report_cause;
 use std::io;
 use std::marker::Model;
 use std::net::TcpStream;
@@ -32,7 +32,7 @@ impl<'a, R: Eprint> Reporter for Notices<'a, R> {
 
     ghost reported = { λ _. None };
 
-    fn waiting(&mut self, cause: &io::Error) {
+    fn report_waiting(&mut self, cause: &io::Error) {
         let address = self.address;
         let _ = eprintln!(self.rt; "apron: {address}: {cause}; accepting is tried again");
     }
@@ -79,19 +79,19 @@ impl<'a, R: Eprint> ReportingDesks<'a, R> {
 
     fn tell_cause(&self) {
         if let Some(cause) = self.desks.cause() {
-            tell(self.notices.rt, self.notices.address, &cause);
+            report_cause(self.notices.rt, self.notices.address, &cause);
         }
     }
 }
 
 impl<'a, R: Eprint> Listener for ReportingDesks<'a, R> {
-    ghost use Rattle.tcp_desks.specs.Desks.{listener_state};
+    ghost use Rattle.tcp_desks.specs.Desks.{tcp_listener_state};
 
-    type In = Reading<TcpStream>;
+    type In = ReaderSource<TcpStream>;
 
-    type Out = Writing<TcpStream>;
+    type Out = WriterSink<TcpStream>;
 
-    ghost state = { listener_state };
+    ghost state = { tcp_listener_state };
 
     fn accept<W: Wait>(&mut self, rt: &W) -> Result<(Self::In, Self::Out), Failed> {
         self.tell_open();

@@ -1,5 +1,5 @@
 // What was not understood of words that ask for nothing, as standard error says it.
-use crate::desks::{connections_of, is_day, screens_of};
+use crate::desks::{connections_of, is_day_word, screens_of};
 use crate::forms::{Form, form_of};
 use apron_base::{Name, Word};
 use std::fmt;
@@ -54,7 +54,7 @@ fn unclear_of(words: &[Word]) -> Unclear<'_> {
     match words {
         [] => Unclear::NoWord,
         [word, rest @ ..] => match form_of(word) {
-            Some(form) if form.takes(rest) => unclear_word(form, rest),
+            Some(form) if form.takes_words(rest) => unclear_word(form, rest),
             Some(form) => Unclear::Others(form),
             None => Unclear::Unknown(word.text()),
         },
@@ -77,7 +77,7 @@ fn unclear_word(form: Form, rest: &[Word]) -> Unclear<'_> {
         [_, _, connections, screen, day, _, workers, _, screens, _] => {
             if screen.text() != "screen" {
                 Unclear::Others(form)
-            } else if !is_day(day.text()) {
+            } else if !is_day_word(day.text()) {
                 wrong_number("DAY", day, DAYS)
             } else if screens_of(screens.text()) == 0 {
                 wrong_number("SCREENS", screens, "1 to 8")

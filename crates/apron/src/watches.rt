@@ -1,7 +1,7 @@
 // The watches that desks can follow.
 ghost use Rattle.std.specs.Prelude.{◌≡◌, IfOk, OnOk};
 ghost use Rattle.apron_base.specs.Keeper.{with_last};
-ghost use Rattle.watch_list.specs.Watches.{HasPlace};
+ghost use Rattle.watch_list.specs.Watches.{CanAddWatch};
 ghost use Rattle.apron.specs.Watches.{all_and_high, up_to};
 
 use apron_base::{Memory, Minute, Name};
@@ -14,14 +14,14 @@ pub(crate) fn all_and_high(alloc: Global) -> Result<Watches<Shown, Shown>, Memor
     ensures are { IfOk result (λ watches. watches ≡ all_and_high) }
 {
     let mut watches = Watches::new(alloc)?;
-    add(&mut watches, Name::literal(b"ALL"), 9)?;
-    add(&mut watches, Name::literal(b"HIGH"), 2)?;
+    add_watch(&mut watches, Name::literal(b"ALL"), 9)?;
+    add_watch(&mut watches, Name::literal(b"HIGH"), 2)?;
     Ok(watches)
 }
 
 // Adds a watch of the bumps of visits up to this class, on any stand and at any minute.
-fn add(watches: &mut Watches<Shown, Shown>, name: Name, top_class: u8) -> Result<(), Memory>
-    requires place { HasPlace watches.old (up_to name top_class) }
+fn add_watch(watches: &mut Watches<Shown, Shown>, name: Name, top_class: u8) -> Result<(), Memory>
+    requires place { CanAddWatch watches.old (up_to name top_class) }
     ensures last { OnOk result (watches.new ≡ with_last (up_to name top_class) watches.old) }
 {
     let shown = Shown {

@@ -18,14 +18,14 @@ abbrev pub is_to_fail : FailsHeld → Bool
 is_to_fail held = list_any (λ number. number == held.calls) held.numbers
 
 -- the same after a call
-abbrev pub after_call : FailsHeld → FailsHeld
-after_call held = record held { calls = one_more held.calls }
+abbrev pub fails_after_call : FailsHeld → FailsHeld
+fails_after_call held = record held { calls = one_more held.calls }
 
 -- the same after a fault
 abbrev pub after_fault : FailsHeld → FailsHeld
 after_fault held = record held { faults = one_more held.faults }
 
 -- the same after a call that failed or not
-abbrev pub called : Bool → FailsHeld → FailsHeld
-called false held = after_call held
-called true held = after_fault (after_call held)
+abbrev pub fails_after_count : Bool → FailsHeld → FailsHeld
+fails_after_count false held = fails_after_call held
+fails_after_count true held = after_fault (fails_after_call held)

@@ -13,8 +13,8 @@ pub record ListenerHeld (In Out : Type 0) : Type 0 where
   pub fails : FailsHeld
 
 -- what is known of such a listener
-abbrev pub listener_state : {In Out : Type 0} → ListenerHeld In Out → ListenerState In Out
-listener_state listener = record {
+abbrev pub list_listener_state : {In Out : Type 0} → ListenerHeld In Out → ListenerState In Out
+list_listener_state listener = record {
   to_come = Some listener.to_come;
   finished = Some listener.finished;
   accepted = listener.accepted;

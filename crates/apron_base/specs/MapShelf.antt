@@ -4,28 +4,28 @@ use Rattle.std.specs.Option.{option_map}
 use Rattle.std.specs.Str.{bytes_eq}
 use Rattle.apron_base.specs.Fails.{FailsHeld, is_to_fail}
 use Rattle.apron_base.specs.Shelf.{ShelfState}
-use Rattle.apron_base.specs.declared.shelf.map_shelf.Kept.{Kept}
+use Rattle.apron_base.specs.declared.shelf.map_shelf.ShelfFile.{ShelfFile}
 
 -- the first file of a name
-abbrev pub kept_of : List Kept → List ℕ → Option Kept
-kept_of files name = find (λ kept. bytes_eq kept.name name) files
+abbrev pub file_named : List ShelfFile → List ℕ → Option ShelfFile
+file_named files name = find (λ kept. bytes_eq kept.name name) files
 
 -- the bytes of the first file of a name
-abbrev pub file_in : List Kept → List ℕ → Option (List ℕ)
-file_in files name = option_map (λ kept. kept.bytes) (kept_of files name)
+abbrev pub file_in : List ShelfFile → List ℕ → Option (List ℕ)
+file_in files name = option_map (λ kept. kept.bytes) (file_named files name)
 
 -- the bytes of a file, or an empty list if there is none
-abbrev pub bytes_or_empty : Option Kept → List ℕ
+abbrev pub bytes_or_empty : Option ShelfFile → List ℕ
 bytes_or_empty None = []
 bytes_or_empty (Some kept) = kept.bytes
 
 -- the bytes of the first file of a name, or an empty list if there is none
-abbrev pub file_or_empty : List Kept → List ℕ → List ℕ
-file_or_empty files name = bytes_or_empty (kept_of files name)
+abbrev pub file_or_empty : List ShelfFile → List ℕ → List ℕ
+file_or_empty files name = bytes_or_empty (file_named files name)
 
 -- the files, the calls that fail, and how many bytes were read
 pub record ShelfHeld : Type 0 where
-  pub files : List Kept
+  pub files : List ShelfFile
   pub fails : FailsHeld
   pub read : ℕ
 
@@ -35,11 +35,11 @@ shelf_state shelf = record { file = file_in shelf.files; faults = shelf.fails.fa
 
 -- a read of this name is among those that are to fail, or there is no such file
 abbrev pub refuses_read : ShelfHeld → List ℕ → Bool
-refuses_read shelf name = is_to_fail shelf.fails || is_none (kept_of shelf.files name)
+refuses_read shelf name = is_to_fail shelf.fails || is_none (file_named shelf.files name)
 
 -- the files of a shelf that never fails, and how many bytes were read
 pub record SteadyShelfHeld : Type 0 where
-  pub files : List Kept
+  pub files : List ShelfFile
   pub read : ℕ
 
 -- what is known of a shelf that never fails

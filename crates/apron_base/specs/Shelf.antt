@@ -25,7 +25,7 @@ IsAnswerOf before after name limit (Err TooLong) = MatchOption (before.file name
 IsAnswerOf before after name limit _ = ⊤
 
 -- what reading a file gives: no file changes, and the count of bytes read never falls
-pub record Gives {A : Type 0} (before after : ShelfState) (name : List ℕ) (limit : ℕ) (result : Result (Vec ℕ A) ShelfFault) : Type 0 where
+pub record GivesFile {A : Type 0} (before after : ShelfState) (name : List ℕ) (limit : ℕ) (result : Result (Vec ℕ A) ShelfFault) : Type 0 where
   pub answer : IsAnswerOf before after name limit result
   pub faults : Counts (is_failed result) before.faults after.faults
   pub read : before.read ≤ after.read

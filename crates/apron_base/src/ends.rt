@@ -8,7 +8,7 @@ use crate::Failed;
 mod adapters;
 mod list_ends;
 
-pub use adapters::{Reading, Writing};
+pub use adapters::{ReaderSource, WriterSink};
 pub use list_ends::{ListSink, ListSource, NullSink, SteadySource};
 
 /// Where bytes come from.

@@ -1,7 +1,7 @@
 // Calls that fail on command, for the forms in memory.
 ghost use Rattle.std.specs.Prelude.{◌≡◌, true};
 ghost use Rattle.apron_base.specs.Counts.{Counts};
-ghost use Rattle.apron_base.specs.Fails.{after_call, after_fault, fails_from, is_to_fail};
+ghost use Rattle.apron_base.specs.Fails.{after_fault, fails_after_call, fails_from, is_to_fail};
 
 use crate::Failed;
 use std::marker::Model;
@@ -9,13 +9,13 @@ use std::marker::Model;
 /// The numbers of the calls that fail, from 0. Contracts see them, how many calls there were, and
 /// how many have failed.
 #[derive(Drop)]
-pub(crate) struct Fails {
+pub(crate) struct FailingCalls {
     numbers: Vec<u64>,
     calls: u64,
     faults: u64,
 }
 
-impl Model for Fails {
+impl Model for FailingCalls {
     ghost use Rattle.apron_base.specs.Fails.{FailsHeld};
 
     ghost Value = { FailsHeld };
@@ -23,12 +23,12 @@ impl Model for Fails {
     ghost view = { λ f. record { numbers = f.numbers.items; calls = f.calls; faults = f.faults } };
 }
 
-impl Fails {
+impl FailingCalls {
     /// The calls of these numbers, in any order, are to fail.
-    pub(crate) fn new(numbers: Vec<u64>) -> Fails
+    pub(crate) fn new(numbers: Vec<u64>) -> FailingCalls
         ensures held { result ≡ fails_from numbers.items }
     {
-        Fails {
+        FailingCalls {
             numbers,
             calls: 0,
             faults: 0,
@@ -38,7 +38,7 @@ impl Fails {
     /// Counts a call, and says whether it is to fail.
     pub(crate) fn is_next(&mut self) -> bool
         ensures told { result ≡ is_to_fail self.old }
-        ensures counted { self.new ≡ after_call self.old }
+        ensures counted { self.new ≡ fails_after_call self.old }
     {
         let call = self.calls;
         self.calls = self.calls.saturating_add(1);

@@ -1,11 +1,11 @@
 // The shelf, from which whole files are read.
-ghost use Rattle.apron_base.specs.Shelf.{Gives, ShelfState};
+ghost use Rattle.apron_base.specs.Shelf.{GivesFile, ShelfState};
 
 use std::alloc::Global;
 
 mod map_shelf;
 
-pub use map_shelf::{Kept, MapShelf, SteadyShelf};
+pub use map_shelf::{MapShelf, ShelfFile, SteadyShelf};
 
 /// Why a file wasn't given.
 #[derive(Clone, Copy, Debug, PartialEq, Eq)]
@@ -28,5 +28,5 @@ pub trait Shelf {
     /// the shelf doesn't expose the file, more than `limit` bytes were read. At `Failed` the count
     /// of faults rose; otherwise the count stays.
     fn read_file(&mut self, alloc: Global, name: &str, limit: u32) -> Result<Vec<u8>, ShelfFault>
-        ensures gives { Gives (state self.old) (state self.new) name.now limit result };
+        ensures gives { GivesFile (state self.old) (state self.new) name.now limit result };
 }

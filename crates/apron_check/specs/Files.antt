@@ -37,28 +37,28 @@ pub record Mean (airport types : Option (List ℕ)) (meant : Result AirportParts
   pub meant_is : meaning airport_bytes types_bytes ≡ meant
 
 -- a file has more than the most bytes; if the shelf doesn't expose it, more were read
-abbrev pub IsTooLong : Option (List ℕ) → ShelfState → ShelfState → Type 0
-IsTooLong file before after = MatchOption file (RoseBy (max_file + 1) before.read after.read) (λ kept. max_file < length kept)
+abbrev pub IsFileTooLong : Option (List ℕ) → ShelfState → ShelfState → Type 0
+IsFileTooLong file before after = MatchOption file (RoseBy (max_file + 1) before.read after.read) (λ kept. max_file < length kept)
 
 -- why an airport, or a fault in its place, is found in the files of two names: each result except a
 -- lack of memory has its cause, and the cause of a failing shelf is its count
-abbrev pub HasCause : ShelfState → ShelfState → List ℕ → List ℕ → Result AirportFiles FilesFault → Type 0
-HasCause before after airport types (Ok made) = Make (before.file airport) (before.file types) made
-HasCause before after airport types (Err (Faulty fault)) = Mean (before.file airport) (before.file types) (Err fault)
-HasCause before after airport types (Err AirportTooLong) = IsTooLong (before.file airport) before after
-HasCause before after airport types (Err TypesTooLong) = ((bytes : List ℕ) × AreOfFile (before.file airport) bytes) × IsTooLong (before.file types) before after
-HasCause before after airport types (Err ShelfFault) = Unit {0}
-HasCause before after airport types (Err Memory) = Unit {0}
+abbrev pub HasFilesCause : ShelfState → ShelfState → List ℕ → List ℕ → Result AirportFiles FilesFault → Type 0
+HasFilesCause before after airport types (Ok made) = Make (before.file airport) (before.file types) made
+HasFilesCause before after airport types (Err (Faulty fault)) = Mean (before.file airport) (before.file types) (Err fault)
+HasFilesCause before after airport types (Err AirportTooLong) = IsFileTooLong (before.file airport) before after
+HasFilesCause before after airport types (Err TypesTooLong) = ((bytes : List ℕ) × AreOfFile (before.file airport) bytes) × IsFileTooLong (before.file types) before after
+HasFilesCause before after airport types (Err ShelfFault) = Unit {0}
+HasFilesCause before after airport types (Err Memory) = Unit {0}
 
 -- the shelf failed
-abbrev pub is_shelf_fault : Result AirportFiles FilesFault → Bool
-is_shelf_fault (Err ShelfFault) = true
-is_shelf_fault found = false
+abbrev pub is_files_shelf_fault : Result AirportFiles FilesFault → Bool
+is_files_shelf_fault (Err ShelfFault) = true
+is_files_shelf_fault found = false
 
 -- what is found in the files of two names, and what that does to the shelf: its files stay, and it
 -- fails only if that is reported
-pub record Finds (before after : ShelfState) (airport types : List ℕ) (found : Result AirportFiles FilesFault) : Type 0 where
-  pub cause : HasCause before after airport types found
-  pub counts : Counts (is_shelf_fault found) before.faults after.faults
+pub record FindsFiles (before after : ShelfState) (airport types : List ℕ) (found : Result AirportFiles FilesFault) : Type 0 where
+  pub cause : HasFilesCause before after airport types found
+  pub counts : Counts (is_files_shelf_fault found) before.faults after.faults
   pub more : before.read ≤ after.read
   pub kept : (name : List ℕ) → after.file name ≡ before.file name

@@ -2,7 +2,7 @@
 ghost use Rattle.std.specs.Prelude.{◌≡◌};
 ghost use Rattle.apron_check.specs.Digests.{digests_of};
 ghost use Rattle.apron_check.specs.Faults.{unread_as};
-ghost use Rattle.apron_check.specs.Files.{Finds};
+ghost use Rattle.apron_check.specs.Files.{FindsFiles};
 
 use crate::FilesFault;
 use airport_files::read_airport;
@@ -33,15 +33,15 @@ pub fn airport_of<F: Shelf>(
     types: &str,
     shelf: &mut F,
 ) -> Result<AirportFiles, FilesFault>
-    ensures finds { Finds (F.state shelf.old) (F.state shelf.new) airport.now types.now result }
+    ensures finds { FindsFiles (F.state shelf.old) (F.state shelf.new) airport.now types.now result }
 {
     let airport = match shelf.read_file(alloc, airport, MAX_FILE) {
         Ok(bytes) => bytes,
-        Err(fault) => return Err(unread(fault, FilesFault::AirportTooLong)),
+        Err(fault) => return Err(fault_of_shelf(fault, FilesFault::AirportTooLong)),
     };
     let types = match shelf.read_file(alloc, types, MAX_FILE) {
         Ok(bytes) => bytes,
-        Err(fault) => return Err(unread(fault, FilesFault::TypesTooLong)),
+        Err(fault) => return Err(fault_of_shelf(fault, FilesFault::TypesTooLong)),
     };
     match read_airport(alloc, airport.as_slice(), types.as_slice()) {
         Ok(made) => Ok(AirportFiles {
@@ -64,7 +64,7 @@ fn digests_of(airport: &[u8], types: &[u8]) -> [u8; 64]
 }
 
 // Why there is no airport if a file isn't given.
-fn unread(fault: ShelfFault, too_long: FilesFault) -> FilesFault
+fn fault_of_shelf(fault: ShelfFault, too_long: FilesFault) -> FilesFault
     ensures value { result ≡ unread_as fault too_long }
 {
     match fault {

@@ -26,11 +26,11 @@ pub fn put_counts<W: Sink>(sink: &mut W, airport: &Airport) -> Result<(), Failed
 pub fn put_fault<W: Sink>(sink: &mut W, fault: &FilesFault) -> Result<(), Failed>
     ensures puts { Puts (W.state sink.old) (W.state sink.new) result (fault_line fault.now) }
 {
-    put_text(sink, fault)?;
+    put_fault_text(sink, fault)?;
     sink.put(b"\n")
 }
 
-fn put_text<W: Sink>(sink: &mut W, fault: &FilesFault) -> Result<(), Failed>
+fn put_fault_text<W: Sink>(sink: &mut W, fault: &FilesFault) -> Result<(), Failed>
     ensures puts { Puts (W.state sink.old) (W.state sink.new) result (fault_text fault.now) }
 {
     match fault {

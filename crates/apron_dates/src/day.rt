@@ -46,8 +46,8 @@ fn civil_of(first: Date) -> civil::Date
 {
     match civil::Date::new(
         year_number(first.year),
-        small(first.month),
-        small(first.day),
+        to_i8(first.month),
+        to_i8(first.day),
     ) {
         Ok(date) => date,
         Err(_) => unreachable!(),
@@ -61,7 +61,7 @@ fn year_number(year: u16) -> i16
     year as i16
 }
 
-pub(crate) fn small(n: u8) -> i8
+pub(crate) fn to_i8(n: u8) -> i8
     requires small { n ≤ 99 }
     ensures value { result ≡ pos n }
 {

@@ -3,7 +3,7 @@ ghost use Rattle.std.specs.Prelude.{◌+◌, ◌≡◌, ◌≤◌, pos, IfSome};
 ghost use Rattle.apron_dates.specs.Dates.{IsFirstDay, digit_of, two_of, is_shape, of_digits, read_date, date_if};
 
 use crate::Date;
-use crate::day::small;
+use crate::day::to_i8;
 use jiff::civil;
 
 /// The date of a text YYYY-MM-DD, of the years 2000 to 2099. `None` for any other text, or if the
@@ -32,7 +32,7 @@ fn of_digits(a: u8, b: u8, c: u8, d: u8, e: u8, f: u8) -> Option<Date>
     let year = two(a, b)?;
     let month = two(c, d)?;
     let day = two(e, f)?;
-    checked(year, month, day)
+    date_of_century(year, month, day)
 }
 
 fn two(a: u8, b: u8) -> Option<u8>
@@ -55,14 +55,14 @@ fn digit(b: u8) -> Option<u8>
 }
 
 // The date in the century from 2000 on, if the calendar has it.
-fn checked(year: u8, month: u8, day: u8) -> Option<Date>
+fn date_of_century(year: u8, month: u8, day: u8) -> Option<Date>
     requires years { year ≤ 99 }
     requires months { month ≤ 99 }
     requires days { day ≤ 99 }
     ensures date { result ≡ date_if (2000 + year) month day }
     ensures first { IfSome result IsFirstDay }
 {
-    match civil::Date::new(year_number(year), small(month), small(day)) {
+    match civil::Date::new(year_number(year), to_i8(month), to_i8(day)) {
         Ok(_) => Some(Date {
             year: 2000 + year as u16,
             month,

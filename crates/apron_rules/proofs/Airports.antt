@@ -16,7 +16,7 @@ use Rattle.apron_rules.specs.declared.refusals.Limit.{Limit}
 use Rattle.apron_rules.specs.declared.refusals.Limit.TheVariants as limit
 use Rattle.apron_rules.specs.declared.refusals.AirportFault.TheVariants.{UnknownName, BadHalf, LimitPassed, BadSpan, BadFold}
 use Rattle.apron_rules.specs.Names.{is_station, frontage_names, stand_names, first_repeated}
-use Rattle.apron_rules.specs.Refusals.{duplicate_of, unknown_of, bad_half_of, limit_of, bad_fold_of, bad_span_of, is_fold_kept, first_reason, first_some, later_fault_of, fault_of, passed_limits, unless_kept, is_within, are_objects_kept}
+use Rattle.apron_rules.specs.Refusals.{duplicate_of, unknown_of, bad_half_of, limit_of, bad_fold_of, bad_span_of, is_fold_kept, first_reason, first_some, later_fault_of, airport_fault, passed_limits, unless_kept, is_between, are_objects_kept}
 use Rattle.apron_rules.specs.Rules.{IsAirport}
 
 pub left_none : {A : Type 0} (o p : Option A) → option_or o p ≡ None → o ≡ None
@@ -41,13 +41,13 @@ each P p (x ∷ xs) f h = (f x (grind (arith, nat_tests)), each P p xs f (grind 
 
 -- no limit is exceeded
 pub record IsLimited (parts : AirportParts) : Type 0 where
-  pub days : is_within 1 most_days parts.days ≡ true
-  pub tow : is_within 1 most_tow parts.tow ≡ true
+  pub days : is_between 1 most_days parts.days ≡ true
+  pub tow : is_between 1 most_tow parts.tow ≡ true
   pub objects : list_all are_objects_kept parts.frontages ≡ true
-  pub stands : is_within 1 most_stands (length parts.stands) ≡ true
+  pub stands : is_between 1 most_stands (length parts.stands) ≡ true
   pub buffers : list_all (λ row. nat_le row.buffer most_buffer) parts.stands ≡ true
-  pub types : is_within 1 most_types (length parts.types) ≡ true
-  pub least : list_all (λ row. is_within 1 most_least row.least) parts.types ≡ true
+  pub types : is_between 1 most_types (length parts.types) ≡ true
+  pub least : list_all (λ row. is_between 1 most_least row.least) parts.types ≡ true
 
 -- none is given
 abbrev AllNone : {A : Type 0} → List (Option A) → Type 0
@@ -72,31 +72,31 @@ limited_from parts (days, (taxi_in, (tow, (frontages, (objects, (stands, (centre
 limited : (parts : AirportParts) → limit_of parts ≡ None → IsLimited parts
 limited parts none = limited_from parts (all_none (passed_limits parts) none)
 
-limit_none : (parts : AirportParts) → fault_of parts ≡ None → limit_of parts ≡ None
-unfolding fault_of later_fault_of
+limit_none : (parts : AirportParts) → airport_fault parts ≡ None → limit_of parts ≡ None
+unfolding airport_fault later_fault_of
 limit_none parts h =
     let later = right_none _ (first_reason (unknown_of parts) (bad_half_of parts) (limit_of parts) (bad_span_of parts) (bad_fold_of parts)) h in
     let third = right_none _ _ (right_none _ _ later) in
     unmapped _ (limit_of parts) (left_none _ _ third)
 
 -- each name that is looked up is known
-pub unknown_none : (parts : AirportParts) → fault_of parts ≡ None → unknown_of parts ≡ None
-unfolding fault_of later_fault_of
+pub unknown_none : (parts : AirportParts) → airport_fault parts ≡ None → unknown_of parts ≡ None
+unfolding airport_fault later_fault_of
 unknown_none parts h =
     let later = right_none _ (first_reason (unknown_of parts) (bad_half_of parts) (limit_of parts) (bad_span_of parts) (bad_fold_of parts)) h in
     unmapped _ (unknown_of parts) (left_none _ _ later)
 
 -- no name of a stand occurs twice
-pub stands_once : (parts : AirportParts) → fault_of parts ≡ None → first_repeated (stand_names parts) ≡ None
-unfolding fault_of
+pub stands_once : (parts : AirportParts) → airport_fault parts ≡ None → first_repeated (stand_names parts) ≡ None
+unfolding airport_fault
 stands_once parts h =
     let once = unmapped _ (duplicate_of parts) (left_none _ (later_fault_of parts) h) in
     left_none (first_repeated (stand_names parts)) _ (right_none (first_repeated (frontage_names parts)) _ once)
 
-within : (low high n : ℕ) → is_within low high n ≡ true → n ≤ high
+within : (low high n : ℕ) → is_between low high n ≡ true → n ≤ high
 within low high n h = grind (arith, nat_tests)
 
-pub airport_of : (parts : AirportParts) → IsTrue (is_station parts.station) → IsFirstDay parts.first → fault_of parts ≡ None → IsAirport parts
+pub airport_of : (parts : AirportParts) → IsTrue (is_station parts.station) → IsFirstDay parts.first → airport_fault parts ≡ None → IsAirport parts
 airport_of parts station first none =
     let l = limited parts (limit_none parts none) in
     record {
@@ -113,23 +113,23 @@ airport_of parts station first none =
     }
 
 -- none of the reasons after a name that occurs twice
-reasons_none : (parts : AirportParts) → fault_of parts ≡ None
+reasons_none : (parts : AirportParts) → airport_fault parts ≡ None
     → AllNone (option_map UnknownName (unknown_of parts) ∷ option_map BadHalf (bad_half_of parts) ∷ option_map LimitPassed (limit_of parts) ∷ option_map BadSpan (bad_span_of parts) ∷ option_map BadFold (bad_fold_of parts) ∷ [])
-unfolding fault_of later_fault_of
+unfolding airport_fault later_fault_of
 reasons_none parts h =
     all_none (option_map UnknownName (unknown_of parts) ∷ option_map BadHalf (bad_half_of parts) ∷ option_map LimitPassed (limit_of parts) ∷ option_map BadSpan (bad_span_of parts) ∷ option_map BadFold (bad_fold_of parts) ∷ [])
     (right_none _ (first_reason (unknown_of parts) (bad_half_of parts) (limit_of parts) (bad_span_of parts) (bad_fold_of parts)) h)
 
 -- each type has a letter
-pub spans_known : (parts : AirportParts) → fault_of parts ≡ None → find (λ (row : TypeRow). is_none (letter_for row.span)) parts.types ≡ None
+pub spans_known : (parts : AirportParts) → airport_fault parts ≡ None → find (λ (row : TypeRow). is_none (letter_for row.span)) parts.types ≡ None
 spans_known parts h =
     unmapped (λ (row : TypeRow). row.name) (find (λ (row : TypeRow). is_none (letter_for row.span)) parts.types) (unmapped BadSpan (bad_span_of parts) (reasons_none parts h).1.1.1.0)
 
 -- each type folds its wing tips to a span of at most its own
-pub folds_kept : (parts : AirportParts) → fault_of parts ≡ None → find (λ (row : TypeRow). not (is_fold_kept row)) parts.types ≡ None
+pub folds_kept : (parts : AirportParts) → airport_fault parts ≡ None → find (λ (row : TypeRow). not (is_fold_kept row)) parts.types ≡ None
 folds_kept parts h =
     unmapped (λ (row : TypeRow). row.name) (find (λ (row : TypeRow). not (is_fold_kept row)) parts.types) (unmapped BadFold (bad_fold_of parts) (reasons_none parts h).1.1.1.1.0)
 
 -- there is a type
-pub some_type : (parts : AirportParts) → fault_of parts ≡ None → 0 < length parts.types
+pub some_type : (parts : AirportParts) → airport_fault parts ≡ None → 0 < length parts.types
 some_type parts h = let kept = (limited parts (limit_none parts h)).types in grind (arith, nat_tests)

@@ -20,7 +20,7 @@ use Rattle.apron_rules.specs.declared.rules.Rule.{Rule}
 use Rattle.apron_rules.specs.Neighbours.{breaks_with, first_stands, first_types, is_neighbour, neighbours_of}
 use Rattle.apron_rules.specs.declared.rules.Wing.{Wing}
 use Rattle.apron_rules.specs.declared.rules.Wing.TheVariants.{Full, Parked}
-use Rattle.apron_rules.specs.Refusals.{fault_of, is_fold_kept}
+use Rattle.apron_rules.specs.Refusals.{airport_fault, is_fold_kept}
 use Rattle.apron_rules.specs.Rules.{breaks_with_wings, rule_between, span_of, stand_at, type_at}
 use Rattle.apron_rules.specs.Widest.{IsWidest, IsWidestBelow}
 use Rattle.apron_rules.proofs.Airports.{folds_kept, spans_known}
@@ -73,7 +73,7 @@ none_found p (y ∷ xs) zero x h at = let same : y ≡ x = cc in subst (λ z. p 
 none_found p (y ∷ xs) (suc i) x h at = none_found p xs i x (none_by (p y) y (find p xs) h).1 at
 
 -- each type has a letter
-has_span : (airport : AirportParts) (i : ℕ) (row : TypeRow) → fault_of airport ≡ None → slice_get airport.types i ≡ Some row → is_none (letter_for row.span) ≡ false
+has_span : (airport : AirportParts) (i : ℕ) (row : TypeRow) → airport_fault airport ≡ None → slice_get airport.types i ≡ Some row → is_none (letter_for row.span) ≡ false
 has_span airport i row none at = none_found (λ (row : TypeRow). is_none (letter_for row.span)) airport.types i row (spans_known airport none) at
 
 rule_there : (pairs : List PairRow) (one : Bool) (x y : Option StandRow) (k l : Option TypeRow) (x_row y_row : StandRow) (k_row l_row : TypeRow) (w w2 : Wing) (rule : Rule)
@@ -85,7 +85,7 @@ kept_within : (row : TypeRow) → not (is_fold_kept row) ≡ false → row.parke
 kept_within row h = grind (arith, nat_tests)
 
 -- folded wing tips make no type wider
-parked_within : (airport : AirportParts) (i : ℕ) (row : TypeRow) (w : Wing) → fault_of airport ≡ None → slice_get airport.types i ≡ Some row → span_of w row ≤ row.span
+parked_within : (airport : AirportParts) (i : ℕ) (row : TypeRow) (w : Wing) → airport_fault airport ≡ None → slice_get airport.types i ≡ Some row → span_of w row ≤ row.span
 parked_within airport i row Full none at = omega arith
 parked_within airport i row Parked none at = kept_within row (none_found (λ (row : TypeRow). not (is_fold_kept row)) airport.types i row (folds_kept airport none) at)
 
@@ -93,14 +93,14 @@ parked_within airport i row Parked none at = kept_within row (none_found (λ (ro
 abbrev pub AreAsFull : Wing → Wing → Type 0
 AreAsFull wing other = (wing ≡ Full) ⊎ (wing ≡ other)
 
-full_wider : (airport : AirportParts) (i : ℕ) (row : TypeRow) (w v : Wing) → fault_of airport ≡ None → slice_get airport.types i ≡ Some row → AreAsFull v w → IsWider (span_of w row) (span_of v row)
+full_wider : (airport : AirportParts) (i : ℕ) (row : TypeRow) (w v : Wing) → airport_fault airport ≡ None → slice_get airport.types i ≡ Some row → AreAsFull v w → IsWider (span_of w row) (span_of v row)
 full_wider airport i row w v none at (inl full) =
     subst (λ (v : Wing). IsWider (span_of w row) (span_of v row)) (sym full) (is_wider (span_of w row) row.span (has_span airport i row none at) (parked_within airport i row w none at))
 full_wider airport i row w v none at (inr same) = subst (λ (v : Wing). IsWider (span_of w row) (span_of v row)) (sym same) (wide_as_itself (span_of w row))
 
 -- what types exclude with some wing tips folded, they exclude with these unfolded, perhaps by an
 -- earlier rule
-pub fuller_rule : (airport : AirportParts) → fault_of airport ≡ None → (s : StandNo) (t : TypeNo) (w v : Wing) (s2 : StandNo) (t2 : TypeNo) (w2 v2 : Wing) (rule : Rule) → AreAsFull v w → AreAsFull v2 w2
+pub fuller_rule : (airport : AirportParts) → airport_fault airport ≡ None → (s : StandNo) (t : TypeNo) (w v : Wing) (s2 : StandNo) (t2 : TypeNo) (w2 v2 : Wing) (rule : Rule) → AreAsFull v w → AreAsFull v2 w2
     → breaks_with_wings airport s t w s2 t2 w2 ≡ Some rule → (other : Rule) × (breaks_with_wings airport s t v s2 t2 v2 ≡ Some other)
 fuller_rule airport none s t w v s2 t2 w2 v2 rule full full_too h =
     let rows = rows_there airport.pairs _ (stand_at airport s) (type_at airport t) w (stand_at airport s2) (type_at airport t2) w2 rule h in
@@ -110,7 +110,7 @@ fuller_rule airport none s t w v s2 t2 w2 v2 rule full full_too h =
     (found.0, rule_there airport.pairs _ (stand_at airport s) (stand_at airport s2) (type_at airport t) (type_at airport t2) rows.x_row rows.y_row rows.k_row rows.l_row v v2 found.0 rows.at_x rows.at_y rows.at_k rows.at_l found.1)
 
 -- what some two types exclude, the widest excludes with itself
-pub widest_excludes : (airport : AirportParts) (w : TypeNo) (s s2 : StandNo) → fault_of airport ≡ None → IsWidest airport.types w → (t t2 : TypeNo) (rule : Rule) → breaks_with_wings airport s t Full s2 t2 Full ≡ Some rule
+pub widest_excludes : (airport : AirportParts) (w : TypeNo) (s s2 : StandNo) → airport_fault airport ≡ None → IsWidest airport.types w → (t t2 : TypeNo) (rule : Rule) → breaks_with_wings airport s t Full s2 t2 Full ≡ Some rule
     → (other : Rule) × (breaks_with_wings airport s w Full s2 w Full ≡ Some other)
 widest_excludes airport w s s2 none widest t t2 rule h =
     let rows = rows_there airport.pairs _ (stand_at airport s) (type_at airport t) Full (stand_at airport s2) (type_at airport t2) Full rule h in
@@ -198,7 +198,7 @@ filter_passed p [] x (k, inside, at) = absurd (omega arith)
 filter_passed p (y ∷ xs) x h = passed_by p y xs x (p y) refl (filter_passed p xs x) h
 
 -- no stand with a rule is left out, whatever the wing tips
-pub neighbour_listed : (airport : AirportParts) → fault_of airport ≡ None → (s s2 : StandNo) (t : TypeNo) (w : Wing) (t2 : TypeNo) (w2 : Wing) (rule : Rule) → breaks_with_wings airport s t w s2 t2 w2 ≡ Some rule
+pub neighbour_listed : (airport : AirportParts) → airport_fault airport ≡ None → (s s2 : StandNo) (t : TypeNo) (w : Wing) (t2 : TypeNo) (w2 : Wing) (rule : Rule) → breaks_with_wings airport s t w s2 t2 w2 ≡ Some rule
     → Contains (neighbours_of airport s) s2
 neighbour_listed airport none s s2 t w t2 w2 rule h =
     let rows = rows_there airport.pairs _ (stand_at airport s) (type_at airport t) w (stand_at airport s2) (type_at airport t2) w2 rule h in
@@ -210,7 +210,7 @@ neighbour_listed airport none s s2 t w t2 w2 rule h =
 pub neighbours_within : (airport : AirportParts) (s : StandNo) → All (λ s2. s2.0 < length airport.stands) (neighbours_of airport s)
 neighbours_within airport s = All-filter (is_neighbour airport s) (λ s2. s2.0 < length airport.stands) (first_stands (length airport.stands)) (stands_below (length airport.stands))
 
-pub all_listed : (airport : AirportParts) (s : StandNo) (t : TypeNo) (w : Wing) (s2 : StandNo) (t2 : TypeNo) (w2 : Wing) → fault_of airport ≡ None → IsSome (breaks_with_wings airport s t w s2 t2 w2)
+pub all_listed : (airport : AirportParts) (s : StandNo) (t : TypeNo) (w : Wing) (s2 : StandNo) (t2 : TypeNo) (w2 : Wing) → airport_fault airport ≡ None → IsSome (breaks_with_wings airport s t w s2 t2 w2)
     → Contains (neighbours_of airport s) s2
 all_listed airport s t w s2 t2 w2 none some = let rule = is_there (breaks_with_wings airport s t w s2 t2 w2) some in neighbour_listed airport none s s2 t w t2 w2 rule.0 rule.1
 
@@ -226,7 +226,7 @@ same_tests false true f g = g refl
 same_tests false false f g = refl
 
 -- the widest type decides the neighbours
-pub widest_tells : (airport : AirportParts) (s s2 : StandNo) (w : TypeNo) → fault_of airport ≡ None → IsWidest airport.types w → is_some (breaks_with_wings airport s w Full s2 w Full) ≡ is_neighbour airport s s2
+pub widest_tells : (airport : AirportParts) (s s2 : StandNo) (w : TypeNo) → airport_fault airport ≡ None → IsWidest airport.types w → is_some (breaks_with_wings airport s w Full s2 w Full) ≡ is_neighbour airport s s2
 widest_tells airport s s2 w none widest =
     same_tests _ _ (λ some. let rule = is_there (breaks_with_wings airport s w Full s2 w Full) some in neighbour_when airport s s2 w w rule.0 rule.1)
     (λ is_one. let found = when_neighbour airport s s2 is_one in let rule = widest_excludes airport w s s2 none widest found.0 found.1 found.2.0 found.2.1 in some_when _ rule.0 rule.1)
@@ -236,7 +236,7 @@ next_by p s old new xs true is before grown = grown ∙ (ap (λ ys. ys ++ s ∷ 
 next_by p s old new xs false is before grown = grown ∙ (before ∙ sym (filter-append p xs (s ∷ []) ∙ (rw (← is) (append-nil (filter p xs)))))
 
 -- one more stand, which is a neighbour if the widest type has a rule
-pub neighbours_next : (airport : AirportParts) (s other : StandNo) (w : TypeNo) (n : ℕ) (old new : List StandNo) (rule : Option Rule) → fault_of airport ≡ None → IsWidest airport.types w → other.0 ≡ n
+pub neighbours_next : (airport : AirportParts) (s other : StandNo) (w : TypeNo) (n : ℕ) (old new : List StandNo) (rule : Option Rule) → airport_fault airport ≡ None → IsWidest airport.types w → other.0 ≡ n
     → rule ≡ breaks_with_wings airport s w Full other w Full → new ≡ (if is_some rule then old ++ other ∷ [] else old) → old ≡ filter (is_neighbour airport s) (first_stands n) → new ≡ filter (is_neighbour airport s) (first_stands (n + 1))
 neighbours_next airport s other w n old new rule none widest at is grown before =
     let same : ◌≡◌ {A = StandNo} other (record { 0 = n }) = ap (λ (k : ℕ). record { 0 = k }) at in

@@ -20,7 +20,7 @@ use Rattle.apron_rules.specs.declared.parts.PairRow.{PairRow}
 use Rattle.apron_rules.specs.declared.parts.StandRow.{StandRow}
 use Rattle.apron_rules.specs.declared.parts.TypeRow.{TypeRow}
 use Rattle.apron_rules.specs.Names.{frontage_names, stand_names, place_of, is_known, is_named, repeated_after, first_repeated}
-use Rattle.apron_rules.specs.Refusals.{first_found, unknown_of, unknown_of_stand, fault_of}
+use Rattle.apron_rules.specs.Refusals.{first_found, unknown_of, unknown_of_stand, airport_fault}
 use Rattle.apron_rules.specs.declared.rules.Wing.{Wing}
 use Rattle.apron_rules.specs.Rules.{is_restricted, rule_between, breaks_with_wings, span_of}
 use Rattle.apron_rules.specs.Kept.{IsLinked}
@@ -134,7 +134,7 @@ restricted_is names s s2 x y k l (pair ∷ pairs) at_x at_y =
     rw (here, restricted_is names s s2 x y k l pairs at_x at_y) refl
 
 -- the place of a stand's name is the stand's number
-stand_place : (parts : AirportParts) (s : ℕ) (x : StandRow) → fault_of parts ≡ None → slice_get parts.stands s ≡ Some x → place_of x.name (stand_names parts) ≡ Some s
+stand_place : (parts : AirportParts) (s : ℕ) (x : StandRow) → airport_fault parts ≡ None → slice_get parts.stands s ≡ Some x → place_of x.name (stand_names parts) ≡ Some s
 stand_place parts s x none at =
     place_at (stand_names parts) s x.name (stands_once parts none) (slice_get-map (λ (row : StandRow). row.name) parts.stands s ∙ ap (option_map (λ (row : StandRow). row.name)) at)
 

@@ -16,7 +16,7 @@ use Rattle.apron_rules.specs.declared.rules.Rule.{Rule}
 use Rattle.apron_rules.specs.declared.rules.Wing.TheVariants.{Full, Parked}
 use Rattle.apron_rules.specs.Clash.{IsAtMost, IsBefore, IsClashOf, IsFirstWithin, IsLeast, IsNoLater, NeverClash, breaks_at, is_held, meeting_below, rule_at, wing_of}
 use Rattle.apron_rules.specs.Neighbours.{neighbours_of}
-use Rattle.apron_rules.specs.Refusals.{fault_of}
+use Rattle.apron_rules.specs.Refusals.{airport_fault}
 use Rattle.apron_rules.specs.Rules.{buffer_of, fold_of}
 use Rattle.apron_rules.specs.Starts.{AreStarts, unfolds}
 use Rattle.apron_rules.specs.declared.clash.Starts.{Starts}
@@ -66,7 +66,7 @@ held_before from end c m low less h = grind (arith, nat_tests)
 
 -- slots that clash at a minute clash at a minute before it that both hold, if since then neither
 -- has begun to unfold its wing tips
-pub clash_before : (airport : AirportParts) → fault_of airport ≡ None → (p q : Slot) (c m : ℕ) (rule : Rule) → p.from ≤ c → q.from ≤ c → c ≤ m
+pub clash_before : (airport : AirportParts) → airport_fault airport ≡ None → (p q : Slot) (c m : ℕ) (rule : Rule) → p.from ≤ c → q.from ≤ c → c ≤ m
     → (m < unfolds airport p) ⊎ (unfolds airport p ≤ c) → (m < unfolds airport q) ⊎ (unfolds airport q ≤ c)
     → rule_at airport p q m ≡ Some rule → (other : Rule) × (rule_at airport p q c ≡ Some other)
 clash_before airport none p q c m rule from_p from_q less turn turn_too h =
@@ -83,7 +83,7 @@ record HasClashBefore (airport : AirportParts) (p q : Slot) (starts : Starts) (m
   rule : Rule
   clash : rule_at airport p q at ≡ Some rule
 
-tried_before : (airport : AirportParts) → fault_of airport ≡ None → (p q : Slot) (from : ℕ) (starts : Starts) (m : ℕ) (rule : Rule) → AreStarts airport p q from starts → starts.shared ≤ m
+tried_before : (airport : AirportParts) → airport_fault airport ≡ None → (p q : Slot) (from : ℕ) (starts : Starts) (m : ℕ) (rule : Rule) → AreStarts airport p q from starts → starts.shared ≤ m
     → rule_at airport p q m ≡ Some rule → HasClashBefore airport p q starts m
 tried_before airport none p q from starts m rule are low h =
     let from_p : p.from ≤ starts.shared = omega (arith, are.shared) in
@@ -160,7 +160,7 @@ before_start : (airport : AirportParts) (p q : Slot) (from start m : ℕ) (rule 
 before_start airport p q from start m rule is low below h = let met = meets airport p q m rule h in unheld p q from start m is low below met.held met.held_too
 
 -- there is no clash before a minute up to which none of the starts has one
-none_before : (airport : AirportParts) → fault_of airport ≡ None → (p q : Slot) (from : ℕ) (starts : Starts) (m : ℕ) → AreStarts airport p q from starts → from ≤ m
+none_before : (airport : AirportParts) → airport_fault airport ≡ None → (p q : Slot) (from : ℕ) (starts : Starts) (m : ℕ) → AreStarts airport p q from starts → from ≤ m
     → ((k : ℕ) (rule : Rule) → (k ≡ starts.shared) ⊎ ((k ≡ starts.unfolded) ⊎ (k ≡ starts.both_unfolded)) → k ≤ m → rule_at airport p q k ≡ Some rule → ⊥) → rule_at airport p q m ≡ None
 none_before airport none p q from starts m are low never =
     none_by (rule_at airport p q m) (λ rule h. elim (cases_lt m starts.shared) [
@@ -169,7 +169,7 @@ none_before airport none p q from starts m are low never =
     ])
 
 -- the first meeting at one of the starts is the first of all
-pub first_tried : (airport : AirportParts) → fault_of airport ≡ None → (p q : Slot) (from end : ℕ) (starts : Starts) (one two three found : Option Meeting) → AreStarts airport p q from starts
+pub first_tried : (airport : AirportParts) → airport_fault airport ≡ None → (p q : Slot) (from end : ℕ) (starts : Starts) (one two three found : Option Meeting) → AreStarts airport p q from starts
     → one ≡ meeting_below airport p q end starts.shared → two ≡ meeting_below airport p q end starts.unfolded → three ≡ meeting_below airport p q end starts.both_unfolded → found ≡ option_or one (option_or two three)
     → IsFirstWithin airport p q from end found
 first_tried airport none p q from end starts (Some at) two three found are first second third is =
@@ -240,7 +240,7 @@ least_between airport p q (Some at) found order planned first is =
     )
 
 -- slots that clash are on neighbouring stands
-pub rule_neighbour : (airport : AirportParts) (p q : Slot) (m : ℕ) (rule : Rule) → fault_of airport ≡ None → rule_at airport p q m ≡ Some rule → Contains (neighbours_of airport p.stand) q.stand
+pub rule_neighbour : (airport : AirportParts) (p q : Slot) (m : ℕ) (rule : Rule) → airport_fault airport ≡ None → rule_at airport p q m ≡ Some rule → Contains (neighbours_of airport p.stand) q.stand
 rule_neighbour airport p q m rule none h =
     neighbour_listed airport none p.stand q.stand p.kind (wing_of airport p m) q.kind (wing_of airport q m) rule (meets airport p q m rule h).breaks
 
@@ -249,7 +249,7 @@ none_unless None h = refl
 none_unless (Some rule) h = absurd (h rule refl)
 
 -- slots on stands that are no neighbours never clash
-pub never_apart : (airport : AirportParts) → fault_of airport ≡ None → (p q : Slot) (from end : ℕ) → list_any (λ listed. listed.0 == q.stand.0) (neighbours_of airport p.stand) ≡ false
+pub never_apart : (airport : AirportParts) → airport_fault airport ≡ None → (p q : Slot) (from end : ℕ) → list_any (λ listed. listed.0 == q.stand.0) (neighbours_of airport p.stand) ≡ false
     → NeverClash airport p q from end
 never_apart airport none p q from end apart m low high =
     let near = neighbours_of airport p.stand in

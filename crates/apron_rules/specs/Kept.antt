@@ -24,7 +24,7 @@ pub record AreAllNeighbours (parts : AirportParts) (neighbours : List (List Stan
 
 -- the parts are those of an airport, and the names, the links, the pair restrictions and the
 -- neighbours of each stand are theirs
-pub record IsKept (parts : AirportParts) (stands types : List (List ℕ)) (links : List StandLinks) (pairs : List (List StandPair)) (neighbours : List (List StandNo)) : Type 0 where
+pub record IsKeptAirport (parts : AirportParts) (stands types : List (List ℕ)) (links : List StandLinks) (pairs : List (List StandPair)) (neighbours : List (List StandNo)) : Type 0 where
   pub stands_named : stands ≡ stand_names parts
   pub types_named : types ≡ type_names parts
   pub linked : IsLinked parts links pairs

@@ -60,20 +60,20 @@ is_bad_whole stands half (Some whole) =
     || nat_lt most_halves (halves_of whole.name stands)
 
 -- the row of the stand of this name
-abbrev pub stand_named : List StandRow → List ℕ → Option StandRow
-stand_named stands name = find (λ row. bytes_eq name row.name) stands
+abbrev pub stand_row_named : List StandRow → List ℕ → Option StandRow
+stand_row_named stands name = find (λ row. bytes_eq name row.name) stands
 
 -- the stand is a half, but not of a proper whole
 abbrev pub is_bad_half : List StandRow → StandRow → Bool
-is_bad_half stands half = is_bad_whole stands half (option_and_then (stand_named stands) half.half_of)
+is_bad_half stands half = is_bad_whole stands half (option_and_then (stand_row_named stands) half.half_of)
 
 -- the first stand that is a half, but not of a proper whole
 abbrev pub bad_half_of : AirportParts → Option (List ℕ)
 bad_half_of parts = option_map (λ row. row.name) (find (is_bad_half parts.stands) parts.stands)
 
 -- the number is not below the first and not above the second
-abbrev pub is_within : ℕ → ℕ → ℕ → Bool
-is_within low high number = nat_le low number && nat_le number high
+abbrev pub is_between : ℕ → ℕ → ℕ → Bool
+is_between low high number = nat_le low number && nat_le number high
 
 -- the limit, unless it is kept
 abbrev pub unless_kept : Limit → Bool → Option Limit
@@ -91,17 +91,17 @@ are_objects_kept frontage =
 -- the limits in their order, each unless it is kept
 abbrev pub passed_limits : AirportParts → List (Option Limit)
 passed_limits parts =
-    unless_kept limit.Days (is_within 1 most_days parts.days)
+    unless_kept limit.Days (is_between 1 most_days parts.days)
     ∷ unless_kept limit.TaxiIn (nat_le parts.taxi_in most_taxi_in)
-    ∷ unless_kept limit.Tow (is_within 1 most_tow parts.tow)
+    ∷ unless_kept limit.Tow (is_between 1 most_tow parts.tow)
     ∷ unless_kept limit.Frontages (nat_le (length parts.frontages) most_frontages)
     ∷ unless_kept limit.Objects (list_all are_objects_kept parts.frontages)
-    ∷ unless_kept limit.Stands (is_within 1 most_stands (length parts.stands))
+    ∷ unless_kept limit.Stands (is_between 1 most_stands (length parts.stands))
     ∷ unless_kept limit.Centre (list_all (λ row. is_place_kept row.centre) parts.stands)
     ∷ unless_kept limit.Buffer (list_all (λ row. nat_le row.buffer most_buffer) parts.stands)
     ∷ unless_kept limit.Pairs (nat_le (length parts.pairs) most_pairs)
-    ∷ unless_kept limit.Types (is_within 1 most_types (length parts.types))
-    ∷ unless_kept limit.Least (list_all (λ row. is_within 1 most_least row.least) parts.types)
+    ∷ unless_kept limit.Types (is_between 1 most_types (length parts.types))
+    ∷ unless_kept limit.Least (list_all (λ row. is_between 1 most_least row.least) parts.types)
     ∷ []
 
 -- the first limit that is exceeded
@@ -115,7 +115,7 @@ bad_span_of parts = option_map (λ row. row.name) (find (λ row. is_none (letter
 -- the span with folded wing tips is 1 to the wing span, and the minutes to fold are within their
 -- limit
 abbrev pub is_fold_kept : TypeRow → Bool
-is_fold_kept row = is_within 1 row.span row.parked && nat_le row.fold most_fold
+is_fold_kept row = is_between 1 row.span row.parked && nat_le row.fold most_fold
 
 -- the first type whose folded span or minutes to fold are not within these
 abbrev pub bad_fold_of : AirportParts → Option (List ℕ)
@@ -141,5 +141,5 @@ later_fault_of parts =
     (bad_span_of parts) (bad_fold_of parts)
 
 -- why the airport is refused; none if it is an airport
-unfoldable pub fault_of : AirportParts → Option AirportFault
-fault_of parts = option_or (option_map DuplicateName (duplicate_of parts)) (later_fault_of parts)
+unfoldable pub airport_fault : AirportParts → Option AirportFault
+airport_fault parts = option_or (option_map DuplicateName (duplicate_of parts)) (later_fault_of parts)

@@ -6,7 +6,7 @@ ghost use Rattle.std.specs.Str.{bytes_eq};
 ghost use Rattle.apron_base.specs.Letter.{letter_for};
 ghost use Rattle.apron_rules.specs.Limits.{most_buffer, most_halves, most_least};
 ghost use Rattle.apron_rules.specs.Names.{frontage_names, stand_names, type_names, is_named};
-ghost use Rattle.apron_rules.specs.Refusals.{duplicate_of, unknown_of, unknown_of_stand, unknown_of_pair, first_found, are_objects_kept, is_bad_half, stand_named, first_some, is_place_kept, is_within, limit_of, unless_kept, is_fold_kept, later_fault_of};
+ghost use Rattle.apron_rules.specs.Refusals.{duplicate_of, unknown_of, unknown_of_stand, unknown_of_pair, first_found, are_objects_kept, is_bad_half, stand_row_named, first_some, is_place_kept, is_between, limit_of, unless_kept, is_fold_kept, later_fault_of};
 ghost use Rattle.apron_rules.specs.Tables.{Checks, AreHalves, half_count};
 ghost use Rattle.apron_rules.specs.declared.refusals.AirportFault.TheVariants.{DuplicateName};
 
@@ -79,7 +79,7 @@ fn type_names(alloc: Global, rows: &[TypeRow]) -> Result<Vec<Name>, AirportFault
 
 /// Whether parts with these names are an airport: `Err` gives the reason why not, or says that
 /// there is no memory.
-pub(crate) fn check(
+pub(crate) fn check_parts(
     alloc: Global,
     parts: &AirportParts,
     frontages: &NameTable,
@@ -107,7 +107,7 @@ fn later_fault(
     requires halves { AreHalves halves.now parts.now.stands }
     ensures is { result ≡ later_fault_of parts.now }
 {
-    if let Some(name) = unknown(parts, frontages, stands) {
+    if let Some(name) = unknown_name(parts, frontages, stands) {
         return Some(AirportFault::UnknownName(name));
     }
     if let Some(name) = bad_half(parts.stands.as_slice(), stands, halves) {
@@ -125,7 +125,7 @@ fn later_fault(
     }
 }
 
-fn unknown(parts: &AirportParts, frontages: &NameTable, stands: &NameTable) -> Option<Name>
+fn unknown_name(parts: &AirportParts, frontages: &NameTable, stands: &NameTable) -> Option<Name>
     requires frontages { frontages.now ≡ frontage_names parts.now }
     requires stands { stands.now ≡ stand_names parts.now }
     ensures is { result ≡ unknown_of parts.now }
@@ -260,7 +260,7 @@ fn is_bad_half(
 
 fn whole_of<'a>(rows: &'a [StandRow], stands: &NameTable, half: &StandRow) -> Option<&'a StandRow>
     requires stands { stands.now ≡ map (λ row. row.name) rows.now }
-    ensures is { option_copied result ≡ option_and_then (stand_named rows.now) half.now.half_of }
+    ensures is { option_copied result ≡ option_and_then (stand_row_named rows.now) half.now.half_of }
 {
     match half.half_of {
         Some(name) => row_named(rows, stands, &name),
@@ -270,7 +270,7 @@ fn whole_of<'a>(rows: &'a [StandRow], stands: &NameTable, half: &StandRow) -> Op
 
 fn row_named<'a>(rows: &'a [StandRow], stands: &NameTable, name: &Name) -> Option<&'a StandRow>
     requires stands { stands.now ≡ map (λ row. row.name) rows.now }
-    ensures is { option_copied result ≡ stand_named rows.now name.now }
+    ensures is { option_copied result ≡ stand_row_named rows.now name.now }
 {
     match stands.place(name) {
         Some(place) => Some(&rows[place]),
@@ -331,13 +331,13 @@ fn unless_kept(which: Limit, kept: bool) -> Option<Limit>
 }
 
 fn is_within(low: u32, high: u32, number: u32) -> bool
-    ensures is { result ≡ is_within low high number }
+    ensures is { result ≡ is_between low high number }
 {
     low <= number && number <= high
 }
 
 fn is_number_within(high: usize, number: usize) -> bool
-    ensures is { result ≡ is_within 1 high number }
+    ensures is { result ≡ is_between 1 high number }
 {
     1 <= number && number <= high
 }
@@ -373,7 +373,7 @@ fn are_buffers_kept(rows: &[StandRow]) -> bool
 }
 
 fn are_least_kept(rows: &[TypeRow]) -> bool
-    ensures is { result ≡ list_all (λ row. is_within 1 most_least row.least) rows.now }
+    ensures is { result ≡ list_all (λ row. is_between 1 most_least row.least) rows.now }
 {
     rows.iter().all(|row| is_within(1, MAX_LEAST, row.least))
 }

@@ -131,11 +131,11 @@ fn add_row(
         own: row.lb,
         least: row.la,
     };
-    add(pairs, a, of_a)?;
-    add(pairs, b, of_b)
+    add_pair(pairs, a, of_a)?;
+    add_pair(pairs, b, of_b)
 }
 
-fn add(
+fn add_pair(
     pairs: &mut Vec<Listed<StandPair>>,
     place: usize,
     pair: StandPair,

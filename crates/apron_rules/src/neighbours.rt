@@ -5,7 +5,7 @@ ghost use Rattle.apron_base.specs.declared.numbers.StandNo.{StandNo};
 ghost use Rattle.apron_base.specs.declared.numbers.TypeNo.{TypeNo};
 ghost use Rattle.apron_rules.specs.declared.parts.AirportParts.{AirportParts};
 ghost use Rattle.apron_rules.specs.declared.rules.Wing.{Wing};
-ghost use Rattle.apron_rules.specs.Refusals.{fault_of};
+ghost use Rattle.apron_rules.specs.Refusals.{airport_fault};
 ghost use Rattle.apron_rules.specs.Rules.{breaks_with_wings};
 ghost use Rattle.apron_rules.specs.Kept.{AreAllNeighbours, IsLinked};
 ghost use Rattle.apron_rules.specs.Limits.{most_types};
@@ -68,13 +68,13 @@ fn neighbours_of(
             widest,
             Wing::Full,
         );
-        push_if(&mut neighbours, other, rule.is_some())?;
+        push_neighbour_if(&mut neighbours, other, rule.is_some())?;
     }
     Ok(neighbours)
 }
 
 // Puts a stand last, if it is a neighbour.
-fn push_if(
+fn push_neighbour_if(
     neighbours: &mut Listed<StandNo>,
     other: StandNo,
     is_neighbour: bool,
@@ -107,7 +107,7 @@ fn widest_of(types: &[TypeRow]) -> TypeNo
 /// whatever their wing tips, and no others.
 pub fn neighbours_are_all_that_break()
     ensures all { (airport : AirportParts) (s : StandNo) (t : TypeNo) (w : Wing) (s2 : StandNo) (t2 : TypeNo) (w2 : Wing)
-        → fault_of airport ≡ None → IsSome (breaks_with_wings airport s t w s2 t2 w2)
+        → airport_fault airport ≡ None → IsSome (breaks_with_wings airport s t w s2 t2 w2)
         → Contains (neighbours_of airport s) s2 }
     ensures no_others { (airport : AirportParts) (s s2 : StandNo) → Contains (neighbours_of airport s) s2
         → (t t2 : TypeNo) × IsSome (breaks_with_wings airport s t Wing.Full s2 t2 Wing.Full) }

@@ -18,14 +18,14 @@ use Rattle.desk_words.specs.declared.asks.Command.TheVariants.{AddVisit}
 use Rattle.desk_words.specs.declared.asks.Entry.{Entry}
 use Rattle.desk_words.specs.declared.asks.What.TheVariants.{Change}
 use Rattle.desk_words.specs.declared.replies.Reply.{Reply}
-use Rattle.history_core.specs.Answer.{ActsAs, IsAccepted, Replies, Sought, added, changes, keeper_fault, no_memory, replied, sought}
+use Rattle.history_core.specs.Answer.{ActsAs, IsAccepted, Replies, Sought, added_entries, ask_outcome, changes, keeper_fault, no_memory, replied}
 use Rattle.history_core.specs.AtRisk.{IsAskedFor, LeavesAtRisk}
 use Rattle.history_core.specs.History.{IsLegal, replay}
 use Rattle.history_core.specs.Laws.{HasAdded, HasVisit}
-use Rattle.history_core.specs.Steps.{Stepped, Steps, accepted, ahead, denied, edit, full, name, refused, repeated}
+use Rattle.history_core.specs.Steps.{Stepped, TakenAs, accepted, ahead, denied, edit, full, name, refused, repeated}
 use Rattle.history_core.proofs.Added.{visits_added}
 use Rattle.history_core.proofs.Legal.{front_legal}
-use Rattle.apron_run.specs.Asking.{AsksSeason, IsMet, IsMissing, IsThere, Meets, MeetsAll, NoMoreAtRisk, OnlyAtRisk, Reached, Stops, StopsAmong, record_behind}
+use Rattle.apron_run.specs.Asking.{AsksOnce, AsksSeason, IsMet, IsMissing, IsThere, MeetsAll, NoMoreAtRisk, OnlyAtRisk, Reached, StopsAmong, StopsImport, record_behind}
 use Rattle.apron_run.specs.SecondImport.{AddsNothing, SecondAddsNothing}
 use Rattle.apron_run.specs.declared.imported.Imported.{Imported}
 use Rattle.apron_run.specs.declared.imported.Imported.TheVariants.{Whole, ShelfFault, TooLong, Refused, Full, DiskFault, Spent, Memory}
@@ -35,14 +35,14 @@ abbrev pub asking : NewVisit → Ask
 asking new = record { seen = 0; what = Change (AddVisit new) }
 
 -- it is a command at every plan and history
-pub seeks : (plan : PlanState) (history : List Entry) (new : NewVisit) → sought plan history (asking new) ≡ changes (AddVisit new)
+pub seeks : (plan : PlanState) (history : List Entry) (new : NewVisit) → ask_outcome plan history (asking new) ≡ changes (AddVisit new)
 seeks plan history new = let none : nat_lt plan.version 0 ≡ false = grind (arith, nat_tests) in rw none refl
 
 -- an ask that was answered took a step, which made the history
 pub record TookStep (airport : AirportParts) (before : List Entry) (call : ℕ) (new : NewVisit) (after : List Entry) : Type 0 where
   pub stepped : Stepped
-  pub steps : Steps (replay airport before) (length before) (AddVisit new) stepped
-  pub makes : after ≡ before ++ added call (AddVisit new) stepped
+  pub steps : TakenAs (replay airport before) (length before) (AddVisit new) stepped
+  pub makes : after ≡ before ++ added_entries call (AddVisit new) stepped
 
 replied_step : (airport : AirportParts) (before after : List Entry) (call : ℕ) (new : NewVisit) (asked : Sought) (reply : Reply) → asked ≡ changes (AddVisit new)
     → Replies (replay airport before) before call asked reply after → TookStep airport before call new after
@@ -53,7 +53,7 @@ replied_step airport before after call new asked reply is replies =
 pub answered_step : (airport : AirportParts) (before after : List Entry) (call : ℕ) (new : NewVisit) (bytes : List ℕ)
     → ActsAs airport before call (asking new) (Replied bytes) after → TookStep airport before call new after
 answered_step airport before after call new bytes (replied reply, is, gives) =
-    replied_step airport before after call new (sought (replay airport before) before (asking new)) reply (seeks (replay airport before) before new) gives
+    replied_step airport before after call new (ask_outcome (replay airport before) before (asking new)) reply (seeks (replay airport before) before new) gives
 answered_step airport before after call new bytes (no_memory, is, gives) = absurd cc
 answered_step airport before after call new bytes (keeper_fault, is, gives) = absurd cc
 
@@ -78,7 +78,7 @@ only_at_risk before after new (inr (inr (failed, (entry, is, asked)))) safe =
 -- an append that failed was that of a visit which the plan accepts
 pub fault_stops : (airport : AirportParts) (number : ℕ) (before after : Reached) (new : NewVisit) → ActsAs airport before.history before.next (asking new) Fault after.history
     → Counts true before.faults after.faults → LeavesAtRisk (standing_at before) before.next (asking new).what true (standing_at after)
-    → Stops airport number before new after DiskFault
+    → StopsImport airport number before new after DiskFault
 fault_stops airport number before after new (keeper_fault, is, (took, same)) counts risk = (
   subst (λ (s : Sought). IsAccepted (replay airport before.history) (length before.history) s) (seeks (replay airport before.history) before.history new) took,
   same,
@@ -91,13 +91,13 @@ fault_stops airport number before after new (no_memory, is, gives) counts risk =
 -- want of memory changed nothing
 pub memory_stops : (airport : AirportParts) (number : ℕ) (before after : Reached) (new : NewVisit) → ActsAs airport before.history before.next (asking new) NoMemory after.history
     → after.faults ≡ before.faults → LeavesAtRisk (standing_at before) before.next (asking new).what false (standing_at after)
-    → Stops airport number before new after Memory
+    → StopsImport airport number before new after Memory
 memory_stops airport number before after new (no_memory, is, same) counts risk = (same, counts, no_more before after new risk)
 memory_stops airport number before after new (replied reply, is, gives) counts risk = absurd cc
 memory_stops airport number before after new (keeper_fault, is, gives) counts risk = absurd cc
 
 -- where entries came, the visit was added
-came_by : (before after : List Entry) (call : ℕ) (command : Command) (stepped : Stepped) → after ≡ before ++ added call command stepped → length before < length after
+came_by : (before after : List Entry) (call : ℕ) (command : Command) (stepped : Stepped) → after ≡ before ++ added_entries call command stepped → length before < length after
     → stepped ≡ accepted
 came_by before after call command accepted makes more = refl
 came_by before after call command ahead makes more = let same : length after ≡ length before = ap length (makes ∙ append-nil before) in absurd (omega arith)
@@ -106,7 +106,7 @@ came_by before after call command (refused why) makes more = let same : length a
 came_by before after call command full makes more = let same : length after ≡ length before = ap length (makes ∙ append-nil before) in absurd (omega arith)
 
 -- where none came, the history is as it was
-stays_by : (before after : List Entry) (call : ℕ) (command : Command) (stepped : Stepped) → after ≡ before ++ added call command stepped → length after ≤ length before
+stays_by : (before after : List Entry) (call : ℕ) (command : Command) (stepped : Stepped) → after ≡ before ++ added_entries call command stepped → length after ≤ length before
     → after ≡ before
 stays_by before after call command accepted makes few =
     let more : length after ≡ length before + 1 = ap length makes ∙ length-append before _ in absurd (omega arith)
@@ -116,7 +116,7 @@ stays_by before after call command (refused why) makes few = makes ∙ append-ni
 stays_by before after call command full makes few = makes ∙ append-nil before
 
 -- where no visit has the name, a visit that was not added has no place
-missing_by : (plan : PlanState) (count : ℕ) (new : NewVisit) (stepped : Stepped) → Steps plan count (AddVisit new) stepped → visit_named plan.visits new.name ≡ None
+missing_by : (plan : PlanState) (count : ℕ) (new : NewVisit) (stepped : Stepped) → TakenAs plan count (AddVisit new) stepped → visit_named plan.visits new.name ≡ None
     → (stepped ≡ accepted → ⊥) → stepped ≡ full
 missing_by plan count new accepted steps none other = absurd (other refl)
 missing_by plan count new ahead steps none other = absurd steps
@@ -127,10 +127,10 @@ missing_by plan count new (refused (denied why)) steps none other = absurd steps
 missing_by plan count new full steps none other = refl
 
 -- no entry came where the history is as it was
-not_accepted : (before after : List Entry) (call : ℕ) (command : Command) (stepped : Stepped) → after ≡ before ++ added call command stepped → length after ≤ length before
+not_accepted : (before after : List Entry) (call : ℕ) (command : Command) (stepped : Stepped) → after ≡ before ++ added_entries call command stepped → length after ≤ length before
     → stepped ≡ accepted → ⊥
 not_accepted before after call command stepped makes few is =
-    let with_it : after ≡ before ++ added call command accepted = subst (λ (s : Stepped). after ≡ before ++ added call command s) is makes in
+    let with_it : after ≡ before ++ added_entries call command accepted = subst (λ (s : Stepped). after ≡ before ++ added_entries call command s) is makes in
     let more : length after ≡ length before + 1 = ap length with_it ∙ length-append before _ in omega arith
 
 module _ (airport : AirportParts) (before after : Reached) (new : NewVisit) (bytes : List ℕ) (acts : ActsAs airport before.history before.next (asking new) (Replied bytes) after.history)
@@ -140,7 +140,7 @@ module _ (airport : AirportParts) (before after : Reached) (new : NewVisit) (byt
   took = answered_step airport before.history after.history before.next new bytes acts
 
   -- a visit was met whose entry came
-  pub met_grown : length before.history < length after.history → Meets airport before new after
+  pub met_grown : length before.history < length after.history → AsksOnce airport before new after
   met_grown more =
       let is : took.stepped ≡ accepted = came_by before.history after.history before.next (AddVisit new) took.stepped took.makes more in
       record {
@@ -153,7 +153,7 @@ module _ (airport : AirportParts) (before after : Reached) (new : NewVisit) (byt
   unchanged few = stays_by before.history after.history before.next (AddVisit new) took.stepped took.makes few
 
   -- a visit was met that was there
-  pub met_there : length after.history ≤ length before.history → IsThere (replay airport after.history) new → Meets airport before new after
+  pub met_there : length after.history ≤ length before.history → IsThere (replay airport after.history) new → AsksOnce airport before new after
   met_there few there =
       let same : after.history ≡ before.history = unchanged few in
       let (visit, known) = subst (λ (h : List Entry). IsThere (replay airport h) new) same there in
@@ -165,7 +165,7 @@ module _ (airport : AirportParts) (before after : Reached) (new : NewVisit) (byt
 
   -- a visit was asked whose name another has, or for which there is no place
   pub stops_missing : (number : ℕ) (imported : Imported) → length after.history ≤ length before.history → IsMissing (replay airport after.history) new number imported
-      → Stops airport number before new after imported
+      → StopsImport airport number before new after imported
   stops_missing number (Refused told) few missing =
       let same : after.history ≡ before.history = unchanged few in
       let (is, (visit, other)) = subst (λ (h : List Entry). IsMissing (replay airport h) new number (Refused told)) same missing in
@@ -177,7 +177,7 @@ module _ (airport : AirportParts) (before after : Reached) (new : NewVisit) (byt
       (not_accepted before.history after.history before.next (AddVisit new) took.stepped took.makes few) in (
         is,
         record {
-          takes = subst (λ (s : Stepped). Steps (replay airport before.history) (length before.history) (AddVisit new) s) full_is took.steps;
+          takes = subst (λ (s : Stepped). TakenAs (replay airport before.history) (length before.history) (AddVisit new) s) full_is took.steps;
           history = same ∙ sym (append-nil before.history);
           next = next;
           faults = faults;
@@ -188,25 +188,25 @@ module _ (airport : AirportParts) (before after : Reached) (new : NewVisit) (byt
 
 module _ (airport : AirportParts) where
   -- one visit more was met
-  pub meets_push : (visits : List NewVisit) (before mid after : Reached) (new : NewVisit) → MeetsAll airport visits before mid → Meets airport mid new after
+  pub meets_push : (visits : List NewVisit) (before mid after : Reached) (new : NewVisit) → MeetsAll airport visits before mid → AsksOnce airport mid new after
       → MeetsAll airport (visits ++ new ∷ []) before after
-  meets_push [] before mid after new same one = (after, subst (λ (r : Reached). Meets airport r new after) same one, refl)
+  meets_push [] before mid after new same one = (after, subst (λ (r : Reached). AsksOnce airport r new after) same one, refl)
   meets_push (first ∷ visits) before mid after new (at, head, rest) one = (at, head, meets_push visits at mid after new rest one)
 
   -- an entry came, or none
-  pub one_counts : (before after : Reached) (new : NewVisit) → Meets airport before new after
+  pub one_counts : (before after : Reached) (new : NewVisit) → AsksOnce airport before new after
       → (length before.history ≤ length after.history) × (length after.history ≤ length before.history + 1)
   one_counts before after new one = counts one.stepped one.met one.asks.history
     where
-      counts : (stepped : Stepped) → IsMet stepped → after.history ≡ before.history ++ added before.next (AddVisit new) stepped
+      counts : (stepped : Stepped) → IsMet stepped → after.history ≡ before.history ++ added_entries before.next (AddVisit new) stepped
           → (length before.history ≤ length after.history) × (length after.history ≤ length before.history + 1)
       counts accepted met is = let more : length after.history ≡ length before.history + 1 = ap length is ∙ length-append before.history _ in (omega arith, omega arith)
       counts (repeated entry) met is = let same : length after.history ≡ length before.history = ap length (is ∙ append-nil before.history) in (omega arith, omega arith)
       counts other met is = absurd met
 
   -- the history has grown
-  one_grows : (before after : Reached) (new : NewVisit) → Meets airport before new after → (more : List Entry) × (after.history ≡ before.history ++ more)
-  one_grows before after new one = (added before.next (AddVisit new) one.stepped, one.asks.history)
+  one_grows : (before after : Reached) (new : NewVisit) → AsksOnce airport before new after → (more : List Entry) × (after.history ≡ before.history ++ more)
+  one_grows before after new one = (added_entries before.next (AddVisit new) one.stepped, one.asks.history)
 
   all_grow : (visits : List NewVisit) (before after : Reached) → MeetsAll airport visits before after → (more : List Entry) × (after.history ≡ before.history ++ more)
   all_grow [] before after same = ([], ap (λ (r : Reached). r.history) same ∙ sym (append-nil before.history))
@@ -229,11 +229,11 @@ module _ (airport : AirportParts) where
   )
 
   -- a visit that was met has its entry
-  one_added : (before after : Reached) (new : NewVisit) → IsLegal airport before.history → Meets airport before new after → (version : ℕ) × HasAdded after.history version new
+  one_added : (before after : Reached) (new : NewVisit) → IsLegal airport before.history → AsksOnce airport before new after → (version : ℕ) × HasAdded after.history version new
   one_added before after new legal one = has one.stepped one.met one.asks.takes one.asks.history
     where
-      has : (stepped : Stepped) → IsMet stepped → Steps (replay airport before.history) (length before.history) (AddVisit new) stepped
-          → after.history ≡ before.history ++ added before.next (AddVisit new) stepped → (version : ℕ) × HasAdded after.history version new
+      has : (stepped : Stepped) → IsMet stepped → TakenAs (replay airport before.history) (length before.history) (AddVisit new) stepped
+          → after.history ≡ before.history ++ added_entries before.next (AddVisit new) stepped → (version : ℕ) × HasAdded after.history version new
       has accepted met steps is = (
         length before.history + 1,
         (
@@ -265,7 +265,7 @@ module _ (airport : AirportParts) where
       (is_there after.history version new legal (still_added mid.history more after.history version new more_is has), all_there visits mid after legal rest)
 
   -- a visit that is there is answered with its entry
-  step_there : (plan : PlanState) (count : ℕ) (new : NewVisit) (stepped : Stepped) → IsThere plan new → Steps plan count (AddVisit new) stepped
+  step_there : (plan : PlanState) (count : ℕ) (new : NewVisit) (stepped : Stepped) → IsThere plan new → TakenAs plan count (AddVisit new) stepped
       → (entry : ℕ) × (stepped ≡ repeated entry)
   step_there plan count new accepted (visit, (found, same)) (none, place) = let both : None ≡ Some visit = sym none ∙ found in absurd cc
   step_there plan count new ahead there steps = absurd steps
@@ -279,10 +279,10 @@ module _ (airport : AirportParts) where
   step_there plan count new full (visit, (found, same)) (none, place) = let both : None ≡ Some visit = sym none ∙ found in absurd cc
 
   -- a visit that is there adds nothing
-  met_same : (before after : Reached) (new : NewVisit) → IsThere (replay airport before.history) new → Meets airport before new after → after.history ≡ before.history
+  met_same : (before after : Reached) (new : NewVisit) → IsThere (replay airport before.history) new → AsksOnce airport before new after → after.history ≡ before.history
   met_same before after new there one =
       let (entry, is) = step_there (replay airport before.history) (length before.history) new one.stepped there one.asks.takes in
-      subst (λ (s : Stepped). after.history ≡ before.history ++ added before.next (AddVisit new) s) is one.asks.history ∙ append-nil before.history
+      subst (λ (s : Stepped). after.history ≡ before.history ++ added_entries before.next (AddVisit new) s) is one.asks.history ∙ append-nil before.history
 
   all_same : (visits : List NewVisit) (before after : Reached) → Every (IsThere (replay airport before.history)) visits → MeetsAll airport visits before after
       → after.history ≡ before.history
@@ -293,7 +293,7 @@ module _ (airport : AirportParts) where
 
   -- nor does one at which the asks stopped
   stops_same : (number : ℕ) (at : Reached) (new : NewVisit) (after : Reached) (imported : Imported) (visits : ℕ) → IsThere (replay airport at.history) new
-      → Stops airport number at new after imported → (after.history ≡ at.history) × AddsNothing visits imported
+      → StopsImport airport number at new after imported → (after.history ≡ at.history) × AddsNothing visits imported
   stops_same number at new after (Refused told) visits there (is, (other, asks)) =
       let (entry, same) = step_there (replay airport at.history) (length at.history) new (refused (name other)) there asks.takes in absurd cc
   stops_same number at new after (Full told) visits there (is, asks) =
@@ -321,13 +321,13 @@ module _ (airport : AirportParts) where
   -- asks that stopped at one visit
   pub among_season : (visits : List NewVisit) (before after : Reached) (imported : Imported) → StopsAmong airport visits before after imported
       → AsksSeason airport visits before after imported
-  among_season visits before after (Whole added present) stops = absurd stops.stops
+  among_season visits before after (Whole added_entries present) stops = absurd stops.stops
   among_season visits before after imported stops = stops
 
   -- a second import of visits that are there
   pub second_same : (visits : List NewVisit) (again left : Reached) (imported : Imported) → Every (IsThere (replay airport again.history)) visits
       → AsksSeason airport visits again left imported → (left.history ≡ again.history) × AddsNothing (length visits) imported
-  second_same visits again left (Whole added present) there asks =
+  second_same visits again left (Whole added_entries present) there asks =
       let same : left.history ≡ again.history = all_same visits again left there asks.met in
       let as_many : length left.history ≡ length again.history = ap length same in
       let came = asks.added_are in

@@ -7,7 +7,7 @@ use Rattle.apron_rules.specs.declared.parts.AirportParts.{AirportParts}
 use Rattle.http_framing.specs.Requests.{Request}
 use Rattle.desk_words.specs.declared.asks.Ask.{Ask}
 use Rattle.desk_words.specs.declared.asks.Entry.{Entry}
-use Rattle.desk_words.specs.declared.early.Early.{Early}
+use Rattle.desk_words.specs.declared.early.EarlyReply.{EarlyReply}
 use Rattle.history_core.specs.Answer.{Given, keeper_fault, no_memory, replied}
 use Rattle.history_core.specs.AtRisk.{IsAskedFor}
 use Rattle.history_core.specs.History.{call_of}
@@ -15,10 +15,10 @@ use Rattle.history_core.specs.Opening.{next_after}
 use Rattle.desk_http.specs.Alone.{AloneAsks}
 use Rattle.desk_http.specs.Answers.{Sent, SendsFor, at_once, fed, given}
 use Rattle.desk_http.specs.Ports.{PortState}
-use Rattle.desk_http.specs.Routes.{routed}
+use Rattle.desk_http.specs.Routes.{ask_of_request}
 use Rattle.desk_http.specs.Runs.{Runs}
 use Rattle.desk_turns.specs.Watched.{FeedTexts}
-use Rattle.apron_run.specs.Desk.{begun}
+use Rattle.apron_run.specs.Desk.{new_port}
 use Rattle.apron_run.specs.Headline.{Exchange, IsUnkept, Sends, is_given, takes_number}
 use Rattle.apron_run.proofs.Feeding.{AsPlain, as_plain}
 
@@ -27,7 +27,7 @@ abbrev next_of : PortState → ℕ
 next_of port = port.first + length port.calls
 
 -- what is asked could not be kept, and its reply says so: this is its entry, after which no entry came
-record IsToldOf (before : PortState) (asked : Result Ask Early) (sent : Sent) (mid : PortState) (entry : Entry) : Type 0 where
+record IsToldOf (before : PortState) (asked : Result Ask EarlyReply) (sent : Sent) (mid : PortState) (entry : Entry) : Type 0 where
   pub sent_is : sent ≡ given keeper_fault
   pub ask : Ask
   pub asks : asked ≡ Ok ask
@@ -40,7 +40,7 @@ Stands before after IsNew =
     (after.at_risk ≡ None) ⊎ ((after.at_risk ≡ before.at_risk) × (after.seen ≡ before.seen)) ⊎ ((entry : Entry) × (after.at_risk ≡ Some entry) × IsNew entry)
 
 -- a port after one answer
-record AfterOne (before : PortState) (asked : Result Ask Early) (sent : Sent) (mid : PortState) : Type 0 where
+record AfterOne (before : PortState) (asked : Result Ask EarlyReply) (sent : Sent) (mid : PortState) : Type 0 where
   pub number : next_of mid ≡ next_of before + cond (is_given sent) 1 0
   pub risk : Stands before mid (IsToldOf before asked sent mid)
 
@@ -72,7 +72,7 @@ module _ (airport : AirportParts) where
     },
   ))
 
-  after_one : (before mid : PortState) (asked : Result Ask Early) (sent : Sent) → SendsFor AloneAsks airport before asked sent mid → AfterOne before asked sent mid
+  after_one : (before mid : PortState) (asked : Result Ask EarlyReply) (sent : Sent) → SendsFor AloneAsks airport before asked sent mid → AfterOne before asked sent mid
   after_one before mid (Err reply) (at_once sent) (is, same) = record {
     number = let none : next_of before ≡ next_of before + 0 = omega arith in ap (λ (port : PortState). next_of port) same ∙ none;
     risk = inr (inl (ap (λ (port : PortState). port.at_risk) same, ap (λ (port : PortState). port.seen) same));
@@ -84,14 +84,14 @@ module _ (airport : AirportParts) where
   after_one before mid (Ok ask) (given answer) asked = record { number = number_one before mid ask answer asked; risk = risk_one before mid ask answer asked }
 
   -- the same of what is sent for a request, which is like this
-  after_like : (before mid : PortState) (request : Request) (sent : Sent) → (plain : AsPlain airport (takes_number airport request) (routed airport request) before sent mid)
-      → AfterOne before plain.asked plain.like mid → AfterOne before (routed airport request) sent mid
+  after_like : (before mid : PortState) (request : Request) (sent : Sent) → (plain : AsPlain airport (takes_number airport request) (ask_of_request airport request) before sent mid)
+      → AfterOne before plain.asked plain.like mid → AfterOne before (ask_of_request airport request) sent mid
   after_like before mid request sent plain one = record {
     number = one.number ∙ ap (λ (b : Bool). next_of before + cond {A = ℕ} b 1 0) plain.gives;
     risk = stands one.risk;
   }
     where
-      stands : Stands before mid (IsToldOf before plain.asked plain.like mid) → Stands before mid (IsToldOf before (routed airport request) sent mid)
+      stands : Stands before mid (IsToldOf before plain.asked plain.like mid) → Stands before mid (IsToldOf before (ask_of_request airport request) sent mid)
       stands (inl none) = inl none
       stands (inr (inl same)) = inr (inl same)
       stands (inr (inr (entry, is, told))) =
@@ -107,12 +107,12 @@ module _ (airport : AirportParts) where
     AfterRun before requests sents after = Stands before after (IsUnkept airport (next_of before) (exchange requests sents) after.seen)
 
     -- one answer and then others
-    join : (before mid after : PortState) (request : Request) (sent : Sent) (requests : List Request) (sents : List Sent) → AfterOne before (routed airport request) sent mid
+    join : (before mid after : PortState) (request : Request) (sent : Sent) (requests : List Request) (sents : List Sent) → AfterOne before (ask_of_request airport request) sent mid
         → AfterRun mid requests sents after → AfterRun before (request ∷ requests) (sent ∷ sents) after
     join before mid after request sent requests sents one (inl none) = inl none
     join before mid after request sent requests sents one (inr (inl (same, seen))) = first one.risk
       where
-        first : Stands before mid (IsToldOf before (routed airport request) sent mid) → AfterRun before (request ∷ requests) (sent ∷ sents) after
+        first : Stands before mid (IsToldOf before (ask_of_request airport request) sent mid) → AfterRun before (request ∷ requests) (sent ∷ sents) after
         first (inl none) = inl (same ∙ none)
         first (inr (inl (was, saw))) = inr (inl (same ∙ was, seen ∙ saw))
         first (inr (inr (entry, is, told))) = inr (inr (
@@ -166,7 +166,7 @@ module _ (airport : AirportParts) where
     after_run before after (request ∷ requests) [] h = absurd h
 
   at_end : (opened : List Entry) (faults : ℕ) (exchange : Exchange) (new : PortState)
-      → Stands (begun opened faults) new (IsUnkept airport (next_of (begun opened faults)) exchange new.seen)
+      → Stands (new_port opened faults) new (IsUnkept airport (next_of (new_port opened faults)) exchange new.seen)
       → IfSome new.at_risk (IsUnkept airport (next_after opened) exchange new.seen)
   at_end opened faults exchange new (inl none) =
       subst (λ (risk : Option Entry). IfSome risk (IsUnkept airport (next_after opened) exchange new.seen)) (sym none) tt
@@ -178,7 +178,7 @@ module _ (airport : AirportParts) where
       (subst (λ (first : ℕ). IsUnkept airport first exchange new.seen entry) zero unkept)
 
   -- the entry at risk after a session that began with none
-  pub unkept_at_risk : (feeds : FeedTexts) (opened : List Entry) (faults : ℕ) (exchange : Exchange) (new : PortState) → Runs (Sends feeds airport) (begun opened faults) exchange.requests exchange.sents new
+  pub unkept_at_risk : (feeds : FeedTexts) (opened : List Entry) (faults : ℕ) (exchange : Exchange) (new : PortState) → Runs (Sends feeds airport) (new_port opened faults) exchange.requests exchange.sents new
       → IfSome new.at_risk (IsUnkept airport (next_after opened) exchange new.seen)
   unkept_at_risk feeds opened faults exchange new runs =
-      at_end opened faults exchange new (after_run exchange.rest feeds (begun opened faults) new exchange.requests exchange.sents runs)
+      at_end opened faults exchange new (after_run exchange.rest feeds (new_port opened faults) new exchange.requests exchange.sents runs)

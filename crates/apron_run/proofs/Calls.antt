@@ -7,9 +7,9 @@ use Rattle.http_framing.specs.Requests.{Request}
 use Rattle.apron_rules.specs.declared.parts.AirportParts.{AirportParts}
 use Rattle.desk_words.specs.declared.asks.Ask.{Ask}
 use Rattle.desk_words.specs.declared.asks.Entry.{Entry}
-use Rattle.desk_words.specs.declared.early.Early.{Early}
+use Rattle.desk_words.specs.declared.early.EarlyReply.{EarlyReply}
 use Rattle.plan_core.specs.PlanState.{PlanState}
-use Rattle.history_core.specs.Answer.{Given, GivesAt, Sought, changes, keeper_fault, no_memory, replied, sought, told, added}
+use Rattle.history_core.specs.Answer.{Given, GivesAt, Sought, changes, keeper_fault, no_memory, replied, ask_outcome, told, added_entries}
 use Rattle.history_core.specs.History.{IsLegal, replay}
 use Rattle.desk_http.specs.Alone.{AloneAsks, numbers_from}
 use Rattle.desk_http.specs.Answers.{Sent, SendsFor, at_once, fed, given}
@@ -28,7 +28,7 @@ none_came opened history same = ([], same ∙ sym (append-nil opened))
 gives_more : (plan : PlanState) (before : List Entry) (call : ℕ) (asked : Sought) (given : Given) (after : List Entry) → GivesAt plan before call asked given after
     → GoesOnFrom before after
 gives_more plan before call (told what) (replied reply) after (is, same) = none_came before after same
-gives_more plan before call (changes command) (replied reply) after (stepped, steps, is, made) = (added call command stepped, made)
+gives_more plan before call (changes command) (replied reply) after (stepped, steps, is, made) = (added_entries call command stepped, made)
 gives_more plan before call asked no_memory after same = none_came before after same
 gives_more plan before call asked keeper_fault after (accepted, same) = none_came before after same
 
@@ -62,7 +62,7 @@ module _ (airport : AirportParts) where
   }
 
   -- one answer to an ask
-  sent_leaves : (before after : PortState) (asked : Result Ask Early) (sent : Sent) → SendsFor AloneAsks airport before asked sent after → Leaves before after (cond (is_given sent) 1 0)
+  sent_leaves : (before after : PortState) (asked : Result Ask EarlyReply) (sent : Sent) → SendsFor AloneAsks airport before asked sent after → Leaves before after (cond (is_given sent) 1 0)
   sent_leaves before after (Err reply) (at_once sent) (is, same) = leaves_none before after same
   sent_leaves before after (Err reply) (given answer) h = absurd h
   sent_leaves before after (Err reply) (fed answer) h = absurd h
@@ -71,7 +71,7 @@ module _ (airport : AirportParts) where
   sent_leaves before after (Ok ask) (given answer) (turn, here, next, risk, counts) = record {
     first = turn.first;
     begins = subst (λ history. GoesOnFrom history after.seen) here
-        (gives_more (replay airport turn.history) turn.history turn.call (sought (replay airport turn.history) turn.history ask) answer after.seen turn.gives);
+        (gives_more (replay airport turn.history) turn.history turn.call (ask_outcome (replay airport turn.history) turn.history ask) answer after.seen turn.gives);
     faults = no_fewer answer before.faults after.faults turn.faults;
     legal = λ _. turn.still;
     calls = λ made are.

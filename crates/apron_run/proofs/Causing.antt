@@ -2,7 +2,7 @@
 use Rattle.std.proofs.Common.{◌≡◌, ◌≤◌, ◌∙◌, ◌+◌, ℕ, Bool, true, false, List, Result, Ok, Err, inl, inr, min, refl, sym, ap, subst, arith}
 use Rattle.apron_base.specs.Counts.{Counts, Rose, last_count}
 use Rattle.apron_base.specs.Ends.{SinkState}
-use Rattle.apron_check.specs.Files.{is_shelf_fault as is_shelf_found}
+use Rattle.apron_check.specs.Files.{is_files_shelf_fault as is_shelf_found}
 use Rattle.apron_check.specs.declared.files.AirportFiles.{AirportFiles}
 use Rattle.apron_check.specs.declared.faults.FilesFault.{FilesFault}
 use Rattle.desk_turns.specs.Watched.{FeedTexts}
@@ -18,11 +18,11 @@ use Rattle.apron_run.specs.PlanText.{PrintsText}
 use Rattle.apron_run.specs.Print.{Writes, usage_text}
 use Rattle.apron_run.specs.Propose.{IsProposed}
 use Rattle.apron_run.specs.Run.{DiskCounts, Does, RunsAs, SinkCounts}
-use Rattle.apron_run.specs.Statuses.{code_of, is_disk_fault, is_read_fault, is_shelf_fault, is_write_fault, status_of_fault}
+use Rattle.apron_run.specs.Statuses.{exit_code, is_disk_fault, is_shelf_status, is_sink_status, is_source_status, status_of_fault}
 use Rattle.apron_run.specs.TwoFiles.{DoesWithFiles}
 use Rattle.apron_run.specs.Upgrade.{UpgradesJournal}
-use Rattle.apron_run.specs.Words.{Asked, desk, init, check, chart, import, export, propose, upgrade, make, help, version, faulty, uses_disk, uses_shelf, uses_source}
-use Rattle.apron_run.specs.World.{Outs, World, outs_of}
+use Rattle.apron_run.specs.Words.{Subcommand, desk, init, check, chart, import, export, propose, upgrade, make, help, version, faulty, uses_disk, uses_shelf, uses_source}
+use Rattle.apron_run.specs.World.{SinkAndDisk, World, sink_and_disk}
 use Rattle.apron_run.specs.declared.status.Status.{Status}
 use Rattle.apron_run.specs.declared.status.Status.TheVariants.{Done, Usage, ShelfFault, ReadFault, WriteFault, DiskFault, Memory}
 use Rattle.apron_run.proofs.Counting.{Counted, Lines, OfLine, Printed, fault_spares, fault_status, found_counted, lines_of, printed}
@@ -32,19 +32,19 @@ use Rattle.apron_run.proofs.PlanTexts.{chart_counted, prints_counted}
 use Rattle.apron_run.proofs.Upgrading.{upgrades_counted}
 
 -- the status of a number
-shelf_code : (status : Status) → code_of status ≡ code_of ShelfFault → is_shelf_fault status ≡ true
+shelf_code : (status : Status) → exit_code status ≡ exit_code ShelfFault → is_shelf_status status ≡ true
 shelf_code ShelfFault is = refl
 shelf_code other is = absurd (omega arith)
 
-read_code : (status : Status) → code_of status ≡ code_of ReadFault → is_read_fault status ≡ true
+read_code : (status : Status) → exit_code status ≡ exit_code ReadFault → is_source_status status ≡ true
 read_code ReadFault is = refl
 read_code other is = absurd (omega arith)
 
-write_code : (status : Status) → code_of status ≡ code_of WriteFault → is_write_fault status ≡ true
+write_code : (status : Status) → exit_code status ≡ exit_code WriteFault → is_sink_status status ≡ true
 write_code WriteFault is = refl
 write_code other is = absurd (omega arith)
 
-disk_code : (status : Status) → code_of status ≡ code_of DiskFault → is_disk_fault status ≡ true
+disk_code : (status : Status) → exit_code status ≡ exit_code DiskFault → is_disk_fault status ≡ true
 disk_code DiskFault is = refl
 disk_code other is = absurd (omega arith)
 
@@ -52,11 +52,11 @@ disk_code other is = absurd (omega arith)
 rose_by : (failed : Bool) (before now : ℕ) → failed ≡ true → Counts failed before now → Rose before now
 rose_by failed before now is counts = let fails : Counts true before now = subst (λ (b : Bool). Counts b before now) is counts in fails.1
 
-sink_rose : (status : Status) (before now : ℕ) → is_write_fault status ≡ true → SinkCounts status before now → Rose before now
+sink_rose : (status : Status) (before now : ℕ) → is_sink_status status ≡ true → SinkCounts status before now → Rose before now
 sink_rose WriteFault before now is counts = counts.1
 sink_rose other before now is counts = absurd cc
 
-disk_rose : (asked : Asked) (status : Status) (before now : ℕ) → is_disk_fault status ≡ true → DiskCounts asked status before now → Rose before now
+disk_rose : (asked : Subcommand) (status : Status) (before now : ℕ) → is_disk_fault status ≡ true → DiskCounts asked status before now → Rose before now
 disk_rose (desk airport types) DiskFault before now is counts = counts.1
 disk_rose (desk airport types) other before now is counts = absurd cc
 disk_rose asked status before now is counts = rose_by (is_disk_fault status) before now is counts
@@ -65,12 +65,12 @@ not_both : (flag : Bool) → flag ≡ false → flag ≡ true → ⊥
 not_both flag off on = cc
 
 -- what a text that was written, or the line of a fault of the two files, says of the source and of the disk
-found_read : (found : Result AirportFiles FilesFault) (before after : SinkState) (status : Status) → TellsFound found before after status → is_read_fault status ≡ false
+found_read : (found : Result AirportFiles FilesFault) (before after : SinkState) (status : Status) → TellsFound found before after status → is_source_status status ≡ false
 found_read (Ok files) before after status tells = let print : Printed status before after = printed _ before after status tells in print.read
 found_read (Err fault) before after status tells =
     let lines : Lines status (status_of_fault fault) before after = lines_of _ (status_of_fault fault) before after status tells in
     let says : OfLine (is_shelf_found (Err fault)) (status_of_fault fault) = fault_status fault in
-    ap is_read_fault lines.is ∙ says.read
+    ap is_source_status lines.is ∙ says.read
 
 found_disk : (found : Result AirportFiles FilesFault) (before after : SinkState) (status : Status) → TellsFound found before after status → is_disk_fault status ≡ false
 found_disk (Ok files) before after status tells = let print : Printed status before after = printed _ before after status tells in print.disk
@@ -78,7 +78,7 @@ found_disk (Err fault) before after status tells =
     let lines : Lines status (status_of_fault fault) before after = lines_of _ (status_of_fault fault) before after status tells in ap is_disk_fault lines.is ∙ fault_spares fault
 
 import_read : (found : Result AirportFiles FilesFault) (season : List ℕ) (shelf : ShelfState) (before after : World) (status : Status)
-    → ImportsFound found season (around shelf before) (around after.shelf after) status → is_read_fault status ≡ false
+    → ImportsFound found season (around shelf before) (around after.shelf after) status → is_source_status status ≡ false
 import_read (Ok files) season shelf before after status imports =
     let counts : CountsImport status (around shelf before) (around after.shelf after) =
     import_met files season (around shelf before) (around after.shelf after) imports.met status imports.meets imports.tells in counts.read
@@ -86,8 +86,8 @@ import_read (Err fault) season shelf before after status (same, tells) = found_r
 
 -- what a word that needs no file ends with
 record SpeaksOfSink (status : Status) : Type 0 where
-  pub shelf : is_shelf_fault status ≡ false
-  pub read : is_read_fault status ≡ false
+  pub shelf : is_shelf_status status ≡ false
+  pub read : is_source_status status ≡ false
   pub disk : is_disk_fault status ≡ false
 
 print_speaks : (text : List ℕ) (before after : SinkState) (status : Status) → Writes text Done WriteFault before after status → SpeaksOfSink status
@@ -97,7 +97,7 @@ print_speaks text before after status tells =
 line_speaks : (text : List ℕ) (of : Status) (before after : SinkState) (status : Status) → SpeaksOfSink of → Writes text of of before after status → SpeaksOfSink status
 line_speaks text of before after status speaks tells =
     let lines : Lines status of before after = lines_of text of before after status tells in
-    record { shelf = ap is_shelf_fault lines.is ∙ speaks.shelf; read = ap is_read_fault lines.is ∙ speaks.read; disk = ap is_disk_fault lines.is ∙ speaks.disk }
+    record { shelf = ap is_shelf_status lines.is ∙ speaks.shelf; read = ap is_source_status lines.is ∙ speaks.read; disk = ap is_disk_fault lines.is ∙ speaks.disk }
 
 day_speaks : (visits : ℕ) (before after : SinkState) (status : Status) → TellsDay visits before after status → SpeaksOfSink status
 day_speaks visits before after status (inl day) = print_speaks _ before after status day.writes
@@ -108,7 +108,7 @@ usage_speaks before after status tells = line_speaks usage_text Usage before aft
 
 module _ (feeds : FeedTexts) (before after : World) (status : Status) where
   -- a word that reads no file
-  speaks : (asked : Asked) → uses_shelf asked ≡ false → Does feeds asked before after status → SpeaksOfSink status
+  speaks : (asked : Subcommand) → uses_shelf asked ≡ false → Does feeds asked before after status → SpeaksOfSink status
   speaks (make visits) none does = day_speaks visits before.sink after.sink status does
   speaks help none does = print_speaks _ before.sink after.sink status does
   speaks version none does = print_speaks _ before.sink after.sink status does
@@ -116,38 +116,38 @@ module _ (feeds : FeedTexts) (before after : World) (status : Status) where
   speaks asked none does = absurd cc
 
   -- the word uses the shelf where that fails
-  shelf_used : (asked : Asked) → Does feeds asked before after status → is_shelf_fault status ≡ true → uses_shelf asked ≡ true
+  shelf_used : (asked : Subcommand) → Does feeds asked before after status → is_shelf_status status ≡ true → uses_shelf asked ≡ true
   shelf_used asked does is = by_use (uses_shelf asked) refl
     where
       by_use : (used : Bool) → uses_shelf asked ≡ used → uses_shelf asked ≡ true
       by_use true used = used
-      by_use false none = let says : SpeaksOfSink status = speaks asked none does in absurd (not_both (is_shelf_fault status) says.shelf is)
+      by_use false none = let says : SpeaksOfSink status = speaks asked none does in absurd (not_both (is_shelf_status status) says.shelf is)
 
   -- a word that does something with two files does not read the source
-  unread : {airport types : List ℕ} {P : Type 0} (OnFiles : AirportFiles → Outs → Outs → Status → Type 0)
-      → ((files : AirportFiles) → OnFiles files (outs_of before) (outs_of after) status → Counted false status (outs_of before) (outs_of after))
-      → DoesWithFiles OnFiles airport types before after status → is_read_fault status ≡ true → P
+  unread : {airport types : List ℕ} {P : Type 0} (OnFiles : AirportFiles → SinkAndDisk → SinkAndDisk → Status → Type 0)
+      → ((files : AirportFiles) → OnFiles files (sink_and_disk before) (sink_and_disk after) status → Counted false status (sink_and_disk before) (sink_and_disk after))
+      → DoesWithFiles OnFiles airport types before after status → is_source_status status ≡ true → P
   unread OnFiles counted does is =
-      let counts : Counted (is_shelf_found does.found) status (outs_of before) (outs_of after) =
-      found_counted OnFiles (outs_of before) (outs_of after) status counted does.found does.does in
-      absurd (not_both (is_read_fault status) counts.read is)
+      let counts : Counted (is_shelf_found does.found) status (sink_and_disk before) (sink_and_disk after) =
+      found_counted OnFiles (sink_and_disk before) (sink_and_disk after) status counted does.found does.does in
+      absurd (not_both (is_source_status status) counts.read is)
 
   -- and the source where that does
-  source_used : (asked : Asked) → Does feeds asked before after status → is_read_fault status ≡ true → uses_source asked (code_of ReadFault) ≡ true
+  source_used : (asked : Subcommand) → Does feeds asked before after status → is_source_status status ≡ true → uses_source asked (exit_code ReadFault) ≡ true
   source_used (desk airport types) does is = refl
-  source_used (init airport types) does is = unread MakesJournal (λ files. makes_counted files (outs_of before) (outs_of after) status) does is
-  source_used (check airport types) does is = absurd (not_both (is_read_fault status) (found_read does.found before.sink after.sink status does.tells) is)
-  source_used (chart airport types day) does is = unread (ChartsNamed day) (λ files. chart_counted day files (outs_of before) (outs_of after) status) does is
+  source_used (init airport types) does is = unread MakesJournal (λ files. makes_counted files (sink_and_disk before) (sink_and_disk after) status) does is
+  source_used (check airport types) does is = absurd (not_both (is_source_status status) (found_read does.found before.sink after.sink status does.tells) is)
+  source_used (chart airport types day) does is = unread (ChartsNamed day) (λ files. chart_counted day files (sink_and_disk before) (sink_and_disk after) status) does is
   source_used (import airport types season) does is =
-      absurd (not_both (is_read_fault status) (import_read does.found season does.shelf before after status does.imports) is)
-  source_used (export airport types) does is = unread (PrintsText IsSeason) (λ files. prints_counted IsSeason files (outs_of before) (outs_of after) status) does is
-  source_used (upgrade airport types) does is = unread UpgradesJournal (λ files. upgrades_counted files (outs_of before) (outs_of after) status) does is
+      absurd (not_both (is_source_status status) (import_read does.found season does.shelf before after status does.imports) is)
+  source_used (export airport types) does is = unread (PrintsText IsSeason) (λ files. prints_counted IsSeason files (sink_and_disk before) (sink_and_disk after) status) does is
+  source_used (upgrade airport types) does is = unread UpgradesJournal (λ files. upgrades_counted files (sink_and_disk before) (sink_and_disk after) status) does is
   source_used (propose airport types name draft) does is =
-      unread (PrintsText (IsProposed name draft)) (λ files. prints_counted (IsProposed name draft) files (outs_of before) (outs_of after) status) does is
-  source_used asked does is = let says : SpeaksOfSink status = speaks asked refl does in absurd (not_both (is_read_fault status) says.read is)
+      unread (PrintsText (IsProposed name draft)) (λ files. prints_counted (IsProposed name draft) files (sink_and_disk before) (sink_and_disk after) status) does is
+  source_used asked does is = let says : SpeaksOfSink status = speaks asked refl does in absurd (not_both (is_source_status status) says.read is)
 
   -- and the disk
-  disk_used : (asked : Asked) → Does feeds asked before after status → is_disk_fault status ≡ true → uses_disk asked (code_of DiskFault) ≡ true
+  disk_used : (asked : Subcommand) → Does feeds asked before after status → is_disk_fault status ≡ true → uses_disk asked (exit_code DiskFault) ≡ true
   disk_used (check airport types) does is = absurd (not_both (is_disk_fault status) (found_disk does.found before.sink after.sink status does.tells) is)
   disk_used (desk airport types) does is = refl
   disk_used (init airport types) does is = refl
@@ -159,19 +159,19 @@ module _ (feeds : FeedTexts) (before after : World) (status : Status) where
   disk_used asked does is = let says : SpeaksOfSink status = speaks asked refl does in absurd (not_both (is_disk_fault status) says.disk is)
 
 -- the faults that a run tells have their causes
-pub faults_have_cause : (feeds : FeedTexts) (asked : Asked) (before after : World) (code : ℕ) → RunsAs feeds asked before after code → FaultsHaveCause asked before after code
+pub faults_have_cause : (feeds : FeedTexts) (asked : Subcommand) (before after : World) (code : ℕ) → RunsAs feeds asked before after code → FaultsHaveCause asked before after code
 faults_have_cause feeds asked before after code runs =
     let status : Status = runs.status in
     record {
       shelf = λ is.
-          let told : is_shelf_fault status ≡ true = shelf_code status (sym runs.code_is ∙ is) in (
+          let told : is_shelf_status status ≡ true = shelf_code status (sym runs.code_is ∙ is) in (
             shelf_used feeds before after status asked runs.does told,
-            rose_by (is_shelf_fault status) before.shelf.faults after.shelf.faults told runs.shelf,
+            rose_by (is_shelf_status status) before.shelf.faults after.shelf.faults told runs.shelf,
           );
       source = λ is.
-          let told : is_read_fault status ≡ true = read_code status (sym runs.code_is ∙ is) in (
+          let told : is_source_status status ≡ true = read_code status (sym runs.code_is ∙ is) in (
             subst (λ (n : ℕ). uses_source asked n ≡ true) (sym is) (source_used feeds before after status asked runs.does told),
-            rose_by (is_read_fault status) before.source.faults after.source.faults told runs.source,
+            rose_by (is_source_status status) before.source.faults after.source.faults told runs.source,
           );
       sink = λ is. sink_rose status before.sink.faults after.sink.faults (write_code status (sym runs.code_is ∙ is)) runs.sink;
       disk = λ is.

@@ -1,12 +1,12 @@
 -- Every run is complete.
 use Rattle.std.proofs.Common.{◌≡◌, ◌∙◌, ℕ, inl, inr, ap}
 use Rattle.desk_turns.specs.Watched.{FeedTexts}
-use Rattle.apron_run.specs.Complete.{EndsWell, IsComplete, IsValid, NoneFails}
+use Rattle.apron_run.specs.Complete.{CanBeRun, EndsWell, IsRunComplete, NoneFails}
 use Rattle.apron_run.specs.Export.{IsSeason}
 use Rattle.apron_run.specs.Propose.{IsProposed}
 use Rattle.apron_run.specs.Run.{Does, RunsAs}
-use Rattle.apron_run.specs.Statuses.{code_of}
-use Rattle.apron_run.specs.Words.{Asked, desk, init, check, chart, import, export, propose, upgrade, make, help, version, faulty}
+use Rattle.apron_run.specs.Statuses.{exit_code}
+use Rattle.apron_run.specs.Words.{Subcommand, desk, init, check, chart, import, export, propose, upgrade, make, help, version, faulty}
 use Rattle.apron_run.specs.World.{World}
 use Rattle.apron_run.specs.declared.status.Status.{Status}
 use Rattle.apron_run.proofs.Completing.{Well, chart_well, check_well, import_well, init_well, make_well, print_well, prints_well}
@@ -14,7 +14,7 @@ use Rattle.apron_run.proofs.Sessions.{desk_well}
 use Rattle.apron_run.proofs.Upgrading.{upgrade_well}
 
 -- each word
-does_well : (feeds : FeedTexts) (asked : Asked) (before after : World) (status : Status) → IsValid asked before → NoneFails before after → Does feeds asked before after status → Well status
+does_well : (feeds : FeedTexts) (asked : Subcommand) (before after : World) (status : Status) → CanBeRun asked before → NoneFails before after → Does feeds asked before after status → Well status
 does_well feeds (desk airport types) before after status (made, has, (history, journal, input)) free does =
     desk_well feeds made history airport types before after status has journal input free does
 does_well feeds (init airport types) before after status (made, has, empty) free does =
@@ -35,10 +35,10 @@ does_well feeds help before after status valid free does = print_well _ before.s
 does_well feeds version before after status valid free does = print_well _ before.sink after.sink status free.sink does
 does_well feeds faulty before after status valid free does = absurd valid
 
-ends_well : (status : Status) (code : ℕ) → code ≡ code_of status → Well status → EndsWell code
-ends_well status code is (inl done) = inl (is ∙ ap code_of done)
-ends_well status code is (inr wanting) = inr (is ∙ ap code_of wanting)
+ends_well : (status : Status) (code : ℕ) → code ≡ exit_code status → Well status → EndsWell code
+ends_well status code is (inl done) = inl (is ∙ ap exit_code done)
+ends_well status code is (inr wanting) = inr (is ∙ ap exit_code wanting)
 
-pub run_complete : (feeds : FeedTexts) (asked : Asked) (before after : World) (code : ℕ) → RunsAs feeds asked before after code → IsComplete asked before after code
+pub run_complete : (feeds : FeedTexts) (asked : Subcommand) (before after : World) (code : ℕ) → RunsAs feeds asked before after code → IsRunComplete asked before after code
 run_complete feeds asked before after code runs =
     record { well = λ valid free. ends_well runs.status code runs.code_is (does_well feeds asked before after runs.status valid free runs.does) }

@@ -12,15 +12,15 @@ use Rattle.desk_words.specs.declared.asks.Entry.{Entry}
 use Rattle.history_core.specs.History.{call_limit, replay}
 use Rattle.journal_disk.specs.declared.fault.JournalFault.{JournalFault}
 use Rattle.journal_disk.specs.declared.fault.JournalFault.TheVariants as journal
-use Rattle.apron_check.specs.Files.{Finds}
+use Rattle.apron_check.specs.Files.{FindsFiles}
 use Rattle.apron_check.specs.declared.files.AirportFiles.{AirportFiles}
 use Rattle.apron_check.specs.declared.faults.FilesFault.{FilesFault}
 use Rattle.apron_check.specs.declared.faults.FilesFault.TheVariants as files
-use Rattle.apron_run.specs.Asking.{AsksSeason, MeetsAll, Reached, Stops, StopsAmong, record_behind}
+use Rattle.apron_run.specs.Asking.{AsksSeason, MeetsAll, Reached, StopsAmong, StopsImport, record_behind}
 use Rattle.apron_run.specs.Chart.{ChartsDay, ChartsFiles, ChartsNamed, IsChart, day_named}
 use Rattle.apron_run.specs.Check.{ChecksFiles, TellsFault, TellsFound}
 use Rattle.apron_run.specs.Complete.{Admits, AdmitsEach, HasFiles, HasJournal, HasSeason, IsEmpty}
-use Rattle.apron_run.specs.Import.{Around, AsksFound, FindsSeason, ImportsFiles, ImportsFound, IsTooLong, MeetsImport, Stores, Tells, TellsMet, around, begun, most_season}
+use Rattle.apron_run.specs.Import.{Around, AsksFound, FindsSeason, ImportsFiles, ImportsFound, IsSeasonTooLong, MeetsImport, PrintsImportEnd, Stores, Tells, around, most_season, new_import}
 use Rattle.apron_run.specs.Imported.{TellsImported, imported_line}
 use Rattle.apron_run.specs.Init.{InitsJournal, Makes, MakesJournal, TellsMade}
 use Rattle.apron_run.specs.Make.{TellsDay}
@@ -28,7 +28,7 @@ use Rattle.apron_run.specs.PlanText.{MeetsText, PrintsFiles, PrintsText, TellsTe
 use Rattle.apron_run.specs.Print.{Writes, made_text}
 use Rattle.apron_run.specs.TwoFiles.{DoesFound, DoesWithFiles}
 use Rattle.apron_run.specs.Unusable.{TellsUnusable, status_of_unusable, unusable_line}
-use Rattle.apron_run.specs.World.{Outs, World, outs_of}
+use Rattle.apron_run.specs.World.{SinkAndDisk, World, sink_and_disk}
 use Rattle.apron_run.specs.declared.imported.Imported.{Imported}
 use Rattle.apron_run.specs.declared.imported.Imported.TheVariants as how
 use Rattle.apron_run.specs.declared.status.Status.{Status}
@@ -72,18 +72,18 @@ unopened_well why before after status is tells =
 
 -- what was found in the two files is their airport, or memory has run out
 module _ (made : AirportFiles) (before after : ShelfState) (airport types : List ℕ) (has : HasFiles before airport types made) (still : ¬ (Rose before.faults after.faults)) where
-  pub found_or_wanting : (found : Result AirportFiles FilesFault) → Finds before after airport types found → (found ≡ Ok made) ⊎ (found ≡ Err files.Memory)
+  pub found_or_wanting : (found : Result AirportFiles FilesFault) → FindsFiles before after airport types found → (found ≡ Ok made) ⊎ (found ≡ Err files.Memory)
   found_or_wanting found finds = found_well before after airport types made has found finds.cause (λ failed. fails found finds failed)
     where
-      fails : (found : Result AirportFiles FilesFault) → Finds before after airport types found → found ≡ Err files.ShelfFault → ⊥
+      fails : (found : Result AirportFiles FilesFault) → FindsFiles before after airport types found → found ≡ Err files.ShelfFault → ⊥
       fails found finds failed =
           let counts : Counts true before.faults after.faults =
-          (let failing : Finds before after airport types (Err files.ShelfFault) = subst (Finds before after airport types) failed finds in failing.counts) in
+          (let failing : FindsFiles before after airport types (Err files.ShelfFault) = subst (FindsFiles before after airport types) failed finds in failing.counts) in
           still counts.1
 
   -- where it is done with what was found, that goes well where it does with the airport, and where memory has run out
   pub goes_well : (Does : Result AirportFiles FilesFault → Type 0) (status : Status) → (Does (Ok made) → Well status) → (Does (Err files.Memory) → Well status)
-      → (found : Result AirportFiles FilesFault) → Finds before after airport types found → Does found → Well status
+      → (found : Result AirportFiles FilesFault) → FindsFiles before after airport types found → Does found → Well status
   goes_well Does status with_airport wanting found finds does = by_case (found_or_wanting found finds)
     where
       by_case : (found ≡ Ok made) ⊎ (found ≡ Err files.Memory) → Well status
@@ -93,10 +93,10 @@ module _ (made : AirportFiles) (before after : ShelfState) (airport types : List
 -- where a word does with the airport of the two files what goes well, its run goes well
 module _ (made : AirportFiles) (airport types : List ℕ) (before after : World) (status : Status) (has : HasFiles before.shelf airport types made)
     (still : ¬ (Rose before.shelf.faults after.shelf.faults)) where
-  pub files_well : (OnFiles : AirportFiles → Outs → Outs → Status → Type 0) → (OnFiles made (outs_of before) (outs_of after) status → Well status)
+  pub files_well : (OnFiles : AirportFiles → SinkAndDisk → SinkAndDisk → Status → Type 0) → (OnFiles made (sink_and_disk before) (sink_and_disk after) status → Well status)
       → DoesWithFiles OnFiles airport types before after status → Well status
   files_well OnFiles well does =
-      goes_well made before.shelf after.shelf airport types has still (λ found. DoesFound OnFiles found (outs_of before) (outs_of after) status) status
+      goes_well made before.shelf after.shelf airport types has still (λ found. DoesFound OnFiles found (sink_and_disk before) (sink_and_disk after) status) status
       well (λ told. memory_well before.sink after.sink status told.1) does.found does.finds does.does
 
 -- a run of the word `check`
@@ -107,7 +107,7 @@ check_well made airport types before after status has shelf sink checks =
     (λ tells. printed_well before.sink after.sink sink _ status tells) (λ tells. memory_well before.sink after.sink status tells) checks.found checks.finds checks.tells
 
 -- a journal is made on an empty disk
-module _ (digests : List ℕ) (before after : Outs) (empty : IsEmpty before.disk) (sink : ¬ (Rose before.sink.faults after.sink.faults))
+module _ (digests : List ℕ) (before after : SinkAndDisk) (empty : IsEmpty before.disk) (sink : ¬ (Rose before.sink.faults after.sink.faults))
     (disk : ¬ (Rose before.disk.faults after.disk.faults)) (status : Status) where
   made_well : (refused : Option JournalFault) → Makes digests before.disk after.disk refused → TellsMade refused before.sink after.sink status → Well status
   made_well None makes tells = printed_well before.sink after.sink sink made_text status tells
@@ -123,10 +123,10 @@ pub init_well : (made : AirportFiles) (airport types : List ℕ) (before after :
     → InitsJournal airport types before after status → Well status
 init_well made airport types before after status has empty shelf sink disk =
     files_well made airport types before after status has shelf MakesJournal
-    (λ makes. made_well made.digests (outs_of before) (outs_of after) empty sink disk status makes.refused makes.makes makes.tells)
+    (λ makes. made_well made.digests (sink_and_disk before) (sink_and_disk after) empty sink disk status makes.refused makes.makes makes.tells)
 
 -- a text is made of a journal
-module _ (made : AirportFiles) (history : List Entry) (before after : Outs) (has : HasJournal made before.disk history) (sink : ¬ (Rose before.sink.faults after.sink.faults))
+module _ (made : AirportFiles) (history : List Entry) (before after : SinkAndDisk) (has : HasJournal made before.disk history) (sink : ¬ (Rose before.sink.faults after.sink.faults))
     (disk : ¬ (Rose before.disk.faults after.disk.faults)) (status : Status) where
   text_well : (Answers : AirportParts → List Entry → List ℕ → Type 0) (met : Result (Result (List ℕ) Wanting) Unusable)
       → MeetsText Answers made before.disk after.disk met → TellsText met before.sink after.sink status → Well status
@@ -147,13 +147,13 @@ module _ (made : AirportFiles) (history : List Entry) (airport types : List ℕ)
   pub chart_well : (day : List ℕ) → IsSome (day_named made.airport day) → ChartsFiles airport types day before after status → Well status
   chart_well day named =
       files_well made airport types before after status has shelf (ChartsNamed day)
-      (λ charts. day_well made history (outs_of before) (outs_of after) journal sink disk status (day_named made.airport day) named charts)
+      (λ charts. day_well made history (sink_and_disk before) (sink_and_disk after) journal sink disk status (day_named made.airport day) named charts)
 
   -- of each other that prints a text of the plan
   pub prints_well : (Answers : AirportParts → List Entry → List ℕ → Type 0) → PrintsFiles Answers airport types before after status → Well status
   prints_well Answers =
       files_well made airport types before after status has shelf (PrintsText Answers)
-      (λ prints. text_well made history (outs_of before) (outs_of after) journal sink disk status Answers prints.met prints.meets prints.tells)
+      (λ prints. text_well made history (sink_and_disk before) (sink_and_disk after) journal sink disk status Answers prints.met prints.meets prints.tells)
 
 -- a run of the word `make`
 pub make_well : (visits : ℕ) (before after : SinkState) (status : Status) → ¬ (Rose before.faults after.faults) → TellsDay visits before after status → Well status
@@ -174,7 +174,7 @@ module _ (airport : AirportParts) (visits : List NewVisit) (before after : Reach
       here : Admits (replay airport stops.at.history) (length stops.at.history) stops.new
       here = admits stops.front stops.back stops.new stops.at stops.are stops.met
 
-      well : (imported : Imported) → Stops airport (record_behind stops.front) stops.at stops.new after imported → imported ≡ how.Memory
+      well : (imported : Imported) → StopsImport airport (record_behind stops.front) stops.at stops.new after imported → imported ≡ how.Memory
       well (how.Refused told) (is, (other, asks)) = let (visit, named, number) = asks.takes in absurd (here.name visit named)
       well (how.Full told) (is, asks) = let (none, no_place) = asks.takes in absurd (no_place (here.place none))
       well how.DiskFault (takes, history, counts, risk) =
@@ -202,7 +202,7 @@ module _ (airport : AirportParts) (season : List ℕ) (before after : ShelfState
       let same : tells.bytes ≡ other.bytes = same_bytes (before.file season) tells.bytes other.bytes told tells.told other.told in
       sym tells.season_is ∙ (ap (season_in airport) same ∙ other.season_is)
 
-  not_too_long : (file : Option (List ℕ)) → IsSome file → Tells airport file (Ok visits) → IsTooLong file before after → ⊥
+  not_too_long : (file : Option (List ℕ)) → IsSome file → Tells airport file (Ok visits) → IsSeasonTooLong file before after → ⊥
   not_too_long None given short long = absurd cc
   not_too_long (Some kept) given short long =
       let is : short.bytes ≡ kept = short.told in
@@ -221,26 +221,26 @@ module _ (airport : AirportParts) (season : List ℕ) (before after : ShelfState
 
 -- an import into a journal
 module _ (made : AirportFiles) (history : List Entry) (season : List ℕ) (before after : Around) (status : Status) (has : HasJournal made before.stores.disk history)
-    (valid : HasSeason made.airport before.stores.shelf season (begun history before.stores.disk.faults))
+    (valid : HasSeason made.airport before.stores.shelf season (new_import history before.stores.disk.faults))
     (shelf : ¬ (Rose before.stores.shelf.faults after.stores.shelf.faults)) (sink : ¬ (Rose before.sink.faults after.sink.faults))
     (disk : ¬ (Rose before.stores.disk.faults after.stores.disk.faults)) where
   asks_well : (found : Result (List NewVisit) Imported) (left : Reached) (imported : Imported) → (found ≡ Ok valid.visits) ⊎ (found ≡ Err how.Memory)
-      → left.faults ≡ after.stores.disk.faults → AsksFound made.airport found (begun history before.stores.disk.faults) left imported
+      → left.faults ≡ after.stores.disk.faults → AsksFound made.airport found (new_import history before.stores.disk.faults) left imported
       → TellsImported imported before.sink after.sink status → Well status
   asks_well found left imported (inl is) faults asks tells =
-      asked_well made.airport valid.visits (begun history before.stores.disk.faults) left valid.admits valid.numbers
+      asked_well made.airport valid.visits (new_import history before.stores.disk.faults) left valid.admits valid.numbers
       (subst (λ (n : ℕ). ¬ (Rose before.stores.disk.faults n)) (sym faults) disk) imported before.sink after.sink status
-      (subst (λ (f : Result (List NewVisit) Imported). AsksFound made.airport f (begun history before.stores.disk.faults) left imported) is asks) sink tells
+      (subst (λ (f : Result (List NewVisit) Imported). AsksFound made.airport f (new_import history before.stores.disk.faults) left imported) is asks) sink tells
   asks_well found left imported (inr is) faults asks tells =
-      let (same, wanting) = subst (λ (f : Result (List NewVisit) Imported). AsksFound made.airport f (begun history before.stores.disk.faults) left imported) is asks in
+      let (same, wanting) = subst (λ (f : Result (List NewVisit) Imported). AsksFound made.airport f (new_import history before.stores.disk.faults) left imported) is asks in
       wanting_well before.sink after.sink status (subst (λ (i : Imported). TellsImported i before.sink after.sink status) wanting tells)
 
-  imported_well : (met : Result Imported Unusable) → MeetsImport made season before.stores after.stores met → TellsMet met before.sink after.sink status → Well status
+  imported_well : (met : Result Imported Unusable) → MeetsImport made season before.stores after.stores met → PrintsImportEnd met before.sink after.sink status → Well status
   imported_well (Ok imported) meets tells =
       let same : meets.opened ≡ history = opened_once made before.stores.disk after.stores.disk history has meets.opened meets.opens in
       asks_well meets.found meets.left imported
       (season_found made.airport season before.stores.shelf after.stores.shelf valid.visits valid.told valid.tells shelf meets.found meets.finds) meets.faults
-      (subst (λ (es : List Entry). AsksFound made.airport meets.found (begun es before.stores.disk.faults) meets.left imported) same meets.asks) tells
+      (subst (λ (es : List Entry). AsksFound made.airport meets.found (new_import es before.stores.disk.faults) meets.left imported) same meets.asks) tells
   imported_well (Err why) meets tells =
       unopened_well why before.sink after.sink status (unopened_wants made before.stores.disk after.stores.disk history has why meets.disk disk) tells
 
@@ -257,25 +257,25 @@ moved_season airport season shelf other start same valid = record {
 
 -- a run of the word `import`
 module _ (made : AirportFiles) (history : List Entry) (airport types season : List ℕ) (before after : World) (status : Status) (has : HasFiles before.shelf airport types made)
-    (journal : HasJournal made before.disk history) (valid : HasSeason made.airport before.shelf season (begun history before.disk.faults))
+    (journal : HasJournal made before.disk history) (valid : HasSeason made.airport before.shelf season (new_import history before.disk.faults))
     (shelf : ¬ (Rose before.shelf.faults after.shelf.faults)) (sink : ¬ (Rose before.sink.faults after.sink.faults)) (disk : ¬ (Rose before.disk.faults after.disk.faults)) where
-  files_fail : (found : Result AirportFiles FilesFault) (mid : ShelfState) → Finds before.shelf mid airport types found
+  files_fail : (found : Result AirportFiles FilesFault) (mid : ShelfState) → FindsFiles before.shelf mid airport types found
       → ImportsFound found season (around mid before) (around after.shelf after) status → found ≡ Err files.ShelfFault → ⊥
   files_fail found mid finds imports is =
-      let failing : Finds before.shelf mid airport types (Err files.ShelfFault) = subst (Finds before.shelf mid airport types) is finds in
+      let failing : FindsFiles before.shelf mid airport types (Err files.ShelfFault) = subst (FindsFiles before.shelf mid airport types) is finds in
       let counts : Counts true before.shelf.faults mid.faults = failing.counts in
       let (same, tells) = subst (λ (f : Result AirportFiles FilesFault). ImportsFound f season (around mid before) (around after.shelf after) status) is imports in
       let left : after.shelf.faults ≡ mid.faults = ap (λ (s : Stores). s.shelf.faults) same in
       shelf (subst (Rose before.shelf.faults) (sym left) counts.1)
 
-  files_found : (found : Result AirportFiles FilesFault) (mid : ShelfState) → Finds before.shelf mid airport types found
+  files_found : (found : Result AirportFiles FilesFault) (mid : ShelfState) → FindsFiles before.shelf mid airport types found
       → ImportsFound found season (around mid before) (around after.shelf after) status → (found ≡ Ok made) ⊎ (found ≡ Err files.Memory) → Well status
   files_found found mid finds imports (inl is) =
-      let good : Finds before.shelf mid airport types (Ok made) = subst (Finds before.shelf mid airport types) is finds in
+      let good : FindsFiles before.shelf mid airport types (Ok made) = subst (FindsFiles before.shelf mid airport types) is finds in
       let faults : mid.faults ≡ before.shelf.faults = good.counts in
       let does = subst (λ (f : Result AirportFiles FilesFault). ImportsFound f season (around mid before) (around after.shelf after) status) is imports in
       imported_well made history season (around mid before) (around after.shelf after) status journal
-      (moved_season made.airport season before.shelf mid (begun history before.disk.faults) (good.kept season) valid)
+      (moved_season made.airport season before.shelf mid (new_import history before.disk.faults) (good.kept season) valid)
       (subst (λ (n : ℕ). ¬ (Rose n after.shelf.faults)) (sym faults) shelf) sink disk does.met does.meets does.tells
   files_found found mid finds imports (inr is) =
       let (same, tells) = subst (λ (f : Result AirportFiles FilesFault). ImportsFound f season (around mid before) (around after.shelf after) status) is imports in

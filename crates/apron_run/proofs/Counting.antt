@@ -5,7 +5,7 @@ use Rattle.apron_base.specs.Ends.{SinkState}
 use Rattle.desk_turns.specs.Watched.{FeedTexts}
 use Rattle.journal_disk.specs.declared.fault.JournalFault.TheVariants as journal
 use Rattle.history_core.specs.declared.opening.OpenFault.TheVariants as entries
-use Rattle.apron_check.specs.Files.{is_shelf_fault as is_shelf_found}
+use Rattle.apron_check.specs.Files.{is_files_shelf_fault as is_shelf_found}
 use Rattle.apron_check.specs.Lines.{fault_line}
 use Rattle.apron_check.specs.declared.files.AirportFiles.{AirportFiles}
 use Rattle.apron_check.specs.declared.faults.FilesFault.{FilesFault}
@@ -15,11 +15,11 @@ use Rattle.apron_run.specs.Desk.{ServedCounts}
 use Rattle.apron_run.specs.Journal.{WhyUnusable}
 use Rattle.apron_run.specs.Print.{Writes}
 use Rattle.apron_run.specs.Run.{DiskCounts, Does, RunsAs, SinkCounts}
-use Rattle.apron_run.specs.Statuses.{code_of, is_disk_fault, is_read_fault, is_shelf_fault, is_told, status_of_fault}
+use Rattle.apron_run.specs.Statuses.{exit_code, is_disk_fault, is_shelf_status, is_source_status, is_told, status_of_fault}
 use Rattle.apron_run.specs.TwoFiles.{DoesFound, DoesWithFiles}
 use Rattle.apron_run.specs.Unusable.{TellsUnusable, status_of_unusable, unusable_line}
-use Rattle.apron_run.specs.Words.{Asked}
-use Rattle.apron_run.specs.World.{DiskSeen, Outs, World, outs_of}
+use Rattle.apron_run.specs.Words.{Subcommand}
+use Rattle.apron_run.specs.World.{DiskSeen, SinkAndDisk, World, sink_and_disk}
 use Rattle.apron_run.specs.declared.status.Status.{Status}
 use Rattle.apron_run.specs.declared.status.Status.TheVariants.{Done, WriteFault}
 use Rattle.apron_run.specs.declared.unusable.Unusable.{Unusable}
@@ -45,8 +45,8 @@ told_sink status of before after told lines = let is : is_told status ≡ true =
 -- a status that a line tells: it says nothing of the source, and of the shelf whether it failed
 pub record OfLine (failed : Bool) (of : Status) : Type 0 where
   pub told : is_told of ≡ true
-  pub shelf : is_shelf_fault of ≡ failed
-  pub read : is_read_fault of ≡ false
+  pub shelf : is_shelf_status of ≡ failed
+  pub read : is_source_status of ≡ false
 
 -- that of a journal that can't be worked on
 pub unusable_status : (why : Unusable) → OfLine false (status_of_unusable why)
@@ -61,10 +61,10 @@ fault_status files.ShelfFault = record { told = refl; shelf = refl; read = refl 
 fault_status fault = record { told = refl; shelf = refl; read = refl }
 
 -- what they say of the shelf, and of the disk, alone and after a session
-pub unusable_shelf : (why : Unusable) → is_shelf_fault (status_of_unusable why) ≡ false
+pub unusable_shelf : (why : Unusable) → is_shelf_status (status_of_unusable why) ≡ false
 unusable_shelf why = let says : OfLine false (status_of_unusable why) = unusable_status why in says.shelf
 
-pub fault_shelf : (fault : FilesFault) → is_shelf_fault (status_of_fault fault) ≡ is_shelf_found (Err fault)
+pub fault_shelf : (fault : FilesFault) → is_shelf_status (status_of_fault fault) ≡ is_shelf_found (Err fault)
 fault_shelf fault = let says : OfLine (is_shelf_found (Err fault)) (status_of_fault fault) = fault_status fault in says.shelf
 
 pub fault_spares : (fault : FilesFault) → is_disk_fault (status_of_fault fault) ≡ false
@@ -77,8 +77,8 @@ fault_disk fault before now same = same
 
 -- a text that was written, or a front of it: its status speaks of the sink alone
 pub record Printed (status : Status) (before after : SinkState) : Type 0 where
-  pub shelf : is_shelf_fault status ≡ false
-  pub read : is_read_fault status ≡ false
+  pub shelf : is_shelf_status status ≡ false
+  pub read : is_source_status status ≡ false
   pub disk : is_disk_fault status ≡ false
   pub sink : SinkCounts status before.faults after.faults
 
@@ -92,13 +92,13 @@ printed text before after status (inr (is, (count, wrote))) =
     printed_with status WriteFault before after is (record { shelf = refl; read = refl; disk = refl; sink = wrote.faults })
 
 -- what is counted where the source is not used, by the status: of the shelf it says whether it failed
-pub record Counted (failed : Bool) (status : Status) (before after : Outs) : Type 0 where
-  pub shelf : is_shelf_fault status ≡ failed
-  pub read : is_read_fault status ≡ false
+pub record Counted (failed : Bool) (status : Status) (before after : SinkAndDisk) : Type 0 where
+  pub shelf : is_shelf_status status ≡ failed
+  pub read : is_source_status status ≡ false
   pub sink : SinkCounts status before.sink.faults after.sink.faults
   pub disk : Counts (is_disk_fault status) before.disk.faults after.disk.faults
 
-module _ (before after : Outs) (status : Status) where
+module _ (before after : SinkAndDisk) (status : Status) where
   -- a text that was written, of a disk of which no call has failed
   pub text_counted : (text : List ℕ) → Counts false before.disk.faults after.disk.faults → Writes text Done WriteFault before.sink after.sink status
       → Counted false status before after
@@ -117,8 +117,8 @@ module _ (before after : Outs) (status : Status) where
   line_counted text of failed says counts tells =
       let lines : Lines status of before.sink after.sink = lines_of text of before.sink after.sink status tells in
       record {
-        shelf = ap is_shelf_fault lines.is ∙ says.shelf;
-        read = ap is_read_fault lines.is ∙ says.read;
+        shelf = ap is_shelf_status lines.is ∙ says.shelf;
+        read = ap is_source_status lines.is ∙ says.read;
         sink = told_sink status of before.sink after.sink says.told lines;
         disk = subst (λ (s : Status). Counts (is_disk_fault s) before.disk.faults after.disk.faults) (sym lines.is) counts;
       }
@@ -145,34 +145,34 @@ why_disk files before after (Entries entries.Memory) (found, vain, why) = vain.c
 why_disk files before after (Entries fault) (found, vain, why) = vain.counts
 
 -- a run that is counted so
-pub runs_counted : {feeds : FeedTexts} (asked : Asked) (failed : Bool) (before after : World) (status : Status) → after.source ≡ before.source
-    → Counts failed before.shelf.faults after.shelf.faults → Counted failed status (outs_of before) (outs_of after) → Does feeds asked before after status
-    → DiskCounts asked status before.disk.faults after.disk.faults → RunsAs feeds asked before after (code_of status)
+pub runs_counted : {feeds : FeedTexts} (asked : Subcommand) (failed : Bool) (before after : World) (status : Status) → after.source ≡ before.source
+    → Counts failed before.shelf.faults after.shelf.faults → Counted failed status (sink_and_disk before) (sink_and_disk after) → Does feeds asked before after status
+    → DiskCounts asked status before.disk.faults after.disk.faults → RunsAs feeds asked before after (exit_code status)
 runs_counted asked failed before after status source shelf counted does disk = record {
   status = status;
   code_is = refl;
   does = does;
   shelf = subst (λ (b : Bool). Counts b before.shelf.faults after.shelf.faults) (sym counted.shelf) shelf;
-  source = still (is_read_fault status) before.source.faults after.source.faults counted.read (ap (λ s. s.faults) source);
+  source = still (is_source_status status) before.source.faults after.source.faults counted.read (ap (λ s. s.faults) source);
   sink = counted.sink;
   disk = disk;
 }
 
-module _ (OnFiles : AirportFiles → Outs → Outs → Status → Type 0) where
+module _ (OnFiles : AirportFiles → SinkAndDisk → SinkAndDisk → Status → Type 0) where
   -- what is done with what was found in two files
-  pub found_counted : (before after : Outs) (status : Status) → ((files : AirportFiles) → OnFiles files before after status → Counted false status before after)
+  pub found_counted : (before after : SinkAndDisk) (status : Status) → ((files : AirportFiles) → OnFiles files before after status → Counted false status before after)
       → (found : Result AirportFiles FilesFault) → DoesFound OnFiles found before after status → Counted (is_shelf_found found) status before after
   found_counted before after status counted (Ok files) does = counted files does
   found_counted before after status counted (Err fault) (disk, tells) = fault_counted before after status fault (ap (λ (d : DiskSeen). d.faults) disk) tells
 
   -- a run of a word that does so
-  pub files_as : {feeds : FeedTexts} (asked : Asked) (airport types : List ℕ) (before after : World) (status : Status)
-      → ((files : AirportFiles) → OnFiles files (outs_of before) (outs_of after) status → Counted false status (outs_of before) (outs_of after))
+  pub files_as : {feeds : FeedTexts} (asked : Subcommand) (airport types : List ℕ) (before after : World) (status : Status)
+      → ((files : AirportFiles) → OnFiles files (sink_and_disk before) (sink_and_disk after) status → Counted false status (sink_and_disk before) (sink_and_disk after))
       → (DoesWithFiles OnFiles airport types before after status → Does feeds asked before after status)
       → (Counts (is_disk_fault status) before.disk.faults after.disk.faults → DiskCounts asked status before.disk.faults after.disk.faults)
-      → after.source ≡ before.source → DoesWithFiles OnFiles airport types before after status → RunsAs feeds asked before after (code_of status)
+      → after.source ≡ before.source → DoesWithFiles OnFiles airport types before after status → RunsAs feeds asked before after (exit_code status)
   files_as asked airport types before after status counted does disk source with_files =
       let finds = with_files.finds in
-      let counts : Counted (is_shelf_found with_files.found) status (outs_of before) (outs_of after) =
-      found_counted (outs_of before) (outs_of after) status counted with_files.found with_files.does in
+      let counts : Counted (is_shelf_found with_files.found) status (sink_and_disk before) (sink_and_disk after) =
+      found_counted (sink_and_disk before) (sink_and_disk after) status counted with_files.found with_files.does in
       runs_counted asked (is_shelf_found with_files.found) before after status source finds.counts counts (does with_files) (disk counts.disk)

@@ -4,11 +4,11 @@ use Rattle.desk_turns.specs.Watched.{FeedTexts}
 use Rattle.apron_run.specs.Crash.{CrashesAs, LeavesAll}
 use Rattle.apron_run.specs.Run.{RunsAs}
 use Rattle.apron_run.specs.Survival.{DiskStates}
-use Rattle.apron_run.specs.Words.{Asked, desk, init, import, upgrade}
+use Rattle.apron_run.specs.Words.{Subcommand, desk, init, import, upgrade}
 use Rattle.apron_run.specs.World.{World}
 
 -- whether a word may write on the disk
-abbrev pub may_write : Asked → Bool
+abbrev pub may_write : Subcommand → Bool
 may_write (desk airport types) = true
 may_write (init airport types) = true
 may_write (import airport types season) = true
@@ -16,7 +16,7 @@ may_write (upgrade airport types) = true
 may_write asked = false
 
 -- a run of a word that writes nothing there
-pub unwritten : {feeds : FeedTexts} (disk : DiskStates) (asked : Asked) (before after : World) (code : ℕ) → may_write asked ≡ false → RunsAs feeds asked before after code → LeavesAll disk
+pub unwritten : {feeds : FeedTexts} (disk : DiskStates) (asked : Subcommand) (before after : World) (code : ℕ) → may_write asked ≡ false → RunsAs feeds asked before after code → LeavesAll disk
     → CrashesAs feeds disk asked before after code
 unwritten disk (desk airport types) before after code is runs stays = absurd cc
 unwritten disk (init airport types) before after code is runs stays = absurd cc
@@ -25,9 +25,9 @@ unwritten disk (upgrade airport types) before after code is runs stays = absurd 
 unwritten disk asked before after code is runs stays = record { status = runs.status; code_is = runs.code_is; does = runs.does; leaves = stays }
 
 -- what is asked by other words
-pub asked_runs : {feeds : FeedTexts} {asked words : Asked} {before after : World} {code : ℕ} → asked ≡ words → RunsAs feeds asked before after code → RunsAs feeds words before after code
-asked_runs {feeds} {asked} {words} {before} {after} {code} is runs = subst (λ (a : Asked). RunsAs feeds a before after code) is runs
+pub asked_runs : {feeds : FeedTexts} {asked words : Subcommand} {before after : World} {code : ℕ} → asked ≡ words → RunsAs feeds asked before after code → RunsAs feeds words before after code
+asked_runs {feeds} {asked} {words} {before} {after} {code} is runs = subst (λ (a : Subcommand). RunsAs feeds a before after code) is runs
 
-pub asked_crashes : {feeds : FeedTexts} {disk : DiskStates} {asked words : Asked} {before after : World} {code : ℕ} → asked ≡ words → CrashesAs feeds disk asked before after code
+pub asked_crashes : {feeds : FeedTexts} {disk : DiskStates} {asked words : Subcommand} {before after : World} {code : ℕ} → asked ≡ words → CrashesAs feeds disk asked before after code
     → CrashesAs feeds disk words before after code
-asked_crashes {feeds} {disk} {asked} {words} {before} {after} {code} is crashes = subst (λ (a : Asked). CrashesAs feeds disk a before after code) is crashes
+asked_crashes {feeds} {disk} {asked} {words} {before} {after} {code} is crashes = subst (λ (a : Subcommand). CrashesAs feeds disk a before after code) is crashes

@@ -2,13 +2,13 @@
 use Rattle.std.proofs.Common.{◌≡◌, ◌≢◌, ℕ, List, length, refl, ap, subst, false, Option, None, Some}
 use Rattle.std.specs.Prelude.{IfSome}
 use Rattle.apron_base.specs.Counts.{Counts}
-use Rattle.journal_disk.specs.Disk.{Between, DiskState, IsSafe, Stays, TellsAlike, Told}
+use Rattle.journal_disk.specs.Disk.{Between, DiskState, IfExposed, IsSafe, Stays, TellsAlike}
 use Rattle.journal_disk.specs.Faults.{InitFails}
 use Rattle.journal_disk.specs.Header.{empty_journal}
 use Rattle.journal_disk.specs.declared.fault.JournalFault.{JournalFault}
 use Rattle.journal_disk.specs.declared.fault.JournalFault.TheVariants as journal
-use Rattle.apron_run.specs.Init.{IsMade, Makes}
-use Rattle.apron_run.specs.World.{seen_of}
+use Rattle.apron_run.specs.Init.{IsJournalMade, Makes}
+use Rattle.apron_run.specs.World.{disk_seen}
 
 -- what holds of what is exposed, if it is
 pub if_told : (contents : Option (List ℕ)) (P : List ℕ → Type 0) → ((bytes : List ℕ) → contents ≡ Some bytes → P bytes) → IfSome contents P
@@ -28,8 +28,8 @@ reads_as (Some other) None bytes wanted is alike same = absurd alike
 reads_as None contents bytes wanted is alike same = absurd cc
 
 -- a journal was made
-pub is_made : (digests : List ℕ) (before after : DiskState) → Told before (λ bytes. length bytes ≡ 0) → Told before (λ _. IsSafe (empty_journal digests) after)
-    → TellsAlike before after → Told after (after.images after.moment) → Counts false before.faults after.faults → IsMade digests (seen_of before) (seen_of after)
+pub is_made : (digests : List ℕ) (before after : DiskState) → IfExposed before (λ bytes. length bytes ≡ 0) → IfExposed before (λ _. IsSafe (empty_journal digests) after)
+    → TellsAlike before after → IfExposed after (after.images after.moment) → Counts false before.faults after.faults → IsJournalMade digests (disk_seen before) (disk_seen after)
 is_made digests before after empty safe alike reads counts = record {
   empty = if_told before.contents (λ bytes. length bytes ≡ 0) empty;
   reads = if_told before.contents (λ _. after.contents ≡ Some (empty_journal digests)) (λ bytes is.
@@ -39,7 +39,7 @@ is_made digests before after empty safe alike reads counts = record {
 
 -- why none was made
 pub is_refused : (digests : List ℕ) (before after : DiskState) (fault : JournalFault) → InitFails before after fault
-    → Told before (λ bytes. length bytes ≢ 0 → Stays before after) → Makes digests (seen_of before) (seen_of after) (Some fault)
+    → IfExposed before (λ bytes. length bytes ≢ 0 → Stays before after) → Makes digests (disk_seen before) (disk_seen after) (Some fault)
 is_refused digests before after journal.DiskFault fails spares = record {
   spares = if_told before.contents (λ bytes. length bytes ≢ 0 → after.contents ≡ before.contents)
       (λ bytes is some. let stays : Stays before after = spares bytes is some in stays.contents);

@@ -11,7 +11,7 @@ use Rattle.http_framing.proofs.StreamLaws.{malformed_more, requests_closed, requ
 use Rattle.desk_http.specs.Answers.{Answered, Sent, exhausted, sends, sent_text}
 use Rattle.desk_http.specs.Ports.{IsExhausted, PortState}
 use Rattle.desk_http.specs.Runs.{Runs}
-use Rattle.desk_http.specs.Session.{ComesFirst, EndsAfter, IsCount, IsRead, Last, Progress, WritesLast, last_text, most_requests, no_progress, nothing, refusal, refusal_text, reply, texts_of}
+use Rattle.desk_http.specs.Session.{ComesFirst, EndsAfter, IsCount, IsReadToEnd, Last, Progress, WritesLast, last_text, most_requests, no_progress, nothing, refusal, refusal_text, reply, texts_of}
 use Rattle.desk_http.proofs.SoFar.{runs_push, texts_of-push}
 use Rattle.apron_check.specs.Lines.{fault_line}
 use Rattle.apron_check.specs.declared.faults.FilesFault.TheVariants as files
@@ -181,7 +181,7 @@ module _ (feeds : FeedTexts) (airport : AirportParts) (start : PortState) (input
 
   -- how a session stopped, for each outcome
   pub session_meets : (outcome : Outcome) (last : Last) (written tail : List ℕ) → EndsAfter Comes outcome done last served after
-      → IsRead outcome (Some more) → IsCount outcome (length done.requests) → WritesLast outcome (last_text airport last) written → IsTail outcome tail
+      → IsReadToEnd outcome (Some more) → IsCount outcome (length done.requests) → WritesLast outcome (last_text airport last) written → IsTail outcome tail
       → Meets feeds airport start (carrying ((texts ++ written) ++ tail)) (status_of_outcome outcome) after
   session_meets came.Ended nothing written tail ends read count wrote end = open_meets _ Done ends.1 (λ is. cc) (omega arith) (
     inl (

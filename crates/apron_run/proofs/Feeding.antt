@@ -4,14 +4,14 @@ use Rattle.std.specs.Prelude.{is_ok}
 use Rattle.apron_rules.specs.declared.parts.AirportParts.{AirportParts}
 use Rattle.http_framing.specs.Requests.{Request}
 use Rattle.desk_words.specs.declared.asks.Ask.{Ask}
-use Rattle.desk_words.specs.declared.early.Early.{Early}
+use Rattle.desk_words.specs.declared.early.EarlyReply.{EarlyReply}
 use Rattle.history_core.specs.Answer.{keeper_fault, no_memory}
 use Rattle.desk_http.specs.Alone.{AloneAsks}
 use Rattle.desk_http.specs.Answers.{Answered, FindsExhausted, SendsFor, Sent, TakesMemory, at_once, exhausted, fed, given, sends, unread}
 use Rattle.desk_http.specs.FedSession.{FedAnswersTo, feed_asked}
 use Rattle.desk_http.specs.FeedPorts.{version_ask}
 use Rattle.desk_http.specs.Ports.{IsExhausted, PortState}
-use Rattle.desk_http.specs.Routes.{routed, said_in}
+use Rattle.desk_http.specs.Routes.{ask_of_request, said_in}
 use Rattle.desk_http.specs.declared.port.FeedAsk.{FeedAsk}
 use Rattle.desk_turns.specs.Alone.{AloneFeeds}
 use Rattle.desk_turns.specs.Watched.{FeedTexts}
@@ -20,8 +20,8 @@ use Rattle.apron_run.specs.Headline.{Sends, is_asking, is_given, takes_number, t
 
 -- what was sent, and what an ask without feeds is sent that leaves the port alike: both are counted alike, and the latter is a failed append only where it is
 -- what was sent for what is asked without feeds
-pub record AsPlain (airport : AirportParts) (asking : Bool) (plain : Result Ask Early) (before : PortState) (sent : Sent) (after : PortState) : Type 0 where
-  pub asked : Result Ask Early
+pub record AsPlain (airport : AirportParts) (asking : Bool) (plain : Result Ask EarlyReply) (before : PortState) (sent : Sent) (after : PortState) : Type 0 where
+  pub asked : Result Ask EarlyReply
   pub like : Sent
   pub sends_like : SendsFor AloneAsks airport before asked like after
   pub asks : is_ok asked ≡ asking
@@ -36,13 +36,13 @@ pub record FindsSpent (asking : Bool) (before after : PortState) : Type 0 where
 
 module _ (feeds : FeedTexts) (airport : AirportParts) where
   -- what comes of a request that asks for this feed, or for none
-  abbrev ComesTo : Option (Result FeedAsk Early) → PortState → Request → Answered → PortState → Type 0
+  abbrev ComesTo : Option (Result FeedAsk EarlyReply) → PortState → Request → Answered → PortState → Type 0
   ComesTo feed before request answered after = FedAnswersTo AloneAsks (AloneFeeds (feeds airport)) feed airport before request answered after
 
-  sent_as : (feed : Option (Result FeedAsk Early)) (before : PortState) (request : Request) (sent : Sent) (after : PortState)
-      → ComesTo feed before request (sends sent) after → AsPlain airport (is_asking feed (routed airport request)) (routed airport request) before sent after
+  sent_as : (feed : Option (Result FeedAsk EarlyReply)) (before : PortState) (request : Request) (sent : Sent) (after : PortState)
+      → ComesTo feed before request (sends sent) after → AsPlain airport (is_asking feed (ask_of_request airport request)) (ask_of_request airport request) before sent after
   sent_as None before request sent after comes = record {
-    asked = routed airport request;
+    asked = ask_of_request airport request;
     like = sent;
     sends_like = comes;
     asks = refl;
@@ -75,16 +75,16 @@ module _ (feeds : FeedTexts) (airport : AirportParts) where
 
   -- what is sent for a request
   pub as_plain : (before : PortState) (request : Request) (sent : Sent) (after : PortState) → Sends feeds airport before request sent after
-      → AsPlain airport (takes_number airport request) (routed airport request) before sent after
+      → AsPlain airport (takes_number airport request) (ask_of_request airport request) before sent after
   as_plain before request sent after comes = sent_as (feed_asked (said_in request)) before request sent after comes
 
-  plain_spent : (asked : Result Ask Early) (before after : PortState) → FindsExhausted AloneAsks airport before asked after → FindsSpent (is_ok asked) before after
+  plain_spent : (asked : Result Ask EarlyReply) (before after : PortState) → FindsExhausted AloneAsks airport before asked after → FindsSpent (is_ok asked) before after
   plain_spent (Err early) before after finds = absurd finds
   plain_spent (Ok ask) before after finds = record { asks = refl; exhausted = finds }
 
-  spent_as : (feed : Option (Result FeedAsk Early)) (before : PortState) (request : Request) (after : PortState) → ComesTo feed before request exhausted after
-      → FindsSpent (is_asking feed (routed airport request)) before after
-  spent_as None before request after comes = plain_spent (routed airport request) before after comes
+  spent_as : (feed : Option (Result FeedAsk EarlyReply)) (before : PortState) (request : Request) (after : PortState) → ComesTo feed before request exhausted after
+      → FindsSpent (is_asking feed (ask_of_request airport request)) before after
+  spent_as None before request after comes = plain_spent (ask_of_request airport request) before after comes
   spent_as (Some (Err early)) before request after comes = absurd comes
   spent_as (Some (Ok ask)) before request after comes = record { asks = refl; exhausted = comes }
 
@@ -93,7 +93,7 @@ module _ (feeds : FeedTexts) (airport : AirportParts) where
       → FindsSpent (takes_number airport request) before after
   finds_spent before request after comes = spent_as (feed_asked (said_in request)) before request after comes
 
-  unread_as : (feed : Option (Result FeedAsk Early)) (before : PortState) (request : Request) (after : PortState) → ComesTo feed before request unread after
+  unread_as : (feed : Option (Result FeedAsk EarlyReply)) (before : PortState) (request : Request) (after : PortState) → ComesTo feed before request unread after
       → TakesMemory request × (after ≡ before)
   unread_as None before request after comes = comes
   unread_as (Some (Err early)) before request after comes = absurd comes

@@ -8,10 +8,10 @@ use Rattle.std.proofs.lemmas.List.{take-append-le, take_all}
 use Rattle.apron_base.specs.Keeper.{AddsEntry, FailsToAdd, KeeperState, with_last}
 use Rattle.apron_rules.specs.declared.parts.AirportParts.{AirportParts}
 use Rattle.desk_words.specs.declared.asks.Entry.{Entry}
-use Rattle.entry_bytes.specs.Entries.{decoded}
-use Rattle.history_core.specs.AtRisk.{entry_at_risk as entry_behind}
-use Rattle.history_core.specs.Board.{IsKept, IsNextText, entry_texts}
-use Rattle.journal_disk.specs.Disk.{Between, Continues, DiskState, IsDurable, Passes, Stays, Told}
+use Rattle.entry_bytes.specs.Entries.{decode_entry}
+use Rattle.history_core.specs.AtRisk.{read_entry_at_risk as entry_behind}
+use Rattle.history_core.specs.Board.{IsKeeperOf, IsNextText, entry_texts}
+use Rattle.journal_disk.specs.Disk.{Between, Continues, DiskState, IfExposed, IsDurable, Passes, Stays}
 use Rattle.journal_disk.specs.Extent.{AppendsSafely, Extent, HasOpened, IsCrashSafe, StandsFor, entries_within, keeper_of}
 use Rattle.journal_disk.specs.Header.{opening_of}
 use Rattle.apron_run.specs.Journal.{IsOf}
@@ -120,11 +120,11 @@ opened_are extent now entries bytes opened is =
 
 -- a journal that was just opened
 pub fronts_opened : (digests given : List ℕ) (begun before now : DiskState) (extent : Extent) (entries : List (List ℕ)) → given ≡ digests → Stays begun before
-    → Told before (λ bytes. opening_of given bytes ≡ Ok entries) → Stays before now → IsDurable before now → HasOpened (keeper_of extent now) entries
+    → IfExposed before (λ bytes. opening_of given bytes ≡ Ok entries) → Stays before now → IsDurable before now → HasOpened (keeper_of extent now) entries
     → LeavesFronts digests (entries_within extent) begun now
 fronts_opened digests given begun before now extent entries same first opens second durable opened =
     let stays : Stays begun now = stays_both begun before now first second in
-    let opening : Told before (λ bytes. opening_of digests bytes ≡ Ok entries) =
+    let opening : IfExposed before (λ bytes. opening_of digests bytes ≡ Ok entries) =
     λ bytes is. subst (λ (ds : List ℕ). opening_of ds bytes ≡ Ok entries) same (opens bytes is) in
     record {
       opened = entries;
@@ -222,18 +222,18 @@ fronts_on digests appended extent longer begun before now of fronts goes safe gr
     ]
 
 -- the entries of a journal that keeps a history
-kept_are : (airport : AirportParts) (history : List Entry) (extent : Extent) (disk : DiskState) (bytes : List ℕ) → IsKept airport history (keeper_of extent disk)
+kept_are : (airport : AirportParts) (history : List Entry) (extent : Extent) (disk : DiskState) (bytes : List ℕ) → IsKeeperOf airport history (keeper_of extent disk)
     → disk.contents ≡ Some bytes → entries_within extent bytes ≡ entry_texts history
 kept_are airport history extent disk bytes kept is =
     known (option_map (entries_within extent) disk.contents) (λ (es : List (List ℕ)). es ≡ entry_texts history) (entries_within extent bytes) kept.entries
     (ap (option_map (entries_within extent)) is)
 
 -- the bytes at risk are those of the entry at risk
-risk_text : (airport : AirportParts) (history : List Entry) (keeper : KeeperState) (text : List ℕ) → IsKept airport history keeper → keeper.at_risk ≡ Some text
+risk_text : (airport : AirportParts) (history : List Entry) (keeper : KeeperState) (text : List ℕ) → IsKeeperOf airport history keeper → keeper.at_risk ≡ Some text
     → IsTextOf (entry_behind airport keeper) text
 risk_text airport history keeper text kept at =
     let next : IsNextText airport history text = known keeper.at_risk (IsNextText airport history) text kept.at_risk at in
-    (next.entry, ap (option_and_then (λ bytes. result_ok (decoded airport bytes))) at ∙ ap result_ok next.read, next.is)
+    (next.entry, ap (option_and_then (λ bytes. result_ok (decode_entry airport bytes))) at ∙ ap result_ok next.read, next.is)
 
 -- an entry more of which one thing is true has the other
 opens_map : (digests : List ℕ) (entries : List (List ℕ)) (P Q : List ℕ → Type 0) (image : List ℕ) → ((more : List ℕ) → P more → Q more) → OpensWith digests entries P image
@@ -243,7 +243,7 @@ opens_map digests entries P Q image to (inr (more, at, opens)) = inr (more, to m
 
 -- a history survives whose journal was opened in the call
 pub history_survives : (airport : AirportParts) (digests : List ℕ) (history : List Entry) (extent : Extent) (begun disk : DiskState)
-    → LeavesFronts digests (entries_within extent) begun disk → IsKept airport history (keeper_of extent disk) → IsCrashSafe extent disk
+    → LeavesFronts digests (entries_within extent) begun disk → IsKeeperOf airport history (keeper_of extent disk) → IsCrashSafe extent disk
     → IfSome disk.contents (IsOf digests)
     → Survives digests history (entry_behind airport (keeper_of extent disk)) (record { before = begun; after = disk })
 history_survives airport digests history extent begun disk fronts kept safe of = record {

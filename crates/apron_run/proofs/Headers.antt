@@ -3,7 +3,7 @@ use Rattle.std.proofs.Common.{◌≡◌, ◌≤◌, ◌∙◌, ℕ, Bool, true, 
 use Rattle.std.specs.Prelude.{IfSome, cond, ◌||◌}
 use Rattle.std.specs.Str.{bytes_eq}
 use Rattle.std.proofs.lemmas.Slice.Eq.{bytes_eq-Decides}
-use Rattle.journal_disk.specs.Disk.{Between, Continues, DiskState, Told}
+use Rattle.journal_disk.specs.Disk.{Between, Continues, DiskState, IfExposed}
 use Rattle.journal_disk.specs.Extent.{AppendsSafely, Extent, StandsFor}
 use Rattle.journal_disk.specs.Header.{digests_in, has_magic, opening_of, unless}
 use Rattle.journal_disk.specs.declared.fault.JournalFault.{JournalFault}
@@ -24,7 +24,7 @@ opens_of digests bytes entries is =
     (bytes_eq-Decides (digests_in bytes) digests).0 (passed _ (has_magic bytes) (bytes_eq (digests_in bytes) digests) _ _ _ entries is)
 
 -- a disk that was opened as the journal of these files, and reads as before
-pub opened_of : (digests given : List ℕ) (before now : DiskState) (entries : List (List ℕ)) → given ≡ digests → Told before (λ bytes. opening_of given bytes ≡ Ok entries)
+pub opened_of : (digests given : List ℕ) (before now : DiskState) (entries : List (List ℕ)) → given ≡ digests → IfExposed before (λ bytes. opening_of given bytes ≡ Ok entries)
     → now.contents ≡ before.contents → IfSome now.contents (IsOf digests)
 opened_of digests given before now entries same opens reads =
     if_told now.contents (IsOf digests) (λ bytes is. opens_of given bytes entries (opens bytes (sym reads ∙ is)) ∙ same)
@@ -42,7 +42,7 @@ told_before None (Some now) bytes alike is = absurd alike
 
 -- an append leaves the header as it was
 pub still_of : (digests appended : List ℕ) (extent : Extent) (before now : DiskState) → IfSome before.contents (IsOf digests) → Continues before now
-    → AppendsSafely extent before now appended → Told now (now.images now.moment) → IfSome now.contents (IsOf digests)
+    → AppendsSafely extent before now appended → IfExposed now (now.images now.moment) → IfSome now.contents (IsOf digests)
 still_of digests appended extent before now are goes safe reads = if_told now.contents (IsOf digests) (λ bytes is.
     let (old, was) = told_before before.contents now.contents bytes goes.tells is in
     let clock = goes.clock in

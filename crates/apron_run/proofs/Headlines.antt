@@ -17,7 +17,7 @@ use Rattle.history_core.proofs.Drafts.{drafts_made}
 use Rattle.history_core.proofs.Legal.{front_legal, legal_sound}
 use Rattle.desk_http.specs.Alone.{numbers_from}
 use Rattle.desk_http.specs.Ports.{PortState}
-use Rattle.desk_http.specs.Session.{IsRead, is_write_fault, texts_of}
+use Rattle.desk_http.specs.Session.{IsReadToEnd, is_write_fault, texts_of}
 use Rattle.desk_http.proofs.OneDesk.{length-numbers_from}
 use Rattle.desk_turns.specs.Watched.{FeedTexts}
 use Rattle.apron_check.specs.Lines.{fault_line}
@@ -26,13 +26,13 @@ use Rattle.apron_check.specs.declared.faults.FilesFault.{FilesFault}
 use Rattle.apron_check.specs.declared.faults.FilesFault.TheVariants as files
 use Rattle.apron_run.specs.Check.{TellsFault}
 use Rattle.apron_run.specs.Journal.{KeepsHistory}
-use Rattle.apron_run.specs.Desk.{FindsNoJournal, MeetsDesk, RunsDesk, RunsFound, ServesDesk, TellsMet, TellsOutcome, begun}
+use Rattle.apron_run.specs.Desk.{DeskFindsNoJournal, MeetsDesk, PrintsSessionEnd, RunsDesk, RunsFound, ServesDesk, TellsOutcome, new_port}
 use Rattle.apron_run.specs.Headline.{AllSound, Carried, CountsUnkept, HasItsEntry, Headline, IsOfItsEntry, TellsEarly, TellsFoundHeadline, TellsHeadline, TellsOf, TellsUnopened, is_given, tells_unkept}
 use Rattle.apron_run.specs.Run.{RunsAs}
-use Rattle.apron_run.specs.Statuses.{code_of, status_of_outcome}
+use Rattle.apron_run.specs.Statuses.{exit_code, status_of_outcome}
 use Rattle.apron_run.specs.Unusable.{TellsUnusable, unusable_line}
-use Rattle.apron_run.specs.Words.{Asked, desk as desk_asked}
-use Rattle.apron_run.specs.World.{DiskSeen, Ends, World, ends_of}
+use Rattle.apron_run.specs.Words.{Subcommand, desk as desk_asked}
+use Rattle.apron_run.specs.World.{DeskEnds, DiskSeen, World, desk_ends}
 use Rattle.apron_run.specs.declared.unusable.Unusable.{Unusable}
 use Rattle.apron_run.specs.declared.status.Status.{Status}
 use Rattle.apron_run.proofs.AtRisk.{unkept_at_risk}
@@ -80,16 +80,16 @@ module _ (airport : AirportParts) where
 module _ (feeds : FeedTexts) (files : AirportFiles) where
   -- what a session met is the headline
   headline_of : (opened : List Entry) (before after : DiskSeen) (carried : Carried) (status : Status) (port : PortState) → IsLegal files.airport opened
-      → Meets feeds files.airport (begun opened before.faults) carried status port → (port.spent ≡ true → port.first + length port.calls ≡ call_limit)
-      → port.faults ≡ after.faults → KeepsHistory files port.seen port.at_risk after → Headline feeds files opened before after carried (code_of status)
+      → Meets feeds files.airport (new_port opened before.faults) carried status port → (port.spent ≡ true → port.first + length port.calls ≡ call_limit)
+      → port.faults ≡ after.faults → KeepsHistory files port.seen port.at_risk after → Headline feeds files opened before after carried (exit_code status)
   headline_of opened before after carried status port legal_before met used counted kept =
       let exchange = met.exchange in
       let new = met.new in
       let alike = met.alike in
       let first : ℕ = next_after opened in
       let count : ℕ = count_by is_given exchange.sents in
-      let leaves : Leaves files.airport (begun opened before.faults) new count =
-      run_leaves files.airport feeds (begun opened before.faults) new exchange.requests exchange.sents met.runs in
+      let leaves : Leaves files.airport (new_port opened before.faults) new count =
+      run_leaves files.airport feeds (new_port opened before.faults) new exchange.requests exchange.sents met.runs in
       let legal : IsLegal files.airport new.seen = leaves.legal legal_before in
       let calls : new.calls ≡ numbers_from first count = leaves.calls 0 refl ∙ ap (numbers_from first) (zero-add count) in
       record {
@@ -114,7 +114,7 @@ module _ (feeds : FeedTexts) (files : AirportFiles) where
         visits = all_of_their_entries files.airport new.seen legal;
         faults = alike.faults ∙ counted;
         unkept = subst (λ (n : ℕ). CountsUnkept (count_by tells_unkept exchange.sents) before.faults n) (alike.faults ∙ counted)
-            (run_counts files.airport feeds (begun opened before.faults) new exchange.requests exchange.sents met.runs);
+            (run_counts files.airport feeds (new_port opened before.faults) new exchange.requests exchange.sents met.runs);
         keeps = subst (λ (history : List Entry). KeepsHistory files history new.at_risk after) (sym alike.seen)
             (subst (λ (risk : Option Entry). KeepsHistory files port.seen risk after) (sym alike.at_risk) kept);
         at_risk = unkept_at_risk files.airport feeds opened before.faults exchange new met.runs;
@@ -126,13 +126,13 @@ if_some None P holds = tt
 if_some (Some value) P holds = holds value refl
 
 -- the headline of a session on a journal
-session_headline : (feeds : FeedTexts) (files : AirportFiles) (input : List ℕ) (before after : Ends) (sink : SinkState) (outcome : Outcome) (status : Status) → before.source.left ≡ Some input
+session_headline : (feeds : FeedTexts) (files : AirportFiles) (input : List ℕ) (before after : DeskEnds) (sink : SinkState) (outcome : Outcome) (status : Status) → before.source.left ≡ Some input
     → (serves : ServesDesk feeds files before after outcome) → Told outcome after.sink sink status
-    → TellsOf feeds files serves.opened input before (record { source = after.source; sink = sink; disk = after.disk }) (code_of status)
+    → TellsOf feeds files serves.opened input before (record { source = after.source; sink = sink; disk = after.disk }) (exit_code status)
 session_headline feeds files input before after sink outcome status left serves told =
     let session = serves.session in
     let done = session.done in
-    let start : PortState = begun serves.opened before.disk.faults in
+    let start : PortState = new_port serves.opened before.disk.faults in
     let consumed : Consumes (Some input) after.source.left session.taken = subst (λ l. Consumes l after.source.left session.taken) left (let took = session.took in took.left) in
     let more : HasLeft input session.taken after.source.left = has_left input session.taken after.source.left consumed in
     let written : List ℕ = texts_of files.airport done.sents ++ session.written in
@@ -140,22 +140,22 @@ session_headline feeds files input before after sink outcome status left serves 
     let carried : Carried = record { input = input; left = more.rest; output = written ++ told.tail } in
     let met : Meets feeds files.airport start carried (status_of_outcome outcome) serves.port =
     session_meets feeds files.airport start input session.taken more.rest more.front done session.served serves.port session.splits session.stay session.runs
-    outcome session.last session.written told.tail session.ends (subst (IsRead outcome) more.is session.read) session.count session.last_written told.end in
+    outcome session.last session.written told.tail session.ends (subst (IsReadToEnd outcome) more.is session.read) session.count session.last_written told.end in
     let opens = serves.opens in (
       more.rest,
       written ++ told.tail,
       more.is,
       all.told,
-      subst (λ (s : Status). Headline feeds files serves.opened before.disk after.disk carried (code_of s)) (sym told.status_is)
+      subst (λ (s : Status). Headline feeds files serves.opened before.disk after.disk carried (exit_code s)) (sym told.status_is)
           (headline_of feeds files serves.opened before.disk after.disk carried (status_of_outcome outcome) serves.port opens.legal met serves.spent serves.faults serves.keeps),
     )
 
 -- the headline where there is no journal to work on
-unopened_headline : (files : AirportFiles) (before after : Ends) (sink : SinkState) (why : Unusable) (status : Status) → FindsNoJournal files before after why
-    → TellsUnusable why after.sink sink status → TellsUnopened files before (record { source = after.source; sink = sink; disk = after.disk }) (code_of status)
+unopened_headline : (files : AirportFiles) (before after : DeskEnds) (sink : SinkState) (why : Unusable) (status : Status) → DeskFindsNoJournal files before after why
+    → TellsUnusable why after.sink sink status → TellsUnopened files before (record { source = after.source; sink = sink; disk = after.disk }) (exit_code status)
 unopened_headline files before after sink why status finds (inl (is, wrote)) = record {
   why = why;
-  code_is = ap code_of is;
+  code_is = ap exit_code is;
   source = finds.source;
   disk = finds.disk;
   count = length (unusable_line why);
@@ -164,7 +164,7 @@ unopened_headline files before after sink why status finds (inl (is, wrote)) = r
 }
 unopened_headline files before after sink why status finds (inr (is, (count, wrote))) = record {
   why = why;
-  code_is = ap code_of is;
+  code_is = ap exit_code is;
   source = finds.source;
   disk = finds.disk;
   count = count;
@@ -172,45 +172,45 @@ unopened_headline files before after sink why status finds (inr (is, (count, wro
 }
 
 -- the headline of a run on a journal, by what was met there
-met_tells : (feeds : FeedTexts) (files : AirportFiles) (before after : Ends) (sink : SinkState) (met : Result Outcome Unusable) (status : Status) → MeetsDesk feeds files before after met
-    → TellsMet met after.sink sink status → TellsFoundHeadline feeds (Ok files) before (record { source = after.source; sink = sink; disk = after.disk }) (code_of status)
+met_tells : (feeds : FeedTexts) (files : AirportFiles) (before after : DeskEnds) (sink : SinkState) (met : Result Outcome Unusable) (status : Status) → MeetsDesk feeds files before after met
+    → PrintsSessionEnd met after.sink sink status → TellsFoundHeadline feeds (Ok files) before (record { source = after.source; sink = sink; disk = after.disk }) (exit_code status)
 met_tells feeds files before after sink (Ok outcome) status serves tells = inl (record {
   opened = serves.opened;
   opens = serves.opens;
-  tells = if_some before.source.left (λ input. TellsOf feeds files serves.opened input before (record { source = after.source; sink = sink; disk = after.disk }) (code_of status))
+  tells = if_some before.source.left (λ input. TellsOf feeds files serves.opened input before (record { source = after.source; sink = sink; disk = after.disk }) (exit_code status))
       (λ input left. session_headline feeds files input before after sink outcome status left serves (told outcome after.sink sink status tells));
 })
 met_tells feeds files before after sink (Err why) status finds tells = inr (unopened_headline files before after sink why status finds tells)
 
 -- the headline where the files have a fault
-early_tells : (fault : FilesFault) (before after : Ends) (status : Status) → after.source ≡ before.source → after.disk ≡ before.disk → TellsFault fault before.sink after.sink status
-    → TellsEarly fault before after (code_of status)
+early_tells : (fault : FilesFault) (before after : DeskEnds) (status : Status) → after.source ≡ before.source → after.disk ≡ before.disk → TellsFault fault before.sink after.sink status
+    → TellsEarly fault before after (exit_code status)
 early_tells fault before after status source disk (inl (is, wrote)) = record {
-  code_is = ap code_of is;
+  code_is = ap exit_code is;
   source = source;
   disk = disk;
   count = length (fault_line fault);
   wrote = subst (Appends before.sink.told after.sink.told) (sym (take_all (length (fault_line fault)) (fault_line fault) (omega arith))) wrote.told;
 }
 early_tells fault before after status source disk (inr (is, (count, wrote))) =
-    record { code_is = ap code_of is; source = source; disk = disk; count = count; wrote = wrote.told }
+    record { code_is = ap exit_code is; source = source; disk = disk; count = count; wrote = wrote.told }
 
 -- the headline of what was found in the two files
-found_tells : (feeds : FeedTexts) (found : Result AirportFiles FilesFault) (before after : Ends) (status : Status) → RunsFound feeds found before after status
-    → TellsFoundHeadline feeds found before after (code_of status)
+found_tells : (feeds : FeedTexts) (found : Result AirportFiles FilesFault) (before after : DeskEnds) (status : Status) → RunsFound feeds found before after status
+    → TellsFoundHeadline feeds found before after (exit_code status)
 found_tells feeds (Ok files) before after status runs =
     met_tells feeds files before (record { source = after.source; sink = runs.sink; disk = after.disk }) after.sink runs.met status runs.meets runs.tells
 found_tells feeds (Err fault) before after status (source, disk, tells) = early_tells fault before after status source disk tells
 
 -- the headline of a run
 run_headline : (feeds : FeedTexts) (airport types : List ℕ) (before after : World) (status : Status) → RunsDesk feeds airport types before after status
-    → TellsHeadline feeds airport types before after (code_of status)
+    → TellsHeadline feeds airport types before after (exit_code status)
 run_headline feeds airport types before after status runs =
-    record { found = runs.found; finds = runs.finds; tells = found_tells feeds runs.found (ends_of before) (ends_of after) status runs.runs }
+    record { found = runs.found; finds = runs.finds; tells = found_tells feeds runs.found (desk_ends before) (desk_ends after) status runs.runs }
 
 -- the headline of a run that is asked a session
-pub asked_headline : (feeds : FeedTexts) (asked : Asked) (airport types : List ℕ) (before after : World) (code : ℕ) → asked ≡ desk_asked airport types → RunsAs feeds asked before after code
+pub asked_headline : (feeds : FeedTexts) (asked : Subcommand) (airport types : List ℕ) (before after : World) (code : ℕ) → asked ≡ desk_asked airport types → RunsAs feeds asked before after code
     → TellsHeadline feeds airport types before after code
 asked_headline feeds asked airport types before after code is runs =
-    let desk : RunsAs feeds (desk_asked airport types) before after code = subst (λ (a : Asked). RunsAs feeds a before after code) is runs in
+    let desk : RunsAs feeds (desk_asked airport types) before after code = subst (λ (a : Subcommand). RunsAs feeds a before after code) is runs in
     subst (TellsHeadline feeds airport types before after) (sym desk.code_is) (run_headline feeds airport types before after desk.status desk.does)

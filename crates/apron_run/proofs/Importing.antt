@@ -6,24 +6,24 @@ use Rattle.apron_base.specs.Ends.{SinkState}
 use Rattle.apron_base.specs.Shelf.{ShelfState}
 use Rattle.apron_rules.specs.declared.parts.AirportParts.{AirportParts}
 use Rattle.visit_book.specs.declared.visits.NewVisit.{NewVisit}
-use Rattle.history_core.specs.AtRisk.{entry_at_risk}
+use Rattle.history_core.specs.AtRisk.{read_entry_at_risk}
 use Rattle.history_core.specs.Board.{BoardHeld}
 use Rattle.history_core.specs.History.{IsLegal}
 use Rattle.journal_disk.specs.Disk.{DiskState}
-use Rattle.apron_check.specs.Files.{Finds, is_shelf_fault as is_shelf_found}
+use Rattle.apron_check.specs.Files.{FindsFiles, is_files_shelf_fault as is_shelf_found}
 use Rattle.apron_check.specs.declared.files.AirportFiles.{AirportFiles}
 use Rattle.apron_check.specs.declared.faults.FilesFault.{FilesFault}
 use Rattle.desk_turns.specs.Watched.{FeedTexts}
-use Rattle.apron_run.specs.Asking.{AsksSeason, MeetsAll, Reached, Stops, StopsAmong, reached, record_behind}
+use Rattle.apron_run.specs.Asking.{AsksSeason, MeetsAll, Reached, StopsAmong, StopsImport, reached_by, record_behind}
 use Rattle.apron_run.specs.Crash.{ImportsOnJournalLeaving, MeetsImportLeaving}
-use Rattle.apron_run.specs.Import.{Around, AsksFound, FindsSeason, HasCause, ImportsFound, ImportsSeason, MeetsImport, Stores, TellsMet, around, around_at, begun, is_shelf_fault as is_shelf_read, stores_at}
+use Rattle.apron_run.specs.Import.{Around, AsksFound, FindsSeason, HasSeasonCause, ImportsFound, ImportsSeason, MeetsImport, PrintsImportEnd, Stores, around, around_at, is_season_shelf_fault as is_shelf_read, new_import, stores_at}
 use Rattle.apron_run.specs.Imported.{TellsImported, imported_line, status_of_imported}
 use Rattle.apron_run.specs.Journal.{IsOpened, KeepsHistory}
 use Rattle.apron_run.specs.Run.{RunsAs, SinkCounts}
-use Rattle.apron_run.specs.Statuses.{code_of, is_disk_fault, is_read_fault, is_shelf_fault}
+use Rattle.apron_run.specs.Statuses.{exit_code, is_disk_fault, is_shelf_status, is_source_status}
 use Rattle.apron_run.specs.Print.{Writes}
 use Rattle.apron_run.specs.Words.{import as import_asked}
-use Rattle.apron_run.specs.World.{World, outs_of}
+use Rattle.apron_run.specs.World.{World, sink_and_disk}
 use Rattle.apron_run.specs.declared.imported.Imported.{Imported}
 use Rattle.apron_run.specs.declared.imported.Imported.TheVariants.{Whole, ShelfFault, TooLong, Refused, Full, DiskFault, Spent, Memory}
 use Rattle.apron_run.specs.declared.status.Status.{Status}
@@ -32,20 +32,20 @@ use Rattle.apron_run.proofs.Counting.{Counted, Lines, OfLine, Printed, fault_cou
 
 -- how an import ended was told: its status says of the ends what that does
 record ToldSo (imported : Imported) (status : Status) (before after : SinkState) : Type 0 where
-  pub shelf : is_shelf_fault status ≡ is_shelf_fault (status_of_imported imported)
-  pub read : is_read_fault status ≡ false
+  pub shelf : is_shelf_status status ≡ is_shelf_status (status_of_imported imported)
+  pub read : is_source_status status ≡ false
   pub disk : is_disk_fault status ≡ is_disk_fault (status_of_imported imported)
   pub sink : SinkCounts status before.faults after.faults
 
 -- by a line
-line_told : (imported : Imported) (before after : SinkState) (status : Status) → OfLine (is_shelf_fault (status_of_imported imported)) (status_of_imported imported)
+line_told : (imported : Imported) (before after : SinkState) (status : Status) → OfLine (is_shelf_status (status_of_imported imported)) (status_of_imported imported)
     → Writes (imported_line imported) (status_of_imported imported) (status_of_imported imported) before after status → ToldSo imported status before after
 line_told imported before after status says tells =
     let lines : Lines status (status_of_imported imported) before after =
     lines_of (imported_line imported) (status_of_imported imported) before after status tells in
     record {
-      shelf = ap is_shelf_fault lines.is;
-      read = ap is_read_fault lines.is ∙ says.read;
+      shelf = ap is_shelf_status lines.is;
+      read = ap is_source_status lines.is ∙ says.read;
       disk = ap is_disk_fault lines.is;
       sink = told_sink status (status_of_imported imported) before after says.told lines;
     }
@@ -55,8 +55,8 @@ told_so (Whole added present) before after status tells =
     let print : Printed status before after = printed _ before after status tells in
     record { shelf = print.shelf; read = print.read; disk = print.disk; sink = print.sink }
 told_so Spent before after status (same, is) = record {
-  shelf = ap is_shelf_fault is;
-  read = ap is_read_fault is;
+  shelf = ap is_shelf_status is;
+  read = ap is_source_status is;
   disk = ap is_disk_fault is;
   sink = subst (λ (s : Status). SinkCounts s before.faults after.faults) (sym is) (ap (λ (s : SinkState). s.faults) same);
 }
@@ -68,7 +68,7 @@ all_faults airport [] before after same = ap (λ (r : Reached). r.faults) same
 all_faults airport (new ∷ visits) before after (mid, one, rest) = all_faults airport visits mid after rest ∙ one.asks.faults
 
 -- and at the one at which the asks stopped
-stop_faults : (airport : AirportParts) (number : ℕ) (at : Reached) (new : NewVisit) (after : Reached) (imported : Imported) → Stops airport number at new after imported
+stop_faults : (airport : AirportParts) (number : ℕ) (at : Reached) (new : NewVisit) (after : Reached) (imported : Imported) → StopsImport airport number at new after imported
     → Counts (is_disk_fault (status_of_imported imported)) at.faults after.faults
 stop_faults airport number at new after (Refused told) (is, (other, asks)) = asks.faults
 stop_faults airport number at new after (Full told) (is, asks) = asks.faults
@@ -85,7 +85,7 @@ among_faults airport visits before after imported stops =
 
 -- what the end of an import says of the shelf and the disk
 record SaysSo (found : Result (List NewVisit) Imported) (before after : ℕ) (imported : Imported) : Type 0 where
-  pub shelf : is_shelf_fault (status_of_imported imported) ≡ is_shelf_read found
+  pub shelf : is_shelf_status (status_of_imported imported) ≡ is_shelf_read found
   pub disk : Counts (is_disk_fault (status_of_imported imported)) before after
 
 season_says : (airport : AirportParts) (visits : List NewVisit) (before after : Reached) (imported : Imported) → AsksSeason airport visits before after imported
@@ -95,7 +95,7 @@ season_says airport visits before after ShelfFault asks = absurd asks.stops
 season_says airport visits before after imported asks = record { shelf = refl; disk = among_faults airport visits before after imported asks }
 
 -- nothing was asked
-unread_says : (airport : AirportParts) (season : List ℕ) (before after : ShelfState) (why : Imported) (faults now : ℕ) → HasCause airport season before after (Err why)
+unread_says : (airport : AirportParts) (season : List ℕ) (before after : ShelfState) (why : Imported) (faults now : ℕ) → HasSeasonCause airport season before after (Err why)
     → now ≡ faults → SaysSo (Err why) faults now why
 unread_says airport season before after ShelfFault faults now cause same = record { shelf = refl; disk = same }
 unread_says airport season before after TooLong faults now cause same = record { shelf = refl; disk = same }
@@ -104,7 +104,7 @@ unread_says airport season before after Memory faults now cause same = record { 
 unread_says airport season before after imported faults now cause same = absurd cause
 
 found_says : (airport : AirportParts) (season : List ℕ) (shelf now : ShelfState) (found : Result (List NewVisit) Imported) (before after : Reached) (imported : Imported)
-    → HasCause airport season shelf now found → AsksFound airport found before after imported → SaysSo found before.faults after.faults imported
+    → HasSeasonCause airport season shelf now found → AsksFound airport found before after imported → SaysSo found before.faults after.faults imported
 found_says airport season shelf now (Ok visits) before after imported cause asks = season_says airport visits before after imported asks
 found_says airport season shelf now (Err why) before after imported cause (same, is) =
     subst (SaysSo (Err why) before.faults after.faults) (sym is)
@@ -112,8 +112,8 @@ found_says airport season shelf now (Err why) before after imported cause (same,
 
 -- what is counted at each end
 pub record CountsImport (status : Status) (before after : Around) : Type 0 where
-  pub shelf : Counts (is_shelf_fault status) before.stores.shelf.faults after.stores.shelf.faults
-  pub read : is_read_fault status ≡ false
+  pub shelf : Counts (is_shelf_status status) before.stores.shelf.faults after.stores.shelf.faults
+  pub read : is_source_status status ≡ false
   pub sink : SinkCounts status before.sink.faults after.sink.faults
   pub disk : Counts (is_disk_fault status) before.stores.disk.faults after.stores.disk.faults
 
@@ -122,7 +122,7 @@ imported_as : (files : AirportFiles) (season : List ℕ) (before after : Around)
 imported_as files season before after imported status imports tells =
     let told : ToldSo imported status before.sink after.sink = told_so imported before.sink after.sink status tells in
     let says : SaysSo imports.found before.stores.disk.faults imports.left.faults imported =
-    found_says files.airport season before.stores.shelf after.stores.shelf imports.found (begun imports.opened before.stores.disk.faults) imports.left imported
+    found_says files.airport season before.stores.shelf after.stores.shelf imports.found (new_import imports.opened before.stores.disk.faults) imports.left imported
     imports.finds.cause imports.asks in
     record {
       shelf = subst (λ (b : Bool). Counts b before.stores.shelf.faults after.stores.shelf.faults) (sym (told.shelf ∙ says.shelf)) imports.finds.counts;
@@ -133,7 +133,7 @@ imported_as files season before after imported status imports tells =
     }
 
 pub met_as : (files : AirportFiles) (season : List ℕ) (before after : Around) (met : Result Imported Unusable) (status : Status)
-    → MeetsImport files season before.stores after.stores met → TellsMet met before.sink after.sink status → CountsImport status before after
+    → MeetsImport files season before.stores after.stores met → PrintsImportEnd met before.sink after.sink status → CountsImport status before after
 met_as files season before after (Ok imported) status meets tells = imported_as files season before after imported status meets tells
 met_as files season before after (Err why) status meets tells =
     let not_opened = meets.disk in
@@ -141,7 +141,7 @@ met_as files season before after (Err why) status meets tells =
     unusable_counted (record { sink = before.sink; disk = before.stores.disk }) (record { sink = after.sink; disk = after.stores.disk }) status why
     (why_disk files before.stores.disk after.stores.disk why not_opened.cause) tells in
     record {
-      shelf = still (is_shelf_fault status) before.stores.shelf.faults after.stores.shelf.faults counted.shelf (ap (λ (s : ShelfState). s.faults) meets.shelf);
+      shelf = still (is_shelf_status status) before.stores.shelf.faults after.stores.shelf.faults counted.shelf (ap (λ (s : ShelfState). s.faults) meets.shelf);
       read = counted.read;
       sink = counted.sink;
       disk = counted.disk;
@@ -151,54 +151,54 @@ met_as files season before after (Err why) status meets tells =
 abbrev pub season_imported : {K : Type 0} (tells : K → KeeperState) (files : AirportFiles) (season : List ℕ) (before after : Stores) (board left : BoardHeld K) (imported : Imported)
     → IsOpened tells files before.disk board
     → ((found : Result (List NewVisit) Imported) × FindsSeason board.airport season before.shelf after.shelf found
-    × AsksFound board.airport found (reached tells board) (reached tells left) imported)
+    × AsksFound board.airport found (reached_by tells board) (reached_by tells left) imported)
     → left.airport ≡ board.airport → IsLegal left.airport left.history → (tells left.keeper).faults ≡ after.disk.faults
-    → KeepsHistory (record { airport = left.airport; digests = files.digests }) left.history (entry_at_risk left.airport (tells left.keeper)) after.disk
+    → KeepsHistory (record { airport = left.airport; digests = files.digests }) left.history (read_entry_at_risk left.airport (tells left.keeper)) after.disk
     → ImportsSeason files season before after imported
 season_imported tells files season before after board left imported opened (found, finds, asks) same legal faults keeps =
     let airport : board.airport ≡ files.airport = opened.airport_is in
-    let start : reached tells board ≡ begun board.history before.disk.faults = rw (opened.next, opened.at_risk, opened.faults) refl in
+    let start : reached_by tells board ≡ new_import board.history before.disk.faults = rw (opened.next, opened.at_risk, opened.faults) refl in
     record {
       opened = board.history;
       opens = opened.opens;
       found = found;
       finds = subst (λ (a : AirportParts). FindsSeason a season before.shelf after.shelf found) airport finds;
-      left = reached tells left;
-      asks = subst (λ (r : Reached). AsksFound files.airport found r (reached tells left) imported) start
-          (subst (λ (a : AirportParts). AsksFound a found (reached tells board) (reached tells left) imported) airport asks);
+      left = reached_by tells left;
+      asks = subst (λ (r : Reached). AsksFound files.airport found r (reached_by tells left) imported) start
+          (subst (λ (a : AirportParts). AsksFound a found (reached_by tells board) (reached_by tells left) imported) airport asks);
       legal = subst (λ (a : AirportParts). IsLegal a left.history) (same ∙ airport) legal;
       faults = faults;
-      keeps = subst (λ (a : AirportParts). KeepsHistory (record { airport = a; digests = files.digests }) left.history (reached tells left).at_risk after.disk)
+      keeps = subst (λ (a : AirportParts). KeepsHistory (record { airport = a; digests = files.digests }) left.history (reached_by tells left).at_risk after.disk)
           (same ∙ airport) keeps;
     }
 
 -- a run of the word, from before the two files were read
 module _ {feeds : FeedTexts} (airport types season : List ℕ) (before after : World) (status : Status) (source : after.source ≡ before.source) where
-  found_as : (found : Result AirportFiles FilesFault) (mid : ShelfState) → Finds before.shelf mid airport types found
-      → ImportsFound found season (around mid before) (around after.shelf after) status → RunsAs feeds (import_asked airport types season) before after (code_of status)
+  found_as : (found : Result AirportFiles FilesFault) (mid : ShelfState) → FindsFiles before.shelf mid airport types found
+      → ImportsFound found season (around mid before) (around after.shelf after) status → RunsAs feeds (import_asked airport types season) before after (exit_code status)
   found_as (Ok files) mid finds imports =
       let counts : CountsImport status (around mid before) (around after.shelf after) =
       met_as files season (around mid before) (around after.shelf after) imports.met status imports.meets imports.tells in
-      runs_counted (import_asked airport types season) (is_shelf_fault status) before after status source
-      (subst (λ (n : ℕ). Counts (is_shelf_fault status) n after.shelf.faults) finds.counts counts.shelf)
+      runs_counted (import_asked airport types season) (is_shelf_status status) before after status source
+      (subst (λ (n : ℕ). Counts (is_shelf_status status) n after.shelf.faults) finds.counts counts.shelf)
       (record { shelf = refl; read = counts.read; sink = counts.sink; disk = counts.disk })
       (record { found = Ok files; shelf = mid; finds = finds; imports = imports }) counts.disk
   found_as (Err fault) mid finds (same, tells) =
-      let counted : Counted (is_shelf_found (Err fault)) status (outs_of before) (outs_of after) =
-      fault_counted (outs_of before) (outs_of after) status fault (ap (λ (s : Stores). s.disk.faults) same) tells in
+      let counted : Counted (is_shelf_found (Err fault)) status (sink_and_disk before) (sink_and_disk after) =
+      fault_counted (sink_and_disk before) (sink_and_disk after) status fault (ap (λ (s : Stores). s.disk.faults) same) tells in
       runs_counted (import_asked airport types season) (is_shelf_found (Err fault)) before after status source
       (subst (λ (s : ShelfState). Counts (is_shelf_found (Err fault)) before.shelf.faults s.faults) (sym (ap (λ (s : Stores). s.shelf) same)) finds.counts) counted
       (record { found = Err fault; shelf = mid; finds = finds; imports = (same, tells) }) counted.disk
 
-  pub import_as : ((found : Result AirportFiles FilesFault) × (mid : ShelfState) × Finds before.shelf mid airport types found
-      × ImportsFound found season (around mid before) (around after.shelf after) status) → RunsAs feeds (import_asked airport types season) before after (code_of status)
+  pub import_as : ((found : Result AirportFiles FilesFault) × (mid : ShelfState) × FindsFiles before.shelf mid airport types found
+      × ImportsFound found season (around mid before) (around after.shelf after) status) → RunsAs feeds (import_asked airport types season) before after (exit_code status)
   import_as (found, mid, finds, imports) = found_as found mid finds imports
 
 -- an import after which a line said how it ended, and its disk was given back
 pub told_leaving : {D : Type 0} (state : D → DiskState) {files : AirportFiles} {season : List ℕ} {shelf now : ShelfState} {before after : SinkState} {old left new : D}
     {status : Status} (met : Result Imported Unusable)
     → MeetsImportLeaving (record { before = state old; after = state left }) files season (stores_at shelf (state old)) (stores_at now (state left)) met
-    → TellsMet met before after status → left ≡ new
+    → PrintsImportEnd met before after status → left ≡ new
     → ImportsOnJournalLeaving (record { before = state old; after = state new }) files season (around_at shelf (state old) before) (around_at now (state new) after) status
 told_leaving {D} state {files} {season} {shelf} {now} {before} {after} {old} {left} {new} {status} met meets tells same =
     subst (λ d. ImportsOnJournalLeaving (record { before = state old; after = state d }) files season (around_at shelf (state old) before)

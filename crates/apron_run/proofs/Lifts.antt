@@ -5,8 +5,8 @@ use Rattle.std.proofs.lemmas.List.{map-append, length-map}
 use Rattle.apron_base.specs.Histories.{Every}
 use Rattle.apron_rules.specs.declared.parts.AirportParts.{AirportParts}
 use Rattle.desk_words.specs.declared.asks.Entry.{Entry}
-use Rattle.entry_bytes.specs.Entries.{decoded, entry_text}
-use Rattle.entry_bytes.specs.Former.{former_decoded, lifted}
+use Rattle.entry_bytes.specs.Entries.{decode_entry, entry_text}
+use Rattle.entry_bytes.specs.Former.{decode_former_entry, lift_entry}
 use Rattle.entry_bytes.specs.declared.faults.EntryFault.{EntryFault}
 use Rattle.history_core.specs.Board.{entry_texts}
 use Rattle.history_core.specs.declared.opening.OpenFault.{OpenFault}
@@ -33,14 +33,14 @@ pub next_lifted : (airport : AirportParts) (front : List (List ℕ)) (bytes : Li
     → LiftsNext airport bytes before after → HasLifted airport (front ++ bytes ∷ []) after
 next_lifted airport front bytes before after has next =
     subst (HasLifted airport (front ++ bytes ∷ [])) (sym next.after_is) (record {
-      lifts = map_push (lifted airport) Ok front bytes before next.new has.lifts next.lifts;
-      reads = map_push (decoded airport) (former_decoded airport) before next.new front bytes has.reads next.reads;
+      lifts = map_push (lift_entry airport) Ok front bytes before next.new has.lifts next.lifts;
+      reads = map_push (decode_entry airport) (decode_former_entry airport) before next.new front bytes has.reads next.reads;
       sizes = every_push IsEntry before next.new has.sizes next.size;
     })
 
 -- as many were lifted as there were
 pub lifted_count : (airport : AirportParts) (old new : List (List ℕ)) → Lifts airport old new → length new ≡ length old
-lifted_count airport old new lifts = sym (length-map new Ok) ∙ (sym (ap length lifts) ∙ length-map old (lifted airport))
+lifted_count airport old new lifts = sym (length-map new Ok) ∙ (sym (ap length lifts) ∙ length-map old (lift_entry airport))
 
 -- an entry that is not lifted stops the others
 pub stops_lifting : (airport : AirportParts) (old front : List (List ℕ)) (bytes : List ℕ) (back new : List (List ℕ)) (fault : OpenFault) → old ≡ front ++ bytes ∷ back
@@ -61,35 +61,35 @@ stops_lifting airport old front bytes back new entries.Memory are lifts why = tt
 
 -- none of the entries that are lifted stops them
 pub none_stops : (airport : AirportParts) (front : List (List ℕ)) (bytes : List ℕ) (back new : List (List ℕ)) (fault : EntryFault) → Lifts airport (front ++ bytes ∷ back) new
-    → lifted airport bytes ≡ Err fault → ⊥
+    → lift_entry airport bytes ≡ Err fault → ⊥
 none_stops airport [] bytes back [] fault lifts fails = absurd cc
 none_stops airport [] bytes back (n ∷ new) fault lifts fails =
-    let both : lifted airport bytes ∷ map (lifted airport) back ≡ Ok n ∷ map Ok new = lifts in
-    let is : lifted airport bytes ≡ Ok n = cc in
+    let both : lift_entry airport bytes ∷ map (lift_entry airport) back ≡ Ok n ∷ map Ok new = lifts in
+    let is : lift_entry airport bytes ≡ Ok n = cc in
     let same : Ok n ≡ Err fault = sym is ∙ fails in
     cc
 none_stops airport (f ∷ front) bytes back [] fault lifts fails = absurd cc
 none_stops airport (f ∷ front) bytes back (n ∷ new) fault lifts fails =
-    let both : lifted airport f ∷ map (lifted airport) (front ++ bytes ∷ back) ≡ Ok n ∷ map Ok new = lifts in
-    let rest : map (lifted airport) (front ++ bytes ∷ back) ≡ map Ok new = cc in
+    let both : lift_entry airport f ∷ map (lift_entry airport) (front ++ bytes ∷ back) ≡ Ok n ∷ map Ok new = lifts in
+    let rest : map (lift_entry airport) (front ++ bytes ∷ back) ≡ map Ok new = cc in
     none_stops airport front bytes back new fault rest fails
 
 -- the bytes to which entries that were read as these are lifted are theirs
 pub texts_are : (airport : AirportParts) (old new : List (List ℕ)) (history : List Entry) → Lifts airport old new
-    → map (former_decoded airport) old ≡ map Ok history → new ≡ entry_texts history
+    → map (decode_former_entry airport) old ≡ map Ok history → new ≡ entry_texts history
 texts_are airport [] [] [] lifts is = refl
 texts_are airport [] [] (e ∷ history) lifts is = absurd cc
 texts_are airport [] (n ∷ new) history lifts is = absurd cc
 texts_are airport (o ∷ old) [] history lifts is = absurd cc
 texts_are airport (o ∷ old) (n ∷ new) [] lifts is = absurd cc
 texts_are airport (o ∷ old) (n ∷ new) (e ∷ history) lifts is =
-    let both : lifted airport o ∷ map (lifted airport) old ≡ Ok n ∷ map Ok new = lifts in
-    let one : lifted airport o ≡ Ok n = cc in
-    let rest : map (lifted airport) old ≡ map Ok new = cc in
-    let read : former_decoded airport o ∷ map (former_decoded airport) old ≡ Ok e ∷ map Ok history = is in
-    let first : former_decoded airport o ≡ Ok e = cc in
-    let others : map (former_decoded airport) old ≡ map Ok history = cc in
-    let spelt : lifted airport o ≡ Ok (entry_text e) =
+    let both : lift_entry airport o ∷ map (lift_entry airport) old ≡ Ok n ∷ map Ok new = lifts in
+    let one : lift_entry airport o ≡ Ok n = cc in
+    let rest : map (lift_entry airport) old ≡ map Ok new = cc in
+    let read : decode_former_entry airport o ∷ map (decode_former_entry airport) old ≡ Ok e ∷ map Ok history = is in
+    let first : decode_former_entry airport o ≡ Ok e = cc in
+    let others : map (decode_former_entry airport) old ≡ map Ok history = cc in
+    let spelt : lift_entry airport o ≡ Ok (entry_text e) =
     ap (λ (r : Result Entry EntryFault). result_map_both entry_text (λ fault. fault) r) first in
     let text : n ≡ entry_text e = cc in
     ap₂ (λ b bs. b ∷ bs) text (texts_are airport old new history rest others)

@@ -9,9 +9,9 @@ use Rattle.apron_base.specs.Keeper.{KeeperState, with_last}
 use Rattle.apron_base.specs.Machine.{MachineState}
 use Rattle.apron_rules.specs.declared.parts.AirportParts.{AirportParts}
 use Rattle.desk_words.specs.declared.asks.Entry.{Entry}
-use Rattle.entry_bytes.specs.Entries.{decoded, entry_text}
-use Rattle.history_core.specs.AtRisk.{entry_at_risk as entry_behind}
-use Rattle.history_core.specs.Board.{BoardHeld, IsKept, IsNextText, Spells, entry_texts}
+use Rattle.entry_bytes.specs.Entries.{decode_entry, entry_text}
+use Rattle.history_core.specs.AtRisk.{read_entry_at_risk as entry_behind}
+use Rattle.history_core.specs.Board.{BoardHeld, IsKeeperOf, IsNextText, Spells, entry_texts}
 use Rattle.apron_base.specs.Histories.{Rises}
 use Rattle.history_core.specs.History.{IsLegal, call_limit, call_of}
 use Rattle.history_core.specs.Opening.{next_after, next_from}
@@ -32,17 +32,17 @@ use Rattle.desk_turns.specs.Watched.{FeedTexts, feed_texts, watch_text}
 use Rattle.history_core.specs.declared.opening.OpenFault.TheVariants as entries
 use Rattle.desk_http.proofs.OneDesk.{length-numbers_from}
 use Rattle.history_core.proofs.Keepers.{spells_with}
-use Rattle.journal_disk.specs.Disk.{DiskState, Told}
+use Rattle.journal_disk.specs.Disk.{DiskState, IfExposed}
 use Rattle.journal_disk.specs.Extent.{Extent, IsCrashSafe, StandsFor, entries_within, entry_at_risk, keeper_of}
 use Rattle.journal_disk.specs.Faults.{OpenFails}
 use Rattle.journal_disk.specs.Header.{digests_in, opening_of}
 use Rattle.journal_disk.specs.declared.fault.JournalFault.{JournalFault}
 use Rattle.journal_disk.specs.declared.fault.JournalFault.TheVariants as journal
 use Rattle.apron_check.specs.declared.files.AirportFiles.{AirportFiles}
-use Rattle.apron_run.specs.Desk.{DeskAnswers, ServedCounts, ServesDesk, begun, moment}
+use Rattle.apron_run.specs.Desk.{DeskAnswers, ServedCounts, ServesDesk, moment, new_port}
 use Rattle.apron_run.specs.Headline.{Sends}
 use Rattle.apron_run.specs.Journal.{FailsToOpen, Holds, IsOf, IsOpened, KeepsHistory, WhyUnusable}
-use Rattle.apron_run.specs.World.{DiskSeen, Ends, seen_of}
+use Rattle.apron_run.specs.World.{DeskEnds, DiskSeen, disk_seen}
 use Rattle.apron_run.specs.Statuses.{may_serve, status_of_outcome}
 use Rattle.apron_run.specs.Unusable.{status_of_unusable}
 use Rattle.apron_run.specs.declared.status.Status.{Status}
@@ -62,15 +62,15 @@ told_or None none some = none refl
 told_or (Some value) none some = some value refl
 
 module _ (files : AirportFiles) (history : List Entry) (extent : Extent) (disk : DiskState) (legal : IsLegal files.airport history)
-    (kept : IsKept files.airport history (keeper_of extent disk)) where
+    (kept : IsKeeperOf files.airport history (keeper_of extent disk)) where
   -- the entry at risk after the history
   abbrev behind : Option Entry
   behind = entry_behind files.airport (keeper_of extent disk)
 
   -- a disk that does not tell what it reads as may keep any history
-  keeps_untold : disk.contents ≡ None → KeepsHistory files history behind (seen_of disk)
+  keeps_untold : disk.contents ≡ None → KeepsHistory files history behind (disk_seen disk)
   keeps_untold untold =
-      let holds : Holds files (seen_of disk) history =
+      let holds : Holds files (disk_seen disk) history =
       record {
         legal = legal;
         entries = subst (λ (c : Option (List ℕ)). IfSome c (λ bytes. opening_of files.digests bytes ≡ Ok (entry_texts history))) (sym untold) tt;
@@ -81,7 +81,7 @@ module _ (files : AirportFiles) (history : List Entry) (extent : Extent) (disk :
   module _ (bytes : List ℕ) (is : disk.contents ≡ Some bytes) (of : IsOf files.digests bytes) where
     -- the disk holds a history whose entries its bytes have
     holds_just : (others : List Entry) → IsLegal files.airport others → Spells files.airport (entry_texts others) others
-        → opening_of (digests_in bytes) bytes ≡ Ok (entry_texts others) → Holds files (seen_of disk) others
+        → opening_of (digests_in bytes) bytes ≡ Ok (entry_texts others) → Holds files (disk_seen disk) others
     holds_just others legal spells opening = record {
       legal = legal;
       spells = spells;
@@ -94,33 +94,33 @@ module _ (files : AirportFiles) (history : List Entry) (extent : Extent) (disk :
         (ap (option_map (entries_within extent)) is)
 
     -- a disk whose bytes stand for the journal keeps its history
-    keeps_told : StandsFor extent bytes (λ entry. entry_at_risk extent disk.contents ≡ Some entry) bytes → KeepsHistory files history behind (seen_of disk)
+    keeps_told : StandsFor extent bytes (λ entry. entry_at_risk extent disk.contents ≡ Some entry) bytes → KeepsHistory files history behind (disk_seen disk)
     keeps_told (front, inl opening) =
-        let holds : Holds files (seen_of disk) history = holds_just history legal kept.spells (opening ∙ ap Ok are) in
+        let holds : Holds files (disk_seen disk) history = holds_just history legal kept.spells (opening ∙ ap Ok are) in
         record { holds = inl holds; exact = λ none. holds }
     keeps_told (front, inr (risk, at, opening)) =
         let next : IsNextText files.airport history risk = known (entry_at_risk extent disk.contents) (IsNextText files.airport history) risk kept.at_risk at in
         let entry : Entry = next.entry in
-        let read : decoded files.airport risk ≡ Ok entry = next.read in
+        let read : decode_entry files.airport risk ≡ Ok entry = next.read in
         let texts : with_last risk (entries_within extent bytes) ≡ entry_texts (with_last entry history) =
         ap (λ text. with_last text (entries_within extent bytes)) next.is ∙ (ap (with_last (entry_text entry)) are ∙ texts_with history entry) in
-        let seen : behind ≡ Some entry = ap (option_and_then (λ text. result_ok (decoded files.airport text))) at ∙ ap result_ok read in
+        let seen : behind ≡ Some entry = ap (option_and_then (λ text. result_ok (decode_entry files.airport text))) at ∙ ap result_ok read in
         let spells : Spells files.airport (entry_texts (with_last entry history)) (with_last entry history) =
-        spells_with files.airport history entry kept.spells (subst (λ (text : List ℕ). decoded files.airport text ≡ Ok entry) next.is read) in
+        spells_with files.airport history entry kept.spells (subst (λ (text : List ℕ). decode_entry files.airport text ≡ Ok entry) next.is read) in
         record {
           holds = inr (entry, seen, holds_just (with_last entry history) next.legal spells (opening ∙ ap Ok texts));
           exact = λ none. let both : None ≡ Some risk = sym (kept.safe none) ∙ at in absurd cc;
         }
 
   -- the disk of a journal that keeps a history keeps it
-  pub disk_keeps : Told disk (disk.images disk.moment) → IsCrashSafe extent disk → IfSome disk.contents (IsOf files.digests) → KeepsHistory files history behind (seen_of disk)
+  pub disk_keeps : IfExposed disk (disk.images disk.moment) → IsCrashSafe extent disk → IfSome disk.contents (IsOf files.digests) → KeepsHistory files history behind (disk_seen disk)
   disk_keeps reads safe of = told_or disk.contents keeps_untold
       (λ bytes is. keeps_told bytes is (known disk.contents (IsOf files.digests) bytes of is) (safe bytes is bytes (reads bytes is)))
 
 -- a desk alone that has just begun, over a machine that was just made
 pub alone_begun : {Fixed : Type 0} (machine : MachineState Entry Fixed) (first : ℕ) (opened : List Entry) (faults : ℕ) → machine.history ≡ opened
     → machine.next ≡ next_after opened → first ≡ next_after opened → machine.at_risk ≡ None → machine.faults ≡ faults
-    → port_over first machine ≡ begun opened faults
+    → port_over first machine ≡ new_port opened faults
 alone_begun machine first opened faults history next number safe count =
     let none : next_after opened - next_after opened ≡ 0 = omega arith in
     rw (history, next, number, safe, count, none) refl
@@ -134,7 +134,7 @@ alone_spent machine first below spent =
     omega arith
 
 -- why a disk isn't opened, by what is seen of it
-pub seen_fails : (digests : List ℕ) (before after : DiskState) (fault : JournalFault) → OpenFails digests before after fault → FailsToOpen digests (seen_of before) (seen_of after) fault
+pub seen_fails : (digests : List ℕ) (before after : DiskState) (fault : JournalFault) → OpenFails digests before after fault → FailsToOpen digests (disk_seen before) (disk_seen after) fault
 seen_fails digests before after journal.DiskFault fails = fails
 seen_fails digests before after journal.NotEmpty fails = fails
 seen_fails digests before after fault (counts, told) = (counts, if_told before.contents _ told)
@@ -197,17 +197,17 @@ module _ (feeds : FeedTexts) (airport : AirportParts) where
       record { first = ends.first ∙ leaves.first; faults = omega arith }
 
 -- a session lowers no count
-serves_count : (feeds : FeedTexts) (files : AirportFiles) (before after : Ends) (outcome : Outcome) → ServesDesk feeds files before after outcome
+serves_count : (feeds : FeedTexts) (files : AirportFiles) (before after : DeskEnds) (outcome : Outcome) → ServesDesk feeds files before after outcome
     → before.disk.faults ≤ after.disk.faults
 serves_count feeds files before after outcome serves =
-    let on : GoesOn (begun serves.opened before.disk.faults) serves.port =
-    session_on feeds files.airport (moment before (begun serves.opened before.disk.faults)) (moment after serves.port) outcome serves.session in
+    let on : GoesOn (new_port serves.opened before.disk.faults) serves.port =
+    session_on feeds files.airport (moment before (new_port serves.opened before.disk.faults)) (moment after serves.port) outcome serves.session in
     let least : before.disk.faults ≤ serves.port.faults = on.faults in
     let counted : serves.port.faults ≡ after.disk.faults = serves.faults in
     omega arith
 
 -- a session of a desk alone over a board that was opened and got these watches, with the disk that was closed after it
-abbrev pub desk_serves : {K R : Type 0} (tells : K → KeeperState) (shows : R → Note → Bool) (watches : List (Watched R)) (files : AirportFiles) (before after : Ends)
+abbrev pub desk_serves : {K R : Type 0} (tells : K → KeeperState) (shows : R → Note → Bool) (watches : List (Watched R)) (files : AirportFiles) (before after : DeskEnds)
     (board : BoardHeld K) (start done : AloneMachine (WatchHeld K R)) (outcome : Outcome) → IsOpened tells files before.disk board
     → start.machine ≡ record { board = board; watches = watches; next = board.next } → start.first ≡ board.next
     → FedSessionOf AloneAsks (AloneFeeds (watch_text shows (watch_fixed start.machine))) start.machine.board.airport
@@ -220,18 +220,18 @@ desk_serves {K} {R} tells shows watches files before after board start done outc
     let feeds : FeedTexts = feed_texts shows watches in
     let fresh : WatchHeld K R = record { board = board; watches = watches; next = board.next } in
     let last : Moment = moment after (port_over done.first (watch_state tells done.machine)) in
-    let safe : entry_behind board.airport (tells board.keeper) ≡ None = ap (option_and_then (λ text. result_ok (decoded board.airport text))) opened.at_risk in
-    let port_is : port_over start.first (watch_state tells fresh) ≡ begun board.history before.disk.faults =
+    let safe : entry_behind board.airport (tells board.keeper) ≡ None = ap (option_and_then (λ text. result_ok (decode_entry board.airport text))) opened.at_risk in
+    let port_is : port_over start.first (watch_state tells fresh) ≡ new_port board.history before.disk.faults =
     alone_begun (watch_state tells fresh) start.first board.history before.disk.faults refl opened.next (first ∙ opened.next) safe opened.faults in
     let made : SessionBy (DeskAnswers feeds board.airport) board.airport (moment before (port_over start.first (watch_state tells fresh))) last outcome =
     subst (λ (m : WatchHeld K R). FedSessionOf AloneAsks (AloneFeeds (watch_text shows (watch_fixed m))) m.board.airport
     (moment before (port_over start.first (watch_state tells m))) last outcome) begins session in
-    let here : SessionBy (DeskAnswers feeds board.airport) board.airport (moment before (begun board.history before.disk.faults)) last outcome =
+    let here : SessionBy (DeskAnswers feeds board.airport) board.airport (moment before (new_port board.history before.disk.faults)) last outcome =
     subst (λ (p : PortState). SessionBy (DeskAnswers feeds board.airport) board.airport (moment before p) last outcome) port_is made in
-    let whole : SessionBy (DeskAnswers feeds files.airport) files.airport (moment before (begun board.history before.disk.faults)) last outcome =
-    subst (λ (a : AirportParts). SessionBy (DeskAnswers feeds a) a (moment before (begun board.history before.disk.faults)) last outcome) opened.airport_is here in
-    let on : GoesOn (begun board.history before.disk.faults) (port_over done.first (watch_state tells done.machine)) =
-    session_on feeds files.airport (moment before (begun board.history before.disk.faults)) last outcome whole in
+    let whole : SessionBy (DeskAnswers feeds files.airport) files.airport (moment before (new_port board.history before.disk.faults)) last outcome =
+    subst (λ (a : AirportParts). SessionBy (DeskAnswers feeds a) a (moment before (new_port board.history before.disk.faults)) last outcome) opened.airport_is here in
+    let on : GoesOn (new_port board.history before.disk.faults) (port_over done.first (watch_state tells done.machine)) =
+    session_on feeds files.airport (moment before (new_port board.history before.disk.faults)) last outcome whole in
     let airport : done.machine.board.airport ≡ files.airport =
     ap (λ (f : WatchFixed R). f.airport) (fixed ∙ ap watch_fixed begins) ∙ opened.airport_is in
     let opens = opened.opens in
@@ -259,7 +259,7 @@ outcomes_may came.Memory = refl
 outcomes_may outcome = refl
 
 -- the counts of a session that ends with this status
-pub session_counts : (feeds : FeedTexts) (files : AirportFiles) (before after : Ends) (outcome : Outcome) (status : Status) → ServesDesk feeds files before after outcome
+pub session_counts : (feeds : FeedTexts) (files : AirportFiles) (before after : DeskEnds) (outcome : Outcome) (status : Status) → ServesDesk feeds files before after outcome
     → status ≡ status_of_outcome outcome → ServedCounts status before.disk.faults after.disk.faults
 session_counts feeds files before after outcome status serves is =
     may_tell status before.disk.faults after.disk.faults (ap may_serve is ∙ outcomes_may outcome) (serves_count feeds files before after outcome serves)

@@ -11,14 +11,14 @@ use Rattle.apron_base.specs.declared.outside.Outcome.{Outcome}
 use Rattle.apron_base.specs.declared.outside.Outcome.TheVariants as came
 use Rattle.apron_rules.specs.declared.parts.AirportParts.{AirportParts}
 use Rattle.http_framing.specs.Laws.{IsChoice}
-use Rattle.http_framing.specs.declared.bodies.Refusal.{Refusal}
+use Rattle.http_framing.specs.declared.bodies.RequestRefusal.{RequestRefusal}
 use Rattle.http_framing.specs.Requests.{HasRequest, Request}
 use Rattle.http_framing.specs.Streams.{Ending, ended, cut, closed, malformed, IsOpen, Requests, Splits}
 use Rattle.http_framing.proofs.OneReading.{HasRequest-unique, one_reading, request_ends}
 use Rattle.http_framing.proofs.StreamLaws.{splits_more, whole_more}
 use Rattle.desk_words.specs.declared.asks.Ask.{Ask}
 use Rattle.desk_words.specs.declared.asks.Entry.{Entry}
-use Rattle.desk_words.specs.declared.early.Early.{Early}
+use Rattle.desk_words.specs.declared.early.EarlyReply.{EarlyReply}
 use Rattle.history_core.specs.History.{call_limit}
 use Rattle.history_core.specs.Opening.{next_after}
 use Rattle.desk_http.specs.Alone.{AloneAsks, numbers_from}
@@ -32,10 +32,10 @@ use Rattle.desk_http.proofs.Complete.{GoesOnBehind, listed_behind, sessions_comp
 use Rattle.desk_http.proofs.OneDesk.{length-numbers_from}
 use Rattle.apron_check.specs.declared.files.AirportFiles.{AirportFiles}
 use Rattle.apron_run.specs.Complete.{EndsInTime, HasFiles, HasInput, HasJournal, NoneFails, count_of_asks}
-use Rattle.apron_run.specs.Desk.{DeskAnswers, MeetsDesk, RunsDesk, RunsFound, ServesDesk, TellsMet, TellsOutcome, begun, moment}
+use Rattle.apron_run.specs.Desk.{DeskAnswers, MeetsDesk, PrintsSessionEnd, RunsDesk, RunsFound, ServesDesk, TellsOutcome, moment, new_port}
 use Rattle.apron_run.specs.Headline.{Sends, is_given, takes_number}
 use Rattle.apron_run.specs.Statuses.{status_of_outcome}
-use Rattle.apron_run.specs.World.{Ends, World, ends_of}
+use Rattle.apron_run.specs.World.{DeskEnds, World, desk_ends}
 use Rattle.apron_run.specs.declared.status.Status.{Status}
 use Rattle.apron_run.specs.declared.status.Status.TheVariants.{Done}
 use Rattle.apron_run.specs.declared.unusable.Unusable.{Unusable}
@@ -47,7 +47,7 @@ use Rattle.apron_run.proofs.Valid.{opened_once, unopened_wants}
 
 module _ (feeds : FeedTexts) (airport : AirportParts) where
   -- a reply was given by the board exactly where something is asked of the plan
-  sent_asks : (before after : PortState) (asked : Result Ask Early) (sent : Sent) → SendsFor AloneAsks airport before asked sent after → is_given sent ≡ is_ok asked
+  sent_asks : (before after : PortState) (asked : Result Ask EarlyReply) (sent : Sent) → SendsFor AloneAsks airport before asked sent after → is_given sent ≡ is_ok asked
   sent_asks before after (Err early) (at_once sent) h = refl
   sent_asks before after (Err early) (given answer) h = absurd h
   sent_asks before after (Err early) (fed answer) h = absurd h
@@ -141,7 +141,7 @@ not_cut closed count ends (inl is) = cc
 not_cut closed count ends (inr choice) = choice
 not_cut other count ends same = ends
 
-not_malformed : (ending : Ending) (count : ℕ) (why : Refusal) → EndsInTime ending count → (malformed why ≡ ending) ⊎ IsChoice (malformed why) ending → ⊥
+not_malformed : (ending : Ending) (count : ℕ) (why : RequestRefusal) → EndsInTime ending count → (malformed why ≡ ending) ⊎ IsChoice (malformed why) ending → ⊥
 not_malformed ended count why ends (inl is) = cc
 not_malformed ended count why ends (inr choice) = choice
 not_malformed closed count why ends (inl is) = cc
@@ -173,7 +173,7 @@ module _ (input : List ℕ) (listed : List Request) where
   comes_to_done other ending requests last reads ends are to = absurd to
 
 -- a session on a journal
-module _ (feeds : FeedTexts) (made : AirportFiles) (history : List Entry) (before after : Ends) (mid : SinkState) (status : Status) (has : HasJournal made before.disk history)
+module _ (feeds : FeedTexts) (made : AirportFiles) (history : List Entry) (before after : DeskEnds) (mid : SinkState) (status : Status) (has : HasJournal made before.disk history)
     (valid : HasInput made.airport before.source history) (source : ¬ (Rose before.source.faults after.source.faults)) (sink : ¬ (Rose before.sink.faults after.sink.faults))
     (disk : ¬ (Rose before.disk.faults after.disk.faults)) where
   -- that had memory and call numbers enough
@@ -181,7 +181,7 @@ module _ (feeds : FeedTexts) (made : AirportFiles) (history : List Entry) (befor
       → ServesDesk feeds made before (record { source = after.source; sink = mid; disk = after.disk }) outcome
       → (after.sink ≡ mid) × (status ≡ status_of_outcome outcome) → Well status
   other_well outcome memory spent serves (same, is) =
-      let start : Moment = moment before (begun serves.opened before.disk.faults) in
+      let start : Moment = moment before (new_port serves.opened before.disk.faults) in
       let end : Moment = moment (record { source = after.source; sink = mid; disk = after.disk }) serves.port in
       let free : IsUnhindered start end outcome = record {
         memory = memory;
@@ -197,7 +197,7 @@ module _ (feeds : FeedTexts) (made : AirportFiles) (history : List Entry) (befor
   numbers_last : ServesDesk feeds made before (record { source = after.source; sink = mid; disk = after.disk }) came.Spent → ⊥
   numbers_last serves =
       let same : serves.opened ≡ history = opened_once made before.disk after.disk history has serves.opened serves.opens in
-      spent_never feeds made.airport (moment before (begun serves.opened before.disk.faults))
+      spent_never feeds made.airport (moment before (new_port serves.opened before.disk.faults))
       (moment (record { source = after.source; sink = mid; disk = after.disk }) serves.port) valid.input valid.told valid.requests valid.ending valid.reads serves.session refl serves.spent
       (subst (λ (es : List Entry). next_after es + count_of_asks made.airport valid.requests ≤ call_limit) (sym same) valid.numbers)
 
@@ -208,7 +208,7 @@ module _ (feeds : FeedTexts) (made : AirportFiles) (history : List Entry) (befor
   session_well other serves tells = other_well other (λ is. cc) (λ is. cc) serves tells
 
   pub met_well : (met : Result Outcome Unusable) → MeetsDesk feeds made before (record { source = after.source; sink = mid; disk = after.disk }) met
-      → TellsMet met mid after.sink status → Well status
+      → PrintsSessionEnd met mid after.sink status → Well status
   met_well (Ok outcome) meets tells = session_well outcome meets tells
   met_well (Err why) meets tells = unopened_well why mid after.sink status (unopened_wants made before.disk after.disk history has why meets.disk disk) tells
 
@@ -216,6 +216,6 @@ module _ (feeds : FeedTexts) (made : AirportFiles) (history : List Entry) (befor
 pub desk_well : (feeds : FeedTexts) (made : AirportFiles) (history : List Entry) (airport types : List ℕ) (before after : World) (status : Status) → HasFiles before.shelf airport types made
     → HasJournal made before.disk history → HasInput made.airport before.source history → NoneFails before after → RunsDesk feeds airport types before after status → Well status
 desk_well feeds made history airport types before after status has journal valid free runs =
-    goes_well made before.shelf after.shelf airport types has free.shelf (λ found. RunsFound feeds found (ends_of before) (ends_of after) status) status
-    (λ does. met_well feeds made history (ends_of before) (ends_of after) does.sink status journal valid free.source free.sink free.disk does.met does.meets does.tells)
+    goes_well made before.shelf after.shelf airport types has free.shelf (λ found. RunsFound feeds found (desk_ends before) (desk_ends after) status) status
+    (λ does. met_well feeds made history (desk_ends before) (desk_ends after) does.sink status journal valid free.source free.sink free.disk does.met does.meets does.tells)
     (λ does. memory_well before.sink after.sink status does.2) runs.found runs.finds runs.runs

@@ -6,7 +6,7 @@ use Rattle.apron_base.specs.Counts.{Counts, RoseBy}
 use Rattle.apron_rules.specs.declared.parts.AirportParts.{AirportParts}
 use Rattle.http_framing.specs.Requests.{Request}
 use Rattle.desk_words.specs.declared.asks.Ask.{Ask}
-use Rattle.desk_words.specs.declared.early.Early.{Early}
+use Rattle.desk_words.specs.declared.early.EarlyReply.{EarlyReply}
 use Rattle.desk_http.specs.Alone.{AloneAsks}
 use Rattle.desk_http.specs.Answers.{Sent, SendsFor, at_once, fed, given}
 use Rattle.desk_http.specs.Ports.{PortState}
@@ -38,7 +38,7 @@ counts_both one more before mid after first rest =
     }
 
 module _ (airport : AirportParts) where
-  sent_counts : (before after : PortState) (asked : Result Ask Early) (sent : Sent) → SendsFor AloneAsks airport before asked sent after
+  sent_counts : (before after : PortState) (asked : Result Ask EarlyReply) (sent : Sent) → SendsFor AloneAsks airport before asked sent after
       → CountsUnkept (cond (tells_unkept sent) 1 0) before.faults after.faults
   sent_counts before after (Err reply) (at_once sent) (is, same) = counts_none before.faults after.faults (ap (λ (port : PortState). port.faults) same)
   sent_counts before after (Err reply) (given answer) h = absurd h

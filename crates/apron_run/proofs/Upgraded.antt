@@ -5,11 +5,11 @@ use Rattle.std.specs.Str.{bytes_eq}
 use Rattle.std.proofs.lemmas.Slice.Eq.{bytes_eq-Decides}
 use Rattle.apron_base.specs.Counts.{Counts}
 use Rattle.history_core.specs.Board.{Spells, entry_texts}
-use Rattle.journal_disk.specs.Disk.{Continues, DiskState, Stays, Told}
+use Rattle.journal_disk.specs.Disk.{Continues, DiskState, IfExposed, Stays}
 use Rattle.journal_disk.specs.Faults.{OldOpenFails, OldTextFails}
 use Rattle.journal_disk.specs.Found.{disk_found, old_found}
 use Rattle.journal_disk.specs.Header.{as_old, digests_in, has_magic, is_new, old_opening_of, opening_of, unless}
-use Rattle.journal_disk.specs.Switch.{HasSwitched, IsEither, SwitchesSafely, switched}
+use Rattle.journal_disk.specs.Switch.{HasSwitched, IsEither, SwitchesSafely, after_switch}
 use Rattle.journal_disk.specs.declared.fault.JournalFault.{JournalFault}
 use Rattle.journal_disk.specs.declared.fault.JournalFault.TheVariants as journal
 use Rattle.journal_disk.specs.declared.upgrade.Found.{Found}
@@ -18,7 +18,7 @@ use Rattle.apron_run.specs.Journal.{IsOf}
 use Rattle.apron_run.specs.Survival.{DiskStates}
 use Rattle.apron_run.specs.Upgrade.{HasLifted, HasUpgraded, NotUpgraded}
 use Rattle.apron_run.specs.UpgradeCrash.{IsOldOrNew, LeavesEither, LeavesFailed, LeavesUpgraded}
-use Rattle.apron_run.specs.World.{seen_of}
+use Rattle.apron_run.specs.World.{disk_seen}
 use Rattle.apron_run.specs.declared.unusable.Unusable.TheVariants.{Journal}
 use Rattle.apron_run.proofs.Disks.{if_told}
 use Rattle.apron_run.proofs.Fronts.{alike_both, alike_same, stays_from}
@@ -41,7 +41,7 @@ old_header digests bytes old is =
 
 -- a journal that was not opened
 pub not_opened : (files : AirportFiles) (before after : DiskState) (fault : JournalFault) → OldOpenFails files.digests before after fault → Stays before after
-    → NotUpgraded files (seen_of before) (seen_of after) (Journal fault)
+    → NotUpgraded files (disk_seen before) (disk_seen after) (Journal fault)
 not_opened files before after journal.DiskFault fails stays = fails
 not_opened files before after journal.NotEmpty fails stays = absurd fails
 not_opened files before after journal.OldFormat fails stays = absurd fails
@@ -56,12 +56,12 @@ leaves_unopened files fault disk stays = stays
 -- what is known of a disk whose journal was opened, and of what was found on it
 abbrev pub IsFound : {D : Type 0} → (D → DiskState) → List ℕ → D → Found D → Type 0
 IsFound state digests disk found =
-    Told (state disk) (λ bytes. old_opening_of digests bytes ≡ Ok (old_found found))
+    IfExposed (state disk) (λ bytes. old_opening_of digests bytes ≡ Ok (old_found found))
     × Stays (state disk) (state (disk_found found)) × Counts false (state disk).faults (state (disk_found found)).faults
 
 -- a journal of format 1 that was opened and then switched
 module _ (files : AirportFiles) (before opened after : DiskState) (size : ℕ) (old new : List (List ℕ))
-    (was : Told before (λ bytes. old_opening_of files.digests bytes ≡ Ok (Some old))) (stays : Stays before opened) (goes : Continues opened after)
+    (was : IfExposed before (λ bytes. old_opening_of files.digests bytes ≡ Ok (Some old))) (stays : Stays before opened) (goes : Continues opened after)
     (safe : SwitchesSafely size old new opened after) where
   digests_are : (bytes : List ℕ) → before.contents ≡ Some bytes → digests_in bytes ≡ files.digests
   digests_are bytes is = (old_header files.digests bytes old (was bytes is)).0
@@ -81,22 +81,22 @@ module _ (files : AirportFiles) (before opened after : DiskState) (size : ℕ) (
   -- the disk failed
   pub stopped : (fault : JournalFault) → fault ≡ journal.DiskFault → HasLifted files.airport old new → Counts false before.faults opened.faults
       → Counts true opened.faults after.faults
-      → NotUpgraded files (seen_of before) (seen_of after) (Journal fault) × LeavesFailed files (Journal fault) (record { before = before; after = after })
+      → NotUpgraded files (disk_seen before) (disk_seen after) (Journal fault) × LeavesFailed files (Journal fault) (record { before = before; after = after })
   stopped fault is lifted first second =
-      subst (λ (f : JournalFault). NotUpgraded files (seen_of before) (seen_of after) (Journal f) × LeavesFailed files (Journal f) (record { before = before; after = after }))
+      subst (λ (f : JournalFault). NotUpgraded files (disk_seen before) (disk_seen after) (Journal f) × LeavesFailed files (Journal f) (record { before = before; after = after }))
       (sym is) (subst (λ (n : ℕ). Counts true n after.faults) first second, inr (old, new, lifted.lifts, was, leaves_either))
 
-  module _ (done : Told opened (λ bytes. HasSwitched size new bytes after)) where
+  module _ (done : IfExposed opened (λ bytes. HasSwitched size new bytes after)) where
     -- once it was switched
     switched_opens : (bytes : List ℕ) → before.contents ≡ Some bytes → (image : List ℕ) → after.images after.moment image → opening_of files.digests image ≡ Ok new
     switched_opens bytes is image left =
         let has : HasSwitched size new bytes after = done bytes (stays.contents ∙ is) in
         ap (opening_of files.digests) (has.safe image left)
-        ∙ subst (λ (ds : List ℕ). opening_of ds (switched size new bytes) ≡ Ok new) (digests_are bytes is) has.opens
+        ∙ subst (λ (ds : List ℕ). opening_of ds (after_switch size new bytes) ≡ Ok new) (digests_are bytes is) has.opens
 
     -- it has the lifted entries, in what its disk reads as and in what a crash leaves
-    pub upgraded : (count : ℕ) → HasLifted files.airport old new → Told after (after.images after.moment) → Counts false before.faults after.faults → count ≡ length new
-        → (has : HasUpgraded files (seen_of before) (seen_of after) count)
+    pub upgraded : (count : ℕ) → HasLifted files.airport old new → IfExposed after (after.images after.moment) → Counts false before.faults after.faults → count ≡ length new
+        → (has : HasUpgraded files (disk_seen before) (disk_seen after) count)
         × LeavesUpgraded files.digests has.old has.new (record { before = before; after = after })
     upgraded count lifted reads counts count_is =
         let Has : List ℕ → Type 0 = λ bytes. opening_of files.digests bytes ≡ Ok new in

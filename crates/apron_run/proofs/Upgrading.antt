@@ -10,11 +10,11 @@ use Rattle.apron_check.specs.declared.files.AirportFiles.{AirportFiles}
 use Rattle.desk_turns.specs.Watched.{FeedTexts}
 use Rattle.apron_run.specs.Complete.{HasFiles}
 use Rattle.apron_run.specs.Run.{RunsAs}
-use Rattle.apron_run.specs.Statuses.{code_of, is_disk_fault}
+use Rattle.apron_run.specs.Statuses.{exit_code, is_disk_fault}
 use Rattle.apron_run.specs.Unusable.{status_of_unusable}
 use Rattle.apron_run.specs.Upgrade.{CanUpgrade, LiftsInVain, Lifts, MeetsUpgrade, NotUpgraded, StopsLifting, TellsUpgrade, UpgradesFiles, UpgradesJournal, already_text, upgraded_text}
 use Rattle.apron_run.specs.Words.{upgrade as upgrade_asked}
-use Rattle.apron_run.specs.World.{DiskSeen, Outs, World, outs_of}
+use Rattle.apron_run.specs.World.{DiskSeen, SinkAndDisk, World, sink_and_disk}
 use Rattle.apron_run.specs.declared.status.Status.{Status}
 use Rattle.apron_run.specs.declared.status.Status.TheVariants.{Memory}
 use Rattle.apron_run.specs.declared.unusable.Unusable.{Unusable}
@@ -34,21 +34,21 @@ failed_disk files before after (Journal fault) (reads, told) = reads.counts
 failed_disk files before after (Entries entries.Memory) (reads, vain) = reads.counts
 failed_disk files before after (Entries fault) (reads, vain) = reads.counts
 
-met_as : (files : AirportFiles) (before after : Outs) (met : Result (Option ℕ) Unusable) (status : Status) → MeetsUpgrade files before.disk after.disk met
+met_as : (files : AirportFiles) (before after : SinkAndDisk) (met : Result (Option ℕ) Unusable) (status : Status) → MeetsUpgrade files before.disk after.disk met
     → TellsUpgrade met before.sink after.sink status → Counted false status before after
 met_as files before after (Ok (Some count)) status meets tells = text_counted before after status (upgraded_text count) meets.counts tells
 met_as files before after (Ok None) status meets tells = text_counted before after status already_text meets.reads.counts tells
 met_as files before after (Err why) status meets tells =
     unusable_counted before after status why (failed_disk files before.disk after.disk why meets) tells
 
-pub upgrades_counted : (files : AirportFiles) (before after : Outs) (status : Status) → UpgradesJournal files before after status → Counted false status before after
+pub upgrades_counted : (files : AirportFiles) (before after : SinkAndDisk) (status : Status) → UpgradesJournal files before after status → Counted false status before after
 upgrades_counted files before after status upgrades = met_as files before after upgrades.met status upgrades.meets upgrades.tells
 
 -- a run of the word
 pub upgrade_as : {feeds : FeedTexts} (airport types : List ℕ) (before after : World) (status : Status) → after.source ≡ before.source → UpgradesFiles airport types before after status
-    → RunsAs feeds (upgrade_asked airport types) before after (code_of status)
+    → RunsAs feeds (upgrade_asked airport types) before after (exit_code status)
 upgrade_as airport types before after status =
-    files_as UpgradesJournal (upgrade_asked airport types) airport types before after status (λ files. upgrades_counted files (outs_of before) (outs_of after) status)
+    files_as UpgradesJournal (upgrade_asked airport types) airport types before after status (λ files. upgrades_counted files (sink_and_disk before) (sink_and_disk after) status)
     (λ does. does) (λ counts. counts)
 
 module _ (made : AirportFiles) (before after : DiskSeen) (can : CanUpgrade made before) where
@@ -89,7 +89,7 @@ module _ (made : AirportFiles) (before after : DiskSeen) (can : CanUpgrade made 
   failed_wants (Entries (entries.WrongEntry number)) (reads, vain) disk = absurd (no_wrong number vain)
   failed_wants (Entries entries.Memory) fails disk = refl
 
-met_well : (made : AirportFiles) (before after : Outs) (status : Status) → CanUpgrade made before.disk → ¬ (Rose before.sink.faults after.sink.faults)
+met_well : (made : AirportFiles) (before after : SinkAndDisk) (status : Status) → CanUpgrade made before.disk → ¬ (Rose before.sink.faults after.sink.faults)
     → ¬ (Rose before.disk.faults after.disk.faults) → (met : Result (Option ℕ) Unusable) → MeetsUpgrade made before.disk after.disk met
     → TellsUpgrade met before.sink after.sink status → Well status
 met_well made before after status can sink disk (Ok (Some count)) meets tells = printed_well before.sink after.sink sink (upgraded_text count) status tells
@@ -104,4 +104,4 @@ pub upgrade_well : (made : AirportFiles) (airport types : List ℕ) (before afte
     → UpgradesFiles airport types before after status → Well status
 upgrade_well made airport types before after status has can shelf sink disk =
     files_well made airport types before after status has shelf UpgradesJournal
-    (λ does. met_well made (outs_of before) (outs_of after) status can sink disk does.met does.meets does.tells)
+    (λ does. met_well made (sink_and_disk before) (sink_and_disk after) status can sink disk does.met does.meets does.tells)

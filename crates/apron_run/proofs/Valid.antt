@@ -8,7 +8,7 @@ use Rattle.apron_rules.specs.declared.parts.AirportParts.{AirportParts}
 use Rattle.airport_files.specs.Meaning.{meaning}
 use Rattle.airport_files.specs.declared.read.FileFault.{FileFault}
 use Rattle.desk_words.specs.declared.asks.Entry.{Entry}
-use Rattle.entry_bytes.specs.Entries.{decoded}
+use Rattle.entry_bytes.specs.Entries.{decode_entry}
 use Rattle.history_core.specs.Board.{Spells, entry_texts}
 use Rattle.history_core.specs.History.{IsLegal}
 use Rattle.history_core.specs.Opening.{IsNotNext, StopsAt}
@@ -19,7 +19,7 @@ use Rattle.journal_disk.specs.Header.{opening_of}
 use Rattle.journal_disk.specs.declared.fault.JournalFault.{JournalFault}
 use Rattle.journal_disk.specs.declared.fault.JournalFault.TheVariants as journal
 use Rattle.apron_check.specs.Digests.{digests_of}
-use Rattle.apron_check.specs.Files.{AreOfFile, HasCause, IsTooLong, Make, Mean, max_file}
+use Rattle.apron_check.specs.Files.{AreOfFile, HasFilesCause, IsFileTooLong, Make, Mean, max_file}
 use Rattle.apron_check.specs.declared.files.AirportFiles.{AirportFiles}
 use Rattle.apron_check.specs.declared.faults.FilesFault.{FilesFault}
 use Rattle.apron_check.specs.declared.faults.FilesFault.TheVariants as files
@@ -70,7 +70,7 @@ module _ (before after : ShelfState) (airport types : List ℕ) (made : AirportF
       λ i. record { airport = airports i; digests = digests i }
 
   -- neither is too long
-  not_too_long : (file : Option (List ℕ)) (bytes : List ℕ) → IsSome file → AreOfFile file bytes → IsTooLong file before after → ⊥
+  not_too_long : (file : Option (List ℕ)) (bytes : List ℕ) → IsSome file → AreOfFile file bytes → IsFileTooLong file before after → ⊥
   not_too_long None bytes told of long = absurd cc
   not_too_long (Some kept) bytes told of long =
       let is : bytes ≡ kept = of.told in
@@ -80,7 +80,7 @@ module _ (before after : ShelfState) (airport types : List ℕ) (made : AirportF
       absurd (omega arith)
 
   -- they are found, or memory has run out, where the shelf doesn't fail
-  pub found_well : (found : Result AirportFiles FilesFault) → HasCause before after airport types found → found ≢ Err files.ShelfFault
+  pub found_well : (found : Result AirportFiles FilesFault) → HasFilesCause before after airport types found → found ≢ Err files.ShelfFault
       → (found ≡ Ok made) ⊎ (found ≡ Err files.Memory)
   found_well (Ok other) cause failed = inl (ap Ok (made_once other cause))
   found_well (Err (files.Faulty fault)) cause failed = let same : Ok made.airport ≡ Err fault = meant_once (Err fault) cause in absurd cc
@@ -101,11 +101,11 @@ read_once airport [] (x ∷ xs) other is are = absurd cc
 read_once airport (text ∷ texts) [] other is are = absurd cc
 read_once airport (text ∷ texts) (x ∷ xs) [] is are = absurd cc
 read_once airport (text ∷ texts) (x ∷ xs) (y ∷ ys) is are =
-    let first : decoded airport text ∷ map (decoded airport) texts ≡ Ok x ∷ map Ok xs = is in
-    let second : decoded airport text ∷ map (decoded airport) texts ≡ Ok y ∷ map Ok ys = are in
+    let first : decode_entry airport text ∷ map (decode_entry airport) texts ≡ Ok x ∷ map Ok xs = is in
+    let second : decode_entry airport text ∷ map (decode_entry airport) texts ≡ Ok y ∷ map Ok ys = are in
     let head : x ≡ y = cc in
-    let one : map (decoded airport) texts ≡ map Ok xs = cc in
-    let two : map (decoded airport) texts ≡ map Ok ys = cc in
+    let one : map (decode_entry airport) texts ≡ map Ok xs = cc in
+    let two : map (decode_entry airport) texts ≡ map Ok ys = cc in
     ap₂ (λ e es. e ∷ es) head (read_once airport texts xs ys one two)
 
 -- an entry of a history that entries are read as, after those that the first of them are read as
@@ -113,24 +113,24 @@ record IsReadNext (airport : AirportParts) (bytes : List ℕ) (before history : 
   pub entry : Entry
   pub rest : List Entry
   pub are : history ≡ before ++ entry ∷ rest
-  pub is : decoded airport bytes ≡ Ok entry
+  pub is : decode_entry airport bytes ≡ Ok entry
 
 read_next : (airport : AirportParts) (front : List (List ℕ)) (bytes : List ℕ) (back : List (List ℕ)) (before history : List Entry)
     → Spells airport (front ++ bytes ∷ back) history → Spells airport front before → IsReadNext airport bytes before history
 read_next airport [] bytes back [] [] all some = absurd cc
 read_next airport [] bytes back [] (e ∷ es) all some =
-    let both : decoded airport bytes ∷ map (decoded airport) back ≡ Ok e ∷ map Ok es = all in
-    let is : decoded airport bytes ≡ Ok e = cc in
+    let both : decode_entry airport bytes ∷ map (decode_entry airport) back ≡ Ok e ∷ map Ok es = all in
+    let is : decode_entry airport bytes ≡ Ok e = cc in
     record { entry = e; rest = es; are = refl; is = is }
 read_next airport [] bytes back (b ∷ bs) history all some = absurd cc
 read_next airport (f ∷ fs) bytes back [] history all some = absurd cc
 read_next airport (f ∷ fs) bytes back (b ∷ bs) [] all some = absurd cc
 read_next airport (f ∷ fs) bytes back (b ∷ bs) (e ∷ es) all some =
-    let whole : decoded airport f ∷ map (decoded airport) (fs ++ bytes ∷ back) ≡ Ok e ∷ map Ok es = all in
-    let part : decoded airport f ∷ map (decoded airport) fs ≡ Ok b ∷ map Ok bs = some in
+    let whole : decode_entry airport f ∷ map (decode_entry airport) (fs ++ bytes ∷ back) ≡ Ok e ∷ map Ok es = all in
+    let part : decode_entry airport f ∷ map (decode_entry airport) fs ≡ Ok b ∷ map Ok bs = some in
     let head : e ≡ b = cc in
-    let more : map (decoded airport) (fs ++ bytes ∷ back) ≡ map Ok es = cc in
-    let few : map (decoded airport) fs ≡ map Ok bs = cc in
+    let more : map (decode_entry airport) (fs ++ bytes ∷ back) ≡ map Ok es = cc in
+    let few : map (decode_entry airport) fs ≡ map Ok bs = cc in
     let next : IsReadNext airport bytes bs es = read_next airport fs bytes back bs es more few in
     let are : e ∷ es ≡ b ∷ bs ++ next.entry ∷ next.rest = cc (next.are) in
     record { entry = next.entry; rest = next.rest; are = are; is = next.is }

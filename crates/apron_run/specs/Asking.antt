@@ -11,11 +11,11 @@ use Rattle.plan_core.specs.PlanState.{PlanState}
 use Rattle.desk_words.specs.declared.asks.Command.TheVariants.{AddVisit}
 use Rattle.desk_words.specs.declared.asks.Entry.{Entry}
 use Rattle.desk_words.specs.declared.asks.What.TheVariants.{Change}
-use Rattle.history_core.specs.Answer.{added}
-use Rattle.history_core.specs.AtRisk.{IsAskedFor, entry_at_risk}
+use Rattle.history_core.specs.Answer.{added_entries}
+use Rattle.history_core.specs.AtRisk.{IsAskedFor, read_entry_at_risk}
 use Rattle.history_core.specs.Board.{BoardHeld}
 use Rattle.history_core.specs.History.{call_limit, replay}
-use Rattle.history_core.specs.Steps.{IsOtherName, IsSameName, Stepped, Steps, accepted, full, name, refused, repeated}
+use Rattle.history_core.specs.Steps.{IsOtherName, IsSameName, Stepped, TakenAs, accepted, full, name, refused, repeated}
 use Rattle.apron_run.specs.declared.imported.Imported.{Imported}
 use Rattle.apron_run.specs.declared.imported.Imported.TheVariants.{Whole, Refused, Full, DiskFault, Spent, Memory}
 
@@ -27,10 +27,10 @@ pub record Reached : Type 0 where
   pub faults : ℕ
 
 -- that of a board, by what its keeper tells
-abbrev pub reached : {K : Type 0} → (K → KeeperState) → BoardHeld K → Reached
-reached tells board = record {
+abbrev pub reached_by : {K : Type 0} → (K → KeeperState) → BoardHeld K → Reached
+reached_by tells board = record {
   history = board.history;
-  at_risk = entry_at_risk board.airport (tells board.keeper);
+  at_risk = read_entry_at_risk board.airport (tells board.keeper);
   next = board.next;
   faults = (tells board.keeper).faults;
 }
@@ -66,18 +66,18 @@ record_behind front = length front + 2
 module _ (airport : AirportParts) where
   -- how the plan of the history takes the adding of a visit
   abbrev pub TakesAs : Reached → NewVisit → Stepped → Type 0
-  TakesAs at new stepped = Steps (replay airport at.history) (length at.history) (AddVisit new) stepped
+  TakesAs at new stepped = TakenAs (replay airport at.history) (length at.history) (AddVisit new) stepped
 
   -- the visit was asked to be added, with the next call number: it was taken so, and where it was accepted the history has its entry
   pub record Asks (before : Reached) (new : NewVisit) (stepped : Stepped) (after : Reached) : Type 0 where
     pub takes : TakesAs before new stepped
-    pub history : after.history ≡ before.history ++ added before.next (AddVisit new) stepped
+    pub history : after.history ≡ before.history ++ added_entries before.next (AddVisit new) stepped
     pub next : after.next ≡ before.next + 1
     pub faults : after.faults ≡ before.faults
     pub at_risk : NoMoreAtRisk before after
 
   -- the visit was asked to be added once, and was added or was there already
-  pub record Meets (before : Reached) (new : NewVisit) (after : Reached) : Type 0 where
+  pub record AsksOnce (before : Reached) (new : NewVisit) (after : Reached) : Type 0 where
     pub stepped : Stepped
     pub met : IsMet stepped
     pub asks : Asks before new stepped after
@@ -85,18 +85,18 @@ module _ (airport : AirportParts) where
   -- each of these visits was asked to be added once, in order, and was added or was there already
   abbrev pub MeetsAll : List NewVisit → Reached → Reached → Type 0
   MeetsAll [] before after = after ≡ before
-  MeetsAll (new ∷ visits) before after = (mid : Reached) × Meets before new mid × MeetsAll visits mid after
+  MeetsAll (new ∷ visits) before after = (mid : Reached) × AsksOnce before new mid × MeetsAll visits mid after
 
   -- why the asks stopped at the visit of the record of this number: another visit has its name; it is new and there is no place for it; the keeper failed at
   -- its entry, which may be at risk then; there was no call number for it; or memory has run out. Only the first two are asks that were answered, and none
   -- changed the history.
-  abbrev pub Stops : ℕ → Reached → NewVisit → Reached → Imported → Type 0
-  Stops number at new after (Refused told) = (told ≡ number) × ((other : VisitNo) × Asks at new (refused (name other)) after)
-  Stops number at new after (Full told) = (told ≡ number) × Asks at new full after
-  Stops number at new after DiskFault = TakesAs at new accepted × (after.history ≡ at.history) × Counts true at.faults after.faults × OnlyAtRisk at new after
-  Stops number at new after Spent = (at.next ≡ call_limit) × (after ≡ at)
-  Stops number at new after Memory = (after.history ≡ at.history) × (after.faults ≡ at.faults) × NoMoreAtRisk at after
-  Stops number at new after imported = ⊥
+  abbrev pub StopsImport : ℕ → Reached → NewVisit → Reached → Imported → Type 0
+  StopsImport number at new after (Refused told) = (told ≡ number) × ((other : VisitNo) × Asks at new (refused (name other)) after)
+  StopsImport number at new after (Full told) = (told ≡ number) × Asks at new full after
+  StopsImport number at new after DiskFault = TakesAs at new accepted × (after.history ≡ at.history) × Counts true at.faults after.faults × OnlyAtRisk at new after
+  StopsImport number at new after Spent = (at.next ≡ call_limit) × (after ≡ at)
+  StopsImport number at new after Memory = (after.history ≡ at.history) × (after.faults ≡ at.faults) × NoMoreAtRisk at after
+  StopsImport number at new after imported = ⊥
 
   -- the visits before one of these were asked and met, and then the asks stopped: those after it were not asked
   pub record StopsAmong (visits : List NewVisit) (before after : Reached) (imported : Imported) : Type 0 where
@@ -106,15 +106,15 @@ module _ (airport : AirportParts) where
     pub are : visits ≡ front ++ new ∷ back
     pub at : Reached
     pub met : MeetsAll front before at
-    pub stops : Stops (record_behind front) at new after imported
+    pub stops : StopsImport (record_behind front) at new after imported
 
   -- each visit was asked and met: this many entries came, and the other visits, of this number, were there already
-  pub record AsksWhole (visits : List NewVisit) (before after : Reached) (added present : ℕ) : Type 0 where
+  pub record AsksWhole (visits : List NewVisit) (before after : Reached) (added_entries present : ℕ) : Type 0 where
     pub met : MeetsAll visits before after
-    pub added_are : length after.history ≡ length before.history + added
-    pub present_are : added + present ≡ length visits
+    pub added_are : length after.history ≡ length before.history + added_entries
+    pub present_are : added_entries + present ≡ length visits
 
   -- these visits were asked to be added, each at most once and in order: all of them, or up to one at which the asks stopped
   abbrev pub AsksSeason : List NewVisit → Reached → Reached → Imported → Type 0
-  AsksSeason visits before after (Whole added present) = AsksWhole visits before after added present
+  AsksSeason visits before after (Whole added_entries present) = AsksWhole visits before after added_entries present
   AsksSeason visits before after imported = StopsAmong visits before after imported

@@ -3,8 +3,8 @@ use Rattle.std.specs.Prelude.{◌≡◌, ◌≢◌, ℕ, Bool, true}
 use Rattle.apron_base.specs.Counts.{Rose}
 use Rattle.desk_turns.specs.Watched.{FeedTexts}
 use Rattle.apron_run.specs.Run.{RunsAs}
-use Rattle.apron_run.specs.Statuses.{code_of}
-use Rattle.apron_run.specs.Words.{Asked, uses_disk, uses_shelf, uses_source}
+use Rattle.apron_run.specs.Statuses.{exit_code}
+use Rattle.apron_run.specs.Words.{Subcommand, uses_disk, uses_shelf, uses_source}
 use Rattle.apron_run.specs.World.{World}
 use Rattle.apron_run.specs.declared.status.Status.TheVariants.{ShelfFault, ReadFault, WriteFault, DiskFault}
 
@@ -14,14 +14,14 @@ FailsInUse used before after = (used ≡ true) × Rose before after
 
 -- A run ends with the status of the shelf, the source, the sink or the disk only where its count of faults rose in the run, which uses it for what is asked:
 -- every run uses the sink.
-pub record FaultsHaveCause (asked : Asked) (before after : World) (code : ℕ) : Type 0 where
-  pub shelf : code ≡ code_of ShelfFault → FailsInUse (uses_shelf asked) before.shelf.faults after.shelf.faults
-  pub source : code ≡ code_of ReadFault → FailsInUse (uses_source asked code) before.source.faults after.source.faults
-  pub sink : code ≡ code_of WriteFault → Rose before.sink.faults after.sink.faults
-  pub disk : code ≡ code_of DiskFault → FailsInUse (uses_disk asked code) before.disk.faults after.disk.faults
+pub record FaultsHaveCause (asked : Subcommand) (before after : World) (code : ℕ) : Type 0 where
+  pub shelf : code ≡ exit_code ShelfFault → FailsInUse (uses_shelf asked) before.shelf.faults after.shelf.faults
+  pub source : code ≡ exit_code ReadFault → FailsInUse (uses_source asked code) before.source.faults after.source.faults
+  pub sink : code ≡ exit_code WriteFault → Rose before.sink.faults after.sink.faults
+  pub disk : code ≡ exit_code DiskFault → FailsInUse (uses_disk asked code) before.disk.faults after.disk.faults
 
 -- a run whose shelf, source and sink count no fault ends with none of their statuses
 abbrev pub NoFaultIsTold : Type 0
-NoFaultIsTold = (feeds : FeedTexts) (asked : Asked) (before after : World) (code : ℕ) → RunsAs feeds asked before after code
+NoFaultIsTold = (feeds : FeedTexts) (asked : Subcommand) (before after : World) (code : ℕ) → RunsAs feeds asked before after code
     → after.shelf.faults ≡ 0 → after.source.faults ≡ 0 → after.sink.faults ≡ 0
-    → (code ≢ code_of ShelfFault) × (code ≢ code_of ReadFault) × (code ≢ code_of WriteFault)
+    → (code ≢ exit_code ShelfFault) × (code ≢ exit_code ReadFault) × (code ≢ exit_code WriteFault)

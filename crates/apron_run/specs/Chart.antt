@@ -9,7 +9,7 @@ use Rattle.apron_run.specs.PlanText.{PrintsText}
 use Rattle.apron_run.specs.Print.{Writes, usage_text}
 use Rattle.apron_run.specs.TwoFiles.{DoesWithFiles}
 use Rattle.apron_run.specs.Words.{number_within}
-use Rattle.apron_run.specs.World.{Outs, World}
+use Rattle.apron_run.specs.World.{SinkAndDisk, World}
 use Rattle.apron_run.specs.declared.status.Status.{Status}
 use Rattle.apron_run.specs.declared.status.Status.TheVariants.{Usage}
 
@@ -23,12 +23,12 @@ IsChart day airport history text = text ≡ chart_text airport (replay airport h
 
 -- the chart of a day of the plan is printed; if there is no such day, the line for faulty words is
 -- written, and the disk is as it was
-abbrev pub ChartsDay : AirportFiles → Option ℕ → Outs → Outs → Status → Type 0
+abbrev pub ChartsDay : AirportFiles → Option ℕ → SinkAndDisk → SinkAndDisk → Status → Type 0
 ChartsDay files (Some day) before after status = PrintsText (IsChart day) files before after status
 ChartsDay files None before after status = (after.disk ≡ before.disk) × Writes usage_text Usage Usage before.sink after.sink status
 
 -- the chart of the day that the digits name is printed
-abbrev pub ChartsNamed : List ℕ → AirportFiles → Outs → Outs → Status → Type 0
+abbrev pub ChartsNamed : List ℕ → AirportFiles → SinkAndDisk → SinkAndDisk → Status → Type 0
 ChartsNamed day files before after status = ChartsDay files (day_named files.airport day) before after status
 
 -- the airport file and the type file of these names were read, and this was done with what was found in them

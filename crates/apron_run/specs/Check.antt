@@ -1,7 +1,7 @@
 -- What the word `check` does.
 use Rattle.std.specs.Prelude.{ℕ, List, Result, Ok, Err}
 use Rattle.apron_base.specs.Ends.{SinkState}
-use Rattle.apron_check.specs.Files.{Finds}
+use Rattle.apron_check.specs.Files.{FindsFiles}
 use Rattle.apron_check.specs.Lines.{counts_line, fault_line}
 use Rattle.apron_check.specs.declared.files.AirportFiles.{AirportFiles}
 use Rattle.apron_check.specs.declared.faults.FilesFault.{FilesFault}
@@ -23,5 +23,5 @@ TellsFound (Err fault) before after status = TellsFault fault before after statu
 -- the airport file and the type file of these names were read, and the line that tells what was found in them was written
 pub record ChecksFiles (airport types : List ℕ) (before after : World) (status : Status) : Type 0 where
   pub found : Result AirportFiles FilesFault
-  pub finds : Finds before.shelf after.shelf airport types found
+  pub finds : FindsFiles before.shelf after.shelf airport types found
   pub tells : TellsFound found before.sink after.sink status

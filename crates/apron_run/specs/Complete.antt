@@ -21,11 +21,11 @@ use Rattle.apron_check.specs.declared.files.AirportFiles.{AirportFiles}
 use Rattle.apron_run.specs.Asking.{MeetsAll, Reached}
 use Rattle.apron_run.specs.Chart.{day_named}
 use Rattle.apron_run.specs.Headline.{takes_number}
-use Rattle.apron_run.specs.Import.{Tells, begun}
+use Rattle.apron_run.specs.Import.{Tells, new_import}
 use Rattle.apron_run.specs.Journal.{OpensTo}
-use Rattle.apron_run.specs.Statuses.{code_of}
+use Rattle.apron_run.specs.Statuses.{exit_code}
 use Rattle.apron_run.specs.Upgrade.{CanUpgrade}
-use Rattle.apron_run.specs.Words.{Asked, desk, init, check, chart, import, export, propose, upgrade, make, help, version, faulty}
+use Rattle.apron_run.specs.Words.{Subcommand, desk, init, check, chart, import, export, propose, upgrade, make, help, version, faulty}
 use Rattle.apron_run.specs.World.{DiskSeen, World}
 use Rattle.apron_run.specs.declared.status.Status.TheVariants.{Done, Memory}
 
@@ -94,20 +94,20 @@ OnJournal world airport types Holds =
     OnFiles world airport types (λ files. (history : List Entry) × HasJournal files world.disk history × Holds files history)
 
 -- what is asked can be done with what there is at the beginning, within all limits: one line for each word
-abbrev pub IsValid : Asked → World → Type 0
-IsValid (desk airport types) world = OnJournal world airport types (λ files history. HasInput files.airport world.source history)
-IsValid (init airport types) world = OnFiles world airport types (λ files. IsEmpty world.disk)
-IsValid (check airport types) world = OnFiles world airport types (λ files. Unit {0})
-IsValid (chart airport types day) world = OnJournal world airport types (λ files history. IsSome (day_named files.airport day))
-IsValid (import airport types season) world =
-    OnJournal world airport types (λ files history. HasSeason files.airport world.shelf season (begun history world.disk.faults))
-IsValid (export airport types) world = OnJournal world airport types (λ files history. Unit {0})
-IsValid (upgrade airport types) world = OnFiles world airport types (λ files. CanUpgrade files world.disk)
-IsValid (propose airport types name draft) world = OnJournal world airport types (λ files history. Unit {0})
-IsValid (make visits) world = Unit {0}
-IsValid help world = Unit {0}
-IsValid version world = Unit {0}
-IsValid faulty world = ⊥
+abbrev pub CanBeRun : Subcommand → World → Type 0
+CanBeRun (desk airport types) world = OnJournal world airport types (λ files history. HasInput files.airport world.source history)
+CanBeRun (init airport types) world = OnFiles world airport types (λ files. IsEmpty world.disk)
+CanBeRun (check airport types) world = OnFiles world airport types (λ files. Unit {0})
+CanBeRun (chart airport types day) world = OnJournal world airport types (λ files history. IsSome (day_named files.airport day))
+CanBeRun (import airport types season) world =
+    OnJournal world airport types (λ files history. HasSeason files.airport world.shelf season (new_import history world.disk.faults))
+CanBeRun (export airport types) world = OnJournal world airport types (λ files history. Unit {0})
+CanBeRun (upgrade airport types) world = OnFiles world airport types (λ files. CanUpgrade files world.disk)
+CanBeRun (propose airport types name draft) world = OnJournal world airport types (λ files history. Unit {0})
+CanBeRun (make visits) world = Unit {0}
+CanBeRun help world = Unit {0}
+CanBeRun version world = Unit {0}
+CanBeRun faulty world = ⊥
 
 -- the count of faults of no end rose, or stands at its last value
 pub record NoneFails (before after : World) : Type 0 where
@@ -118,8 +118,8 @@ pub record NoneFails (before after : World) : Type 0 where
 
 -- all was done, or memory ran out
 abbrev pub EndsWell : ℕ → Type 0
-EndsWell code = (code ≡ code_of Done) ⊎ (code ≡ code_of Memory)
+EndsWell code = (code ≡ exit_code Done) ⊎ (code ≡ exit_code Memory)
 
 -- what is valid, and where nothing fails, ends well
-pub record IsComplete (asked : Asked) (before after : World) (code : ℕ) : Type 0 where
-  pub well : IsValid asked before → NoneFails before after → EndsWell code
+pub record IsRunComplete (asked : Subcommand) (before after : World) (code : ℕ) : Type 0 where
+  pub well : CanBeRun asked before → NoneFails before after → EndsWell code

@@ -3,7 +3,7 @@
 use Rattle.std.specs.Prelude.{◌≡◌, ◌≢◌, ℕ, List, length, Option, None, Some, Result, Ok, Err}
 use Rattle.apron_base.specs.declared.outside.Outcome.{Outcome}
 use Rattle.desk_turns.specs.Watched.{FeedTexts}
-use Rattle.journal_disk.specs.Disk.{IsSafe, Stays, Told}
+use Rattle.journal_disk.specs.Disk.{IfExposed, IsSafe, Stays}
 use Rattle.journal_disk.specs.Header.{empty_journal}
 use Rattle.journal_disk.specs.declared.fault.JournalFault.{JournalFault}
 use Rattle.apron_check.specs.declared.files.AirportFiles.{AirportFiles}
@@ -12,12 +12,12 @@ use Rattle.apron_run.specs.Desk.{MeetsDesk, RunsDesk, RunsFound, RunsOnJournal}
 use Rattle.apron_run.specs.Import.{Around, ImportsFound, ImportsOnJournal, MeetsImport, Stores, around}
 use Rattle.apron_run.specs.Init.{MakesJournal}
 use Rattle.apron_run.specs.Run.{Does}
-use Rattle.apron_run.specs.Statuses.{code_of}
+use Rattle.apron_run.specs.Statuses.{exit_code}
 use Rattle.apron_run.specs.Survival.{DiskStates, Survives}
 use Rattle.apron_run.specs.TwoFiles.{DoesFound}
 use Rattle.apron_run.specs.UpgradeCrash.{LeavesUpgrade}
-use Rattle.apron_run.specs.Words.{Asked, desk, init, import, upgrade}
-use Rattle.apron_run.specs.World.{Ends, Outs, World, ends_of, outs_of}
+use Rattle.apron_run.specs.Words.{Subcommand, desk, init, import, upgrade}
+use Rattle.apron_run.specs.World.{DeskEnds, SinkAndDisk, World, desk_ends, sink_and_disk}
 use Rattle.apron_run.specs.declared.imported.Imported.{Imported}
 use Rattle.apron_run.specs.declared.status.Status.{Status}
 use Rattle.apron_run.specs.declared.unusable.Unusable.{Unusable}
@@ -30,9 +30,9 @@ LeavesAll disk = Stays disk.before disk.after
 -- and what it could leave before, if it was refused and the disk had bytes
 abbrev pub LeavesMade : List ℕ → Option JournalFault → DiskStates → Type 0
 LeavesMade digests None disk =
-    Told disk.before (λ bytes. IsSafe (empty_journal digests) disk.after)
+    IfExposed disk.before (λ bytes. IsSafe (empty_journal digests) disk.after)
 LeavesMade digests (Some fault) disk =
-    Told disk.before (λ bytes. length bytes ≢ 0 → LeavesAll disk)
+    IfExposed disk.before (λ bytes. length bytes ≢ 0 → LeavesAll disk)
 
 module _ (disk : DiskStates) where
   -- an import: the history to which it came survives; and where there was no journal to work on,
@@ -72,72 +72,72 @@ module _ (disk : DiskStates) where
       × LeavesAdded found season before after status imports
 
   -- a journal that is made, and what a crash may leave of it
-  abbrev pub MakesJournalLeaving : AirportFiles → Outs → Outs → Status → Type 0
+  abbrev pub MakesJournalLeaving : AirportFiles → SinkAndDisk → SinkAndDisk → Status → Type 0
   MakesJournalLeaving files before after status = (makes : MakesJournal files before after status)
       × LeavesMade files.digests makes.refused disk
 
   -- a journal that is made of what was found in the two files
-  abbrev pub LeavesNew : (found : Result AirportFiles FilesFault) (before after : Outs)
+  abbrev pub LeavesNew : (found : Result AirportFiles FilesFault) (before after : SinkAndDisk)
       (status : Status) → DoesFound MakesJournal found before after status → Type 0
   LeavesNew (Ok files) before after status makes = LeavesMade files.digests makes.refused disk
   LeavesNew (Err fault) before after status inits = LeavesAll disk
 
   -- what is done with what was found, and what a crash may leave of it
-  abbrev pub InitsFoundLeaving : Result AirportFiles FilesFault → Outs → Outs → Status → Type 0
+  abbrev pub InitsFoundLeaving : Result AirportFiles FilesFault → SinkAndDisk → SinkAndDisk → Status → Type 0
   InitsFoundLeaving found before after status = (inits : DoesFound MakesJournal found before after status)
       × LeavesNew found before after status inits
 
 -- `feeds` says what the reply to each feed is, by the airport and the history
 module _ (feeds : FeedTexts) (disk : DiskStates) where
   -- a session: its history survives; and where there was no journal to work on, nothing is written
-  abbrev pub LeavesMet : (files : AirportFiles) (before after : Ends) (met : Result Outcome Unusable)
+  abbrev pub LeavesOfSession : (files : AirportFiles) (before after : DeskEnds) (met : Result Outcome Unusable)
       → MeetsDesk feeds files before after met → Type 0
-  LeavesMet files before after (Ok outcome) serves =
+  LeavesOfSession files before after (Ok outcome) serves =
       Survives files.digests serves.port.seen serves.port.at_risk disk
-  LeavesMet files before after (Err why) finds = LeavesAll disk
+  LeavesOfSession files before after (Err why) finds = LeavesAll disk
 
   -- such a session, and what a crash may leave of it
-  abbrev pub MeetsDeskLeaving : AirportFiles → Ends → Ends → Result Outcome Unusable → Type 0
+  abbrev pub MeetsDeskLeaving : AirportFiles → DeskEnds → DeskEnds → Result Outcome Unusable → Type 0
   MeetsDeskLeaving files before after met =
-      (meets : MeetsDesk feeds files before after met) × LeavesMet files before after met meets
+      (meets : MeetsDesk feeds files before after met) × LeavesOfSession files before after met meets
 
   -- the same, with what was written of its end
-  abbrev pub RunsOnJournalLeaving : AirportFiles → Ends → Ends → Status → Type 0
+  abbrev pub RunsOnJournalLeaving : AirportFiles → DeskEnds → DeskEnds → Status → Type 0
   RunsOnJournalLeaving files before after status = (runs : RunsOnJournal feeds files before after status)
-      × LeavesMet files before (record { source = after.source; sink = runs.sink; disk = after.disk })
+      × LeavesOfSession files before (record { source = after.source; sink = runs.sink; disk = after.disk })
       runs.met runs.meets
 
   -- the same of what was found in the two files, whose fault writes nothing
-  abbrev pub LeavesServed : (found : Result AirportFiles FilesFault) (before after : Ends)
+  abbrev pub LeavesServed : (found : Result AirportFiles FilesFault) (before after : DeskEnds)
       (status : Status) → RunsFound feeds found before after status → Type 0
   LeavesServed (Ok files) before after status runs =
-      LeavesMet files before (record { source = after.source; sink = runs.sink; disk = after.disk })
+      LeavesOfSession files before (record { source = after.source; sink = runs.sink; disk = after.disk })
       runs.met runs.meets
   LeavesServed (Err fault) before after status runs = LeavesAll disk
 
   -- a run of the word `desk`, and what a crash may leave of it
   abbrev pub RunsDeskLeaving : List ℕ → List ℕ → World → World → Status → Type 0
   RunsDeskLeaving airport types before after status = (runs : RunsDesk feeds airport types before after status)
-      × LeavesServed runs.found (ends_of before) (ends_of after) status runs.runs
+      × LeavesServed runs.found (desk_ends before) (desk_ends after) status runs.runs
 
   -- what is done, by what is asked: no other word writes
-  abbrev pub Leaves : (asked : Asked) (before after : World) (status : Status)
+  abbrev pub LeavesOnCrash : (asked : Subcommand) (before after : World) (status : Status)
       → Does feeds asked before after status → Type 0
-  Leaves (desk airport types) before after status runs =
-      LeavesServed runs.found (ends_of before) (ends_of after) status runs.runs
-  Leaves (init airport types) before after status inits =
-      LeavesNew disk inits.found (outs_of before) (outs_of after) status inits.does
-  Leaves (import airport types season) before after status imports =
+  LeavesOnCrash (desk airport types) before after status runs =
+      LeavesServed runs.found (desk_ends before) (desk_ends after) status runs.runs
+  LeavesOnCrash (init airport types) before after status inits =
+      LeavesNew disk inits.found (sink_and_disk before) (sink_and_disk after) status inits.does
+  LeavesOnCrash (import airport types season) before after status imports =
       LeavesAdded disk imports.found season (around imports.shelf before) (around after.shelf after) status
       imports.imports
-  Leaves (upgrade airport types) before after status upgrades =
-      LeavesUpgrade disk upgrades.found (outs_of before) (outs_of after) status upgrades.does
-  Leaves asked before after status does = LeavesAll disk
+  LeavesOnCrash (upgrade airport types) before after status upgrades =
+      LeavesUpgrade disk upgrades.found (sink_and_disk before) (sink_and_disk after) status upgrades.does
+  LeavesOnCrash asked before after status does = LeavesAll disk
 
   -- what the program does for what is asked of it, the status of its number, and what
   -- a crash may leave of what it does
-  pub record CrashesAs (asked : Asked) (before after : World) (code : ℕ) : Type 0 where
+  pub record CrashesAs (asked : Subcommand) (before after : World) (code : ℕ) : Type 0 where
     pub status : Status
-    pub code_is : code ≡ code_of status
+    pub code_is : code ≡ exit_code status
     pub does : Does feeds asked before after status
-    pub leaves : Leaves asked before after status does
+    pub leaves : LeavesOnCrash asked before after status does

@@ -16,7 +16,7 @@ use Rattle.desk_http.specs.Ports.{PortState}
 use Rattle.desk_http.specs.Session.{Moment, SessionBy}
 use Rattle.desk_turns.specs.Alone.{AloneFeeds}
 use Rattle.desk_turns.specs.Watched.{FeedTexts}
-use Rattle.apron_check.specs.Files.{Finds}
+use Rattle.apron_check.specs.Files.{FindsFiles}
 use Rattle.apron_check.specs.declared.files.AirportFiles.{AirportFiles}
 use Rattle.apron_check.specs.declared.faults.FilesFault.{FilesFault}
 use Rattle.apron_check.specs.declared.faults.FilesFault.TheVariants as files
@@ -24,21 +24,21 @@ use Rattle.apron_run.specs.Check.{TellsFault}
 use Rattle.apron_run.specs.Journal.{KeepsHistory, NotOpened, OpensTo}
 use Rattle.apron_run.specs.Statuses.{is_disk_fault, may_serve, status_of_outcome}
 use Rattle.apron_run.specs.Unusable.{TellsUnusable}
-use Rattle.apron_run.specs.World.{Ends, World, ends_of}
+use Rattle.apron_run.specs.World.{DeskEnds, World, desk_ends}
 use Rattle.apron_run.specs.declared.status.Status.{Status}
 use Rattle.apron_run.specs.declared.unusable.Unusable.{Unusable}
 
 -- what a session knows of its ends and of its port
-abbrev pub moment : Ends → PortState → Moment
+abbrev pub moment : DeskEnds → PortState → Moment
 moment ends port = record { source = ends.source; sink = ends.sink; port = port }
 
 -- a desk that has made no call yet: it has seen the history that was opened, no entry is at risk, its calls go on from the last entry's number, and the disk
 -- has failed so often
-abbrev pub begun : List Entry → ℕ → PortState
-begun opened faults = record { first = next_after opened; seen = opened; at_risk = None; calls = []; spent = next_after opened == call_limit; faults = faults }
+abbrev pub new_port : List Entry → ℕ → PortState
+new_port opened faults = record { first = next_after opened; seen = opened; at_risk = None; calls = []; spent = next_after opened == call_limit; faults = faults }
 
 -- there is no journal to work on: nothing was taken and nothing written, and the disk reads as before
-pub record FindsNoJournal (files : AirportFiles) (before after : Ends) (why : Unusable) : Type 0 where
+pub record DeskFindsNoJournal (files : AirportFiles) (before after : DeskEnds) (why : Unusable) : Type 0 where
   pub source : after.source ≡ before.source
   pub sink : after.sink ≡ before.sink
   pub disk : NotOpened files before.disk after.disk why
@@ -50,9 +50,9 @@ TellsOutcome Memory before after status = TellsFault files.Memory before after s
 TellsOutcome outcome before after status = (after ≡ before) × (status ≡ status_of_outcome outcome)
 
 -- the same where there may have been no journal to work on, which its line tells
-abbrev pub TellsMet : Result Outcome Unusable → SinkState → SinkState → Status → Type 0
-TellsMet (Ok outcome) before after status = TellsOutcome outcome before after status
-TellsMet (Err why) before after status = TellsUnusable why before after status
+abbrev pub PrintsSessionEnd : Result Outcome Unusable → SinkState → SinkState → Status → Type 0
+PrintsSessionEnd (Ok outcome) before after status = TellsOutcome outcome before after status
+PrintsSessionEnd (Err why) before after status = TellsUnusable why before after status
 
 -- the disk's count of faults: it may have risen in a session, whose replies then say so; it rose where the status says that the disk failed, and else it
 -- stands still
@@ -69,36 +69,36 @@ module _ (feeds : FeedTexts) where
   -- One session with feeds of a desk alone: it began with the history that the disk opened to, and
   -- left the disk with the history as it then was. Where the desk's call numbers were exhausted, all
   -- of them have been used.
-  pub record ServesDesk (files : AirportFiles) (before after : Ends) (outcome : Outcome) : Type 0 where
+  pub record ServesDesk (files : AirportFiles) (before after : DeskEnds) (outcome : Outcome) : Type 0 where
     pub opened : List Entry
     pub opens : OpensTo files before.disk opened
     pub port : PortState
     pub session : SessionBy (DeskAnswers files.airport) files.airport
-        (moment before (begun opened before.disk.faults)) (moment after port) outcome
+        (moment before (new_port opened before.disk.faults)) (moment after port) outcome
     pub spent : port.spent ≡ true → port.first + length port.calls ≡ call_limit
     pub faults : port.faults ≡ after.disk.faults
     pub keeps : KeepsHistory files port.seen port.at_risk after.disk
 
   -- a session on the journal of these files, or why there is none to work on
-  abbrev pub MeetsDesk : AirportFiles → Ends → Ends → Result Outcome Unusable → Type 0
+  abbrev pub MeetsDesk : AirportFiles → DeskEnds → DeskEnds → Result Outcome Unusable → Type 0
   MeetsDesk files before after (Ok outcome) = ServesDesk files before after outcome
-  MeetsDesk files before after (Err why) = FindsNoJournal files before after why
+  MeetsDesk files before after (Err why) = DeskFindsNoJournal files before after why
 
   -- a session on the journal of these files, or none, and what is written of either
-  pub record RunsOnJournal (files : AirportFiles) (before after : Ends) (status : Status) : Type 0 where
+  pub record RunsOnJournal (files : AirportFiles) (before after : DeskEnds) (status : Status) : Type 0 where
     pub met : Result Outcome Unusable
     pub sink : SinkState
     pub meets : MeetsDesk files before (record { source = after.source; sink = sink; disk = after.disk }) met
-    pub tells : TellsMet met sink after.sink status
+    pub tells : PrintsSessionEnd met sink after.sink status
 
   -- what is done with what was found in the two files: a session on their journal; or the line of
   -- their fault is written, and the source and the disk are as they were
-  abbrev pub RunsFound : Result AirportFiles FilesFault → Ends → Ends → Status → Type 0
+  abbrev pub RunsFound : Result AirportFiles FilesFault → DeskEnds → DeskEnds → Status → Type 0
   RunsFound (Ok files) before after status = RunsOnJournal files before after status
   RunsFound (Err fault) before after status = (after.source ≡ before.source) × (after.disk ≡ before.disk) × TellsFault fault before.sink after.sink status
 
   -- the airport file and the type file of these names were read, and this was done with what was found in them
   pub record RunsDesk (airport types : List ℕ) (before after : World) (status : Status) : Type 0 where
     pub found : Result AirportFiles FilesFault
-    pub finds : Finds before.shelf after.shelf airport types found
-    pub runs : RunsFound found (ends_of before) (ends_of after) status
+    pub finds : FindsFiles before.shelf after.shelf airport types found
+    pub runs : RunsFound found (desk_ends before) (desk_ends after) status

@@ -2,7 +2,7 @@
 use Rattle.std.specs.Prelude.{◌≡◌, ◌⊎◌, ◌<◌, ◌≤◌, ◌↔◌, ◌+◌, ℕ, Bool, true, false, All, List, [], ◌∷◌, ◌++◌, length, take, count_by, is_ok, Option, None, Some, IfSome, Result, Ok, Err}
 use Rattle.std.specs.Io.KnownBytes.{Appends}
 use Rattle.apron_base.specs.Counts.{RoseBy}
-use Rattle.http_framing.specs.declared.bodies.Refusal.{Refusal}
+use Rattle.http_framing.specs.declared.bodies.RequestRefusal.{RequestRefusal}
 use Rattle.http_framing.specs.Requests.{Request, HasRequest, IsMalformed, IsPartial}
 use Rattle.http_framing.specs.Streams.{ended, cut, closed, malformed, IsOpen, Requests, Splits}
 use Rattle.apron_base.specs.Histories.{Rises}
@@ -11,7 +11,7 @@ use Rattle.visit_book.specs.declared.visits.NewVisit.{NewVisit}
 use Rattle.plan_core.specs.Drafts.{draft_version}
 use Rattle.desk_words.specs.declared.asks.Ask.{Ask}
 use Rattle.desk_words.specs.declared.asks.Entry.{Entry}
-use Rattle.desk_words.specs.declared.early.Early.{Early}
+use Rattle.desk_words.specs.declared.early.EarlyReply.{EarlyReply}
 use Rattle.history_core.specs.Answer.{keeper_fault}
 use Rattle.history_core.specs.AtRisk.{IsAskedFor}
 use Rattle.history_core.specs.History.{IsLegal, IsSoundPlan, call_limit, call_of, replay}
@@ -21,21 +21,21 @@ use Rattle.desk_http.specs.Answers.{Sent, TakesMemory, at_once, fed, given, send
 use Rattle.desk_http.specs.Alone.{numbers_from}
 use Rattle.desk_http.specs.FedSession.{feed_asked}
 use Rattle.desk_http.specs.Ports.{PortState, is_unkept}
-use Rattle.desk_http.specs.Routes.{routed, said_in}
+use Rattle.desk_http.specs.Routes.{ask_of_request, said_in}
 use Rattle.desk_http.specs.Runs.{Runs}
 use Rattle.desk_http.specs.Session.{most_requests, refusal_text, texts_of}
 use Rattle.desk_http.specs.declared.port.FeedAsk.{FeedAsk}
 use Rattle.desk_turns.specs.Watched.{FeedTexts}
-use Rattle.apron_check.specs.Files.{Finds}
+use Rattle.apron_check.specs.Files.{FindsFiles}
 use Rattle.apron_check.specs.Lines.{fault_line}
 use Rattle.apron_check.specs.declared.files.AirportFiles.{AirportFiles}
 use Rattle.apron_check.specs.declared.faults.FilesFault.{FilesFault}
 use Rattle.apron_check.specs.declared.faults.FilesFault.TheVariants as files
-use Rattle.apron_run.specs.Desk.{DeskAnswers, begun}
+use Rattle.apron_run.specs.Desk.{DeskAnswers, new_port}
 use Rattle.apron_run.specs.Journal.{KeepsHistory, NotOpened, OpensTo}
-use Rattle.apron_run.specs.Statuses.{code_of, status_of_fault}
+use Rattle.apron_run.specs.Statuses.{exit_code, status_of_fault}
 use Rattle.apron_run.specs.Unusable.{status_of_unusable, unusable_line}
-use Rattle.apron_run.specs.World.{DiskSeen, Ends, World, ends_of}
+use Rattle.apron_run.specs.World.{DeskEnds, DiskSeen, World, desk_ends}
 use Rattle.apron_run.specs.declared.status.Status.{Status}
 use Rattle.apron_run.specs.declared.status.Status.TheVariants.{Done, ReadFault, WriteFault, Cut, Memory, Malformed, Limit, Spent}
 use Rattle.apron_run.specs.declared.unusable.Unusable.{Unusable}
@@ -71,17 +71,17 @@ pub record IsUnread (bytes : List ℕ) : Type 0 where
   pub takes : TakesMemory request
 
 -- whether something is asked: of a feed if one is named, and else of the plan
-abbrev pub is_asking : Option (Result FeedAsk Early) → Result Ask Early → Bool
+abbrev pub is_asking : Option (Result FeedAsk EarlyReply) → Result Ask EarlyReply → Bool
 is_asking None asked = is_ok asked
 is_asking (Some feed) asked = is_ok feed
 
 -- whether the request asks something of the plan of the airport, or asks for a feed: then it takes a
 -- call number
 abbrev pub takes_number : AirportParts → Request → Bool
-takes_number airport request = is_asking (feed_asked (said_in request)) (routed airport request)
+takes_number airport request = is_asking (feed_asked (said_in request)) (ask_of_request airport request)
 
 -- a request stands whole at the front of the bytes that takes a call number
-pub record IsUnasked (airport : AirportParts) (bytes : List ℕ) : Type 0 where
+pub record TakesCall (airport : AirportParts) (bytes : List ℕ) : Type 0 where
   pub request : Request
   pub behind : List ℕ
   pub whole : HasRequest bytes request behind
@@ -136,7 +136,7 @@ module _ (airport : AirportParts) where
   -- all replies were written whole, and a front of the reply to bytes that are refused
   pub record CutsRefusal (exchange : Exchange) (output : List ℕ) : Type 0 where
     pub goes_on : GoesOn exchange
-    pub why : Refusal
+    pub why : RequestRefusal
     pub malformed : IsMalformed exchange.rest why
     pub count : ℕ
     pub bytes : output ≡ replies_text exchange ++ take count (refusal_text why)
@@ -151,14 +151,14 @@ module _ (airport : AirportParts) where
       × (carried.output ≡ replies_text exchange)
   StopsWith Cut carried exchange = GoesOn exchange × Requests carried.input exchange.requests cut × (carried.output ≡ replies_text exchange)
   StopsWith Malformed carried exchange = GoesOn exchange
-      × ((why : Refusal) × Requests carried.input exchange.requests (malformed why) × (carried.output ≡ replies_text exchange ++ refusal_text why))
+      × ((why : RequestRefusal) × Requests carried.input exchange.requests (malformed why) × (carried.output ≡ replies_text exchange ++ refusal_text why))
   StopsWith Limit carried exchange =
       All IsOpen exchange.requests × (length exchange.requests ≡ most_requests) × (carried.output ≡ replies_text exchange)
   StopsWith ReadFault carried exchange = GoesOn exchange × StopsInside exchange.rest carried.left × (carried.output ≡ replies_text exchange)
   StopsWith WriteFault carried exchange = CutsReply exchange carried.output ⊎ CutsRefusal exchange carried.output
   StopsWith Memory carried exchange = GoesOn exchange × ((exchange.requests ≡ []) × (carried.left ≡ carried.input) ⊎ IsUnread exchange.rest)
       × ((count : ℕ) × (carried.output ≡ replies_text exchange ++ take count (fault_line files.Memory)))
-  StopsWith Spent carried exchange = GoesOn exchange × IsUnasked airport exchange.rest × (carried.output ≡ replies_text exchange)
+  StopsWith Spent carried exchange = GoesOn exchange × TakesCall airport exchange.rest × (carried.output ≡ replies_text exchange)
   StopsWith status carried exchange = ⊥
 
   -- An entry that could not be kept, where the calls of the exchange have the numbers from `first` on: the request at one place of it asked this command as
@@ -169,7 +169,7 @@ module _ (airport : AirportParts) where
     pub request : Request
     pub at : IsPlace exchange front told request (given keeper_fault)
     pub ask : Ask
-    pub asks : routed airport request ≡ Ok ask
+    pub asks : ask_of_request airport request ≡ Ok ask
     pub asked : IsAskedFor (first + count_by is_given told) ask.what entry
     pub since : Rises call_of 1 entry.call history
 
@@ -222,12 +222,12 @@ module _ (feeds : FeedTexts) (files : AirportFiles) where
   -- none was added.
   pub record Headline (opened : List Entry) (before after : DiskSeen) (carried : Carried) (code : ℕ) : Type 0 where
     pub status : Status
-    pub code_is : code ≡ code_of status
+    pub code_is : code ≡ exit_code status
     pub exchange : Exchange
     pub new : PortState
     pub splits : Splits carried.input exchange.requests exchange.rest
     pub few : length exchange.requests ≤ most_requests
-    pub runs : Runs (Sends feeds files.airport) (begun opened before.faults) exchange.requests exchange.sents new
+    pub runs : Runs (Sends feeds files.airport) (new_port opened before.faults) exchange.requests exchange.sents new
     pub stops : StopsWith files.airport status carried exchange
     pub begins : GoesOnFrom opened new.seen
     pub calls : new.calls ≡ numbers_from (next_after opened) (count_by is_given exchange.sents)
@@ -242,29 +242,29 @@ module _ (feeds : FeedTexts) (files : AirportFiles) where
     pub at_risk : IfSome new.at_risk (IsUnkept files.airport (next_after opened) exchange new.seen)
 
   -- the headline of this input, with what the source and the sink tell afterwards; what the sink told before it tells then too
-  abbrev pub TellsOf : List Entry → List ℕ → Ends → Ends → ℕ → Type 0
+  abbrev pub TellsOf : List Entry → List ℕ → DeskEnds → DeskEnds → ℕ → Type 0
   TellsOf opened input before after code = (left output : List ℕ) × (after.source.left ≡ Some left) × Appends before.sink.told after.sink.told output
       × Headline opened before.disk after.disk (record { input = input; left = left; output = output }) code
 
   -- the journal of the files opened, and the headline begins with its history, where the source tells its bytes
-  pub record TellsOpened (before after : Ends) (code : ℕ) : Type 0 where
+  pub record TellsOpened (before after : DeskEnds) (code : ℕ) : Type 0 where
     pub opened : List Entry
     pub opens : OpensTo files before.disk opened
     pub tells : IfSome before.source.left (λ input. TellsOf opened input before after code)
 
 -- there is no journal of the files to work on: the line that tells why was written, or a front of it, and nothing else; the source is as it was, and the
 -- disk reads as before
-pub record TellsUnopened (files : AirportFiles) (before after : Ends) (code : ℕ) : Type 0 where
+pub record TellsUnopened (files : AirportFiles) (before after : DeskEnds) (code : ℕ) : Type 0 where
   pub why : Unusable
-  pub code_is : code ≡ code_of (status_of_unusable why)
+  pub code_is : code ≡ exit_code (status_of_unusable why)
   pub source : after.source ≡ before.source
   pub disk : NotOpened files before.disk after.disk why
   pub count : ℕ
   pub wrote : Appends before.sink.told after.sink.told (take count (unusable_line why))
 
 -- the line of a fault of the files was written, or a front of it, and nothing else; the source and the disk are as they were
-pub record TellsEarly (fault : FilesFault) (before after : Ends) (code : ℕ) : Type 0 where
-  pub code_is : code ≡ code_of (status_of_fault fault)
+pub record TellsEarly (fault : FilesFault) (before after : DeskEnds) (code : ℕ) : Type 0 where
+  pub code_is : code ≡ exit_code (status_of_fault fault)
   pub source : after.source ≡ before.source
   pub disk : after.disk ≡ before.disk
   pub count : ℕ
@@ -274,7 +274,7 @@ pub record TellsEarly (fault : FilesFault) (before after : Ends) (code : ℕ) : 
 module _ (feeds : FeedTexts) where
   -- the headline of what was found in the two files: of a session on their journal, or that there is
   -- none to work on; or the line of their fault
-  abbrev pub TellsFoundHeadline : Result AirportFiles FilesFault → Ends → Ends → ℕ → Type 0
+  abbrev pub TellsFoundHeadline : Result AirportFiles FilesFault → DeskEnds → DeskEnds → ℕ → Type 0
   TellsFoundHeadline (Ok files) before after code =
       TellsOpened feeds files before after code ⊎ TellsUnopened files before after code
   TellsFoundHeadline (Err fault) before after code = TellsEarly fault before after code
@@ -282,5 +282,5 @@ module _ (feeds : FeedTexts) where
   -- the headline, at what was found in the airport file and the type file of these names
   pub record TellsHeadline (airport types : List ℕ) (before after : World) (code : ℕ) : Type 0 where
     pub found : Result AirportFiles FilesFault
-    pub finds : Finds before.shelf after.shelf airport types found
-    pub tells : TellsFoundHeadline found (ends_of before) (ends_of after) code
+    pub finds : FindsFiles before.shelf after.shelf airport types found
+    pub tells : TellsFoundHeadline found (desk_ends before) (desk_ends after) code

@@ -10,7 +10,7 @@ use Rattle.desk_words.specs.declared.asks.Entry.{Entry}
 use Rattle.history_core.specs.History.{IsLegal}
 use Rattle.history_core.specs.Opening.{next_after}
 use Rattle.journal_disk.specs.Disk.{DiskState}
-use Rattle.apron_check.specs.Files.{Finds}
+use Rattle.apron_check.specs.Files.{FindsFiles}
 use Rattle.apron_check.specs.declared.files.AirportFiles.{AirportFiles}
 use Rattle.apron_check.specs.declared.faults.FilesFault.{FilesFault}
 use Rattle.apron_run.specs.Asking.{AsksSeason, Reached}
@@ -18,7 +18,7 @@ use Rattle.apron_run.specs.Check.{TellsFault}
 use Rattle.apron_run.specs.Imported.{TellsImported}
 use Rattle.apron_run.specs.Journal.{KeepsHistory, NotOpened, OpensTo}
 use Rattle.apron_run.specs.Unusable.{TellsUnusable}
-use Rattle.apron_run.specs.World.{DiskSeen, World, seen_of}
+use Rattle.apron_run.specs.World.{DiskSeen, World, disk_seen}
 use Rattle.apron_run.specs.declared.imported.Imported.{Imported}
 use Rattle.apron_run.specs.declared.imported.Imported.TheVariants.{ShelfFault, TooLong, Refused, Memory}
 use Rattle.apron_run.specs.declared.status.Status.{Status}
@@ -40,7 +40,7 @@ pub record Around : Type 0 where
 
 -- the two in these states
 abbrev pub stores_at : ShelfState → DiskState → Stores
-stores_at shelf disk = record { shelf = shelf; disk = seen_of disk }
+stores_at shelf disk = record { shelf = shelf; disk = disk_seen disk }
 
 -- these and the sink
 abbrev pub around_at : ShelfState → DiskState → SinkState → Around
@@ -58,28 +58,28 @@ pub record Tells (airport : AirportParts) (file : Option (List ℕ)) (season : R
   pub season_is : season_in airport bytes ≡ season
 
 -- the file has more than the most bytes; where the shelf doesn't tell it, more were read
-abbrev pub IsTooLong : Option (List ℕ) → ShelfState → ShelfState → Type 0
-IsTooLong file before after = MatchOption file (RoseBy (most_season + 1) before.read after.read) (λ kept. most_season < length kept)
+abbrev pub IsSeasonTooLong : Option (List ℕ) → ShelfState → ShelfState → Type 0
+IsSeasonTooLong file before after = MatchOption file (RoseBy (most_season + 1) before.read after.read) (λ kept. most_season < length kept)
 
 -- what is found in the season file of a name: its visits; or why none are asked, where want of memory needs no cause, and that of a failing shelf is its
 -- count
-abbrev pub HasCause : AirportParts → List ℕ → ShelfState → ShelfState → Result (List NewVisit) Imported → Type 0
-HasCause airport season before after (Ok visits) = Tells airport (before.file season) (Ok visits)
-HasCause airport season before after (Err (Refused number)) = Tells airport (before.file season) (Err number)
-HasCause airport season before after (Err TooLong) = IsTooLong (before.file season) before after
-HasCause airport season before after (Err ShelfFault) = Unit {0}
-HasCause airport season before after (Err Memory) = Unit {0}
-HasCause airport season before after (Err imported) = ⊥
+abbrev pub HasSeasonCause : AirportParts → List ℕ → ShelfState → ShelfState → Result (List NewVisit) Imported → Type 0
+HasSeasonCause airport season before after (Ok visits) = Tells airport (before.file season) (Ok visits)
+HasSeasonCause airport season before after (Err (Refused number)) = Tells airport (before.file season) (Err number)
+HasSeasonCause airport season before after (Err TooLong) = IsSeasonTooLong (before.file season) before after
+HasSeasonCause airport season before after (Err ShelfFault) = Unit {0}
+HasSeasonCause airport season before after (Err Memory) = Unit {0}
+HasSeasonCause airport season before after (Err imported) = ⊥
 
 -- the shelf failed
-abbrev pub is_shelf_fault : Result (List NewVisit) Imported → Bool
-is_shelf_fault (Err ShelfFault) = true
-is_shelf_fault found = false
+abbrev pub is_season_shelf_fault : Result (List NewVisit) Imported → Bool
+is_season_shelf_fault (Err ShelfFault) = true
+is_season_shelf_fault found = false
 
 -- what is found in the season file of a name, and what that does to the shelf: its files stay, and it fails only where the fault says so
 pub record FindsSeason (airport : AirportParts) (season : List ℕ) (before after : ShelfState) (found : Result (List NewVisit) Imported) : Type 0 where
-  pub cause : HasCause airport season before after found
-  pub counts : Counts (is_shelf_fault found) before.faults after.faults
+  pub cause : HasSeasonCause airport season before after found
+  pub counts : Counts (is_season_shelf_fault found) before.faults after.faults
   pub more : before.read ≤ after.read
   pub kept : (name : List ℕ) → after.file name ≡ before.file name
 
@@ -89,8 +89,8 @@ AsksFound airport (Ok visits) before after imported = AsksSeason airport visits 
 AsksFound airport (Err why) before after imported = (after ≡ before) × (imported ≡ why)
 
 -- an import that has asked nothing yet: no entry is at risk, its calls go on from the last entry's number, and the disk has failed so often
-abbrev pub begun : List Entry → ℕ → Reached
-begun opened faults = record { history = opened; at_risk = None; next = next_after opened; faults = faults }
+abbrev pub new_import : List Entry → ℕ → Reached
+new_import opened faults = record { history = opened; at_risk = None; next = next_after opened; faults = faults }
 
 -- One import: it began with the history that the disk opened to, asked what it found in the season file, and left the disk with the history as it then
 -- was.
@@ -100,31 +100,31 @@ pub record ImportsSeason (files : AirportFiles) (season : List ℕ) (before afte
   pub found : Result (List NewVisit) Imported
   pub finds : FindsSeason files.airport season before.shelf after.shelf found
   pub left : Reached
-  pub asks : AsksFound files.airport found (begun opened before.disk.faults) left imported
+  pub asks : AsksFound files.airport found (new_import opened before.disk.faults) left imported
   pub legal : IsLegal files.airport left.history
   pub faults : left.faults ≡ after.disk.faults
   pub keeps : KeepsHistory files left.history left.at_risk after.disk
 
 -- there is no journal to work on: no more was read of the shelf, and the disk reads as before
-pub record FindsNoJournal (files : AirportFiles) (before after : Stores) (why : Unusable) : Type 0 where
+pub record ImportFindsNoJournal (files : AirportFiles) (before after : Stores) (why : Unusable) : Type 0 where
   pub shelf : after.shelf ≡ before.shelf
   pub disk : NotOpened files before.disk after.disk why
 
 -- an import into the journal of these files, or why there is none to work on
 abbrev pub MeetsImport : AirportFiles → List ℕ → Stores → Stores → Result Imported Unusable → Type 0
 MeetsImport files season before after (Ok imported) = ImportsSeason files season before after imported
-MeetsImport files season before after (Err why) = FindsNoJournal files before after why
+MeetsImport files season before after (Err why) = ImportFindsNoJournal files before after why
 
 -- the line that tells how the import ended, or why there is no journal to work on
-abbrev pub TellsMet : Result Imported Unusable → SinkState → SinkState → Status → Type 0
-TellsMet (Ok imported) before after status = TellsImported imported before after status
-TellsMet (Err why) before after status = TellsUnusable why before after status
+abbrev pub PrintsImportEnd : Result Imported Unusable → SinkState → SinkState → Status → Type 0
+PrintsImportEnd (Ok imported) before after status = TellsImported imported before after status
+PrintsImportEnd (Err why) before after status = TellsUnusable why before after status
 
 -- an import into the journal of these files, or none, and that was told
 pub record ImportsOnJournal (files : AirportFiles) (season : List ℕ) (before after : Around) (status : Status) : Type 0 where
   pub met : Result Imported Unusable
   pub meets : MeetsImport files season before.stores after.stores met
-  pub tells : TellsMet met before.sink after.sink status
+  pub tells : PrintsImportEnd met before.sink after.sink status
 
 -- what is done with what was found in the two files: an import into their journal; or the line of their fault is written, no more is read of the shelf,
 -- and the disk is as it was
@@ -136,5 +136,5 @@ ImportsFound (Err fault) season before after status = (after.stores ≡ before.s
 pub record ImportsFiles (airport types season : List ℕ) (before after : World) (status : Status) : Type 0 where
   pub found : Result AirportFiles FilesFault
   pub shelf : ShelfState
-  pub finds : Finds before.shelf shelf airport types found
+  pub finds : FindsFiles before.shelf shelf airport types found
   pub imports : ImportsFound found season (around shelf before) (around after.shelf after) status

@@ -9,13 +9,13 @@ use Rattle.apron_check.specs.declared.files.AirportFiles.{AirportFiles}
 use Rattle.apron_run.specs.Print.{Writes, made_text}
 use Rattle.apron_run.specs.TwoFiles.{DoesWithFiles}
 use Rattle.apron_run.specs.Unusable.{TellsUnusable}
-use Rattle.apron_run.specs.World.{DiskSeen, Outs, World}
+use Rattle.apron_run.specs.World.{DiskSeen, SinkAndDisk, World}
 use Rattle.apron_run.specs.declared.status.Status.{Status}
 use Rattle.apron_run.specs.declared.status.Status.TheVariants.{Done, WriteFault}
 use Rattle.apron_run.specs.declared.unusable.Unusable.TheVariants.{Journal}
 
 -- the disk was empty, and is now the journal with no entry of the files of these digests
-pub record IsMade (digests : List ℕ) (before after : DiskSeen) : Type 0 where
+pub record IsJournalMade (digests : List ℕ) (before after : DiskSeen) : Type 0 where
   pub empty : IfSome before.contents (λ bytes. length bytes ≡ 0)
   pub reads : IfSome before.contents (λ _. after.contents ≡ Some (empty_journal digests))
   pub counts : Counts false before.faults after.faults
@@ -33,7 +33,7 @@ pub record FailedUnmade (before after : DiskSeen) : Type 0 where
 
 -- a journal was made of the files of these digests, or refused: since the disk failed, or since it wasn't empty
 abbrev pub Makes : List ℕ → DiskSeen → DiskSeen → Option JournalFault → Type 0
-Makes digests before after None = IsMade digests before after
+Makes digests before after None = IsJournalMade digests before after
 Makes digests before after (Some journal.DiskFault) = FailedUnmade before after
 Makes digests before after (Some journal.NotEmpty) = HadBytes before after
 Makes digests before after (Some fault) = ⊥
@@ -44,7 +44,7 @@ TellsMade None before after status = Writes made_text Done WriteFault before aft
 TellsMade (Some fault) before after status = TellsUnusable (Journal fault) before after status
 
 -- a journal was made of these files, or refused, and that was told
-pub record MakesJournal (files : AirportFiles) (before after : Outs) (status : Status) : Type 0 where
+pub record MakesJournal (files : AirportFiles) (before after : SinkAndDisk) (status : Status) : Type 0 where
   pub refused : Option JournalFault
   pub makes : Makes files.digests before.disk after.disk refused
   pub tells : TellsMade refused before.sink after.sink status

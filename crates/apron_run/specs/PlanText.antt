@@ -12,7 +12,7 @@ use Rattle.apron_run.specs.Journal.{NotOpened, OpensTo}
 use Rattle.apron_run.specs.Print.{Writes}
 use Rattle.apron_run.specs.TwoFiles.{DoesWithFiles}
 use Rattle.apron_run.specs.Unusable.{TellsUnusable}
-use Rattle.apron_run.specs.World.{DiskSeen, Outs, World}
+use Rattle.apron_run.specs.World.{DiskSeen, SinkAndDisk, World}
 use Rattle.apron_run.specs.declared.status.Status.{Status}
 use Rattle.apron_run.specs.declared.status.Status.TheVariants.{Done, WriteFault}
 use Rattle.apron_run.specs.declared.unusable.Unusable.{Unusable}
@@ -39,7 +39,7 @@ module _ (Answers : AirportParts → List Entry → List ℕ → Type 0) where
   MeetsText files before after (Err why) = NotOpened files before after why
 
   -- such a text was made of the journal of these files, or none, and that was told
-  pub record PrintsText (files : AirportFiles) (before after : Outs) (status : Status) : Type 0 where
+  pub record PrintsText (files : AirportFiles) (before after : SinkAndDisk) (status : Status) : Type 0 where
     pub met : Result (Result (List ℕ) Memory) Unusable
     pub meets : MeetsText files before.disk after.disk met
     pub tells : TellsText met before.sink after.sink status

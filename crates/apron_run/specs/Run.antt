@@ -2,9 +2,9 @@
 use Rattle.std.specs.Prelude.{◌≡◌, ◌≤◌, ℕ, Bool, true, false, MatchBool}
 use Rattle.apron_base.specs.Counts.{Counts}
 use Rattle.desk_turns.specs.Watched.{FeedTexts}
-use Rattle.apron_run.specs.Words.{Asked, desk, init, check, chart, import, export, propose, upgrade, make, help, version, faulty}
+use Rattle.apron_run.specs.Words.{Subcommand, desk, init, check, chart, import, export, propose, upgrade, make, help, version, faulty}
 use Rattle.apron_run.specs.World.{World}
-use Rattle.apron_run.specs.Statuses.{code_of, is_disk_fault, is_read_fault, is_shelf_fault, is_told, is_write_fault}
+use Rattle.apron_run.specs.Statuses.{exit_code, is_disk_fault, is_shelf_status, is_sink_status, is_source_status, is_told}
 use Rattle.apron_run.specs.Desk.{RunsDesk, ServedCounts}
 use Rattle.apron_run.specs.Init.{InitsJournal}
 use Rattle.apron_run.specs.Chart.{ChartsFiles}
@@ -21,17 +21,17 @@ use Rattle.apron_run.specs.declared.status.Status.TheVariants.{Done, Usage, Writ
 -- the sink's count of faults: it rose where the status says that the sink failed, it may have risen where a line tells the status, and else it
 -- stands still
 abbrev pub SinkCounts : Status → ℕ → ℕ → Type 0
-SinkCounts status before now = MatchBool (is_told status) (before ≤ now) (Counts (is_write_fault status) before now)
+SinkCounts status before now = MatchBool (is_told status) (before ≤ now) (Counts (is_sink_status status) before now)
 
 -- the disk's count of faults: a session's where one is asked for; else it rose where the status says that the disk failed, or stands still
-abbrev pub DiskCounts : Asked → Status → ℕ → ℕ → Type 0
+abbrev pub DiskCounts : Subcommand → Status → ℕ → ℕ → Type 0
 DiskCounts (desk airport types) status before now = ServedCounts status before now
 DiskCounts asked status before now = Counts (is_disk_fault status) before now
 
 -- `feeds` says what the reply to each feed is, by the airport and the history
 module _ (feeds : FeedTexts) where
   -- what is done for what the words ask for, from one moment to the other: one line for each
-  abbrev pub Does : Asked → World → World → Status → Type 0
+  abbrev pub Does : Subcommand → World → World → Status → Type 0
   Does (desk airport types) before after status = RunsDesk feeds airport types before after status
   Does (init airport types) before after status = InitsJournal airport types before after status
   Does (check airport types) before after status = ChecksFiles airport types before after status
@@ -48,12 +48,12 @@ module _ (feeds : FeedTexts) where
   -- what the program does for what is asked of it, from one moment to the other, and the status of its
   -- number. No end fails but where the status says so, or at the line that tells a status; and the disk
   -- in a session, at a reply that says so.
-  pub record RunsAs (asked : Asked) (before after : World) (code : ℕ) : Type 0 where
+  pub record RunsAs (asked : Subcommand) (before after : World) (code : ℕ) : Type 0 where
     pub status : Status
-    pub code_is : code ≡ code_of status
+    pub code_is : code ≡ exit_code status
     pub does : Does asked before after status
-    pub shelf : Counts (is_shelf_fault status) before.shelf.faults after.shelf.faults
-    pub source : Counts (is_read_fault status) before.source.faults after.source.faults
+    pub shelf : Counts (is_shelf_status status) before.shelf.faults after.shelf.faults
+    pub source : Counts (is_source_status status) before.source.faults after.source.faults
     pub sink : SinkCounts status before.sink.faults after.sink.faults
     pub disk : DiskCounts asked status before.disk.faults after.disk.faults
 

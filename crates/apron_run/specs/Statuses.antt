@@ -8,24 +8,24 @@ use Rattle.apron_run.specs.declared.status.Status.{Status}
 use Rattle.apron_run.specs.declared.status.Status.TheVariants.{Done, Usage, FileFault, ShelfFault, ReadFault, WriteFault, DiskFault, JournalFault, SeasonFault, Cut, ListenerFault, Memory, Malformed, NotEmpty, Full, Limit, Spent}
 
 -- the number of a status
-abbrev pub code_of : Status → ℕ
-code_of Done = 0
-code_of Usage = 2
-code_of FileFault = 3
-code_of ShelfFault = 4
-code_of ReadFault = 5
-code_of WriteFault = 6
-code_of DiskFault = 7
-code_of JournalFault = 8
-code_of SeasonFault = 9
-code_of Cut = 10
-code_of ListenerFault = 11
-code_of Memory = 12
-code_of Malformed = 13
-code_of NotEmpty = 14
-code_of Full = 15
-code_of Limit = 16
-code_of Spent = 17
+abbrev pub exit_code : Status → ℕ
+exit_code Done = 0
+exit_code Usage = 2
+exit_code FileFault = 3
+exit_code ShelfFault = 4
+exit_code ReadFault = 5
+exit_code WriteFault = 6
+exit_code DiskFault = 7
+exit_code JournalFault = 8
+exit_code SeasonFault = 9
+exit_code Cut = 10
+exit_code ListenerFault = 11
+exit_code Memory = 12
+exit_code Malformed = 13
+exit_code NotEmpty = 14
+exit_code Full = 15
+exit_code Limit = 16
+exit_code Spent = 17
 
 -- the status of a session's outcome
 abbrev pub status_of_outcome : Outcome → Status
@@ -48,19 +48,19 @@ status_of_fault files.ShelfFault = ShelfFault
 status_of_fault files.Memory = Memory
 
 -- the status says that the shelf failed
-abbrev pub is_shelf_fault : Status → Bool
-is_shelf_fault ShelfFault = true
-is_shelf_fault status = false
+abbrev pub is_shelf_status : Status → Bool
+is_shelf_status ShelfFault = true
+is_shelf_status status = false
 
 -- the status says that the source failed
-abbrev pub is_read_fault : Status → Bool
-is_read_fault ReadFault = true
-is_read_fault status = false
+abbrev pub is_source_status : Status → Bool
+is_source_status ReadFault = true
+is_source_status status = false
 
 -- the status says that the sink failed
-abbrev pub is_write_fault : Status → Bool
-is_write_fault WriteFault = true
-is_write_fault status = false
+abbrev pub is_sink_status : Status → Bool
+is_sink_status WriteFault = true
+is_sink_status status = false
 
 -- the status says that the disk failed
 abbrev pub is_disk_fault : Status → Bool

@@ -5,7 +5,7 @@ use Rattle.apron_base.specs.Keeper.{with_last}
 use Rattle.desk_words.specs.declared.asks.Entry.{Entry}
 use Rattle.entry_bytes.specs.Entries.{entry_text}
 use Rattle.history_core.specs.Board.{entry_texts}
-use Rattle.journal_disk.specs.Disk.{DiskState, EachImage, TellsAlike, Told}
+use Rattle.journal_disk.specs.Disk.{DiskState, EachImage, IfExposed, TellsAlike}
 use Rattle.journal_disk.specs.Header.{opening_of}
 
 -- the disk before a run and after it
@@ -43,13 +43,13 @@ pub record OpensToFront (digests : List ℕ) (least : ℕ) (entries : List (List
 -- more.
 pub record LeavesFronts (digests : List ℕ) (entries : List ℕ → List (List ℕ)) (begun now : DiskState) : Type 0 where
   pub opened : List (List ℕ)
-  pub opens : Told begun (λ bytes. opening_of digests bytes ≡ Ok opened)
+  pub opens : IfExposed begun (λ bytes. opening_of digests bytes ≡ Ok opened)
   pub tells : TellsAlike begun now
   pub moment : ℕ
   pub order : (begun.moment ≤ moment) × (moment ≤ now.moment)
   pub earlier : EachImageFrom begun.moment moment now (begun.images begun.moment)
-  pub least : Told now (λ bytes. length opened ≤ length (entries bytes))
-  pub later : Told now (λ bytes.
+  pub least : IfExposed now (λ bytes. length opened ≤ length (entries bytes))
+  pub later : IfExposed now (λ bytes.
       EachImageFrom moment now.moment now (OpensToFront digests (length opened) (entries bytes)))
 
 -- these are the bytes of the entry at risk
@@ -61,5 +61,5 @@ IsTextOf at_risk text = (entry : Entry) × (at_risk ≡ Some entry) × (text ≡
 -- or this and the entry at risk.
 pub record Survives (digests : List ℕ) (history : List Entry) (at_risk : Option Entry) (disk : DiskStates) : Type 0 where
   pub fronts : LeavesFronts digests (λ bytes. entry_texts history) disk.before disk.after
-  pub last : Told disk.after (λ bytes.
+  pub last : IfExposed disk.after (λ bytes.
       EachImage disk.after (OpensWith digests (entry_texts history) (IsTextOf at_risk)))

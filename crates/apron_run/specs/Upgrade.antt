@@ -5,8 +5,8 @@ use Rattle.apron_base.specs.Ends.{SinkState}
 use Rattle.apron_base.specs.Histories.{Every}
 use Rattle.apron_rules.specs.declared.parts.AirportParts.{AirportParts}
 use Rattle.desk_words.specs.declared.asks.Entry.{Entry}
-use Rattle.entry_bytes.specs.Entries.{decoded}
-use Rattle.entry_bytes.specs.Former.{former_decoded, lifted}
+use Rattle.entry_bytes.specs.Entries.{decode_entry}
+use Rattle.entry_bytes.specs.Former.{decode_former_entry, lift_entry}
 use Rattle.entry_bytes.specs.declared.faults.EntryFault.{EntryFault}
 use Rattle.history_core.specs.History.{IsLegal}
 use Rattle.history_core.specs.declared.opening.OpenFault.{OpenFault}
@@ -20,7 +20,7 @@ use Rattle.apron_run.specs.Journal.{OpensTo}
 use Rattle.apron_run.specs.Print.{Writes}
 use Rattle.apron_run.specs.TwoFiles.{DoesWithFiles}
 use Rattle.apron_run.specs.Unusable.{TellsUnusable}
-use Rattle.apron_run.specs.World.{DiskSeen, Outs, World}
+use Rattle.apron_run.specs.World.{DiskSeen, SinkAndDisk, World}
 use Rattle.apron_run.specs.declared.status.Status.{Status}
 use Rattle.apron_run.specs.declared.status.Status.TheVariants.{Done, WriteFault}
 use Rattle.apron_run.specs.declared.unusable.Unusable.{Unusable}
@@ -28,34 +28,34 @@ use Rattle.apron_run.specs.declared.unusable.Unusable.TheVariants.{Journal, Entr
 
 -- these entries of format 1 are lifted to those of format 2, one by one and in order
 abbrev pub Lifts : AirportParts → List (List ℕ) → List (List ℕ) → Type 0
-Lifts airport old new = map (lifted airport) old ≡ map Ok new
+Lifts airport old new = map (lift_entry airport) old ≡ map Ok new
 
 -- What is known of lifted entries: they are as long as an entry can be, and are read as the same as the
 -- ones before.
 pub record HasLifted (airport : AirportParts) (old new : List (List ℕ)) : Type 0 where
   pub lifts : Lifts airport old new
-  pub reads : map (decoded airport) new ≡ map (former_decoded airport) old
+  pub reads : map (decode_entry airport) new ≡ map (decode_former_entry airport) old
   pub sizes : Every IsEntry new
 
 -- one entry more was lifted, and put after the others
 pub record LiftsNext (airport : AirportParts) (bytes : List ℕ) (before after : List (List ℕ)) : Type 0 where
   pub new : List ℕ
   pub after_is : after ≡ before ++ new ∷ []
-  pub lifts : lifted airport bytes ≡ Ok new
-  pub reads : decoded airport new ≡ former_decoded airport bytes
+  pub lifts : lift_entry airport bytes ≡ Ok new
+  pub reads : decode_entry airport new ≡ decode_former_entry airport bytes
   pub size : IsEntry new
 
 -- why the entry of this number was not lifted: it can't be, or there is no memory
 abbrev pub NotLifted : AirportParts → ℕ → List ℕ → OpenFault → Type 0
 NotLifted airport number bytes (entries.BadEntry told) =
-    (told ≡ number) × ((fault : EntryFault) × (lifted airport bytes ≡ Err fault))
+    (told ≡ number) × ((fault : EntryFault) × (lift_entry airport bytes ≡ Err fault))
 NotLifted airport number bytes (entries.WrongEntry told) = ⊥
 NotLifted airport number bytes entries.Memory = Unit {0}
 
 -- these entries of format 1 are read as this history, which is legal
 pub record WasHistory (airport : AirportParts) (old : List (List ℕ)) (history : List Entry) : Type 0 where
   pub legal : IsLegal airport history
-  pub spells : map (former_decoded airport) old ≡ map Ok history
+  pub spells : map (decode_former_entry airport) old ≡ map Ok history
 
 -- the disk reads as before, and no call of it has failed
 pub record ReadsAsBefore (before after : DiskSeen) : Type 0 where
@@ -92,7 +92,7 @@ pub record StopsLifting (airport : AirportParts) (old : List (List ℕ)) (number
   pub are : old ≡ front ++ bytes ∷ back
   pub number_is : number ≡ length front + 1
   pub lifts : Lifts airport front new
-  pub fails : lifted airport bytes ≡ Err fault
+  pub fails : lift_entry airport bytes ≡ Err fault
 
 -- why the entries of a journal of format 1 are not lifted: one of them can't be, or there is no memory
 abbrev pub CannotLift : AirportParts → List (List ℕ) → OpenFault → Type 0
@@ -138,7 +138,7 @@ TellsUpgrade (Ok None) before after status = Writes already_text Done WriteFault
 TellsUpgrade (Err why) before after status = TellsUnusable why before after status
 
 -- the journal of these files was upgraded, or not, and that was told
-pub record UpgradesJournal (files : AirportFiles) (before after : Outs) (status : Status) : Type 0 where
+pub record UpgradesJournal (files : AirportFiles) (before after : SinkAndDisk) (status : Status) : Type 0 where
   pub met : Result (Option ℕ) Unusable
   pub meets : MeetsUpgrade files before.disk after.disk met
   pub tells : TellsUpgrade met before.sink after.sink status

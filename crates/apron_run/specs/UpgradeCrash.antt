@@ -1,6 +1,6 @@
 -- What a crash may leave of a journal in an upgrade.
 use Rattle.std.specs.Prelude.{◌≡◌, ◌⊎◌, ◌≤◌, ℕ, List, Option, None, Some, Result, Ok, Err}
-use Rattle.journal_disk.specs.Disk.{EachImage, Stays, TellsAlike, Told}
+use Rattle.journal_disk.specs.Disk.{EachImage, IfExposed, Stays, TellsAlike}
 use Rattle.journal_disk.specs.Header.{old_opening_of, opening_of}
 use Rattle.journal_disk.specs.declared.fault.JournalFault.TheVariants as journal
 use Rattle.apron_check.specs.declared.files.AirportFiles.{AirportFiles}
@@ -8,7 +8,7 @@ use Rattle.apron_check.specs.declared.faults.FilesFault.{FilesFault}
 use Rattle.apron_run.specs.Survival.{DiskStates, EachImageFrom}
 use Rattle.apron_run.specs.TwoFiles.{DoesFound}
 use Rattle.apron_run.specs.Upgrade.{Lifts, MeetsUpgrade, UpgradesJournal}
-use Rattle.apron_run.specs.World.{DiskSeen, Outs}
+use Rattle.apron_run.specs.World.{DiskSeen, SinkAndDisk}
 use Rattle.apron_run.specs.declared.status.Status.{Status}
 use Rattle.apron_run.specs.declared.unusable.Unusable.{Unusable}
 use Rattle.apron_run.specs.declared.unusable.Unusable.TheVariants.{Journal}
@@ -27,19 +27,19 @@ pub record LeavesEither (digests : List ℕ) (old new : List (List ℕ)) (disk :
   pub moment : ℕ
   pub order : (disk.before.moment ≤ moment) × (moment ≤ disk.after.moment)
   pub earlier : EachImageFrom disk.before.moment moment disk.after (disk.before.images disk.before.moment)
-  pub later : Told disk.before (λ bytes.
+  pub later : IfExposed disk.before (λ bytes.
       EachImageFrom moment disk.after.moment disk.after (IsOldOrNew digests old new))
 
 -- the same, and once it was upgraded a crash leaves the new entries in format 2
 pub record LeavesUpgraded (digests : List ℕ) (old new : List (List ℕ)) (disk : DiskStates) : Type 0 where
   pub either : LeavesEither digests old new disk
-  pub last : Told disk.before (λ bytes. EachImage disk.after (λ image. opening_of digests image ≡ Ok new))
+  pub last : IfExposed disk.before (λ bytes. EachImage disk.after (λ image. opening_of digests image ≡ Ok new))
 
 -- an upgrade that the disk stopped: before it wrote anything, or while it wrote the lifted entries
 abbrev pub LeavesStopped : AirportFiles → DiskStates → Type 0
 LeavesStopped files disk = Stays disk.before disk.after
     ⊎ ((old : List (List ℕ)) × (new : List (List ℕ)) × Lifts files.airport old new
-    × Told disk.before (λ bytes. old_opening_of files.digests bytes ≡ Ok (Some old))
+    × IfExposed disk.before (λ bytes. old_opening_of files.digests bytes ≡ Ok (Some old))
     × LeavesEither files.digests old new disk)
 
 -- an upgrade that failed: unless the disk failed, nothing was written
@@ -63,19 +63,19 @@ module _ (disk : DiskStates) where
       (meets : MeetsUpgrade files before after met) × LeavesMetUpgrade files before after met meets
 
   -- the same where it was told what came of it
-  abbrev pub UpgradesJournalLeaving : AirportFiles → Outs → Outs → Status → Type 0
+  abbrev pub UpgradesJournalLeaving : AirportFiles → SinkAndDisk → SinkAndDisk → Status → Type 0
   UpgradesJournalLeaving files before after status =
       (upgrades : UpgradesJournal files before after status)
       × LeavesMetUpgrade files before.disk after.disk upgrades.met upgrades.meets
 
   -- the same of what was found in the two files, whose fault writes nothing
-  abbrev pub LeavesUpgrade : (found : Result AirportFiles FilesFault) (before after : Outs)
+  abbrev pub LeavesUpgrade : (found : Result AirportFiles FilesFault) (before after : SinkAndDisk)
       (status : Status) → DoesFound UpgradesJournal found before after status → Type 0
   LeavesUpgrade (Ok files) before after status upgrades =
       LeavesMetUpgrade files before.disk after.disk upgrades.met upgrades.meets
   LeavesUpgrade (Err fault) before after status tells = Stays disk.before disk.after
 
   -- what is done with what was found, and what a crash may leave of it
-  abbrev pub UpgradesFoundLeaving : Result AirportFiles FilesFault → Outs → Outs → Status → Type 0
+  abbrev pub UpgradesFoundLeaving : Result AirportFiles FilesFault → SinkAndDisk → SinkAndDisk → Status → Type 0
   UpgradesFoundLeaving found before after status = (upgrades : DoesFound UpgradesJournal found before after status)
       × LeavesUpgrade found before after status upgrades

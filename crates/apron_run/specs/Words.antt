@@ -8,32 +8,32 @@ use Rattle.apron_base.specs.Digits.{number_of}
 use Rattle.apron_base.specs.Name.{is_name}
 use Rattle.apron_base.specs.declared.digits.TheConstants.{MAX_DIGITS}
 use Rattle.generated_day.specs.Days.{most_made}
-use Rattle.apron_run.specs.Statuses.{code_of}
+use Rattle.apron_run.specs.Statuses.{exit_code}
 use Rattle.apron_run.specs.declared.status.Status.TheVariants.{Usage, FileFault, ShelfFault, DiskFault, JournalFault, Memory}
 
 -- what words ask for, with the names of an airport file and a type file where it has to do with an airport: a session of a desk on its journal, an empty
 -- journal, a check of the two files, a chart of the day that these digits name, the adding of the visits of a season file of this name, a season file of
 -- the plan's visits, a proposal to the desk of this name for its draft of this number, the journal in format 2; or a text, or nothing that there is
-pub data Asked : Type 0 where
-  desk : List ℕ → List ℕ → Asked
-  init : List ℕ → List ℕ → Asked
-  check : List ℕ → List ℕ → Asked
-  chart : List ℕ → List ℕ → List ℕ → Asked
-  import : List ℕ → List ℕ → List ℕ → Asked
-  export : List ℕ → List ℕ → Asked
-  propose : List ℕ → List ℕ → List ℕ → ℕ → Asked
-  upgrade : List ℕ → List ℕ → Asked
-  make : ℕ → Asked
-  help : Asked
-  version : Asked
-  faulty : Asked
+pub data Subcommand : Type 0 where
+  desk : List ℕ → List ℕ → Subcommand
+  init : List ℕ → List ℕ → Subcommand
+  check : List ℕ → List ℕ → Subcommand
+  chart : List ℕ → List ℕ → List ℕ → Subcommand
+  import : List ℕ → List ℕ → List ℕ → Subcommand
+  export : List ℕ → List ℕ → Subcommand
+  propose : List ℕ → List ℕ → List ℕ → ℕ → Subcommand
+  upgrade : List ℕ → List ℕ → Subcommand
+  make : ℕ → Subcommand
+  help : Subcommand
+  version : Subcommand
+  faulty : Subcommand
 
 -- what one word asks for
-abbrev pub asked_by_one : List ℕ → Asked
+abbrev pub asked_by_one : List ℕ → Subcommand
 asked_by_one word = if bytes_eq word (codes "--help") then help else (if bytes_eq word (codes "--version") then version else faulty)
 
 -- what a word asks for that has the names of an airport file and a type file after it
-abbrev pub asked_of_files : List ℕ → List ℕ → List ℕ → Asked
+abbrev pub asked_of_files : List ℕ → List ℕ → List ℕ → Subcommand
 asked_of_files word airport types =
     if bytes_eq word (codes "desk") then desk airport types
     else (if bytes_eq word (codes "init") then init airport types
@@ -51,93 +51,93 @@ abbrev pub is_plain_number : List ℕ → Bool
 is_plain_number text = nat_le 1 (length text) && list_all is_ascii_digit text && not (is_padded text)
 
 -- the number, if it is from the first to the last
-abbrev pub within : ℕ → ℕ → ℕ → Option ℕ
-within first last number = if nat_le first number && nat_le number last then Some number else None
+abbrev pub if_within : ℕ → ℕ → ℕ → Option ℕ
+if_within first last number = if nat_le first number && nat_le number last then Some number else None
 
 -- the number from the first to the last that the digits write, if they write one
 abbrev pub number_within : List ℕ → ℕ → ℕ → Option ℕ
-number_within text first last = option_and_then (within first last) (number_of text MAX_DIGITS)
+number_within text first last = option_and_then (if_within first last) (number_of text MAX_DIGITS)
 
 -- what a word asks for that has the names of an airport file and a type file and then one word more: the name of a season file, or a day
-abbrev pub asked_of_more : List ℕ → List ℕ → List ℕ → List ℕ → Asked
+abbrev pub asked_of_more : List ℕ → List ℕ → List ℕ → List ℕ → Subcommand
 asked_of_more word airport types more =
     if bytes_eq word (codes "import") then import airport types more
     else (if bytes_eq word (codes "chart") && is_plain_number more then chart airport types more
     else faulty)
 
 -- what the word `make` asks for with this number of visits, if it is one that a generated day can have
-abbrev pub made_of : Option ℕ → Asked
-made_of None = faulty
-made_of (Some visits) = make visits
+abbrev pub make_subcommand : Option ℕ → Subcommand
+make_subcommand None = faulty
+make_subcommand (Some visits) = make visits
 
 -- what a word asks for that has digits after it: `make` a generated day of 1 to 5,000 visits
-abbrev pub asked_with_number : List ℕ → List ℕ → Asked
+abbrev pub asked_with_number : List ℕ → List ℕ → Subcommand
 asked_with_number word number =
-    if bytes_eq word (codes "make") && is_plain_number number then made_of (number_within number 1 most_made) else faulty
+    if bytes_eq word (codes "make") && is_plain_number number then make_subcommand (number_within number 1 most_made) else faulty
 
 -- the greatest number of a draft
 abbrev pub last_draft : ℕ
 last_draft = 4294967295
 
 -- what the word `propose` asks for with this name of a desk, if it is one, and this number
-abbrev pub proposed_to : List ℕ → List ℕ → List ℕ → ℕ → Asked
+abbrev pub proposed_to : List ℕ → List ℕ → List ℕ → ℕ → Subcommand
 proposed_to airport types name draft =
     if is_name name then propose airport types name draft else faulty
 
 -- the same with the number of a draft, if it is one
-abbrev pub proposed_of : List ℕ → List ℕ → List ℕ → Option ℕ → Asked
+abbrev pub proposed_of : List ℕ → List ℕ → List ℕ → Option ℕ → Subcommand
 proposed_of airport types name None = faulty
 proposed_of airport types name (Some draft) = proposed_to airport types name draft
 
 -- what a word asks for that has the names of an airport file and a type file, a name and digits after it
-abbrev pub asked_of_draft : List ℕ → List ℕ → List ℕ → List ℕ → List ℕ → Asked
+abbrev pub asked_of_draft : List ℕ → List ℕ → List ℕ → List ℕ → List ℕ → Subcommand
 asked_of_draft word airport types name draft =
     if bytes_eq word (codes "propose") && is_plain_number draft
     then proposed_of airport types name (number_within draft 0 last_draft) else faulty
 
 -- what the words ask for: `desk`, `init`, `check`, `export` or `upgrade` with the names of two files, `chart` with these and a number, `import` with the names of
 -- three, `propose` with the names of two, a desk's name and a number, `make` with a number, `--help` or `--version`
-abbrev pub asked_by : List (List ℕ) → Asked
-asked_by (word ∷ []) = asked_by_one word
-asked_by (word ∷ number ∷ []) = asked_with_number word number
-asked_by (word ∷ airport ∷ types ∷ []) = asked_of_files word airport types
-asked_by (word ∷ airport ∷ types ∷ more ∷ []) = asked_of_more word airport types more
-asked_by (word ∷ airport ∷ types ∷ name ∷ draft ∷ []) = asked_of_draft word airport types name draft
-asked_by words = faulty
+abbrev pub subcommand_of : List (List ℕ) → Subcommand
+subcommand_of (word ∷ []) = asked_by_one word
+subcommand_of (word ∷ number ∷ []) = asked_with_number word number
+subcommand_of (word ∷ airport ∷ types ∷ []) = asked_of_files word airport types
+subcommand_of (word ∷ airport ∷ types ∷ more ∷ []) = asked_of_more word airport types more
+subcommand_of (word ∷ airport ∷ types ∷ name ∷ draft ∷ []) = asked_of_draft word airport types name draft
+subcommand_of words = faulty
 
 -- the program ends with this number since two files give no airport, or the shelf none of them
 abbrev pub ends_at_files : ℕ → Bool
-ends_at_files code = code == code_of FileFault || code == code_of ShelfFault
+ends_at_files code = code == exit_code FileFault || code == exit_code ShelfFault
 
 -- the program ends with this number since there is no airport, or no journal of it
 abbrev pub ends_at_journal : ℕ → Bool
-ends_at_journal code = ends_at_files code || code == code_of DiskFault || code == code_of JournalFault
+ends_at_journal code = ends_at_files code || code == exit_code DiskFault || code == exit_code JournalFault
 
 -- the program ends with this number before it comes to making a journal
 abbrev pub ends_before_journal : ℕ → Bool
-ends_before_journal code = ends_at_files code || code == code_of Memory
+ends_before_journal code = ends_at_files code || code == exit_code Memory
 
 -- the program ends with this number before it comes to a chart's journal
 abbrev pub ends_before_chart : ℕ → Bool
-ends_before_chart code = ends_at_files code || code == code_of Usage
+ends_before_chart code = ends_at_files code || code == exit_code Usage
 
 -- the program ends with this number before it comes to an import's journal: the shelf may fail at its season file too
 abbrev pub ends_before_import : ℕ → Bool
-ends_before_import code = code == code_of FileFault
+ends_before_import code = code == exit_code FileFault
 
 -- the program may end with the number of faulty words: where they are, or where the plan has no such day
-abbrev pub may_be_usage : Asked → Bool
+abbrev pub may_be_usage : Subcommand → Bool
 may_be_usage faulty = true
 may_be_usage (chart airport types day) = true
 may_be_usage asked = false
 
 -- whether the source is read for it where the program ends with this number
-abbrev pub uses_source : Asked → ℕ → Bool
+abbrev pub uses_source : Subcommand → ℕ → Bool
 uses_source (desk airport types) code = not (ends_at_journal code)
 uses_source asked code = false
 
 -- whether the disk is used for it where the program ends with this number
-abbrev pub uses_disk : Asked → ℕ → Bool
+abbrev pub uses_disk : Subcommand → ℕ → Bool
 uses_disk (desk airport types) code = not (ends_at_files code)
 uses_disk (init airport types) code = not (ends_before_journal code)
 uses_disk (chart airport types day) code = not (ends_before_chart code)
@@ -148,7 +148,7 @@ uses_disk (upgrade airport types) code = not (ends_at_files code)
 uses_disk asked code = false
 
 -- whether the shelf is read for it
-abbrev pub uses_shelf : Asked → Bool
+abbrev pub uses_shelf : Subcommand → Bool
 uses_shelf (make visits) = false
 uses_shelf help = false
 uses_shelf version = false

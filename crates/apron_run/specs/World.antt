@@ -10,8 +10,8 @@ pub record DiskSeen : Type 0 where
   pub faults : ℕ
 
 -- what is seen of a disk without a crash
-abbrev pub seen_of : DiskState → DiskSeen
-seen_of disk = record { contents = disk.contents; faults = disk.faults }
+abbrev pub disk_seen : DiskState → DiskSeen
+disk_seen disk = record { contents = disk.contents; faults = disk.faults }
 
 -- the shelf of files, the source of bytes, the sink of bytes, and the disk
 pub record World : Type 0 where
@@ -21,32 +21,32 @@ pub record World : Type 0 where
   pub disk : DiskSeen
 
 -- the same without the shelf
-pub record Ends : Type 0 where
+pub record DeskEnds : Type 0 where
   pub source : SourceState
   pub sink : SinkState
   pub disk : DiskSeen
 
 -- the outside where the disk is in this state
 abbrev pub world_at : ShelfState → SourceState → SinkState → DiskState → World
-world_at shelf source sink disk = record { shelf = shelf; source = source; sink = sink; disk = seen_of disk }
+world_at shelf source sink disk = record { shelf = shelf; source = source; sink = sink; disk = disk_seen disk }
 
 -- the same without the shelf
-abbrev pub ends_at : SourceState → SinkState → DiskState → Ends
-ends_at source sink disk = record { source = source; sink = sink; disk = seen_of disk }
+abbrev pub desk_ends_at : SourceState → SinkState → DiskState → DeskEnds
+desk_ends_at source sink disk = record { source = source; sink = sink; disk = disk_seen disk }
 
 -- those of the outside
-abbrev pub ends_of : World → Ends
-ends_of world = record { source = world.source; sink = world.sink; disk = world.disk }
+abbrev pub desk_ends : World → DeskEnds
+desk_ends world = record { source = world.source; sink = world.sink; disk = world.disk }
 
 -- the sink and the disk alone
-pub record Outs : Type 0 where
+pub record SinkAndDisk : Type 0 where
   pub sink : SinkState
   pub disk : DiskSeen
 
 -- the sink and the disk in this state
-abbrev pub outs_at : SinkState → DiskState → Outs
-outs_at sink disk = record { sink = sink; disk = seen_of disk }
+abbrev pub sink_and_disk_at : SinkState → DiskState → SinkAndDisk
+sink_and_disk_at sink disk = record { sink = sink; disk = disk_seen disk }
 
 -- those of the outside
-abbrev pub outs_of : World → Outs
-outs_of world = record { sink = world.sink; disk = world.disk }
+abbrev pub sink_and_disk : World → SinkAndDisk
+sink_and_disk world = record { sink = world.sink; disk = world.disk }

@@ -1,18 +1,18 @@
-// The word `chart`.
+// The word `run_chart`.
 ghost use Rattle.std.specs.Prelude.{not, Result};
-ghost use Rattle.apron_check.specs.Files.{Finds};
+ghost use Rattle.apron_check.specs.Files.{FindsFiles};
 ghost use Rattle.apron_check.specs.declared.faults.FilesFault.{FilesFault};
 ghost use Rattle.apron_check.specs.declared.files.AirportFiles.{AirportFiles};
 ghost use Rattle.journal_disk.specs.Disk.{Stays};
 ghost use Rattle.apron_run.specs.Chart.{ChartsNamed};
 ghost use Rattle.apron_run.specs.Run.{KeptUnless};
-ghost use Rattle.apron_run.specs.Statuses.{code_of};
+ghost use Rattle.apron_run.specs.Statuses.{exit_code};
 ghost use Rattle.apron_run.specs.TwoFiles.{DoesFound};
 ghost use Rattle.apron_run.specs.Words.{ends_before_chart};
-ghost use Rattle.apron_run.specs.World.{outs_at};
+ghost use Rattle.apron_run.specs.World.{sink_and_disk_at};
 
 use crate::Status;
-use crate::check::tell_fault;
+use crate::check::print_fault;
 use crate::plan_text::{PlanText, print_of_journal};
 use crate::print::print_usage;
 use crate::words::number_within;
@@ -26,7 +26,7 @@ use wall_chart::chart as draw_chart;
 
 /// Prints the wall chart of the day that the digits name, of the plan in the journal of the two files of these names on the
 /// disk; or prints why there is none. Nothing is written on the disk.
-pub(crate) fn chart<F: Shelf, W: Sink, D: Disk>(
+pub(crate) fn run_chart<F: Shelf, W: Sink, D: Disk>(
     alloc: Global,
     airport: &str,
     types: &str,
@@ -36,15 +36,15 @@ pub(crate) fn chart<F: Shelf, W: Sink, D: Disk>(
     disk: &mut D,
 ) -> Status
     ensures charts { (found : Result AirportFiles FilesFault)
-        × Finds (F.state shelf.old) (F.state shelf.new) airport.now types.now found
-        × DoesFound (ChartsNamed day.now) found (outs_at (W.state sink.old) (D.state disk.old))
-        (outs_at (W.state sink.new) (D.state disk.new)) result }
+        × FindsFiles (F.state shelf.old) (F.state shelf.new) airport.now types.now found
+        × DoesFound (ChartsNamed day.now) found (sink_and_disk_at (W.state sink.old) (D.state disk.old))
+        (sink_and_disk_at (W.state sink.new) (D.state disk.new)) result }
     ensures crash { Stays (D.state disk.old) (D.state disk.new) }
-    ensures kept { KeptUnless (not (ends_before_chart (code_of result))) disk.old disk.new }
+    ensures kept { KeptUnless (not (ends_before_chart (exit_code result))) disk.old disk.new }
 {
     match airport_of(alloc, airport, types, shelf) {
         Ok(files) => chart_of_day(alloc, &files, day, sink, disk),
-        Err(fault) => tell_fault(sink, &fault),
+        Err(fault) => print_fault(sink, &fault),
     }
 }
 
@@ -57,10 +57,10 @@ fn chart_of_day<W: Sink, D: Disk>(
     disk: &mut D,
 ) -> Status
     ensures charts { ChartsNamed day.now files.now
-        (outs_at (W.state sink.old) (D.state disk.old))
-        (outs_at (W.state sink.new) (D.state disk.new)) result }
+        (sink_and_disk_at (W.state sink.old) (D.state disk.old))
+        (sink_and_disk_at (W.state sink.new) (D.state disk.new)) result }
     ensures crash { Stays (D.state disk.old) (D.state disk.new) }
-    ensures kept { KeptUnless (not (ends_before_chart (code_of result))) disk.old disk.new }
+    ensures kept { KeptUnless (not (ends_before_chart (exit_code result))) disk.old disk.new }
 {
     match number_within(day.as_bytes(), 1, files.airport.parts().days) {
         Some(day) => print_of_journal(alloc, files, &DayChart { day }, sink, disk),

@@ -1,5 +1,5 @@
-// The word `check`.
-ghost use Rattle.apron_check.specs.Files.{Finds};
+// The word `run_check`.
+ghost use Rattle.apron_check.specs.Files.{FindsFiles};
 ghost use Rattle.apron_check.specs.declared.files.AirportFiles.{AirportFiles};
 ghost use Rattle.apron_check.specs.declared.faults.FilesFault.{FilesFault};
 ghost use Rattle.std.specs.Prelude.{Result};
@@ -12,14 +12,14 @@ use apron_check::{FilesFault, airport_of, put_counts, put_fault};
 use std::alloc::Global;
 
 /// Prints how much there is of the airport that the two files of these names make, or why they make none.
-pub(crate) fn check<F: Shelf, W: Sink>(
+pub(crate) fn run_check<F: Shelf, W: Sink>(
     alloc: Global,
     airport: &str,
     types: &str,
     shelf: &mut F,
     sink: &mut W,
 ) -> Status
-    ensures checks { (found : Result AirportFiles FilesFault) × Finds (F.state shelf.old) (F.state shelf.new) airport.now types.now found
+    ensures checks { (found : Result AirportFiles FilesFault) × FindsFiles (F.state shelf.old) (F.state shelf.new) airport.now types.now found
         × TellsFound found (W.state sink.old) (W.state sink.new) result }
 {
     match airport_of(alloc, airport, types, shelf) {
@@ -27,12 +27,12 @@ pub(crate) fn check<F: Shelf, W: Sink>(
             Ok(()) => Status::Done,
             Err(Failed) => Status::WriteFault,
         },
-        Err(fault) => tell_fault(sink, &fault),
+        Err(fault) => print_fault(sink, &fault),
     }
 }
 
 /// Prints the line that tells a fault, and gives its status, which stays where the sink fails at the line.
-pub fn tell_fault<W: Sink>(sink: &mut W, fault: &FilesFault) -> Status
+pub fn print_fault<W: Sink>(sink: &mut W, fault: &FilesFault) -> Status
     ensures tells { TellsFault fault.now (W.state sink.old) (W.state sink.new) result }
 {
     let _ = put_fault(sink, fault);

@@ -1,16 +1,16 @@
-// The word `desk`.
+// The word `run_desk`.
 ghost use Rattle.std.specs.Prelude.{◌≡◌, ℕ, not, false, OnErr};
 ghost use Rattle.desk_turns.specs.Watched.{feed_texts};
 ghost use Rattle.journal_disk.specs.Disk.{Stays};
 ghost use Rattle.apron_run.specs.Crash.{MeetsDeskLeaving, RunsDeskLeaving, RunsOnJournalLeaving};
 ghost use Rattle.apron_run.specs.Run.{KeptUnless};
-ghost use Rattle.apron_run.specs.Statuses.{code_of};
+ghost use Rattle.apron_run.specs.Statuses.{exit_code};
 ghost use Rattle.apron_run.specs.Survival.{from_to};
 ghost use Rattle.apron_run.specs.Words.{ends_at_files, ends_at_journal};
-ghost use Rattle.apron_run.specs.World.{ends_at, world_at};
+ghost use Rattle.apron_run.specs.World.{desk_ends_at, world_at};
 
 use crate::Status;
-use crate::check::tell_fault;
+use crate::check::print_fault;
 use crate::files_journal::OfFiles;
 use crate::journal::{close_board, open_watched};
 use crate::same_disk::{Named, SameDisk};
@@ -27,7 +27,7 @@ use watch_list::{NoteTest, Stated, Watches};
 
 /// Answers HTTP requests from the source on the sink, at the airport that the two files of these names make, on the journal of
 /// it that is on the disk, with these watches; or prints why there is none.
-pub(crate) fn desk<F: Shelf, S: Source, W: Sink, D: Disk, R: Stated, T: NoteTest>(
+pub(crate) fn run_desk<F: Shelf, S: Source, W: Sink, D: Disk, R: Stated, T: NoteTest>(
     alloc: Global,
     airport: &str,
     types: &str,
@@ -42,12 +42,12 @@ pub(crate) fn desk<F: Shelf, S: Source, W: Sink, D: Disk, R: Stated, T: NoteTest
         (world_at (F.state shelf.old) (S.state source.old) (W.state sink.old) (D.state disk.old))
         (world_at (F.state shelf.new) (S.state source.new) (W.state sink.new) (D.state disk.new))
         result }
-    ensures untaken { KeptUnless (not (ends_at_journal (code_of result))) source.old source.new }
-    ensures kept { KeptUnless (not (ends_at_files (code_of result))) disk.old disk.new }
+    ensures untaken { KeptUnless (not (ends_at_journal (exit_code result))) source.old source.new }
+    ensures kept { KeptUnless (not (ends_at_files (exit_code result))) disk.old disk.new }
 {
     match airport_of(alloc, airport, types, shelf) {
         Ok(files) => run_on_journal(alloc, &files, watches, source, sink, disk),
-        Err(fault) => tell_fault(sink, &fault),
+        Err(fault) => print_fault(sink, &fault),
     }
 }
 
@@ -63,14 +63,14 @@ fn run_on_journal<S: Source, W: Sink, D: Disk, R: Stated, T: NoteTest>(
 ) -> Status
     ensures runs { RunsOnJournalLeaving (feed_texts R.tells watches.now)
         (from_to (D.state disk.old) (D.state disk.new)) files.now
-        (ends_at (S.state source.old) (W.state sink.old) (D.state disk.old))
-        (ends_at (S.state source.new) (W.state sink.new) (D.state disk.new)) result }
-    ensures untaken { KeptUnless (not (ends_at_journal (code_of result))) source.old source.new }
-    ensures no_file { ends_at_files (code_of result) ≡ false }
+        (desk_ends_at (S.state source.old) (W.state sink.old) (D.state disk.old))
+        (desk_ends_at (S.state source.new) (W.state sink.new) (D.state disk.new)) result }
+    ensures untaken { KeptUnless (not (ends_at_journal (exit_code result))) source.old source.new }
+    ensures no_file { ends_at_files (exit_code result) ≡ false }
 {
     let (met, _disk) = serve_on::<Brand, S, W, D, R, T>(alloc, files, watches, source, sink, disk);
     match met {
-        Ok(Outcome::Memory) => tell_fault(sink, &FilesFault::Memory),
+        Ok(Outcome::Memory) => print_fault(sink, &FilesFault::Memory),
         Ok(outcome) => status_of_outcome(outcome),
         Err(why) => tell_unusable(sink, &why),
     }
@@ -91,15 +91,15 @@ fn serve_on<'d, N: Named + OfFiles, S: Source, W: Sink, D: Disk, R: Stated, T: N
     ensures same { result.1.ghost_name ≡ disk.entry.ghost_name }
     ensures meets { MeetsDeskLeaving (feed_texts R.tells watches.now)
         (from_to N.begun (D.state result.1.now)) files.now
-        (ends_at (S.state source.old) (W.state sink.old) (D.state disk.old))
-        (ends_at (S.state source.new) (W.state sink.new) (D.state result.1.now)) result.0 }
+        (desk_ends_at (S.state source.old) (W.state sink.old) (D.state disk.old))
+        (desk_ends_at (S.state source.new) (W.state sink.new) (D.state result.1.now)) result.0 }
     ensures untaken { OnErr result.0 (source.new ≡ source.old) }
 {
     let same: SameDisk<'d, N, D> = SameDisk {
         disk,
         of: PhantomData,
     };
-    let (met, back) = serve::<N, S, W, SameDisk<'d, N, D>, R, T>(
+    let (met, back) = serve_session::<N, S, W, SameDisk<'d, N, D>, R, T>(
         alloc, files, watches, source, sink, same,
     );
     let SameDisk { disk, .. } = back;
@@ -107,7 +107,7 @@ fn serve_on<'d, N: Named + OfFiles, S: Source, W: Sink, D: Disk, R: Stated, T: N
 }
 
 // One session at the board of these files over their journal on the disk, with these watches.
-fn serve<N: OfFiles, S: Source, W: Sink, D: Disk, R: Stated, T: NoteTest>(
+fn serve_session<N: OfFiles, S: Source, W: Sink, D: Disk, R: Stated, T: NoteTest>(
     alloc: Global,
     files: &AirportFiles,
     watches: &Watches<R, T>,
@@ -119,8 +119,8 @@ fn serve<N: OfFiles, S: Source, W: Sink, D: Disk, R: Stated, T: NoteTest>(
     requires begun { Stays N.begun (D.state disk) }
     ensures meets { MeetsDeskLeaving (feed_texts R.tells watches.now)
         (from_to N.begun (D.state result.1)) files.now
-        (ends_at (S.state source.old) (W.state sink.old) (D.state disk))
-        (ends_at (S.state source.new) (W.state sink.new) (D.state result.1)) result.0 }
+        (desk_ends_at (S.state source.old) (W.state sink.old) (D.state disk))
+        (desk_ends_at (S.state source.new) (W.state sink.new) (D.state result.1)) result.0 }
     ensures untaken { OnErr result.0 (source.new ≡ source.old) }
 {
     let watched = match open_watched::<N, D, R, T>(alloc, files, watches, disk) {

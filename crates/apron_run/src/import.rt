@@ -1,19 +1,19 @@
-// The word `import`.
+// The word `run_import`.
 ghost use Rattle.std.specs.Prelude.{◌≡◌, false, not, Result};
 ghost use Rattle.apron_base.specs.Shelf.{ShelfState};
 ghost use Rattle.journal_disk.specs.Disk.{Stays};
-ghost use Rattle.apron_check.specs.Files.{Finds};
+ghost use Rattle.apron_check.specs.Files.{FindsFiles};
 ghost use Rattle.apron_check.specs.declared.faults.FilesFault.{FilesFault};
 ghost use Rattle.apron_check.specs.declared.files.AirportFiles.{AirportFiles};
 ghost use Rattle.apron_run.specs.Crash.{ImportsFoundLeaving, ImportsOnJournalLeaving, MeetsImportLeaving};
 ghost use Rattle.apron_run.specs.Import.{around_at, stores_at};
 ghost use Rattle.apron_run.specs.Run.{KeptUnless};
-ghost use Rattle.apron_run.specs.Statuses.{code_of};
+ghost use Rattle.apron_run.specs.Statuses.{exit_code};
 ghost use Rattle.apron_run.specs.Survival.{from_to};
 ghost use Rattle.apron_run.specs.Words.{ends_before_import};
 
 use crate::Status;
-use crate::check::tell_fault;
+use crate::check::print_fault;
 use crate::files_journal::OfFiles;
 use crate::imported::{Imported, tell_imported};
 use crate::journal::{close_board, open_board};
@@ -28,7 +28,7 @@ use std::marker::{Brand, PhantomData};
 
 /// Asks to add the visits of the season file to the plan in the journal of the two files on the disk, and prints how many were
 /// added; or prints why not all were asked. What was added stays.
-pub(crate) fn import<F: Shelf, W: Sink, D: Disk>(
+pub(crate) fn run_import<F: Shelf, W: Sink, D: Disk>(
     alloc: Global,
     airport: &str,
     types: &str,
@@ -38,15 +38,15 @@ pub(crate) fn import<F: Shelf, W: Sink, D: Disk>(
     disk: &mut D,
 ) -> Status
     ensures imports { (found : Result AirportFiles FilesFault) × (mid : ShelfState)
-        × Finds (F.state shelf.old) mid airport.now types.now found
+        × FindsFiles (F.state shelf.old) mid airport.now types.now found
         × ImportsFoundLeaving (from_to (D.state disk.old) (D.state disk.new)) found season.now
         (around_at mid (D.state disk.old) (W.state sink.old))
         (around_at (F.state shelf.new) (D.state disk.new) (W.state sink.new)) result }
-    ensures kept { KeptUnless (not (ends_before_import (code_of result))) disk.old disk.new }
+    ensures kept { KeptUnless (not (ends_before_import (exit_code result))) disk.old disk.new }
 {
     match airport_of(alloc, airport, types, shelf) {
         Ok(files) => import_season(alloc, &files, season, shelf, sink, disk),
-        Err(fault) => tell_fault(sink, &fault),
+        Err(fault) => print_fault(sink, &fault),
     }
 }
 
@@ -63,7 +63,7 @@ fn import_season<F: Shelf, W: Sink, D: Disk>(
         files.now season.now
         (around_at (F.state shelf.old) (D.state disk.old) (W.state sink.old))
         (around_at (F.state shelf.new) (D.state disk.new) (W.state sink.new)) result }
-    ensures comes { ends_before_import (code_of result) ≡ false }
+    ensures comes { ends_before_import (exit_code result) ≡ false }
 {
     let (met, _disk) = import_on::<Brand, F, D>(alloc, files, season, shelf, disk);
     match met {

@@ -2,7 +2,7 @@
 ghost use Rattle.std.specs.Prelude.{◌≡◌, ◌++◌, codes, decimal, false};
 ghost use Rattle.apron_base.specs.Ends.{Puts};
 ghost use Rattle.apron_run.specs.Imported.{TellsImported, imported_line, imported_text, status_of_imported};
-ghost use Rattle.apron_run.specs.Statuses.{code_of};
+ghost use Rattle.apron_run.specs.Statuses.{exit_code};
 ghost use Rattle.apron_run.specs.Words.{ends_before_import};
 
 use crate::Status;
@@ -34,7 +34,7 @@ pub(crate) enum Imported {
 /// prints nothing where the call numbers are used up.
 pub(crate) fn tell_imported<W: Sink>(sink: &mut W, imported: &Imported) -> Status
     ensures tells { TellsImported imported.now (W.state sink.old) (W.state sink.new) result }
-    ensures comes { ends_before_import (code_of result) ≡ false }
+    ensures comes { ends_before_import (exit_code result) ≡ false }
 {
     match imported {
         Imported::Spent => Status::Spent,
@@ -66,15 +66,15 @@ fn status_of_imported(imported: &Imported) -> Status
 fn put_imported<W: Sink>(sink: &mut W, imported: &Imported) -> Result<(), Failed>
     ensures puts { Puts (W.state sink.old) (W.state sink.new) result (imported_line imported.now) }
 {
-    put_text(sink, imported)?;
+    put_import_text(sink, imported)?;
     sink.put(b"\n")
 }
 
-fn put_text<W: Sink>(sink: &mut W, imported: &Imported) -> Result<(), Failed>
+fn put_import_text<W: Sink>(sink: &mut W, imported: &Imported) -> Result<(), Failed>
     ensures puts { Puts (W.state sink.old) (W.state sink.new) result (imported_text imported.now) }
 {
     match imported {
-        Imported::Whole { added, present } => put_counts(sink, *added, *present),
+        Imported::Whole { added, present } => put_import_counts(sink, *added, *present),
         Imported::ShelfFault => sink.put(b"shelf fault"),
         Imported::TooLong => sink.put(b"season: too long"),
         Imported::Refused(number) => put_number(sink, b"season: record ", *number),
@@ -86,7 +86,7 @@ fn put_text<W: Sink>(sink: &mut W, imported: &Imported) -> Result<(), Failed>
 }
 
 // How many visits were added, and how many were there.
-fn put_counts<W: Sink>(sink: &mut W, added: u64, present: u64) -> Result<(), Failed>
+fn put_import_counts<W: Sink>(sink: &mut W, added: u64, present: u64) -> Result<(), Failed>
     ensures puts { Puts (W.state sink.old) (W.state sink.new) result
         ((codes "added " ++ decimal added) ++ (codes " present " ++ decimal present)) }
 {

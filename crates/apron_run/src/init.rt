@@ -1,17 +1,17 @@
-// The word `init`.
+// The word `run_init`.
 ghost use Rattle.std.specs.Prelude.{◌≡◌, false, not, Result};
-ghost use Rattle.apron_check.specs.Files.{Finds};
+ghost use Rattle.apron_check.specs.Files.{FindsFiles};
 ghost use Rattle.apron_check.specs.declared.faults.FilesFault.{FilesFault};
 ghost use Rattle.apron_check.specs.declared.files.AirportFiles.{AirportFiles};
 ghost use Rattle.apron_run.specs.Crash.{InitsFoundLeaving, MakesJournalLeaving};
 ghost use Rattle.apron_run.specs.Run.{KeptUnless};
-ghost use Rattle.apron_run.specs.Statuses.{code_of};
+ghost use Rattle.apron_run.specs.Statuses.{exit_code};
 ghost use Rattle.apron_run.specs.Survival.{from_to};
 ghost use Rattle.apron_run.specs.Words.{ends_before_journal};
-ghost use Rattle.apron_run.specs.World.{outs_at};
+ghost use Rattle.apron_run.specs.World.{sink_and_disk_at};
 
 use crate::Status;
-use crate::check::tell_fault;
+use crate::check::print_fault;
 use crate::print::print_made;
 use crate::unusable::{Unusable, tell_unusable};
 use apron_base::{Shelf, Sink};
@@ -21,7 +21,7 @@ use std::alloc::Global;
 
 /// Makes a journal with no entry on an empty disk, for the airport that the two files of these names make; or prints why
 /// there is none.
-pub(crate) fn init<F: Shelf, W: Sink, D: Disk>(
+pub(crate) fn run_init<F: Shelf, W: Sink, D: Disk>(
     alloc: Global,
     airport: &str,
     types: &str,
@@ -30,24 +30,24 @@ pub(crate) fn init<F: Shelf, W: Sink, D: Disk>(
     disk: &mut D,
 ) -> Status
     ensures inits { (found : Result AirportFiles FilesFault)
-        × Finds (F.state shelf.old) (F.state shelf.new) airport.now types.now found
+        × FindsFiles (F.state shelf.old) (F.state shelf.new) airport.now types.now found
         × InitsFoundLeaving (from_to (D.state disk.old) (D.state disk.new)) found
-        (outs_at (W.state sink.old) (D.state disk.old))
-        (outs_at (W.state sink.new) (D.state disk.new)) result }
-    ensures kept { KeptUnless (not (ends_before_journal (code_of result))) disk.old disk.new }
+        (sink_and_disk_at (W.state sink.old) (D.state disk.old))
+        (sink_and_disk_at (W.state sink.new) (D.state disk.new)) result }
+    ensures kept { KeptUnless (not (ends_before_journal (exit_code result))) disk.old disk.new }
 {
     match airport_of(alloc, airport, types, shelf) {
         Ok(files) => make_journal(&files, sink, disk),
-        Err(fault) => tell_fault(sink, &fault),
+        Err(fault) => print_fault(sink, &fault),
     }
 }
 
 // The journal of these files.
 fn make_journal<W: Sink, D: Disk>(files: &AirportFiles, sink: &mut W, disk: &mut D) -> Status
     ensures makes { MakesJournalLeaving (from_to (D.state disk.old) (D.state disk.new)) files.now
-        (outs_at (W.state sink.old) (D.state disk.old))
-        (outs_at (W.state sink.new) (D.state disk.new)) result }
-    ensures comes { ends_before_journal (code_of result) ≡ false }
+        (sink_and_disk_at (W.state sink.old) (D.state disk.old))
+        (sink_and_disk_at (W.state sink.new) (D.state disk.new)) result }
+    ensures comes { ends_before_journal (exit_code result) ≡ false }
 {
     match journal_disk::init(disk, &files.digests) {
         Ok(()) => print_made(sink),

@@ -1,11 +1,11 @@
 // The board of an airport over its journal on a disk.
 ghost use Rattle.std.specs.Prelude.{◌≡◌, IfErr, IfOk};
 ghost use Rattle.history_core.specs.History.{IsLegal};
-ghost use Rattle.history_core.specs.AtRisk.{entry_at_risk};
+ghost use Rattle.history_core.specs.AtRisk.{read_entry_at_risk};
 ghost use Rattle.journal_disk.specs.Disk.{Stays};
 ghost use Rattle.apron_run.specs.Journal.{HasEntries, IsOpened, KeepsHistory, NotOpened, journal_tells};
 ghost use Rattle.apron_run.specs.Survival.{Survives, from_to};
-ghost use Rattle.apron_run.specs.World.{seen_of};
+ghost use Rattle.apron_run.specs.World.{disk_seen};
 
 use crate::files_journal::{FilesJournal, OfFiles};
 use crate::unusable::Unusable;
@@ -25,10 +25,10 @@ pub fn open_board<'f, N: OfFiles, D: Disk>(
 ) -> Result<Board<'f, FilesJournal<N, D>>, (Unusable, D)>
     requires digests { files.now.digests ≡ N.digests }
     requires begun { Stays N.begun (D.state disk) }
-    ensures opened { IfOk result (IsOpened (journal_tells D.state) files.entry.now (seen_of (D.state disk))) }
+    ensures opened { IfOk result (IsOpened (journal_tells D.state) files.entry.now (disk_seen (D.state disk))) }
     ensures stays { IfOk result (λ board. Stays (D.state disk) (D.state board.keeper.disk)) }
     ensures refused { IfErr result (λ refusal.
-        NotOpened files.entry.now (seen_of (D.state disk)) (seen_of (D.state refusal.1)) refusal.0) }
+        NotOpened files.entry.now (disk_seen (D.state disk)) (disk_seen (D.state refusal.1)) refusal.0) }
     ensures unwritten { IfErr result (λ refusal. Stays (D.state disk) (D.state refusal.1)) }
 {
     let (journal, entries) = open_journal(alloc, files, disk)?;
@@ -48,12 +48,12 @@ pub fn open_watched<'f, N: OfFiles, D: Disk, R: Stated, T: NoteTest>(
     requires digests { files.now.digests ≡ N.digests }
     requires begun { Stays N.begun (D.state disk) }
     ensures opened { IfOk result (λ made.
-        IsOpened (journal_tells D.state) files.entry.now (seen_of (D.state disk)) made.board) }
+        IsOpened (journal_tells D.state) files.entry.now (disk_seen (D.state disk)) made.board) }
     ensures watches { IfOk result (λ made. made.watches ≡ watches.entry.now) }
     ensures next { IfOk result (λ made. made.next ≡ made.board.next) }
     ensures stays { IfOk result (λ made. Stays (D.state disk) (D.state made.board.keeper.disk)) }
     ensures refused { IfErr result (λ refusal.
-        NotOpened files.entry.now (seen_of (D.state disk)) (seen_of (D.state refusal.1)) refusal.0) }
+        NotOpened files.entry.now (disk_seen (D.state disk)) (disk_seen (D.state refusal.1)) refusal.0) }
     ensures unwritten { IfErr result (λ refusal. Stays (D.state disk) (D.state refusal.1)) }
 {
     let (journal, entries) = open_journal(alloc, files, disk)?;
@@ -71,11 +71,11 @@ fn open_journal<N: OfFiles, D: Disk>(
 ) -> Result<(FilesJournal<N, D>, Vec<Listed<u8>>), (Unusable, D)>
     requires digests { files.now.digests ≡ N.digests }
     requires begun { Stays N.begun (D.state disk) }
-    ensures entries { IfOk result (λ opened. HasEntries files.now.digests (seen_of (D.state disk))
+    ensures entries { IfOk result (λ opened. HasEntries files.now.digests (disk_seen (D.state disk))
         (journal_tells D.state opened.0) opened.1.items) }
     ensures stays { IfOk result (λ opened. Stays (D.state disk) (D.state opened.0.disk)) }
     ensures refused { IfErr result (λ refusal.
-        NotOpened files.now (seen_of (D.state disk)) (seen_of (D.state refusal.1)) refusal.0) }
+        NotOpened files.now (disk_seen (D.state disk)) (disk_seen (D.state refusal.1)) refusal.0) }
     ensures unwritten { IfErr result (λ refusal. Stays (D.state disk) (D.state refusal.1)) }
 {
     match Journal::open(alloc, disk, &files.digests) {
@@ -88,9 +88,9 @@ fn open_journal<N: OfFiles, D: Disk>(
 /// after it, as the journal of these files; and so does what a crash leaves.
 pub fn close_board<N: OfFiles, D: Disk>(board: Board<'_, FilesJournal<N, D>>) -> D
     ensures keeps { KeepsHistory (record { airport = board.entry.airport; digests = N.digests }) board.entry.history
-        (entry_at_risk board.entry.airport (journal_tells D.state board.entry.keeper)) (seen_of (D.state result)) }
+        (read_entry_at_risk board.entry.airport (journal_tells D.state board.entry.keeper)) (disk_seen (D.state result)) }
     ensures survives { Survives N.digests board.entry.history
-        (entry_at_risk board.entry.airport (journal_tells D.state board.entry.keeper))
+        (read_entry_at_risk board.entry.airport (journal_tells D.state board.entry.keeper))
         (from_to N.begun (D.state result)) }
     ensures disk { result ≡ board.entry.keeper.disk }
     ensures legal { IsLegal board.entry.airport board.entry.history }

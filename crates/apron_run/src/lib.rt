@@ -26,7 +26,7 @@ mod unusable;
 mod upgrade;
 mod words;
 
-pub use check::tell_fault;
+pub use check::print_fault;
 pub use files_journal::{FilesJournal, OfFiles};
 pub use journal::{close_board, open_board, open_watched};
 pub use laws::{ends_that_never_fail_tell_no_fault, second_imports_add_nothing};

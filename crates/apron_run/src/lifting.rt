@@ -42,12 +42,12 @@ fn lift_next(
     let number = new.len() as u32 + 1;
     match lift_entry(alloc, airport, bytes) {
         Ok(entry) => Ok(new.push(entry)?),
-        Err(fault) => Err(not_read(number, fault)),
+        Err(fault) => Err(not_lifted(number, fault)),
     }
 }
 
 // Why the entry of this number is not lifted, whose bytes are not read for this fault.
-fn not_read(number: u32, fault: EntryFault) -> OpenFault
+fn not_lifted(number: u32, fault: EntryFault) -> OpenFault
     ensures is { result ≡ not_read number fault }
 {
     match fault {

@@ -1,10 +1,10 @@
-// The word `make`.
+// The word `run_make`.
 ghost use Rattle.std.specs.Prelude.{◌≤◌, IfOk};
 ghost use Rattle.generated_day.specs.Days.{most_made};
 ghost use Rattle.apron_run.specs.Make.{IsDayLine, TellsDay};
 
 use crate::Status;
-use crate::check::tell_fault;
+use crate::check::print_fault;
 use crate::print::print;
 use apron_base::{Listed, Memory, Sink};
 use apron_check::FilesFault;
@@ -12,14 +12,14 @@ use generated_day::{make_day, summary_line};
 use std::alloc::Global;
 
 /// Prints the summary of a generated day of this many visits, 1 to 5,000.
-pub(crate) fn make<W: Sink>(alloc: Global, visits: u32, sink: &mut W) -> Status
+pub(crate) fn run_make<W: Sink>(alloc: Global, visits: u32, sink: &mut W) -> Status
     requires some { 1 ≤ visits }
     requires few { visits ≤ most_made }
     ensures tells { TellsDay visits (W.state sink.old) (W.state sink.new) result }
 {
     match day_line(alloc, visits) {
         Ok(line) => print(sink, line.as_slice()),
-        Err(Memory) => tell_fault(sink, &FilesFault::Memory),
+        Err(Memory) => print_fault(sink, &FilesFault::Memory),
     }
 }
 

@@ -1,19 +1,19 @@
 // What the words have in common that print a text of the plan in a journal.
 ghost use Rattle.std.specs.Prelude.{◌≡◌, false, not, Result};
 ghost use Rattle.apron_rules.specs.declared.parts.AirportParts.{AirportParts};
-ghost use Rattle.apron_check.specs.Files.{Finds};
+ghost use Rattle.apron_check.specs.Files.{FindsFiles};
 ghost use Rattle.apron_check.specs.declared.faults.FilesFault.{FilesFault};
 ghost use Rattle.apron_check.specs.declared.files.AirportFiles.{AirportFiles};
 ghost use Rattle.journal_disk.specs.Disk.{Stays};
 ghost use Rattle.apron_run.specs.PlanText.{MeetsText, PrintsText};
 ghost use Rattle.apron_run.specs.Run.{KeptUnless};
-ghost use Rattle.apron_run.specs.Statuses.{code_of};
+ghost use Rattle.apron_run.specs.Statuses.{exit_code};
 ghost use Rattle.apron_run.specs.TwoFiles.{DoesFound};
 ghost use Rattle.apron_run.specs.Words.{ends_at_files, ends_before_chart};
-ghost use Rattle.apron_run.specs.World.{outs_at, seen_of};
+ghost use Rattle.apron_run.specs.World.{disk_seen, sink_and_disk_at};
 
 use crate::Status;
-use crate::check::tell_fault;
+use crate::check::print_fault;
 use crate::files_journal::OfFiles;
 use crate::journal::{close_board, open_board};
 use crate::print::print;
@@ -66,15 +66,15 @@ pub(crate) fn print_of_files<T: PlanText, F: Shelf, W: Sink, D: Disk>(
 ) -> Status
     requires fits { (airport : AirportParts) → T.fits asked.now airport }
     ensures prints { (found : Result AirportFiles FilesFault)
-        × Finds (F.state shelf.old) (F.state shelf.new) airport.now types.now found
-        × DoesFound (PrintsText (T.answers asked.now)) found (outs_at (W.state sink.old) (D.state disk.old))
-        (outs_at (W.state sink.new) (D.state disk.new)) result }
+        × FindsFiles (F.state shelf.old) (F.state shelf.new) airport.now types.now found
+        × DoesFound (PrintsText (T.answers asked.now)) found (sink_and_disk_at (W.state sink.old) (D.state disk.old))
+        (sink_and_disk_at (W.state sink.new) (D.state disk.new)) result }
     ensures crash { Stays (D.state disk.old) (D.state disk.new) }
-    ensures kept { KeptUnless (not (ends_at_files (code_of result))) disk.old disk.new }
+    ensures kept { KeptUnless (not (ends_at_files (exit_code result))) disk.old disk.new }
 {
     match airport_of(alloc, airport, types, shelf) {
         Ok(files) => print_of_journal(alloc, &files, asked, sink, disk),
-        Err(fault) => tell_fault(sink, &fault),
+        Err(fault) => print_fault(sink, &fault),
     }
 }
 
@@ -87,15 +87,15 @@ pub(crate) fn print_of_journal<T: PlanText, W: Sink, D: Disk>(
     disk: &mut D,
 ) -> Status
     requires fits { T.fits asked.now files.now.airport }
-    ensures prints { PrintsText (T.answers asked.now) files.now (outs_at (W.state sink.old) (D.state disk.old))
-        (outs_at (W.state sink.new) (D.state disk.new)) result }
+    ensures prints { PrintsText (T.answers asked.now) files.now (sink_and_disk_at (W.state sink.old) (D.state disk.old))
+        (sink_and_disk_at (W.state sink.new) (D.state disk.new)) result }
     ensures crash { Stays (D.state disk.old) (D.state disk.new) }
-    ensures comes { ends_before_chart (code_of result) ≡ false }
+    ensures comes { ends_before_chart (exit_code result) ≡ false }
 {
     let (met, _disk) = text_on::<Brand, T, D>(alloc, files, asked, disk);
     match met {
         Ok(Ok(text)) => print(sink, text.as_slice()),
-        Ok(Err(Memory)) => tell_fault(sink, &FilesFault::Memory),
+        Ok(Err(Memory)) => print_fault(sink, &FilesFault::Memory),
         Err(why) => tell_unusable(sink, &why),
     }
 }
@@ -112,8 +112,8 @@ fn text_on<'d, N: Named + OfFiles, T: PlanText, D: Disk>(
     requires begun { Stays N.begun (D.state disk.old) }
     requires fits { T.fits asked.now files.now.airport }
     ensures same { result.1.ghost_name ≡ disk.entry.ghost_name }
-    ensures meets { MeetsText (T.answers asked.now) files.now (seen_of (D.state disk.old))
-        (seen_of (D.state result.1.now)) result.0 }
+    ensures meets { MeetsText (T.answers asked.now) files.now (disk_seen (D.state disk.old))
+        (disk_seen (D.state result.1.now)) result.0 }
     ensures crash { Stays (D.state disk.old) (D.state result.1.now) }
 {
     let same: SameDisk<'d, N, D> = SameDisk {
@@ -135,8 +135,8 @@ fn text_of_board<N: OfFiles, T: PlanText, D: Disk>(
     requires digests { files.now.digests ≡ N.digests }
     requires begun { Stays N.begun (D.state disk) }
     requires fits { T.fits asked.now files.now.airport }
-    ensures meets { MeetsText (T.answers asked.now) files.now (seen_of (D.state disk))
-        (seen_of (D.state result.1)) result.0 }
+    ensures meets { MeetsText (T.answers asked.now) files.now (disk_seen (D.state disk))
+        (disk_seen (D.state result.1)) result.0 }
     ensures crash { Stays (D.state disk) (D.state result.1) }
 {
     let board = match open_board::<N, D>(alloc, files, disk) {

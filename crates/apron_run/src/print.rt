@@ -16,14 +16,14 @@ pub(crate) fn print_help<W: Sink>(sink: &mut W) -> Status
 pub(crate) fn print_version<W: Sink>(sink: &mut W) -> Status
     ensures writes { Writes version_text Status.Done Status.WriteFault (W.state sink.old) (W.state sink.new) result }
 {
-    print(sink, version())
+    print(sink, version_text())
 }
 
 /// Prints that a journal was made.
 pub(crate) fn print_made<W: Sink>(sink: &mut W) -> Status
     ensures writes { Writes made_text Status.Done Status.WriteFault (W.state sink.old) (W.state sink.new) result }
 {
-    print(sink, made())
+    print(sink, made_text())
 }
 
 /// Prints the line for faulty words. The status stays theirs where the sink fails at it.
@@ -55,7 +55,7 @@ fn help() -> &'static [u8]
 
 // What `--version` prints.
 #[tactic(auto, unfolding(crate::specs::Print::version_text))]
-fn version() -> &'static [u8]
+fn version_text() -> &'static [u8]
     ensures text { result.now ≡ version_text }
 {
     b"apron 0.2.0\n"
@@ -63,7 +63,7 @@ fn version() -> &'static [u8]
 
 // What is printed where a journal was made.
 #[tactic(auto, unfolding(crate::specs::Print::made_text))]
-fn made() -> &'static [u8]
+fn made_text() -> &'static [u8]
     ensures text { result.now ≡ made_text }
 {
     b"ok\n"

@@ -3,28 +3,28 @@ ghost use Rattle.std.specs.Prelude.{◌≡◌, ℕ, List, [], true};
 ghost use Rattle.desk_turns.specs.Watched.{feed_texts};
 ghost use Rattle.watch_list.specs.Watches.{shows};
 ghost use Rattle.apron_run.specs.Causes.{FaultsHaveCause};
-ghost use Rattle.apron_run.specs.Complete.{IsComplete};
+ghost use Rattle.apron_run.specs.Complete.{IsRunComplete};
 ghost use Rattle.apron_run.specs.Crash.{CrashesAs};
 ghost use Rattle.apron_run.specs.Headline.{TellsHeadline};
 ghost use Rattle.apron_run.specs.Run.{KeptUnless, RunsAs};
-ghost use Rattle.apron_run.specs.Statuses.{code_of};
+ghost use Rattle.apron_run.specs.Statuses.{exit_code};
 ghost use Rattle.apron_run.specs.Survival.{from_to};
-ghost use Rattle.apron_run.specs.Words.{asked_by, desk as desk_word, faulty, may_be_usage, uses_disk, uses_shelf, uses_source};
+ghost use Rattle.apron_run.specs.Words.{desk as desk_word, faulty, may_be_usage, subcommand_of, uses_disk, uses_shelf, uses_source};
 ghost use Rattle.apron_run.specs.World.{world_at};
 
 use crate::Status;
-use crate::chart::chart;
-use crate::check::check;
-use crate::desk::desk;
+use crate::chart::run_chart;
+use crate::check::run_check;
+use crate::desk::run_desk;
 use crate::export::Season;
-use crate::import::import;
-use crate::init::init;
-use crate::make::make;
+use crate::import::run_import;
+use crate::init::run_init;
+use crate::make::run_make;
 use crate::plan_text::print_of_files;
 use crate::print::{print_help, print_usage, print_version};
-use crate::propose::Proposal;
-use crate::upgrade::upgrade;
-use crate::words::{Asked, asked_by};
+use crate::propose::DraftProposal;
+use crate::upgrade::run_upgrade;
+use crate::words::{Subcommand, subcommand_of};
 use apron_base::{Shelf, Sink, Source, Word};
 use journal_disk::Disk;
 use std::alloc::Global;
@@ -39,7 +39,7 @@ use watch_list::{NoteTest, Shown, Stated, Watches};
 /// feeds; where there is no airport or no journal of it, it prints the line that tells why.
 /// `init A T` reads both files and makes an empty journal of them on an empty disk. `check A T`
 /// reads both files, and prints the one line that tells what is in them. `chart A T DAY` opens the
-/// journal as `desk` does, and prints the wall chart of that day of the plan. `import A T SEASON`
+/// journal as `run_desk` does, and prints the wall chart of that day of the plan. `import A T SEASON`
 /// opens it and asks to add the visits of the season file, one after the other, and prints how many
 /// were added and how many were there; `export A T` opens it and prints the season file of the
 /// plan's visits. `propose A T DESK DRAFT` opens it and prints a first-fit draft for the parts that
@@ -74,33 +74,33 @@ pub fn run_with<F: Shelf, S: Source, W: Sink, D: Disk, R: Stated, T: NoteTest>(
     sink: &mut W,
     disk: &mut D,
 ) -> u8
-    ensures headline { (airport types : List ℕ) → asked_by words.now ≡ desk_word airport types
+    ensures headline { (airport types : List ℕ) → subcommand_of words.now ≡ desk_word airport types
         → TellsHeadline (feed_texts R.tells watches.now) airport types
         (world_at (F.state shelf.old) (S.state source.old) (W.state sink.old) (D.state disk.old))
         (world_at (F.state shelf.new) (S.state source.new) (W.state sink.new) (D.state disk.new))
         result }
-    ensures runs { RunsAs (feed_texts R.tells watches.now) (asked_by words.now)
+    ensures runs { RunsAs (feed_texts R.tells watches.now) (subcommand_of words.now)
         (world_at (F.state shelf.old) (S.state source.old) (W.state sink.old) (D.state disk.old))
         (world_at (F.state shelf.new) (S.state source.new) (W.state sink.new) (D.state disk.new))
         result }
-    ensures complete { IsComplete (asked_by words.now)
+    ensures complete { IsRunComplete (subcommand_of words.now)
         (world_at (F.state shelf.old) (S.state source.old) (W.state sink.old) (D.state disk.old))
         (world_at (F.state shelf.new) (S.state source.new) (W.state sink.new) (D.state disk.new))
         result }
-    ensures faults { FaultsHaveCause (asked_by words.now)
+    ensures faults { FaultsHaveCause (subcommand_of words.now)
         (world_at (F.state shelf.old) (S.state source.old) (W.state sink.old) (D.state disk.old))
         (world_at (F.state shelf.new) (S.state source.new) (W.state sink.new) (D.state disk.new))
         result }
     ensures crash { CrashesAs (feed_texts R.tells watches.now)
-        (from_to (D.state disk.old) (D.state disk.new)) (asked_by words.now)
+        (from_to (D.state disk.old) (D.state disk.new)) (subcommand_of words.now)
         (world_at (F.state shelf.old) (S.state source.old) (W.state sink.old) (D.state disk.old))
         (world_at (F.state shelf.new) (S.state source.new) (W.state sink.new) (D.state disk.new))
         result }
-    ensures usage { asked_by words.now ≡ faulty → result ≡ code_of Status.Usage }
-    ensures usage_alone { result ≡ code_of Status.Usage → may_be_usage (asked_by words.now) ≡ true }
-    ensures shelf_kept { KeptUnless (uses_shelf (asked_by words.now)) shelf.old shelf.new }
-    ensures source_kept { KeptUnless (uses_source (asked_by words.now) result) source.old source.new }
-    ensures disk_kept { KeptUnless (uses_disk (asked_by words.now) result) disk.old disk.new }
+    ensures usage { subcommand_of words.now ≡ faulty → result ≡ exit_code Status.Usage }
+    ensures usage_alone { result ≡ exit_code Status.Usage → may_be_usage (subcommand_of words.now) ≡ true }
+    ensures shelf_kept { KeptUnless (uses_shelf (subcommand_of words.now)) shelf.old shelf.new }
+    ensures source_kept { KeptUnless (uses_source (subcommand_of words.now) result) source.old source.new }
+    ensures disk_kept { KeptUnless (uses_disk (subcommand_of words.now) result) disk.old disk.new }
 {
     run_words(alloc, words, watches, shelf, source, sink, disk).code()
 }
@@ -114,33 +114,33 @@ pub fn run<F: Shelf, S: Source, W: Sink, D: Disk>(
     sink: &mut W,
     disk: &mut D,
 ) -> u8
-    ensures headline { (airport types : List ℕ) → asked_by words.now ≡ desk_word airport types
+    ensures headline { (airport types : List ℕ) → subcommand_of words.now ≡ desk_word airport types
         → TellsHeadline (feed_texts shows []) airport types
         (world_at (F.state shelf.old) (S.state source.old) (W.state sink.old) (D.state disk.old))
         (world_at (F.state shelf.new) (S.state source.new) (W.state sink.new) (D.state disk.new))
         result }
-    ensures runs { RunsAs (feed_texts shows []) (asked_by words.now)
+    ensures runs { RunsAs (feed_texts shows []) (subcommand_of words.now)
         (world_at (F.state shelf.old) (S.state source.old) (W.state sink.old) (D.state disk.old))
         (world_at (F.state shelf.new) (S.state source.new) (W.state sink.new) (D.state disk.new))
         result }
-    ensures complete { IsComplete (asked_by words.now)
+    ensures complete { IsRunComplete (subcommand_of words.now)
         (world_at (F.state shelf.old) (S.state source.old) (W.state sink.old) (D.state disk.old))
         (world_at (F.state shelf.new) (S.state source.new) (W.state sink.new) (D.state disk.new))
         result }
-    ensures faults { FaultsHaveCause (asked_by words.now)
+    ensures faults { FaultsHaveCause (subcommand_of words.now)
         (world_at (F.state shelf.old) (S.state source.old) (W.state sink.old) (D.state disk.old))
         (world_at (F.state shelf.new) (S.state source.new) (W.state sink.new) (D.state disk.new))
         result }
     ensures crash { CrashesAs (feed_texts shows [])
-        (from_to (D.state disk.old) (D.state disk.new)) (asked_by words.now)
+        (from_to (D.state disk.old) (D.state disk.new)) (subcommand_of words.now)
         (world_at (F.state shelf.old) (S.state source.old) (W.state sink.old) (D.state disk.old))
         (world_at (F.state shelf.new) (S.state source.new) (W.state sink.new) (D.state disk.new))
         result }
-    ensures usage { asked_by words.now ≡ faulty → result ≡ code_of Status.Usage }
-    ensures usage_alone { result ≡ code_of Status.Usage → may_be_usage (asked_by words.now) ≡ true }
-    ensures shelf_kept { KeptUnless (uses_shelf (asked_by words.now)) shelf.old shelf.new }
-    ensures source_kept { KeptUnless (uses_source (asked_by words.now) result) source.old source.new }
-    ensures disk_kept { KeptUnless (uses_disk (asked_by words.now) result) disk.old disk.new }
+    ensures usage { subcommand_of words.now ≡ faulty → result ≡ exit_code Status.Usage }
+    ensures usage_alone { result ≡ exit_code Status.Usage → may_be_usage (subcommand_of words.now) ≡ true }
+    ensures shelf_kept { KeptUnless (uses_shelf (subcommand_of words.now)) shelf.old shelf.new }
+    ensures source_kept { KeptUnless (uses_source (subcommand_of words.now) result) source.old source.new }
+    ensures disk_kept { KeptUnless (uses_disk (subcommand_of words.now) result) disk.old disk.new }
 {
     let watches = Watches::<Shown, Shown>::none(alloc);
     run_with(alloc, words, &watches, shelf, source, sink, disk)
@@ -156,42 +156,46 @@ fn run_words<F: Shelf, S: Source, W: Sink, D: Disk, R: Stated, T: NoteTest>(
     sink: &mut W,
     disk: &mut D,
 ) -> Status
-    ensures runs { RunsAs (feed_texts R.tells watches.now) (asked_by words.now)
+    ensures runs { RunsAs (feed_texts R.tells watches.now) (subcommand_of words.now)
         (world_at (F.state shelf.old) (S.state source.old) (W.state sink.old) (D.state disk.old))
         (world_at (F.state shelf.new) (S.state source.new) (W.state sink.new) (D.state disk.new))
-        (code_of result) }
+        (exit_code result) }
     ensures crash { CrashesAs (feed_texts R.tells watches.now)
-        (from_to (D.state disk.old) (D.state disk.new)) (asked_by words.now)
+        (from_to (D.state disk.old) (D.state disk.new)) (subcommand_of words.now)
         (world_at (F.state shelf.old) (S.state source.old) (W.state sink.old) (D.state disk.old))
         (world_at (F.state shelf.new) (S.state source.new) (W.state sink.new) (D.state disk.new))
-        (code_of result) }
-    ensures usage { asked_by words.now ≡ faulty → result ≡ Status.Usage }
-    ensures usage_alone { code_of result ≡ code_of Status.Usage → may_be_usage (asked_by words.now) ≡ true }
-    ensures shelf_kept { KeptUnless (uses_shelf (asked_by words.now)) shelf.old shelf.new }
-    ensures source_kept { KeptUnless (uses_source (asked_by words.now) (code_of result)) source.old source.new }
-    ensures disk_kept { KeptUnless (uses_disk (asked_by words.now) (code_of result)) disk.old disk.new }
+        (exit_code result) }
+    ensures usage { subcommand_of words.now ≡ faulty → result ≡ Status.Usage }
+    ensures usage_alone { exit_code result ≡ exit_code Status.Usage → may_be_usage (subcommand_of words.now) ≡ true }
+    ensures shelf_kept { KeptUnless (uses_shelf (subcommand_of words.now)) shelf.old shelf.new }
+    ensures source_kept { KeptUnless (uses_source (subcommand_of words.now) (exit_code result)) source.old source.new }
+    ensures disk_kept { KeptUnless (uses_disk (subcommand_of words.now) (exit_code result)) disk.old disk.new }
 {
-    match asked_by(words) {
-        Asked::Desk(airport, types) => {
-            desk(alloc, airport, types, watches, shelf, source, sink, disk)
+    match subcommand_of(words) {
+        Subcommand::Desk(airport, types) => {
+            run_desk(alloc, airport, types, watches, shelf, source, sink, disk)
         }
-        Asked::Init(airport, types) => init(alloc, airport, types, shelf, sink, disk),
-        Asked::Check(airport, types) => check(alloc, airport, types, shelf, sink),
-        Asked::Chart(airport, types, day) => chart(alloc, airport, types, day, shelf, sink, disk),
-        Asked::Import(airport, types, season) => {
-            import(alloc, airport, types, season, shelf, sink, disk)
+        Subcommand::Init(airport, types) => run_init(alloc, airport, types, shelf, sink, disk),
+        Subcommand::Check(airport, types) => run_check(alloc, airport, types, shelf, sink),
+        Subcommand::Chart(airport, types, day) => run_chart(
+            alloc, airport, types, day, shelf, sink, disk,
+        ),
+        Subcommand::Import(airport, types, season) => {
+            run_import(alloc, airport, types, season, shelf, sink, disk)
         }
-        Asked::Export(airport, types) => {
+        Subcommand::Export(airport, types) => {
             print_of_files(alloc, airport, types, &Season, shelf, sink, disk)
         }
-        Asked::Propose(airport, types, desk, draft) => {
-            let asked = Proposal { desk, draft };
+        Subcommand::Propose(airport, types, desk, draft) => {
+            let asked = DraftProposal { desk, draft };
             print_of_files(alloc, airport, types, &asked, shelf, sink, disk)
         }
-        Asked::Upgrade(airport, types) => upgrade(alloc, airport, types, shelf, sink, disk),
-        Asked::Make(visits) => make(alloc, visits, sink),
-        Asked::Help => print_help(sink),
-        Asked::Version => print_version(sink),
-        Asked::Faulty => print_usage(sink),
+        Subcommand::Upgrade(airport, types) => run_upgrade(
+            alloc, airport, types, shelf, sink, disk,
+        ),
+        Subcommand::Make(visits) => run_make(alloc, visits, sink),
+        Subcommand::Help => print_help(sink),
+        Subcommand::Version => print_version(sink),
+        Subcommand::Faulty => print_usage(sink),
     }
 }

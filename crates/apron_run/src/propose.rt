@@ -9,12 +9,12 @@ use std::alloc::Global;
 /// A proposal to the desk of this name for its draft of this number, or that the history has a commit
 /// of this draft.
 #[derive(Drop)]
-pub(crate) struct Proposal {
+pub(crate) struct DraftProposal {
     pub(crate) desk: Name,
     pub(crate) draft: u32,
 }
 
-impl PlanText for Proposal {
+impl PlanText for DraftProposal {
     ghost use Rattle.apron_run.specs.Propose.{IsProposed};
 
     ghost fits = { λ _ _. Unit {0} };

@@ -2,7 +2,7 @@
 ghost use Rattle.std.specs.Prelude.{◌≡◌, All, IfErr, IfOk, List, OnOk, Result};
 ghost use Rattle.visit_book.specs.NewVisits.{IsNewVisitOf};
 ghost use Rattle.visit_book.specs.declared.visits.NewVisit.{NewVisit};
-ghost use Rattle.apron_run.specs.Asking.{AsksSeason, IsMissing, IsThere, Meets, Stops, reached};
+ghost use Rattle.apron_run.specs.Asking.{AsksOnce, AsksSeason, IsMissing, IsThere, StopsImport, reached_by};
 ghost use Rattle.apron_run.specs.Import.{AsksFound, FindsSeason};
 ghost use Rattle.apron_run.specs.declared.imported.Imported.{Imported};
 
@@ -28,7 +28,7 @@ pub(crate) fn add_season<F: Shelf, K: Keeper>(
     shelf: &mut F,
 ) -> Imported
     ensures adds { (found : Result (List NewVisit) Imported) × FindsSeason board.old.airport season.now (F.state shelf.old) (F.state shelf.new) found
-        × AsksFound board.old.airport found (reached K.state board.old) (reached K.state board.new) result }
+        × AsksFound board.old.airport found (reached_by K.state board.old) (reached_by K.state board.new) result }
     ensures airport { board.new.airport ≡ board.old.airport }
 {
     match find_season(alloc, board.airport(), season, shelf) {
@@ -63,7 +63,7 @@ fn find_season<F: Shelf>(
 // Asks to add these visits of the board's airport, up to the first that is neither added nor there already.
 fn ask_season<K: Keeper>(alloc: Global, board: &mut Board<'_, K>, visits: &[NewVisit]) -> Imported
     requires new { All (IsNewVisitOf board.old.airport) visits.now }
-    ensures asks { AsksSeason board.old.airport visits.now (reached K.state board.old) (reached K.state board.new) result }
+    ensures asks { AsksSeason board.old.airport visits.now (reached_by K.state board.old) (reached_by K.state board.new) result }
     ensures airport { board.new.airport ≡ board.old.airport }
 {
     let before = board.history().len();
@@ -88,8 +88,8 @@ fn ask_visit<K: Keeper>(
     number: u64,
 ) -> Result<(), Imported>
     requires new { IsNewVisitOf board.old.airport new.now }
-    ensures met { OnOk result (Meets board.old.airport (reached K.state board.old) new.now (reached K.state board.new)) }
-    ensures stops { IfErr result (Stops board.old.airport number (reached K.state board.old) new.now (reached K.state board.new)) }
+    ensures met { OnOk result (AsksOnce board.old.airport (reached_by K.state board.old) new.now (reached_by K.state board.new)) }
+    ensures stops { IfErr result (StopsImport board.old.airport number (reached_by K.state board.old) new.now (reached_by K.state board.new)) }
     ensures airport { board.new.airport ≡ board.old.airport }
 {
     let call = board.next_call();

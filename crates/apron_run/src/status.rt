@@ -1,6 +1,6 @@
 // What the program ends with.
 ghost use Rattle.std.specs.Prelude.{◌≡◌};
-ghost use Rattle.apron_run.specs.Statuses.{code_of, status_of_fault, status_of_outcome};
+ghost use Rattle.apron_run.specs.Statuses.{exit_code, status_of_fault, status_of_outcome};
 
 use apron_base::Outcome;
 use apron_check::FilesFault;
@@ -47,7 +47,7 @@ pub enum Status {
 impl Status {
     /// The number that the program ends with.
     pub fn code(self) -> u8
-        ensures value { result ≡ code_of self }
+        ensures value { result ≡ exit_code self }
     {
         match self {
             Status::Done => 0,

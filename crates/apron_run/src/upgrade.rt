@@ -1,19 +1,19 @@
-// The word `upgrade`.
+// The word `run_upgrade`.
 ghost use Rattle.std.specs.Prelude.{◌≡◌, ℕ, Option, Result, false, not};
 ghost use Rattle.apron_base.specs.Ends.{Puts};
-ghost use Rattle.apron_check.specs.Files.{Finds};
+ghost use Rattle.apron_check.specs.Files.{FindsFiles};
 ghost use Rattle.apron_check.specs.declared.faults.FilesFault.{FilesFault};
 ghost use Rattle.apron_check.specs.declared.files.AirportFiles.{AirportFiles};
 ghost use Rattle.apron_run.specs.Run.{KeptUnless};
-ghost use Rattle.apron_run.specs.Statuses.{code_of};
+ghost use Rattle.apron_run.specs.Statuses.{exit_code};
 ghost use Rattle.apron_run.specs.Survival.{from_to};
 ghost use Rattle.apron_run.specs.Upgrade.{TellsUpgrade, already_text, upgraded_text};
 ghost use Rattle.apron_run.specs.UpgradeCrash.{MeetsUpgradeLeaving, UpgradesFoundLeaving, UpgradesJournalLeaving};
 ghost use Rattle.apron_run.specs.Words.{ends_at_files};
-ghost use Rattle.apron_run.specs.World.{outs_at, seen_of};
+ghost use Rattle.apron_run.specs.World.{disk_seen, sink_and_disk_at};
 
 use crate::Status;
-use crate::check::tell_fault;
+use crate::check::print_fault;
 use crate::lifting::lift_entries;
 use crate::print::print;
 use crate::same_disk::{Named, SameDisk};
@@ -27,7 +27,7 @@ use std::marker::{Brand, PhantomData};
 /// Makes the journal of the two files of these names on the disk one of format 2, if it is of format 1,
 /// and prints how many entries it has; or prints that it is of format 2 already, or why it is not
 /// upgraded.
-pub(crate) fn upgrade<F: Shelf, W: Sink, D: Disk>(
+pub(crate) fn run_upgrade<F: Shelf, W: Sink, D: Disk>(
     alloc: Global,
     airport: &str,
     types: &str,
@@ -36,15 +36,15 @@ pub(crate) fn upgrade<F: Shelf, W: Sink, D: Disk>(
     disk: &mut D,
 ) -> Status
     ensures upgrades { (found : Result AirportFiles FilesFault)
-        × Finds (F.state shelf.old) (F.state shelf.new) airport.now types.now found
+        × FindsFiles (F.state shelf.old) (F.state shelf.new) airport.now types.now found
         × UpgradesFoundLeaving (from_to (D.state disk.old) (D.state disk.new)) found
-        (outs_at (W.state sink.old) (D.state disk.old))
-        (outs_at (W.state sink.new) (D.state disk.new)) result }
-    ensures kept { KeptUnless (not (ends_at_files (code_of result))) disk.old disk.new }
+        (sink_and_disk_at (W.state sink.old) (D.state disk.old))
+        (sink_and_disk_at (W.state sink.new) (D.state disk.new)) result }
+    ensures kept { KeptUnless (not (ends_at_files (exit_code result))) disk.old disk.new }
 {
     match airport_of(alloc, airport, types, shelf) {
         Ok(files) => upgrade_journal(alloc, &files, sink, disk),
-        Err(fault) => tell_fault(sink, &fault),
+        Err(fault) => print_fault(sink, &fault),
     }
 }
 
@@ -57,9 +57,9 @@ fn upgrade_journal<W: Sink, D: Disk>(
 ) -> Status
     ensures upgrades { UpgradesJournalLeaving (from_to (D.state disk.old) (D.state disk.new))
         files.now
-        (outs_at (W.state sink.old) (D.state disk.old))
-        (outs_at (W.state sink.new) (D.state disk.new)) result }
-    ensures comes { ends_at_files (code_of result) ≡ false }
+        (sink_and_disk_at (W.state sink.old) (D.state disk.old))
+        (sink_and_disk_at (W.state sink.new) (D.state disk.new)) result }
+    ensures comes { ends_at_files (exit_code result) ≡ false }
 {
     let (met, _disk) = upgrade_on::<Brand, D>(alloc, files, disk);
     tell_upgrade(sink, &met)
@@ -68,7 +68,7 @@ fn upgrade_journal<W: Sink, D: Disk>(
 // Prints what came of an upgrade.
 fn tell_upgrade<W: Sink>(sink: &mut W, met: &Result<Option<u32>, Unusable>) -> Status
     ensures tells { TellsUpgrade met.now (W.state sink.old) (W.state sink.new) result }
-    ensures comes { ends_at_files (code_of result) ≡ false }
+    ensures comes { ends_at_files (exit_code result) ≡ false }
 {
     match met {
         Ok(Some(count)) => match put_upgraded(sink, *count) {
@@ -104,7 +104,7 @@ fn upgrade_on<'d, N: Named, D: Disk>(
     ensures same { result.1.ghost_name ≡ disk.entry.ghost_name }
     ensures meets { MeetsUpgradeLeaving (from_to (D.state disk.old) (D.state result.1.now))
         files.now
-        (seen_of (D.state disk.old)) (seen_of (D.state result.1.now)) result.0 }
+        (disk_seen (D.state disk.old)) (disk_seen (D.state result.1.now)) result.0 }
 {
     let same: SameDisk<'d, N, D> = SameDisk {
         disk,
@@ -123,7 +123,7 @@ fn upgrade_disk<D: Disk>(
     disk: D,
 ) -> (Result<Option<u32>, Unusable>, D)
     ensures meets { MeetsUpgradeLeaving (from_to (D.state disk) (D.state result.1)) files.now
-        (seen_of (D.state disk)) (seen_of (D.state result.1)) result.0 }
+        (disk_seen (D.state disk)) (disk_seen (D.state result.1)) result.0 }
 {
     let old = match open_old(alloc, disk, &files.digests) {
         Ok(Found::Old(old)) => old,

@@ -3,15 +3,15 @@ ghost use Rattle.std.specs.Prelude.{◌≡◌, ◌≤◌, IfSome};
 ghost use Rattle.std.specs.Char.{is_ascii_digit};
 ghost use Rattle.std.specs.List.{list_all};
 ghost use Rattle.generated_day.specs.Days.{most_made};
-ghost use Rattle.apron_run.specs.Words.{asked_by, asked_by_one, asked_of_draft, asked_of_files, asked_of_more, asked_with_number, is_padded, is_plain_number, last_draft, made_of, number_within, proposed_of, proposed_to, within};
-ghost use Rattle.apron_run.specs.WordsShown.{IsFitting, shown};
+ghost use Rattle.apron_run.specs.Words.{asked_by_one, asked_of_draft, asked_of_files, asked_of_more, asked_with_number, if_within, is_padded, is_plain_number, last_draft, make_subcommand, number_within, proposed_of, proposed_to, subcommand_of};
+ghost use Rattle.apron_run.specs.WordsShown.{IsFitting, subcommand_shown};
 
 use apron_base::{MAX_DIGITS, Name, Word, number_of};
 use generated_day::MAX_MADE;
 
 /// What the words ask for.
 #[derive(Clone, Copy)]
-pub(crate) enum Asked<'w> {
+pub(crate) enum Subcommand<'w> {
     /// One session at the airport of the airport file and the type file of these names, on its journal.
     Desk(&'w str, &'w str),
     /// An empty journal for the airport of the two files.
@@ -37,8 +37,8 @@ pub(crate) enum Asked<'w> {
 }
 
 /// What the words ask for.
-pub(crate) fn asked_by(words: &[Word]) -> Asked<'_>
-    ensures asked { shown result ≡ asked_by words.now }
+pub(crate) fn subcommand_of(words: &[Word]) -> Subcommand<'_>
+    ensures asked { subcommand_shown result ≡ subcommand_of words.now }
     ensures fits { IsFitting result }
 {
     match words {
@@ -55,52 +55,52 @@ pub(crate) fn asked_by(words: &[Word]) -> Asked<'_>
             desk.text(),
             draft.text(),
         ),
-        _ => Asked::Faulty,
+        _ => Subcommand::Faulty,
     }
 }
 
-fn asked_by_one(word: &str) -> Asked<'_>
-    ensures asked { shown result ≡ asked_by_one word.now }
+fn asked_by_one(word: &str) -> Subcommand<'_>
+    ensures asked { subcommand_shown result ≡ asked_by_one word.now }
     ensures fits { IsFitting result }
 {
     if word == "--help" {
-        Asked::Help
+        Subcommand::Help
     } else if word == "--version" {
-        Asked::Version
+        Subcommand::Version
     } else {
-        Asked::Faulty
+        Subcommand::Faulty
     }
 }
 
-fn asked_of_files<'w>(word: &str, airport: &'w str, types: &'w str) -> Asked<'w>
-    ensures asked { shown result ≡ asked_of_files word.now airport.now types.now }
+fn asked_of_files<'w>(word: &str, airport: &'w str, types: &'w str) -> Subcommand<'w>
+    ensures asked { subcommand_shown result ≡ asked_of_files word.now airport.now types.now }
     ensures fits { IsFitting result }
 {
     if word == "desk" {
-        Asked::Desk(airport, types)
+        Subcommand::Desk(airport, types)
     } else if word == "init" {
-        Asked::Init(airport, types)
+        Subcommand::Init(airport, types)
     } else if word == "check" {
-        Asked::Check(airport, types)
+        Subcommand::Check(airport, types)
     } else if word == "export" {
-        Asked::Export(airport, types)
+        Subcommand::Export(airport, types)
     } else if word == "upgrade" {
-        Asked::Upgrade(airport, types)
+        Subcommand::Upgrade(airport, types)
     } else {
-        Asked::Faulty
+        Subcommand::Faulty
     }
 }
 
-fn asked_of_more<'w>(word: &str, airport: &'w str, types: &'w str, more: &'w Word) -> Asked<'w>
-    ensures asked { shown result ≡ asked_of_more word.now airport.now types.now more.now }
+fn asked_of_more<'w>(word: &str, airport: &'w str, types: &'w str, more: &'w Word) -> Subcommand<'w>
+    ensures asked { subcommand_shown result ≡ asked_of_more word.now airport.now types.now more.now }
     ensures fits { IsFitting result }
 {
     if word == "import" {
-        Asked::Import(airport, types, more)
+        Subcommand::Import(airport, types, more)
     } else if word == "chart" && is_plain_number(more.text().as_bytes()) {
-        Asked::Chart(airport, types, more.text())
+        Subcommand::Chart(airport, types, more.text())
     } else {
-        Asked::Faulty
+        Subcommand::Faulty
     }
 }
 
@@ -110,57 +110,57 @@ fn asked_of_draft<'w>(
     types: &'w str,
     desk: &str,
     draft: &str,
-) -> Asked<'w>
-    ensures asked { shown result
+) -> Subcommand<'w>
+    ensures asked { subcommand_shown result
         ≡ asked_of_draft word.now airport.now types.now desk.now draft.now }
     ensures fits { IsFitting result }
 {
     if word == "propose" && is_plain_number(draft.as_bytes()) {
         proposed_of(airport, types, desk, draft.as_bytes())
     } else {
-        Asked::Faulty
+        Subcommand::Faulty
     }
 }
 
-fn proposed_of<'w>(airport: &'w str, types: &'w str, desk: &str, draft: &[u8]) -> Asked<'w>
-    ensures asked { shown result
+fn proposed_of<'w>(airport: &'w str, types: &'w str, desk: &str, draft: &[u8]) -> Subcommand<'w>
+    ensures asked { subcommand_shown result
         ≡ proposed_of airport.now types.now desk.now (number_within draft.now 0 last_draft) }
     ensures fits { IsFitting result }
 {
     match number_within(draft, 0, u32::MAX) {
         Some(draft) => proposed_to(airport, types, desk.as_bytes(), draft),
-        None => Asked::Faulty,
+        None => Subcommand::Faulty,
     }
 }
 
-fn proposed_to<'w>(airport: &'w str, types: &'w str, desk: &[u8], draft: u32) -> Asked<'w>
-    ensures asked { shown result ≡ proposed_to airport.now types.now desk.now draft }
+fn proposed_to<'w>(airport: &'w str, types: &'w str, desk: &[u8], draft: u32) -> Subcommand<'w>
+    ensures asked { subcommand_shown result ≡ proposed_to airport.now types.now desk.now draft }
     ensures fits { IsFitting result }
 {
     match Name::new(desk) {
-        Some(desk) => Asked::Propose(airport, types, desk, draft),
-        None => Asked::Faulty,
+        Some(desk) => Subcommand::Propose(airport, types, desk, draft),
+        None => Subcommand::Faulty,
     }
 }
 
-fn asked_with_number<'w>(word: &str, number: &str) -> Asked<'w>
-    ensures asked { shown result ≡ asked_with_number word.now number.now }
+fn asked_with_number<'w>(word: &str, number: &str) -> Subcommand<'w>
+    ensures asked { subcommand_shown result ≡ asked_with_number word.now number.now }
     ensures fits { IsFitting result }
 {
     if word == "make" && is_plain_number(number.as_bytes()) {
-        made_of(number.as_bytes())
+        make_subcommand(number.as_bytes())
     } else {
-        Asked::Faulty
+        Subcommand::Faulty
     }
 }
 
-fn made_of<'w>(text: &[u8]) -> Asked<'w>
-    ensures asked { shown result ≡ made_of (number_within text.now 1 most_made) }
+fn make_subcommand<'w>(text: &[u8]) -> Subcommand<'w>
+    ensures asked { subcommand_shown result ≡ make_subcommand (number_within text.now 1 most_made) }
     ensures fits { IsFitting result }
 {
     match number_within(text, 1, MAX_MADE) {
-        Some(visits) => Asked::Make(visits),
-        None => Asked::Faulty,
+        Some(visits) => Subcommand::Make(visits),
+        None => Subcommand::Faulty,
     }
 }
 
@@ -170,11 +170,11 @@ pub(crate) fn number_within(text: &[u8], first: u32, last: u32) -> Option<u32>
     ensures first { IfSome result (λ number. first ≤ number) }
     ensures last { IfSome result (λ number. number ≤ last) }
 {
-    within(first, last, number_of(text, MAX_DIGITS)?)
+    if_within(first, last, number_of(text, MAX_DIGITS)?)
 }
 
-fn within(first: u32, last: u32, number: u64) -> Option<u32>
-    ensures is { result ≡ within first last number }
+fn if_within(first: u32, last: u32, number: u64) -> Option<u32>
+    ensures is { result ≡ if_within first last number }
     ensures first { IfSome result (λ number. first ≤ number) }
     ensures last { IfSome result (λ number. number ≤ last) }
 {

@@ -5,12 +5,12 @@ use Rattle.std.specs.Option.{option_map}
 use Rattle.apron_base.specs.Counts.{Counts, Rose}
 use Rattle.desk_words.specs.declared.asks.Entry.{Entry}
 use Rattle.screen_looks.specs.declared.shown.Task.{Task}
-use Rattle.apron_check.specs.Files.{is_shelf_fault}
+use Rattle.apron_check.specs.Files.{is_files_shelf_fault}
 use Rattle.apron_check.specs.declared.files.AirportFiles.{AirportFiles}
 use Rattle.apron_check.specs.declared.faults.FilesFault.{FilesFault}
 use Rattle.apron_check.specs.declared.faults.FilesFault.TheVariants as faults
 use Rattle.apron_run.specs.Complete.{EndsWell, HasJournal}
-use Rattle.apron_run.specs.Statuses.{code_of, status_of_fault}
+use Rattle.apron_run.specs.Statuses.{exit_code, status_of_fault}
 use Rattle.apron_run.specs.Unusable.{status_of_unusable, unusable_line}
 use Rattle.apron_run.specs.declared.status.Status.{Status}
 use Rattle.apron_run.specs.declared.status.Status.TheVariants.{ListenerFault, Memory}
@@ -18,42 +18,42 @@ use Rattle.apron_run.specs.declared.unusable.Unusable.{Unusable}
 use Rattle.apron_run.proofs.Counting.{Lines, lines_of}
 use Rattle.apron_run.proofs.Valid.{found_well, unopened_wants}
 use Rattle.apron_serve.specs.Board.{MeetsDesks, Service}
-use Rattle.apron_serve.specs.Complete.{IsComplete}
-use Rattle.apron_serve.specs.Files.{ServesFiles, ServesFound, ServesTask, TellsFiles, TellsMet, listener_line, no_memory}
+use Rattle.apron_serve.specs.Complete.{IsServeComplete}
+use Rattle.apron_serve.specs.Files.{PrintsServeEnd, ServesFiles, ServesFound, ServesTask, TellsFiles, listener_line, no_memory}
 use Rattle.apron_serve.specs.Orders.{Order, day_shown}
 use Rattle.apron_serve.specs.Serve.{ServesAs, SomeFailed}
-use Rattle.apron_serve.specs.World.{Outs, World, ends_of, outs_of}
+use Rattle.apron_serve.specs.World.{ServeOuts, ServeWorld, serve_ends, serve_outs}
 use Rattle.apron_serve.specs.declared.board.ServeEnd.{ServeEnd}
 use Rattle.apron_serve.specs.declared.board.ServeEnd.TheVariants as end
 
 module _ {In Out : Type 0} (service : Service In Out) where
   -- what was met at a journal that opens
-  met_well : (files : AirportFiles) (task : Task) (history : List Entry) (before after : Outs In Out) (met : Result ServeEnd Unusable) (status : Status)
+  met_well : (files : AirportFiles) (task : Task) (history : List Entry) (before after : ServeOuts In Out) (met : Result ServeEnd Unusable) (status : Status)
       → HasJournal files before.disk history → ¬ (Rose before.disk.faults after.disk.faults) → ¬ (status ≡ ListenerFault)
-      → MeetsDesks service files task (ends_of before) (ends_of after) met → TellsMet met before.sink after.sink status → EndsWell (code_of status)
-  met_well files task history before after (Ok end.Done) status has still all meets (silent, is) = inl (ap code_of is)
+      → MeetsDesks service files task (serve_ends before) (serve_ends after) met → PrintsServeEnd met before.sink after.sink status → EndsWell (exit_code status)
+  met_well files task history before after (Ok end.Done) status has still all meets (silent, is) = inl (ap exit_code is)
   met_well files task history before after (Ok end.ListenerFault) status has still all meets tells =
       let lines : Lines status ListenerFault before.sink after.sink = lines_of listener_line ListenerFault before.sink after.sink status tells in absurd (all lines.is)
   met_well files task history before after (Ok end.Missed) status has still all meets tells =
       let lines : Lines status Memory before.sink after.sink = lines_of (unusable_line no_memory) Memory before.sink after.sink status tells in
-      inr (ap code_of lines.is)
+      inr (ap exit_code lines.is)
   met_well files task history before after (Err why) status has still all meets tells =
       let lines : Lines status (status_of_unusable why) before.sink after.sink =
       lines_of (unusable_line why) (status_of_unusable why) before.sink after.sink status tells in
-      inr (ap code_of (lines.is ∙ unopened_wants files before.disk after.disk history has why meets.disk still))
+      inr (ap exit_code (lines.is ∙ unopened_wants files before.disk after.disk history has why meets.disk still))
 
   -- what was done where the plan has the day
-  day_well : (files : AirportFiles) (order : Order) (history : List Entry) (day : Option ℕ) (before after : Outs In Out) (status : Status)
+  day_well : (files : AirportFiles) (order : Order) (history : List Entry) (day : Option ℕ) (before after : ServeOuts In Out) (status : Status)
       → HasJournal files before.disk history → ¬ (Rose before.disk.faults after.disk.faults) → ¬ (status ≡ ListenerFault) → IsSome day
-      → ServesTask service files (option_map (λ day. record { connections = order.connections; day = day }) day) before after status → EndsWell (code_of status)
+      → ServesTask service files (option_map (λ day. record { connections = order.connections; day = day }) day) before after status → EndsWell (exit_code status)
   day_well files order history (Some day) before after status has still all shown journal =
       met_well files (record { connections = order.connections; day = day }) history before after journal.met status has still all journal.meets journal.tells
   day_well files order history None before after status has still all shown journal = absurd cc
 
   -- what was done with files that were found, or for which there was no memory
-  found_served : (files : AirportFiles) (order : Order) (history : List Entry) (before after : Outs In Out) (found : Result AirportFiles FilesFault) (status : Status)
+  found_served : (files : AirportFiles) (order : Order) (history : List Entry) (before after : ServeOuts In Out) (found : Result AirportFiles FilesFault) (status : Status)
       → HasJournal files before.disk history → ¬ (Rose before.disk.faults after.disk.faults) → ¬ (status ≡ ListenerFault) → IsSome (day_shown files.airport order.day)
-      → (found ≡ Ok files) ⊎ (found ≡ Err faults.Memory) → ServesFound service order found before after status → EndsWell (code_of status)
+      → (found ≡ Ok files) ⊎ (found ≡ Err faults.Memory) → ServesFound service order found before after status → EndsWell (exit_code status)
   found_served files order history before after found status has still all shown is serves = ⊎_elim
       (λ (are : found ≡ Ok files).
       day_well files order history (day_shown files.airport order.day) before after status has still all shown
@@ -62,11 +62,11 @@ module _ {In Out : Type 0} (service : Service In Out) where
       let tells : TellsFiles faults.Memory before after status =
       subst (λ (f : Result AirportFiles FilesFault). ServesFound service order f before after status) wants serves in
       let lines : Lines status Memory before.sink after.sink = lines_of _ (status_of_fault faults.Memory) before.sink after.sink status tells.tells in
-      inr (ap code_of lines.is))
+      inr (ap exit_code lines.is))
       is
 
-  pub complete : (asked : Option Order) (before after : World In Out) (code : ℕ) → ServesAs service asked before after code
-      → (code ≡ code_of ListenerFault → SomeFailed before.listeners after.listeners ⊎ SomeFailed before.screens after.screens) → IsComplete asked before after code
+  pub complete : (asked : Option Order) (before after : ServeWorld In Out) (code : ℕ) → ServesAs service asked before after code
+      → (code ≡ exit_code ListenerFault → SomeFailed before.listeners after.listeners ⊎ SomeFailed before.screens after.screens) → IsServeComplete asked before after code
   complete None before after code serves failed valid none = absurd valid
   complete (Some order) before after code serves failed (files, has, shown, (history, journal)) none =
       let does : ServesFiles service order before after serves.status = serves.does in
@@ -74,8 +74,8 @@ module _ {In Out : Type 0} (service : Service In Out) where
       let found = found_well before.shelf after.shelf order.airport order.types files has does.found finds.cause
       (λ (is : does.found ≡ Err faults.ShelfFault).
       let counts : Counts true before.shelf.faults after.shelf.faults =
-      subst (λ (f : Result AirportFiles FilesFault). Counts (is_shelf_fault f) before.shelf.faults after.shelf.faults) is finds.counts in
+      subst (λ (f : Result AirportFiles FilesFault). Counts (is_files_shelf_fault f) before.shelf.faults after.shelf.faults) is finds.counts in
       none.shelf counts.1) in
       subst EndsWell (sym serves.code_is)
-      (found_served files order history (outs_of before) (outs_of after) does.found serves.status journal none.disk
-      (λ (is : serves.status ≡ ListenerFault). ⊎_elim none.listeners none.screens (failed (serves.code_is ∙ ap code_of is))) shown found does.serves)
+      (found_served files order history (serve_outs before) (serve_outs after) does.found serves.status journal none.disk
+      (λ (is : serves.status ≡ ListenerFault). ⊎_elim none.listeners none.screens (failed (serves.code_is ∙ ap exit_code is))) shown found does.serves)

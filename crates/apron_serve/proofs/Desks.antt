@@ -5,7 +5,7 @@ use Rattle.apron_base.specs.Keeper.{KeeperState}
 use Rattle.apron_base.specs.Machine.{MachineState}
 use Rattle.apron_rules.specs.declared.parts.AirportParts.{AirportParts}
 use Rattle.desk_words.specs.declared.asks.Entry.{Entry}
-use Rattle.history_core.specs.AtRisk.{entry_at_risk}
+use Rattle.history_core.specs.AtRisk.{read_entry_at_risk}
 use Rattle.history_core.specs.Board.{BoardHeld, entry_texts, machine_state}
 use Rattle.history_core.specs.History.{IsLegal}
 use Rattle.history_core.specs.declared.opening.OpenFault.TheVariants as entries
@@ -22,9 +22,9 @@ use Rattle.apron_run.specs.Headline.{AllSound}
 use Rattle.apron_run.specs.Journal.{IsOpened, KeepsHistory}
 use Rattle.apron_run.specs.World.{DiskSeen}
 use Rattle.apron_run.specs.declared.unusable.Unusable.TheVariants.{Entries}
-use Rattle.apron_serve.specs.Board.{FindsNoJournal, ServesDesks, Service, begun, served_end}
+use Rattle.apron_serve.specs.Board.{ServeFindsNoJournal, ServesDesks, Service, opened_board, served_end}
 use Rattle.apron_serve.specs.declared.board.ServeEnd.{ServeEnd}
-use Rattle.apron_serve.specs.World.{Ends}
+use Rattle.apron_serve.specs.World.{ServeEnds}
 
 -- the plan is sound after each entry of a legal history
 pub all_sound : (airport : AirportParts) (history : List Entry) → IsLegal airport history → AllSound airport history
@@ -46,7 +46,7 @@ pub of_err : {A E P : Type 0} (met : Result A E) (why : E) → met ≡ Err why �
 of_err {A} {E} {P} met why is holds = subst (λ (r : Result A E). IfErr r (λ _. P)) is holds
 
 -- desks and screens that were served at a board that was opened, with the disk that was closed after them
-abbrev pub desks_serve : {In Out K R : Type 0} (service : Service In Out) (tells : K → KeeperState) (files : AirportFiles) (task : Task) (before after : Ends In Out) (board left : BoardHeld K)
+abbrev pub desks_serve : {In Out K R : Type 0} (service : Service In Out) (tells : K → KeeperState) (files : AirportFiles) (task : Task) (before after : ServeEnds In Out) (board left : BoardHeld K)
     (met : Result ShownEnd R) (ends : ShownEnd) (served : ServeEnd)
     → IsOpened tells files before.disk board
     → met ≡ Ok ends
@@ -54,13 +54,13 @@ abbrev pub desks_serve : {In Out K R : Type 0} (service : Service In Out) (tells
     → IfOk met (λ ended. ShowsFrom service.states (record { airport = files.airport; history = board.history }) task before.screens after.screens ended.screens)
     → IfOk met (λ ended. ended.missed ≡ true → 0 < length before.screens)
     → served ≡ served_end (end_of (ends.desks ∷ ends.screens ∷ [])) ends.missed
-    → after.disk.faults ≡ (tells left.keeper).faults → KeepsHistory (record { airport = left.airport; digests = files.digests }) left.history (entry_at_risk left.airport (tells left.keeper)) after.disk
+    → after.disk.faults ≡ (tells left.keeper).faults → KeepsHistory (record { airport = left.airport; digests = files.digests }) left.history (read_entry_at_risk left.airport (tells left.keeper)) after.disk
     → ServesDesks service files task before after served
 desks_serve {R = R} service tells files task before after board left met ends served opened is serve show missed end_is counted keeps =
     let serves : ServesBoard service.states (fed_sessions service.feeds) task.connections (record { listeners = before.listeners; board = machine_state tells board }) (record { listeners = after.listeners; board = machine_state tells left }) ends.desks =
     subst (λ (r : Result ShownEnd R).
     IfOk r (λ ended. ServesBoard service.states (fed_sessions service.feeds) task.connections (record { listeners = before.listeners; board = machine_state tells board }) (record { listeners = after.listeners; board = machine_state tells left }) ended.desks)) is serve in
-    let fresh : machine_state tells board ≡ begun files.airport board.history before.disk.faults =
+    let fresh : machine_state tells board ≡ opened_board files.airport board.history before.disk.faults =
     opened_begun tells files.airport before.disk.faults _ board opened.airport_is opened.next opened.faults opened.at_risk in
     let same : left.airport ≡ files.airport = serves.fixed ∙ opened.airport_is in
     let legal : IsLegal files.airport left.history = subst (λ (a : AirportParts). IsLegal a left.history) same serves.legal in
@@ -79,16 +79,16 @@ desks_serve {R = R} service tells files task before after board left met ends se
       end_is = end_is;
       faults = counted;
       keeps = subst (λ (a : AirportParts).
-          KeepsHistory (record { airport = a; digests = files.digests }) left.history (entry_at_risk left.airport (tells left.keeper)) after.disk) same keeps;
+          KeepsHistory (record { airport = a; digests = files.digests }) left.history (read_entry_at_risk left.airport (tells left.keeper)) after.disk) same keeps;
       sound = all_sound files.airport left.history legal;
       drafts = λ desk number version. drafts_made files.airport left.history desk number version legal;
       visits = λ version added. visits_added files.airport left.history version added legal;
     }
 
 -- there is no memory to serve at a board that was opened, and the disk reads as before
-pub turns_want_memory : {In Out K : Type 0} (tells : K → KeeperState) (files : AirportFiles) (before after : Ends In Out) (board : BoardHeld K)
+pub turns_want_memory : {In Out K : Type 0} (tells : K → KeeperState) (files : AirportFiles) (before after : ServeEnds In Out) (board : BoardHeld K)
     → IsOpened tells files before.disk board → after.listeners ≡ before.listeners → after.screens ≡ before.screens → after.disk.contents ≡ before.disk.contents
-    → after.disk.faults ≡ (tells board.keeper).faults → FindsNoJournal files before after (Entries entries.Memory)
+    → after.disk.faults ≡ (tells board.keeper).faults → ServeFindsNoJournal files before after (Entries entries.Memory)
 turns_want_memory tells files before after board opened listeners screens reads counted =
     let opens = opened.opens in record {
       listeners = listeners;

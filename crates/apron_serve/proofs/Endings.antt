@@ -13,14 +13,14 @@ use Rattle.desk_turns.specs.Watched.{fed_sessions}
 use Rattle.desk_turns.specs.declared.worker.WorkEnd.{WorkEnd}
 use Rattle.desk_turns.specs.declared.worker.WorkEnd.TheVariants as work
 use Rattle.screen_looks.specs.declared.shown.Task.{Task}
-use Rattle.apron_check.specs.Files.{is_shelf_fault as is_shelf_found}
+use Rattle.apron_check.specs.Files.{is_files_shelf_fault as is_shelf_found}
 use Rattle.apron_check.specs.declared.files.AirportFiles.{AirportFiles}
 use Rattle.apron_check.specs.declared.faults.FilesFault.{FilesFault}
 use Rattle.apron_check.specs.declared.faults.FilesFault.TheVariants as files
 use Rattle.apron_run.specs.Desk.{ServedCounts}
 use Rattle.apron_run.specs.Journal.{WhyUnusable}
 use Rattle.apron_run.specs.Print.{Writes, usage_text}
-use Rattle.apron_run.specs.Statuses.{code_of, is_shelf_fault, status_of_fault}
+use Rattle.apron_run.specs.Statuses.{exit_code, is_shelf_status, status_of_fault}
 use Rattle.apron_run.specs.Unusable.{status_of_unusable, unusable_line}
 use Rattle.apron_run.specs.World.{DiskSeen}
 use Rattle.apron_run.specs.declared.status.Status.{Status}
@@ -30,45 +30,45 @@ use Rattle.apron_run.specs.declared.unusable.Unusable.TheVariants.{Journal, Entr
 use Rattle.apron_run.proofs.Counting.{Lines, fault_disk, fault_shelf, lines_of, unusable_shelf}
 use Rattle.apron_run.proofs.Serving.{why_counts}
 use Rattle.apron_serve.specs.Board.{MeetsDesks, ServesDesks, Service, served_end}
-use Rattle.apron_serve.specs.Files.{ServesFiles, ServesFound, ServesTask, TellsMet, listener_line, no_memory}
+use Rattle.apron_serve.specs.Files.{PrintsServeEnd, ServesFiles, ServesFound, ServesTask, listener_line, no_memory}
 use Rattle.apron_serve.specs.Orders.{Order, day_shown}
 use Rattle.apron_serve.specs.Serve.{HaveFinished, ServesAs, SomeFailed, is_screen_order, may_end_serve}
-use Rattle.apron_serve.specs.World.{Outs, World, ends_of, outs_of}
+use Rattle.apron_serve.specs.World.{ServeOuts, ServeWorld, serve_ends, serve_outs}
 use Rattle.apron_serve.specs.declared.board.ServeEnd.{ServeEnd}
 use Rattle.apron_serve.specs.declared.board.ServeEnd.TheVariants as end
 use Rattle.apron_serve.proofs.Finished.{Finished, desks_ended, none_finished, screens_ended}
 
 module _ {In Out : Type 0} where
   -- all listeners have finished this many connections more
-  abbrev pub AllFinished : ℕ → Outs In Out → Outs In Out → Type 0
+  abbrev pub AllFinished : ℕ → ServeOuts In Out → ServeOuts In Out → Type 0
   AllFinished connections before after =
       HaveFinished connections before.listeners after.listeners × HaveFinished connections before.screens after.screens
 
   -- the count of faults of one of them rose
-  abbrev pub AnyFailed : Outs In Out → Outs In Out → Type 0
+  abbrev pub AnyFailed : ServeOuts In Out → ServeOuts In Out → Type 0
   AnyFailed before after = SomeFailed before.listeners after.listeners ⊎ SomeFailed before.screens after.screens
 
 -- the status is that of serving that was all done; or of such, where there are screens, after which one missed the last version
-abbrev pub IsDone : {In Out : Type 0} → Outs In Out → ℕ → Type 0
-IsDone before code = (code ≡ code_of Done) ⊎ ((code ≡ code_of Memory) × (0 < length before.screens))
+abbrev pub IsDone : {In Out : Type 0} → ServeOuts In Out → ℕ → Type 0
+IsDone before code = (code ≡ exit_code Done) ⊎ ((code ≡ exit_code Memory) × (0 < length before.screens))
 
 -- what is known of an ending, by its status
-record EndsAs {In Out : Type 0} (order : Order) (found : Result AirportFiles FilesFault) (status : Status) (before after : Outs In Out) : Type 0 where
+record EndsAs {In Out : Type 0} (order : Order) (found : Result AirportFiles FilesFault) (status : Status) (before after : ServeOuts In Out) : Type 0 where
   pub may : may_end_serve status ≡ true
-  pub shelf : is_shelf_fault status ≡ is_shelf_found found
+  pub shelf : is_shelf_status status ≡ is_shelf_found found
   pub sink : before.sink.faults ≤ after.sink.faults
   pub disk : ServedCounts status before.disk.faults after.disk.faults
-  pub done : code_of status ≡ code_of Done → AllFinished order.connections before after
-  pub finished : AllFinished order.connections before after → IsDone before (code_of status)
-  pub failed : code_of status ≡ code_of ListenerFault → AnyFailed before after
-  pub ordered : code_of status ≡ code_of Usage → is_some order.day ≡ true
+  pub done : exit_code status ≡ exit_code Done → AllFinished order.connections before after
+  pub finished : AllFinished order.connections before after → IsDone before (exit_code status)
+  pub failed : exit_code status ≡ exit_code ListenerFault → AnyFailed before after
+  pub ordered : exit_code status ≡ exit_code Usage → is_some order.day ≡ true
 
 -- the status of a journal that isn't worked on is one of those of `serve`, and none of desks that were served
 record IsEarly (status : Status) : Type 0 where
   pub may : may_end_serve status ≡ true
-  pub done : code_of status ≡ code_of Done → ⊥
-  pub failed : code_of status ≡ code_of ListenerFault → ⊥
-  pub ordered : code_of status ≡ code_of Usage → ⊥
+  pub done : exit_code status ≡ exit_code Done → ⊥
+  pub failed : exit_code status ≡ exit_code ListenerFault → ⊥
+  pub ordered : exit_code status ≡ exit_code Usage → ⊥
 
 unusable_early : (airport : AirportFiles) (before after : DiskSeen) (why : Unusable) → WhyUnusable airport before after why → IsEarly (status_of_unusable why)
 unusable_early airport before after (Journal journal.NotEmpty) cause = absurd cause
@@ -91,14 +91,14 @@ fault_early files.Memory = record { may = refl; done = λ is. absurd cc; failed 
 
 module _ {In Out : Type 0} where
   -- listeners that are as they were have not finished what was asked
-  none_yet : (order : Order) (before after : Outs In Out) → 1 ≤ order.connections → 1 ≤ length before.listeners → after.listeners ≡ before.listeners
+  none_yet : (order : Order) (before after : ServeOuts In Out) → 1 ≤ order.connections → 1 ≤ length before.listeners → after.listeners ≡ before.listeners
       → ¬ (AllFinished order.connections before after)
   none_yet order before after some any same all = none_finished order.connections before.listeners some any
       (subst (λ (l : List (ListenerState In Out)). HaveFinished order.connections before.listeners l) same all.0)
 
   -- an early ending, where the listeners are as they were
-  early_as : (order : Order) (found : Result AirportFiles FilesFault) (status of : Status) (before after : Outs In Out) → 1 ≤ order.connections → 1 ≤ length before.listeners
-      → after.listeners ≡ before.listeners → IsEarly of → is_shelf_fault of ≡ is_shelf_found found → ServedCounts of before.disk.faults after.disk.faults
+  early_as : (order : Order) (found : Result AirportFiles FilesFault) (status of : Status) (before after : ServeOuts In Out) → 1 ≤ order.connections → 1 ≤ length before.listeners
+      → after.listeners ≡ before.listeners → IsEarly of → is_shelf_status of ≡ is_shelf_found found → ServedCounts of before.disk.faults after.disk.faults
       → Lines status of before.sink after.sink → EndsAs order found status before after
   early_as order found status of before after some any same early shelf disk lines =
       subst (λ (s : Status). EndsAs order found s before after) (sym lines.is) (record {
@@ -142,8 +142,8 @@ none_failed desks looks missed one other is = ⊎_elim
 
 module _ {In Out : Type 0} (service : Service In Out) where
   -- desks were served, and did not make the disk's count fall
-  least_count : (files : AirportFiles) (task : Task) (before after : Outs In Out) (served : ServeEnd)
-      → ServesDesks service files task (ends_of before) (ends_of after) served → before.disk.faults ≤ after.disk.faults
+  least_count : (files : AirportFiles) (task : Task) (before after : ServeOuts In Out) (served : ServeEnd)
+      → ServesDesks service files task (serve_ends before) (serve_ends after) served → before.disk.faults ≤ after.disk.faults
   least_count files task before after served desks =
       let serves = desks.serves in
       let least : before.disk.faults ≤ desks.board.faults = serves.faults in
@@ -151,14 +151,14 @@ module _ {In Out : Type 0} (service : Service In Out) where
       omega arith
 
   -- what was finished, by how serving ended
-  record Served (connections : ℕ) (before after : Outs In Out) (served : ServeEnd) : Type 0 where
+  record Served (connections : ℕ) (before after : ServeOuts In Out) (served : ServeEnd) : Type 0 where
     pub done : served ≡ end.Done → AllFinished connections before after
     pub missed : served ≡ end.Missed → AllFinished connections before after × (0 < length before.screens)
     pub failed : served ≡ end.ListenerFault → AnyFailed before after
     pub all : AllFinished connections before after → ¬ (served ≡ end.ListenerFault)
 
-  served_as : (files : AirportFiles) (task : Task) (before after : Outs In Out) (served : ServeEnd)
-      → ServesDesks service files task (ends_of before) (ends_of after) served → Served task.connections before after served
+  served_as : (files : AirportFiles) (task : Task) (before after : ServeOuts In Out) (served : ServeEnd)
+      → ServesDesks service files task (serve_ends before) (serve_ends after) served → Served task.connections before after served
   served_as files task before after served desks =
       let ended : Finished task.connections before.listeners after.listeners desks.desks =
       desks_ended service.states (fed_sessions service.feeds) task.connections _ _ desks.desks desks.serves in
@@ -176,18 +176,18 @@ module _ {In Out : Type 0} (service : Service In Out) where
       }
 
   -- where a screen missed a version there are screens
-  pub missed_shown : (files : AirportFiles) (task : Task) (before after : Outs In Out) (met : Result ServeEnd Unusable)
-      → MeetsDesks service files task (ends_of before) (ends_of after) met → met ≡ Ok end.Missed → 0 < length before.screens
+  pub missed_shown : (files : AirportFiles) (task : Task) (before after : ServeOuts In Out) (met : Result ServeEnd Unusable)
+      → MeetsDesks service files task (serve_ends before) (serve_ends after) met → met ≡ Ok end.Missed → 0 < length before.screens
   missed_shown files task before after met meets is =
-      let desks : ServesDesks service files task (ends_of before) (ends_of after) end.Missed =
-      subst (λ (m : Result ServeEnd Unusable). MeetsDesks service files task (ends_of before) (ends_of after) m) is meets in
+      let desks : ServesDesks service files task (serve_ends before) (serve_ends after) end.Missed =
+      subst (λ (m : Result ServeEnd Unusable). MeetsDesks service files task (serve_ends before) (serve_ends after) m) is meets in
       desks.screens (one_missed desks.desks desks.looks desks.missed (sym desks.end_is)).2
 
   -- what was met at the journal
-  met_as : (files : AirportFiles) (order : Order) (day : ℕ) (before after : Outs In Out) (met : Result ServeEnd Unusable) (status : Status) → 1 ≤ order.connections
+  met_as : (files : AirportFiles) (order : Order) (day : ℕ) (before after : ServeOuts In Out) (met : Result ServeEnd Unusable) (status : Status) → 1 ≤ order.connections
       → 1 ≤ length before.listeners
-      → MeetsDesks service files (record { connections = order.connections; day = day }) (ends_of before) (ends_of after) met
-      → TellsMet met before.sink after.sink status → EndsAs order (Ok files) status before after
+      → MeetsDesks service files (record { connections = order.connections; day = day }) (serve_ends before) (serve_ends after) met
+      → PrintsServeEnd met before.sink after.sink status → EndsAs order (Ok files) status before after
   met_as files order day before after (Ok end.Done) status some any desks (silent, is) =
       let task : Task = record { connections = order.connections; day = day } in
       let served : Served order.connections before after end.Done = served_as files task before after end.Done desks in
@@ -242,7 +242,7 @@ module _ {In Out : Type 0} (service : Service In Out) where
   names_day airport (Some digits) none = refl
 
   -- what was done, by the day
-  day_as : (files : AirportFiles) (order : Order) (day : Option ℕ) (before after : Outs In Out) (status : Status) → day_shown files.airport order.day ≡ day
+  day_as : (files : AirportFiles) (order : Order) (day : Option ℕ) (before after : ServeOuts In Out) (status : Status) → day_shown files.airport order.day ≡ day
       → 1 ≤ order.connections → 1 ≤ length before.listeners
       → ServesTask service files (option_map (λ day. record { connections = order.connections; day = day }) day) before after status
       → EndsAs order (Ok files) status before after
@@ -263,7 +263,7 @@ module _ {In Out : Type 0} (service : Service In Out) where
       })
 
   -- what was found in the files
-  found_as : (order : Order) (found : Result AirportFiles FilesFault) (before after : Outs In Out) (status : Status) → 1 ≤ order.connections → 1 ≤ length before.listeners
+  found_as : (order : Order) (found : Result AirportFiles FilesFault) (before after : ServeOuts In Out) (status : Status) → 1 ≤ order.connections → 1 ≤ length before.listeners
       → ServesFound service order found before after status → EndsAs order found status before after
   found_as order (Ok files) before after status some any serves =
       day_as files order (day_shown files.airport order.day) before after status refl some any serves
@@ -273,20 +273,20 @@ module _ {In Out : Type 0} (service : Service In Out) where
       (lines_of _ (status_of_fault fault) before.sink after.sink status serves.tells)
 
   -- what is known of what was asked, by the number that the program ends with
-  pub record Carried (asked : Option Order) (before after : World In Out) (code : ℕ) : Type 0 where
+  pub record Carried (asked : Option Order) (before after : ServeWorld In Out) (code : ℕ) : Type 0 where
     pub serves : ServesAs service asked before after code
-    pub done : (order : Order) → asked ≡ Some order → code ≡ code_of Done → AllFinished order.connections (outs_of before) (outs_of after)
-    pub finished : (order : Order) → asked ≡ Some order → AllFinished order.connections (outs_of before) (outs_of after) → IsDone (outs_of before) code
-    pub failed : code ≡ code_of ListenerFault → AnyFailed (outs_of before) (outs_of after)
-    pub usage : asked ≡ None → code ≡ code_of Usage
-    pub usage_alone : code ≡ code_of Usage → (asked ≡ None) ⊎ (is_screen_order asked ≡ true)
+    pub done : (order : Order) → asked ≡ Some order → code ≡ exit_code Done → AllFinished order.connections (serve_outs before) (serve_outs after)
+    pub finished : (order : Order) → asked ≡ Some order → AllFinished order.connections (serve_outs before) (serve_outs after) → IsDone (serve_outs before) code
+    pub failed : code ≡ exit_code ListenerFault → AnyFailed (serve_outs before) (serve_outs after)
+    pub usage : asked ≡ None → code ≡ exit_code Usage
+    pub usage_alone : code ≡ exit_code Usage → (asked ≡ None) ⊎ (is_screen_order asked ≡ true)
 
   -- an order that was carried out
-  carried_so : (order : Order) (before after : World In Out) (status : Status) → 1 ≤ order.connections → 1 ≤ length before.listeners
-      → ServesFiles service order before after status → Carried (Some order) before after (code_of status)
+  carried_so : (order : Order) (before after : ServeWorld In Out) (status : Status) → 1 ≤ order.connections → 1 ≤ length before.listeners
+      → ServesFiles service order before after status → Carried (Some order) before after (exit_code status)
   carried_so order before after status some any serves =
-      let ends : EndsAs order serves.found status (outs_of before) (outs_of after) =
-      found_as order serves.found (outs_of before) (outs_of after) status some any serves.serves in
+      let ends : EndsAs order serves.found status (serve_outs before) (serve_outs after) =
+      found_as order serves.found (serve_outs before) (serve_outs after) status some any serves.serves in
       let finds = serves.finds in
       record {
         serves = record {
@@ -299,24 +299,24 @@ module _ {In Out : Type 0} (service : Service In Out) where
           disk = ends.disk;
         };
         done = λ other is. let same : order ≡ other = cc in
-            subst (λ (o : Order). code_of status ≡ code_of Done → AllFinished o.connections (outs_of before) (outs_of after)) same ends.done;
+            subst (λ (o : Order). exit_code status ≡ exit_code Done → AllFinished o.connections (serve_outs before) (serve_outs after)) same ends.done;
         finished = λ other is. let same : order ≡ other = cc in
-            subst (λ (o : Order). AllFinished o.connections (outs_of before) (outs_of after) → IsDone (outs_of before) (code_of status)) same ends.finished;
+            subst (λ (o : Order). AllFinished o.connections (serve_outs before) (serve_outs after) → IsDone (serve_outs before) (exit_code status)) same ends.finished;
         failed = ends.failed;
         usage = λ is. absurd cc;
         usage_alone = λ is. inr (ends.ordered is);
       }
 
   -- what was asked was this order, which was carried out
-  pub carried : (order : Order) (asked : Option Order) (before after : World In Out) (status : Status) (code : ℕ) → 1 ≤ order.connections → 1 ≤ length before.listeners
-      → Some order ≡ asked → code ≡ code_of status → ServesFiles service order before after status → Carried asked before after code
+  pub carried : (order : Order) (asked : Option Order) (before after : ServeWorld In Out) (status : Status) (code : ℕ) → 1 ≤ order.connections → 1 ≤ length before.listeners
+      → Some order ≡ asked → code ≡ exit_code status → ServesFiles service order before after status → Carried asked before after code
   carried order asked before after status code some any asked_is code_is serves =
       subst (λ (c : ℕ). Carried asked before after c) (sym code_is)
-      (subst (λ (a : Option Order). Carried a before after (code_of status)) asked_is (carried_so order before after status some any serves))
+      (subst (λ (a : Option Order). Carried a before after (exit_code status)) asked_is (carried_so order before after status some any serves))
 
   -- nothing was ordered
-  refused_so : (before after : World In Out) → after ≡ record before { sink = after.sink } → Writes usage_text Usage Usage before.sink after.sink Usage
-      → Carried None before after (code_of Usage)
+  refused_so : (before after : ServeWorld In Out) → after ≡ record before { sink = after.sink } → Writes usage_text Usage Usage before.sink after.sink Usage
+      → Carried None before after (exit_code Usage)
   refused_so before after same writes =
       let lines : Lines Usage Usage before.sink after.sink = lines_of usage_text Usage before.sink after.sink Usage writes in
       record {
@@ -325,9 +325,9 @@ module _ {In Out : Type 0} (service : Service In Out) where
           code_is = refl;
           may = refl;
           does = (same, writes);
-          shelf = ap (λ (w : World In Out). w.shelf.faults) same;
+          shelf = ap (λ (w : ServeWorld In Out). w.shelf.faults) same;
           sink = lines.least;
-          disk = let still : after.disk.faults ≡ before.disk.faults = ap (λ (w : World In Out). w.disk.faults) same in omega arith;
+          disk = let still : after.disk.faults ≡ before.disk.faults = ap (λ (w : ServeWorld In Out). w.disk.faults) same in omega arith;
         };
         done = λ order is. absurd cc;
         finished = λ order is. absurd cc;
@@ -337,9 +337,9 @@ module _ {In Out : Type 0} (service : Service In Out) where
       }
 
   -- nothing was ordered, and this number came of it
-  pub refused : (asked : Option Order) (before after : World In Out) (status : Status) (code : ℕ) → after ≡ record before { sink = after.sink }
-      → None ≡ asked → status ≡ Usage → code ≡ code_of status → Writes usage_text Usage Usage before.sink after.sink status → Carried asked before after code
+  pub refused : (asked : Option Order) (before after : ServeWorld In Out) (status : Status) (code : ℕ) → after ≡ record before { sink = after.sink }
+      → None ≡ asked → status ≡ Usage → code ≡ exit_code status → Writes usage_text Usage Usage before.sink after.sink status → Carried asked before after code
   refused asked before after status code same asked_is status_is code_is writes =
-      subst (λ (c : ℕ). Carried asked before after c) (sym (code_is ∙ ap code_of status_is))
-      (subst (λ (a : Option Order). Carried a before after (code_of Usage)) asked_is
+      subst (λ (c : ℕ). Carried asked before after c) (sym (code_is ∙ ap exit_code status_is))
+      (subst (λ (a : Option Order). Carried a before after (exit_code Usage)) asked_is
       (refused_so before after same (subst (λ (s : Status). Writes usage_text Usage Usage before.sink after.sink s) status_is writes)))

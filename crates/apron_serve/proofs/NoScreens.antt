@@ -11,36 +11,36 @@ use Rattle.screen_looks.specs.Walls.{ScreenWorker}
 use Rattle.apron_serve.specs.Board.{MeetsDesks, Service}
 use Rattle.apron_serve.specs.Files.{ServesFound, ServesTask, task_at}
 use Rattle.apron_serve.specs.Orders.{Order, may_have, order_of, order_of_words, order_with}
-use Rattle.apron_serve.specs.Serve.{Does, ServesAs, is_screen_order}
-use Rattle.apron_serve.specs.World.{Outs, World, ends_of, outs_of}
+use Rattle.apron_serve.specs.Serve.{CarriesOut, ServesAs, is_screen_order}
+use Rattle.apron_serve.specs.World.{ServeOuts, ServeWorld, serve_ends, serve_outs}
 use Rattle.apron_serve.specs.declared.board.ServeEnd.{ServeEnd}
 
 module _ {In Out : Type 0} (service : Service In Out) where
-  met_as_many : (files : AirportFiles) (task : Task) (before after : Outs In Out) (met : Result ServeEnd Unusable)
-      → MeetsDesks service files task (ends_of before) (ends_of after) met → length after.screens ≡ length before.screens
+  met_as_many : (files : AirportFiles) (task : Task) (before after : ServeOuts In Out) (met : Result ServeEnd Unusable)
+      → MeetsDesks service files task (serve_ends before) (serve_ends after) met → length after.screens ≡ length before.screens
   met_as_many files task before after (Ok end) desks =
       let shows = desks.shows.shows in
       (ap length shows.ended ∙ length-map shows.workers (λ (worker : ScreenWorker In Out). worker.after.listener))
       ∙ sym (ap length shows.begun ∙ length-map shows.workers (λ (worker : ScreenWorker In Out). worker.before.listener))
   met_as_many files task before after (Err why) finds = ap length finds.screens
 
-  task_as_many : (files : AirportFiles) (task : Option Task) (before after : Outs In Out) (told : Status)
+  task_as_many : (files : AirportFiles) (task : Option Task) (before after : ServeOuts In Out) (told : Status)
       → ServesTask service files task before after told → length after.screens ≡ length before.screens
   task_as_many files (Some task) before after told serves = met_as_many files task before after serves.met serves.meets
   task_as_many files None before after told tells = ap length tells.screens
 
-  found_as_many : (order : Order) (found : Result AirportFiles FilesFault) (before after : Outs In Out) (told : Status)
+  found_as_many : (order : Order) (found : Result AirportFiles FilesFault) (before after : ServeOuts In Out) (told : Status)
       → ServesFound service order found before after told → length after.screens ≡ length before.screens
   found_as_many order (Ok files) before after told serves = task_as_many files (task_at files order) before after told serves
   found_as_many order (Err fault) before after told tells = ap length tells.screens
 
-  does_as_many : (asked : Option Order) (before after : World In Out) (told : Status) → Does service asked before after told
+  does_as_many : (asked : Option Order) (before after : ServeWorld In Out) (told : Status) → CarriesOut service asked before after told
       → length after.screens ≡ length before.screens
-  does_as_many None before after told does = ap (λ (world : World In Out). length world.screens) does.0
-  does_as_many (Some order) before after told does = found_as_many order does.found (outs_of before) (outs_of after) told does.serves
+  does_as_many None before after told does = ap (λ (world : ServeWorld In Out). length world.screens) does.0
+  does_as_many (Some order) before after told does = found_as_many order does.found (serve_outs before) (serve_outs after) told does.serves
 
   -- there are as many screens after serving as before
-  pub as_many : (asked : Option Order) (before after : World In Out) (code : ℕ) → ServesAs service asked before after code
+  pub as_many : (asked : Option Order) (before after : ServeWorld In Out) (code : ℕ) → ServesAs service asked before after code
       → length after.screens ≡ length before.screens
   as_many asked before after code serves = does_as_many asked before after serves.status serves.does
 

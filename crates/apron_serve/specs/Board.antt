@@ -18,11 +18,11 @@ use Rattle.apron_run.specs.Journal.{KeepsHistory, NotOpened, OpensTo}
 use Rattle.apron_run.specs.declared.unusable.Unusable.{Unusable}
 use Rattle.apron_serve.specs.declared.board.ServeEnd.{ServeEnd}
 use Rattle.apron_serve.specs.declared.board.ServeEnd.TheVariants.{Done, ListenerFault, Missed}
-use Rattle.apron_serve.specs.World.{Ends}
+use Rattle.apron_serve.specs.World.{ServeEnds}
 
 -- a board that was opened with this history, after which no entry is at risk, over a disk that had failed so often
-abbrev pub begun : AirportParts → List Entry → ℕ → MachineState Entry AirportParts
-begun airport opened faults = record { fixed = airport; history = opened; at_risk = None; next = next_after opened; faults = faults }
+abbrev pub opened_board : AirportParts → List Entry → ℕ → MachineState Entry AirportParts
+opened_board airport opened faults = record { fixed = airport; history = opened; at_risk = None; next = next_after opened; faults = faults }
 
 -- how the ends of connections are seen, and what the reply to each feed is
 pub record Service (In Out : Type 0) : Type 0 where
@@ -36,7 +36,7 @@ served_end work.Done true = Missed
 served_end work.Done false = Done
 
 -- there is no journal to work on, or no memory for the turns at it: no listener was called, and the disk reads as before
-pub record FindsNoJournal {In Out : Type 0} (files : AirportFiles) (before after : Ends In Out) (why : Unusable) : Type 0 where
+pub record ServeFindsNoJournal {In Out : Type 0} (files : AirportFiles) (before after : ServeEnds In Out) (why : Unusable) : Type 0 where
   pub listeners : after.listeners ≡ before.listeners
   pub screens : after.screens ≡ before.screens
   pub disk : NotOpened files before.disk after.disk why
@@ -53,13 +53,13 @@ module _ {In Out : Type 0} (service : Service In Out) (files : AirportFiles) (ta
   -- was added. Beside the desks each screen's connections were shown its sheets, one look each; a screen had seen the chart of the opened plan, and its
   -- sheets are charts of the day of plans of the airport whose versions never fall. Serving ended as the first worker in order that stopped early,
   -- those of the desks before those of the screens. If none did, it tells whether a writer of a screen missed the last version.
-  pub record ServesDesks (before after : Ends In Out) (end : ServeEnd) : Type 0 where
+  pub record ServesDesks (before after : ServeEnds In Out) (end : ServeEnd) : Type 0 where
     pub opened : List Entry
     pub opens : OpensTo files before.disk opened
     pub board : MachineState Entry AirportParts
     pub desks : WorkEnd
     pub serves : ServesBoard service.states (fed_sessions service.feeds) task.connections
-        (record { listeners = before.listeners; board = begun files.airport opened before.disk.faults })
+        (record { listeners = before.listeners; board = opened_board files.airport opened before.disk.faults })
         (record { listeners = after.listeners; board = board }) desks
     pub looks : WorkEnd
     pub shows : ShowsFrom service.states (record { airport = files.airport; history = opened }) task before.screens after.screens looks
@@ -73,6 +73,6 @@ module _ {In Out : Type 0} (service : Service In Out) (files : AirportFiles) (ta
     pub visits : (version : ℕ) (added : NewVisit) → IsOfItsEntry files.airport board.history version added
 
   -- desks served at the journal of these files, or why there is none to work on
-  abbrev pub MeetsDesks : Ends In Out → Ends In Out → Result ServeEnd Unusable → Type 0
+  abbrev pub MeetsDesks : ServeEnds In Out → ServeEnds In Out → Result ServeEnd Unusable → Type 0
   MeetsDesks before after (Ok end) = ServesDesks before after end
-  MeetsDesks before after (Err why) = FindsNoJournal files before after why
+  MeetsDesks before after (Err why) = ServeFindsNoJournal files before after why

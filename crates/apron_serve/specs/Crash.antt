@@ -4,7 +4,7 @@ use Rattle.screen_looks.specs.declared.shown.Task.{Task}
 use Rattle.apron_check.specs.declared.files.AirportFiles.{AirportFiles}
 use Rattle.apron_check.specs.declared.faults.FilesFault.{FilesFault}
 use Rattle.apron_run.specs.Crash.{LeavesAll}
-use Rattle.apron_run.specs.Statuses.{code_of}
+use Rattle.apron_run.specs.Statuses.{exit_code}
 use Rattle.apron_run.specs.Survival.{DiskStates, Survives}
 use Rattle.apron_run.specs.declared.status.Status.{Status}
 use Rattle.apron_run.specs.declared.unusable.Unusable.{Unusable}
@@ -12,38 +12,38 @@ use Rattle.apron_serve.specs.declared.board.ServeEnd.{ServeEnd}
 use Rattle.apron_serve.specs.Board.{MeetsDesks, Service}
 use Rattle.apron_serve.specs.Files.{ServesFound, ServesTask, task_at}
 use Rattle.apron_serve.specs.Orders.{Order}
-use Rattle.apron_serve.specs.Serve.{Does}
-use Rattle.apron_serve.specs.World.{Ends, Outs, World, ends_of, outs_of}
+use Rattle.apron_serve.specs.Serve.{CarriesOut}
+use Rattle.apron_serve.specs.World.{ServeEnds, ServeOuts, ServeWorld, serve_ends, serve_outs}
 
 module _ {In Out : Type 0} (service : Service In Out) (disk : DiskStates) where
   -- desks that were served: the history that the board then has survives; and where there was no journal to work on, nothing is written
-  abbrev pub LeavesMet : (files : AirportFiles) (task : Task) (before after : Ends In Out) (met : Result ServeEnd Unusable)
+  abbrev pub LeavesOfService : (files : AirportFiles) (task : Task) (before after : ServeEnds In Out) (met : Result ServeEnd Unusable)
       → MeetsDesks service files task before after met → Type 0
-  LeavesMet files task before after (Ok end) serves = Survives files.digests serves.board.history serves.board.at_risk disk
-  LeavesMet files task before after (Err why) finds = LeavesAll disk
+  LeavesOfService files task before after (Ok end) serves = Survives files.digests serves.board.history serves.board.at_risk disk
+  LeavesOfService files task before after (Err why) finds = LeavesAll disk
 
   -- the same where there may be no such day, and then nothing is written
-  abbrev pub LeavesTask : (files : AirportFiles) (task : Option Task) (before after : Outs In Out) (status : Status)
+  abbrev pub LeavesTask : (files : AirportFiles) (task : Option Task) (before after : ServeOuts In Out) (status : Status)
       → ServesTask service files task before after status → Type 0
   LeavesTask files (Some task) before after status serves =
-      LeavesMet files task (ends_of before) (ends_of after) serves.met serves.meets
+      LeavesOfService files task (serve_ends before) (serve_ends after) serves.met serves.meets
   LeavesTask files None before after status tells = LeavesAll disk
 
   -- the same of what was found in the two files, whose fault writes nothing
-  abbrev pub LeavesFound : (order : Order) (found : Result AirportFiles FilesFault) (before after : Outs In Out) (status : Status)
+  abbrev pub LeavesFound : (order : Order) (found : Result AirportFiles FilesFault) (before after : ServeOuts In Out) (status : Status)
       → ServesFound service order found before after status → Type 0
   LeavesFound order (Ok files) before after status serves = LeavesTask files (task_at files order) before after status serves
   LeavesFound order (Err fault) before after status serves = LeavesAll disk
 
   -- what is done, where there is an order
-  abbrev pub Leaves : (order : Option Order) (before after : World In Out) (status : Status) → Does service order before after status → Type 0
-  Leaves None before after status does = LeavesAll disk
-  Leaves (Some order) before after status serves =
-      LeavesFound order serves.found (outs_of before) (outs_of after) status serves.serves
+  abbrev pub ServeLeavesOnCrash : (order : Option Order) (before after : ServeWorld In Out) (status : Status) → CarriesOut service order before after status → Type 0
+  ServeLeavesOnCrash None before after status does = LeavesAll disk
+  ServeLeavesOnCrash (Some order) before after status serves =
+      LeavesFound order serves.found (serve_outs before) (serve_outs after) status serves.serves
 
   -- what `serve` does for what is ordered, the status that its number stands for, and what a crash may leave of what it does
-  pub record CrashesAs (order : Option Order) (before after : World In Out) (code : ℕ) : Type 0 where
+  pub record ServeCrashesAs (order : Option Order) (before after : ServeWorld In Out) (code : ℕ) : Type 0 where
     pub status : Status
-    pub code_is : code ≡ code_of status
-    pub does : Does service order before after status
-    pub leaves : Leaves order before after status does
+    pub code_is : code ≡ exit_code status
+    pub does : CarriesOut service order before after status
+    pub leaves : ServeLeavesOnCrash order before after status does

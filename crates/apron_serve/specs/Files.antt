@@ -2,7 +2,7 @@
 use Rattle.std.specs.Prelude.{◌≡◌, ℕ, List, codes, Option, None, Some, Result, Ok, Err}
 use Rattle.std.specs.Option.{option_map}
 use Rattle.apron_base.specs.Ends.{SinkState}
-use Rattle.apron_check.specs.Files.{Finds}
+use Rattle.apron_check.specs.Files.{FindsFiles}
 use Rattle.apron_check.specs.declared.files.AirportFiles.{AirportFiles}
 use Rattle.apron_check.specs.declared.faults.FilesFault.{FilesFault}
 use Rattle.history_core.specs.declared.opening.OpenFault.TheVariants as entries
@@ -18,7 +18,7 @@ use Rattle.apron_serve.specs.declared.board.ServeEnd.{ServeEnd}
 use Rattle.apron_serve.specs.declared.board.ServeEnd.TheVariants.{Done, ListenerFault, Missed}
 use Rattle.apron_serve.specs.Board.{MeetsDesks, Service}
 use Rattle.apron_serve.specs.Orders.{Order, day_shown}
-use Rattle.apron_serve.specs.World.{Outs, World, ends_of, outs_of}
+use Rattle.apron_serve.specs.World.{ServeOuts, ServeWorld, serve_ends, serve_outs}
 
 -- the line that tells that a listener failed
 unfoldable pub listener_line : List ℕ
@@ -29,21 +29,21 @@ abbrev pub no_memory : Unusable
 no_memory = Entries entries.Memory
 
 -- what is printed about what was met, and its status: nothing if desks and screens were all served, and otherwise a line
-abbrev pub TellsMet : Result ServeEnd Unusable → SinkState → SinkState → Status → Type 0
-TellsMet (Ok Done) before after told = (after ≡ before) × (told ≡ status.Done)
-TellsMet (Ok ListenerFault) before after told = Writes listener_line status.ListenerFault status.ListenerFault before after told
-TellsMet (Ok Missed) before after told = TellsUnusable no_memory before after told
-TellsMet (Err why) before after told = TellsUnusable why before after told
+abbrev pub PrintsServeEnd : Result ServeEnd Unusable → SinkState → SinkState → Status → Type 0
+PrintsServeEnd (Ok Done) before after told = (after ≡ before) × (told ≡ status.Done)
+PrintsServeEnd (Ok ListenerFault) before after told = Writes listener_line status.ListenerFault status.ListenerFault before after told
+PrintsServeEnd (Ok Missed) before after told = TellsUnusable no_memory before after told
+PrintsServeEnd (Err why) before after told = TellsUnusable why before after told
 
 -- the line of a fault of the files was written, and the listeners and the disk are as they were
-pub record TellsFiles {In Out : Type 0} (fault : FilesFault) (before after : Outs In Out) (told : Status) : Type 0 where
+pub record TellsFiles {In Out : Type 0} (fault : FilesFault) (before after : ServeOuts In Out) (told : Status) : Type 0 where
   pub listeners : after.listeners ≡ before.listeners
   pub screens : after.screens ≡ before.screens
   pub disk : after.disk ≡ before.disk
   pub tells : TellsFault fault before.sink after.sink told
 
 -- the plan has no such day: the line for faulty words was written, and the listeners and the disk are as they were
-pub record TellsNoDay {In Out : Type 0} (before after : Outs In Out) (told : Status) : Type 0 where
+pub record TellsNoDay {In Out : Type 0} (before after : ServeOuts In Out) (told : Status) : Type 0 where
   pub listeners : after.listeners ≡ before.listeners
   pub screens : after.screens ≡ before.screens
   pub disk : after.disk ≡ before.disk
@@ -55,23 +55,23 @@ task_at files order = option_map (λ day. record { connections = order.connectio
 
 module _ {In Out : Type 0} (service : Service In Out) where
   -- desks and screens served at the journal of these files, or none, and what is printed about either
-  pub record ServesJournal (files : AirportFiles) (task : Task) (before after : Outs In Out) (told : Status) : Type 0 where
+  pub record ServesJournal (files : AirportFiles) (task : Task) (before after : ServeOuts In Out) (told : Status) : Type 0 where
     pub met : Result ServeEnd Unusable
-    pub meets : MeetsDesks service files task (ends_of before) (ends_of after) met
-    pub tells : TellsMet met before.sink after.sink told
+    pub meets : MeetsDesks service files task (serve_ends before) (serve_ends after) met
+    pub tells : PrintsServeEnd met before.sink after.sink told
 
   -- the same where there may be no such day
-  abbrev pub ServesTask : AirportFiles → Option Task → Outs In Out → Outs In Out → Status → Type 0
+  abbrev pub ServesTask : AirportFiles → Option Task → ServeOuts In Out → ServeOuts In Out → Status → Type 0
   ServesTask files (Some task) before after told = ServesJournal files task before after told
   ServesTask files None before after told = TellsNoDay before after told
 
   -- what is done with what was found in the two files
-  abbrev pub ServesFound : Order → Result AirportFiles FilesFault → Outs In Out → Outs In Out → Status → Type 0
+  abbrev pub ServesFound : Order → Result AirportFiles FilesFault → ServeOuts In Out → ServeOuts In Out → Status → Type 0
   ServesFound order (Ok files) before after told = ServesTask files (task_at files order) before after told
   ServesFound order (Err fault) before after told = TellsFiles fault before after told
 
   -- the two files of the order were read, and this was done with what was found in them
-  pub record ServesFiles (order : Order) (before after : World In Out) (told : Status) : Type 0 where
+  pub record ServesFiles (order : Order) (before after : ServeWorld In Out) (told : Status) : Type 0 where
     pub found : Result AirportFiles FilesFault
-    pub finds : Finds before.shelf after.shelf order.airport order.types found
-    pub serves : ServesFound order found (outs_of before) (outs_of after) told
+    pub finds : FindsFiles before.shelf after.shelf order.airport order.types found
+    pub serves : ServesFound order found (serve_outs before) (serve_outs after) told

@@ -27,16 +27,16 @@ pub record Order : Type 0 where
   pub day : Option (List ℕ)
 
 -- the order of this number of connections, 1 to 1,000,000
-abbrev pub ordered : List ℕ → List ℕ → Option (List ℕ) → Option ℕ → Option Order
-ordered airport types day None = None
-ordered airport types day (Some connections) =
+abbrev pub order_if_counted : List ℕ → List ℕ → Option (List ℕ) → Option ℕ → Option Order
+order_if_counted airport types day None = None
+order_if_counted airport types day (Some connections) =
     if nat_le 1 connections && nat_le connections most_connections
     then Some (record { airport = airport; types = types; connections = connections; day = day }) else None
 
 -- what a word orders that has the names of two files and then digits after it
 abbrev pub ordered_by : List ℕ → List ℕ → List ℕ → List ℕ → Option (List ℕ) → Option Order
 ordered_by word airport types number day =
-    if bytes_eq word (codes "serve") && is_plain_number number then ordered airport types day (number_of number MAX_DIGITS) else None
+    if bytes_eq word (codes "serve") && is_plain_number number then order_if_counted airport types day (number_of number MAX_DIGITS) else None
 
 -- what the words order: `serve` with the names of two files and a number, and perhaps `screen` and a number
 abbrev pub order_of_words : List (List ℕ) → Option Order

@@ -4,13 +4,13 @@ use Rattle.apron_base.specs.Counts.{Counts, Rose}
 use Rattle.apron_base.specs.Listener.{ListenerState}
 use Rattle.apron_run.specs.Desk.{ServedCounts}
 use Rattle.apron_run.specs.Print.{Writes, usage_text}
-use Rattle.apron_run.specs.Statuses.{code_of, is_shelf_fault}
+use Rattle.apron_run.specs.Statuses.{exit_code, is_shelf_status}
 use Rattle.apron_run.specs.declared.status.Status.{Status}
 use Rattle.apron_run.specs.declared.status.Status.TheVariants.{Done, Usage, FileFault, ShelfFault, DiskFault, JournalFault, ListenerFault, Memory}
 use Rattle.apron_serve.specs.Board.{Service}
 use Rattle.apron_serve.specs.Files.{ServesFiles}
 use Rattle.apron_serve.specs.Orders.{Order}
-use Rattle.apron_serve.specs.World.{World}
+use Rattle.apron_serve.specs.World.{ServeWorld}
 
 -- whether `serve` may end with this status
 abbrev pub may_end_serve : Status → Bool
@@ -26,11 +26,11 @@ may_end_serve status = false
 
 -- `serve` with this many screens may end with this number after desks were served
 abbrev pub has_served : ℕ → ℕ → Bool
-has_served screens code = code == code_of Done || code == code_of ListenerFault || (code == code_of Memory && nat_lt 0 screens)
+has_served screens code = code == exit_code Done || code == exit_code ListenerFault || (code == exit_code Memory && nat_lt 0 screens)
 
 -- `serve` ends with this number before it comes to the journal
-abbrev pub ends_before_journal : ℕ → Bool
-ends_before_journal code = code == code_of Usage || code == code_of FileFault || code == code_of ShelfFault
+abbrev pub serve_ends_before_journal : ℕ → Bool
+serve_ends_before_journal code = code == exit_code Usage || code == exit_code FileFault || code == exit_code ShelfFault
 
 -- there is an order
 abbrev pub is_order : Option Order → Bool
@@ -58,17 +58,17 @@ module _ {In Out : Type 0} where
 
 module _ {In Out : Type 0} (service : Service In Out) where
   -- what is done where there is an order; where there is none the line `usage` is written, and nothing else is touched
-  abbrev pub Does : Option Order → World In Out → World In Out → Status → Type 0
-  Does None before after status = (after ≡ record before { sink = after.sink }) × Writes usage_text Usage Usage before.sink after.sink status
-  Does (Some order) before after status = ServesFiles service order before after status
+  abbrev pub CarriesOut : Option Order → ServeWorld In Out → ServeWorld In Out → Status → Type 0
+  CarriesOut None before after status = (after ≡ record before { sink = after.sink }) × Writes usage_text Usage Usage before.sink after.sink status
+  CarriesOut (Some order) before after status = ServesFiles service order before after status
 
   -- What `serve` does for what is ordered, and the status that its number stands for. The shelf fails only where the status says so, the sink only at the
   -- line that tells a status, and the disk where the status says so or desks were served.
-  pub record ServesAs (order : Option Order) (before after : World In Out) (code : ℕ) : Type 0 where
+  pub record ServesAs (order : Option Order) (before after : ServeWorld In Out) (code : ℕ) : Type 0 where
     pub status : Status
-    pub code_is : code ≡ code_of status
+    pub code_is : code ≡ exit_code status
     pub may : may_end_serve status ≡ true
-    pub does : Does order before after status
-    pub shelf : Counts (is_shelf_fault status) before.shelf.faults after.shelf.faults
+    pub does : CarriesOut order before after status
+    pub shelf : Counts (is_shelf_status status) before.shelf.faults after.shelf.faults
     pub sink : before.sink.faults ≤ after.sink.faults
     pub disk : ServedCounts status before.disk.faults after.disk.faults

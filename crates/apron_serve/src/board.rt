@@ -3,11 +3,11 @@ ghost use Rattle.std.specs.Prelude.{◌≡◌, ◌<◌, ◌≤◌, [], ◌∷◌
 ghost use Rattle.desk_turns.specs.Crew.{end_of};
 ghost use Rattle.desk_turns.specs.Watched.{feed_texts};
 ghost use Rattle.journal_disk.specs.Disk.{Stays};
-ghost use Rattle.apron_run.specs.World.{seen_of};
+ghost use Rattle.apron_run.specs.World.{disk_seen};
 ghost use Rattle.apron_serve.specs.Board.{MeetsDesks, served_end};
-ghost use Rattle.apron_serve.specs.Crash.{LeavesMet};
+ghost use Rattle.apron_serve.specs.Crash.{LeavesOfService};
 ghost use Rattle.apron_serve.specs.Orders.{most_listeners};
-ghost use Rattle.apron_serve.specs.World.{ends_at};
+ghost use Rattle.apron_serve.specs.World.{serve_ends_at};
 
 use apron_base::Memory;
 use apron_check::AirportFiles;
@@ -58,12 +58,12 @@ pub(crate) fn serve_desks<
     requires few { length listeners.old ≤ most_listeners }
     requires day { 0 < length screens.old → (1 ≤ task.day) × (task.day ≤ files.now.airport.days) }
     ensures meets { MeetsDesks (record { states = L.states; feeds = feed_texts R.tells watches.now }) files.now task
-        (record { listeners = map L.state listeners.old; screens = map L.state screens.old; disk = seen_of (D.state disk) })
-        (record { listeners = map L.state listeners.new; screens = map L.state screens.new; disk = seen_of (D.state result.1) }) result.0 }
-    ensures crash { let before = ends_at (map L.state listeners.old) (map L.state screens.old) (D.state disk) in
-        let after = ends_at (map L.state listeners.new) (map L.state screens.new) (D.state result.1) in
+        (record { listeners = map L.state listeners.old; screens = map L.state screens.old; disk = disk_seen (D.state disk) })
+        (record { listeners = map L.state listeners.new; screens = map L.state screens.new; disk = disk_seen (D.state result.1) }) result.0 }
+    ensures crash { let before = serve_ends_at (map L.state listeners.old) (map L.state screens.old) (D.state disk) in
+        let after = serve_ends_at (map L.state listeners.new) (map L.state screens.new) (D.state result.1) in
         (meets : MeetsDesks (record { states = L.states; feeds = feed_texts R.tells watches.now }) files.now task before after result.0)
-        × LeavesMet (record { states = L.states; feeds = feed_texts R.tells watches.now })
+        × LeavesOfService (record { states = L.states; feeds = feed_texts R.tells watches.now })
         (record { before = N.begun; after = D.state result.1 }) files.now task before after result.0 meets }
     ensures unserved { OnErr result.0 (listeners.new ≡ listeners.old) }
     ensures unshown { OnErr result.0 (screens.new ≡ screens.old) }

@@ -2,21 +2,21 @@
 ghost use Rattle.std.specs.Prelude.{◌≡◌, ◌↔◌, ◌⊎◌, ◌<◌, ◌≤◌, true, false, [], None, Ok, Some, length, map, not};
 ghost use Rattle.desk_turns.specs.Watched.{feed_texts, no_feeds};
 ghost use Rattle.apron_run.specs.Run.{KeptUnless};
-ghost use Rattle.apron_run.specs.Statuses.{code_of};
-ghost use Rattle.apron_run.specs.World.{seen_of};
-ghost use Rattle.apron_serve.specs.Complete.{IsComplete};
-ghost use Rattle.apron_serve.specs.Crash.{CrashesAs, LeavesFound, LeavesMet, LeavesTask};
-ghost use Rattle.apron_serve.specs.Files.{ServesFiles, ServesJournal, ServesTask, TellsMet, listener_line, task_at};
+ghost use Rattle.apron_run.specs.Statuses.{exit_code};
+ghost use Rattle.apron_run.specs.World.{disk_seen};
+ghost use Rattle.apron_serve.specs.Complete.{IsServeComplete};
+ghost use Rattle.apron_serve.specs.Crash.{LeavesFound, LeavesOfService, LeavesTask, ServeCrashesAs};
+ghost use Rattle.apron_serve.specs.Files.{PrintsServeEnd, ServesFiles, ServesJournal, ServesTask, listener_line, task_at};
 ghost use Rattle.apron_serve.specs.Orders.{Order as Ordered, may_have, most_listeners, order_of};
-ghost use Rattle.apron_serve.specs.OrdersShown.{shown};
-ghost use Rattle.apron_serve.specs.Serve.{HaveFinished, ServesAs, SomeFailed, ends_before_journal, has_served, is_order, is_screen_order};
-ghost use Rattle.apron_serve.specs.World.{ends_of, outs_at, outs_of, world_at};
+ghost use Rattle.apron_serve.specs.OrdersShown.{order_shown};
+ghost use Rattle.apron_serve.specs.Serve.{HaveFinished, ServesAs, SomeFailed, has_served, is_order, is_screen_order, serve_ends_before_journal};
+ghost use Rattle.apron_serve.specs.World.{serve_ends, serve_outs, serve_outs_at, serve_world_at};
 
 use crate::board::{ServeEnd, serve_desks};
 use crate::words::{Order, order_of};
 use apron_base::{Shelf, Sink, Word};
 use apron_check::{AirportFiles, airport_of};
-use apron_run::{Status, Unusable, print_usage, tell_fault, tell_unusable};
+use apron_run::{Status, Unusable, print_fault, print_usage, tell_unusable};
 use history_core::OpenFault;
 use journal_disk::Disk;
 use screen_looks::{Task, Wall};
@@ -55,21 +55,21 @@ pub fn serve<F: Shelf, L: Wall + Send, W: Sink, D: Disk + Send, Rt: Wait + Threa
     disk: D,
 ) -> (u8, D)
     ensures headline { ServesAs (record { states = L.states; feeds = no_feeds }) (order_of words.now (length listeners.old) 0)
-        (record { shelf = F.state shelf.old; listeners = map L.state listeners.old; screens = []; sink = W.state sink.old; disk = seen_of (D.state disk) })
-        (record { shelf = F.state shelf.new; listeners = map L.state listeners.new; screens = []; sink = W.state sink.new; disk = seen_of (D.state result.1) }) result.0 }
+        (record { shelf = F.state shelf.old; listeners = map L.state listeners.old; screens = []; sink = W.state sink.old; disk = disk_seen (D.state disk) })
+        (record { shelf = F.state shelf.new; listeners = map L.state listeners.new; screens = []; sink = W.state sink.new; disk = disk_seen (D.state result.1) }) result.0 }
     ensures done { (order : Ordered) → order_of words.now (length listeners.old) 0 ≡ Some order
-        → (result.0 ≡ code_of Status.Done ↔ HaveFinished order.connections (map L.state listeners.old) (map L.state listeners.new)) }
-    ensures failed { result.0 ≡ code_of Status.ListenerFault → SomeFailed (map L.state listeners.old) (map L.state listeners.new) }
-    ensures usage { result.0 ≡ code_of Status.Usage ↔ order_of words.now (length listeners.old) 0 ≡ None }
-    ensures complete { IsComplete (order_of words.now (length listeners.old) 0)
-        (record { shelf = F.state shelf.old; listeners = map L.state listeners.old; screens = []; sink = W.state sink.old; disk = seen_of (D.state disk) })
-        (record { shelf = F.state shelf.new; listeners = map L.state listeners.new; screens = []; sink = W.state sink.new; disk = seen_of (D.state result.1) }) result.0 }
-    ensures crash { CrashesAs (record { states = L.states; feeds = no_feeds }) (record { before = D.state disk; after = D.state result.1 }) (order_of words.now (length listeners.old) 0)
-        (world_at (F.state shelf.old) (map L.state listeners.old) [] (W.state sink.old) (D.state disk))
-        (world_at (F.state shelf.new) (map L.state listeners.new) [] (W.state sink.new) (D.state result.1)) result.0 }
+        → (result.0 ≡ exit_code Status.Done ↔ HaveFinished order.connections (map L.state listeners.old) (map L.state listeners.new)) }
+    ensures failed { result.0 ≡ exit_code Status.ListenerFault → SomeFailed (map L.state listeners.old) (map L.state listeners.new) }
+    ensures usage { result.0 ≡ exit_code Status.Usage ↔ order_of words.now (length listeners.old) 0 ≡ None }
+    ensures complete { IsServeComplete (order_of words.now (length listeners.old) 0)
+        (record { shelf = F.state shelf.old; listeners = map L.state listeners.old; screens = []; sink = W.state sink.old; disk = disk_seen (D.state disk) })
+        (record { shelf = F.state shelf.new; listeners = map L.state listeners.new; screens = []; sink = W.state sink.new; disk = disk_seen (D.state result.1) }) result.0 }
+    ensures crash { ServeCrashesAs (record { states = L.states; feeds = no_feeds }) (record { before = D.state disk; after = D.state result.1 }) (order_of words.now (length listeners.old) 0)
+        (serve_world_at (F.state shelf.old) (map L.state listeners.old) [] (W.state sink.old) (D.state disk))
+        (serve_world_at (F.state shelf.new) (map L.state listeners.new) [] (W.state sink.new) (D.state result.1)) result.0 }
     ensures shelf_kept { KeptUnless (is_order (order_of words.now (length listeners.old) 0)) shelf.old shelf.new }
     ensures listeners_kept { KeptUnless (has_served 0 result.0) listeners.old listeners.new }
-    ensures disk_kept { KeptUnless (not (ends_before_journal result.0)) disk result.1 }
+    ensures disk_kept { KeptUnless (not (serve_ends_before_journal result.0)) disk result.1 }
 {
     let watches = Watches::<Shown, Shown>::none(alloc);
     serve_with(rt, alloc, words, &watches, shelf, listeners, sink, disk)
@@ -95,21 +95,21 @@ pub fn serve_with<
     disk: D,
 ) -> (u8, D)
     ensures headline { ServesAs (record { states = L.states; feeds = feed_texts R.tells watches.now }) (order_of words.now (length listeners.old) 0)
-        (record { shelf = F.state shelf.old; listeners = map L.state listeners.old; screens = []; sink = W.state sink.old; disk = seen_of (D.state disk) })
-        (record { shelf = F.state shelf.new; listeners = map L.state listeners.new; screens = []; sink = W.state sink.new; disk = seen_of (D.state result.1) }) result.0 }
+        (record { shelf = F.state shelf.old; listeners = map L.state listeners.old; screens = []; sink = W.state sink.old; disk = disk_seen (D.state disk) })
+        (record { shelf = F.state shelf.new; listeners = map L.state listeners.new; screens = []; sink = W.state sink.new; disk = disk_seen (D.state result.1) }) result.0 }
     ensures done { (order : Ordered) → order_of words.now (length listeners.old) 0 ≡ Some order
-        → (result.0 ≡ code_of Status.Done ↔ HaveFinished order.connections (map L.state listeners.old) (map L.state listeners.new)) }
-    ensures failed { result.0 ≡ code_of Status.ListenerFault → SomeFailed (map L.state listeners.old) (map L.state listeners.new) }
-    ensures usage { result.0 ≡ code_of Status.Usage ↔ order_of words.now (length listeners.old) 0 ≡ None }
-    ensures complete { IsComplete (order_of words.now (length listeners.old) 0)
-        (record { shelf = F.state shelf.old; listeners = map L.state listeners.old; screens = []; sink = W.state sink.old; disk = seen_of (D.state disk) })
-        (record { shelf = F.state shelf.new; listeners = map L.state listeners.new; screens = []; sink = W.state sink.new; disk = seen_of (D.state result.1) }) result.0 }
-    ensures crash { CrashesAs (record { states = L.states; feeds = feed_texts R.tells watches.now }) (record { before = D.state disk; after = D.state result.1 }) (order_of words.now (length listeners.old) 0)
-        (world_at (F.state shelf.old) (map L.state listeners.old) [] (W.state sink.old) (D.state disk))
-        (world_at (F.state shelf.new) (map L.state listeners.new) [] (W.state sink.new) (D.state result.1)) result.0 }
+        → (result.0 ≡ exit_code Status.Done ↔ HaveFinished order.connections (map L.state listeners.old) (map L.state listeners.new)) }
+    ensures failed { result.0 ≡ exit_code Status.ListenerFault → SomeFailed (map L.state listeners.old) (map L.state listeners.new) }
+    ensures usage { result.0 ≡ exit_code Status.Usage ↔ order_of words.now (length listeners.old) 0 ≡ None }
+    ensures complete { IsServeComplete (order_of words.now (length listeners.old) 0)
+        (record { shelf = F.state shelf.old; listeners = map L.state listeners.old; screens = []; sink = W.state sink.old; disk = disk_seen (D.state disk) })
+        (record { shelf = F.state shelf.new; listeners = map L.state listeners.new; screens = []; sink = W.state sink.new; disk = disk_seen (D.state result.1) }) result.0 }
+    ensures crash { ServeCrashesAs (record { states = L.states; feeds = feed_texts R.tells watches.now }) (record { before = D.state disk; after = D.state result.1 }) (order_of words.now (length listeners.old) 0)
+        (serve_world_at (F.state shelf.old) (map L.state listeners.old) [] (W.state sink.old) (D.state disk))
+        (serve_world_at (F.state shelf.new) (map L.state listeners.new) [] (W.state sink.new) (D.state result.1)) result.0 }
     ensures shelf_kept { KeptUnless (is_order (order_of words.now (length listeners.old) 0)) shelf.old shelf.new }
     ensures listeners_kept { KeptUnless (has_served 0 result.0) listeners.old listeners.new }
-    ensures disk_kept { KeptUnless (not (ends_before_journal result.0)) disk result.1 }
+    ensures disk_kept { KeptUnless (not (serve_ends_before_journal result.0)) disk result.1 }
 {
     let (none, desks) = listeners.split_at_mut(0);
     serve_all(rt, alloc, words, watches, shelf, desks, none, sink, disk)
@@ -148,31 +148,31 @@ pub fn serve_all<
     disk: D,
 ) -> (u8, D)
     ensures headline { ServesAs (record { states = L.states; feeds = feed_texts R.tells watches.now }) (order_of words.now (length listeners.old) (length screens.old))
-        (record { shelf = F.state shelf.old; listeners = map L.state listeners.old; screens = map L.state screens.old; sink = W.state sink.old; disk = seen_of (D.state disk) })
-        (record { shelf = F.state shelf.new; listeners = map L.state listeners.new; screens = map L.state screens.new; sink = W.state sink.new; disk = seen_of (D.state result.1) }) result.0 }
-    ensures done { (order : Ordered) → order_of words.now (length listeners.old) (length screens.old) ≡ Some order → result.0 ≡ code_of Status.Done
+        (record { shelf = F.state shelf.old; listeners = map L.state listeners.old; screens = map L.state screens.old; sink = W.state sink.old; disk = disk_seen (D.state disk) })
+        (record { shelf = F.state shelf.new; listeners = map L.state listeners.new; screens = map L.state screens.new; sink = W.state sink.new; disk = disk_seen (D.state result.1) }) result.0 }
+    ensures done { (order : Ordered) → order_of words.now (length listeners.old) (length screens.old) ≡ Some order → result.0 ≡ exit_code Status.Done
         → HaveFinished order.connections (map L.state listeners.old) (map L.state listeners.new)
         × HaveFinished order.connections (map L.state screens.old) (map L.state screens.new) }
     ensures finished { (order : Ordered) → order_of words.now (length listeners.old) (length screens.old) ≡ Some order
         → HaveFinished order.connections (map L.state listeners.old) (map L.state listeners.new)
         → HaveFinished order.connections (map L.state screens.old) (map L.state screens.new)
-        → (result.0 ≡ code_of Status.Done) ⊎ ((result.0 ≡ code_of Status.Memory) × (0 < length screens.old)) }
-    ensures failed { result.0 ≡ code_of Status.ListenerFault
+        → (result.0 ≡ exit_code Status.Done) ⊎ ((result.0 ≡ exit_code Status.Memory) × (0 < length screens.old)) }
+    ensures failed { result.0 ≡ exit_code Status.ListenerFault
         → SomeFailed (map L.state listeners.old) (map L.state listeners.new)
         ⊎ SomeFailed (map L.state screens.old) (map L.state screens.new) }
-    ensures usage { order_of words.now (length listeners.old) (length screens.old) ≡ None → result.0 ≡ code_of Status.Usage }
-    ensures usage_alone { result.0 ≡ code_of Status.Usage
+    ensures usage { order_of words.now (length listeners.old) (length screens.old) ≡ None → result.0 ≡ exit_code Status.Usage }
+    ensures usage_alone { result.0 ≡ exit_code Status.Usage
         → (order_of words.now (length listeners.old) (length screens.old) ≡ None) ⊎ (is_screen_order (order_of words.now (length listeners.old) (length screens.old)) ≡ true) }
-    ensures complete { IsComplete (order_of words.now (length listeners.old) (length screens.old))
-        (record { shelf = F.state shelf.old; listeners = map L.state listeners.old; screens = map L.state screens.old; sink = W.state sink.old; disk = seen_of (D.state disk) })
-        (record { shelf = F.state shelf.new; listeners = map L.state listeners.new; screens = map L.state screens.new; sink = W.state sink.new; disk = seen_of (D.state result.1) }) result.0 }
-    ensures crash { CrashesAs (record { states = L.states; feeds = feed_texts R.tells watches.now }) (record { before = D.state disk; after = D.state result.1 }) (order_of words.now (length listeners.old) (length screens.old))
-        (world_at (F.state shelf.old) (map L.state listeners.old) (map L.state screens.old) (W.state sink.old) (D.state disk))
-        (world_at (F.state shelf.new) (map L.state listeners.new) (map L.state screens.new) (W.state sink.new) (D.state result.1)) result.0 }
+    ensures complete { IsServeComplete (order_of words.now (length listeners.old) (length screens.old))
+        (record { shelf = F.state shelf.old; listeners = map L.state listeners.old; screens = map L.state screens.old; sink = W.state sink.old; disk = disk_seen (D.state disk) })
+        (record { shelf = F.state shelf.new; listeners = map L.state listeners.new; screens = map L.state screens.new; sink = W.state sink.new; disk = disk_seen (D.state result.1) }) result.0 }
+    ensures crash { ServeCrashesAs (record { states = L.states; feeds = feed_texts R.tells watches.now }) (record { before = D.state disk; after = D.state result.1 }) (order_of words.now (length listeners.old) (length screens.old))
+        (serve_world_at (F.state shelf.old) (map L.state listeners.old) (map L.state screens.old) (W.state sink.old) (D.state disk))
+        (serve_world_at (F.state shelf.new) (map L.state listeners.new) (map L.state screens.new) (W.state sink.new) (D.state result.1)) result.0 }
     ensures shelf_kept { KeptUnless (is_order (order_of words.now (length listeners.old) (length screens.old))) shelf.old shelf.new }
     ensures listeners_kept { KeptUnless (has_served (length screens.old) result.0) listeners.old listeners.new }
     ensures screens_kept { KeptUnless (has_served (length screens.old) result.0) screens.old screens.new }
-    ensures disk_kept { KeptUnless (not (ends_before_journal result.0)) disk result.1 }
+    ensures disk_kept { KeptUnless (not (serve_ends_before_journal result.0)) disk result.1 }
 {
     match order_of(words, listeners.len(), screens.len()) {
         Some(order) => {
@@ -206,24 +206,24 @@ fn serve_files<
     disk: D,
 ) -> (Status, D)
     requires few { length listeners.old ≤ most_listeners }
-    requires screens { may_have (length screens.old) (shown order.now).day ≡ true }
-    ensures serves { ServesFiles (record { states = L.states; feeds = feed_texts R.tells watches.now }) (shown order.now)
-        (record { shelf = F.state shelf.old; listeners = map L.state listeners.old; screens = map L.state screens.old; sink = W.state sink.old; disk = seen_of (D.state disk) })
-        (record { shelf = F.state shelf.new; listeners = map L.state listeners.new; screens = map L.state screens.new; sink = W.state sink.new; disk = seen_of (D.state result.1) }) result.0 }
-    ensures crash { let before = world_at (F.state shelf.old) (map L.state listeners.old) (map L.state screens.old) (W.state sink.old) (D.state disk) in
-        let after = world_at (F.state shelf.new) (map L.state listeners.new) (map L.state screens.new) (W.state sink.new) (D.state result.1) in
-        (serves : ServesFiles (record { states = L.states; feeds = feed_texts R.tells watches.now }) (shown order.now) before after result.0)
-        × LeavesFound (record { states = L.states; feeds = feed_texts R.tells watches.now }) (record { before = D.state disk; after = D.state result.1 }) (shown order.now)
-        serves.found (outs_of before) (outs_of after) result.0 serves.serves }
-    ensures listeners_kept { KeptUnless (has_served (length screens.old) (code_of result.0)) listeners.old listeners.new }
-    ensures screens_kept { KeptUnless (has_served (length screens.old) (code_of result.0)) screens.old screens.new }
-    ensures disk_kept { KeptUnless (not (ends_before_journal (code_of result.0))) disk result.1 }
+    requires screens { may_have (length screens.old) (order_shown order.now).day ≡ true }
+    ensures serves { ServesFiles (record { states = L.states; feeds = feed_texts R.tells watches.now }) (order_shown order.now)
+        (record { shelf = F.state shelf.old; listeners = map L.state listeners.old; screens = map L.state screens.old; sink = W.state sink.old; disk = disk_seen (D.state disk) })
+        (record { shelf = F.state shelf.new; listeners = map L.state listeners.new; screens = map L.state screens.new; sink = W.state sink.new; disk = disk_seen (D.state result.1) }) result.0 }
+    ensures crash { let before = serve_world_at (F.state shelf.old) (map L.state listeners.old) (map L.state screens.old) (W.state sink.old) (D.state disk) in
+        let after = serve_world_at (F.state shelf.new) (map L.state listeners.new) (map L.state screens.new) (W.state sink.new) (D.state result.1) in
+        (serves : ServesFiles (record { states = L.states; feeds = feed_texts R.tells watches.now }) (order_shown order.now) before after result.0)
+        × LeavesFound (record { states = L.states; feeds = feed_texts R.tells watches.now }) (record { before = D.state disk; after = D.state result.1 }) (order_shown order.now)
+        serves.found (serve_outs before) (serve_outs after) result.0 serves.serves }
+    ensures listeners_kept { KeptUnless (has_served (length screens.old) (exit_code result.0)) listeners.old listeners.new }
+    ensures screens_kept { KeptUnless (has_served (length screens.old) (exit_code result.0)) screens.old screens.new }
+    ensures disk_kept { KeptUnless (not (serve_ends_before_journal (exit_code result.0))) disk result.1 }
 {
     match airport_of(alloc, order.airport.text(), order.types.text(), shelf) {
         Ok(files) => serve_day(
             rt, alloc, &files, order, watches, listeners, screens, sink, disk,
         ),
-        Err(fault) => (tell_fault(sink, &fault), disk),
+        Err(fault) => (print_fault(sink, &fault), disk),
     }
 }
 
@@ -247,20 +247,20 @@ fn serve_day<
     disk: D,
 ) -> (Status, D)
     requires few { length listeners.old ≤ most_listeners }
-    requires screens { may_have (length screens.old) (shown order.now).day ≡ true }
-    ensures serves { ServesTask (record { states = L.states; feeds = feed_texts R.tells watches.now }) files.now (task_at files.now (shown order.now))
-        (record { listeners = map L.state listeners.old; screens = map L.state screens.old; sink = W.state sink.old; disk = seen_of (D.state disk) })
-        (record { listeners = map L.state listeners.new; screens = map L.state screens.new; sink = W.state sink.new; disk = seen_of (D.state result.1) }) result.0 }
-    ensures crash { let before = outs_at (map L.state listeners.old) (map L.state screens.old) (W.state sink.old) (D.state disk) in
-        let after = outs_at (map L.state listeners.new) (map L.state screens.new) (W.state sink.new) (D.state result.1) in
-        (serves : ServesTask (record { states = L.states; feeds = feed_texts R.tells watches.now }) files.now (task_at files.now (shown order.now)) before after result.0)
+    requires screens { may_have (length screens.old) (order_shown order.now).day ≡ true }
+    ensures serves { ServesTask (record { states = L.states; feeds = feed_texts R.tells watches.now }) files.now (task_at files.now (order_shown order.now))
+        (record { listeners = map L.state listeners.old; screens = map L.state screens.old; sink = W.state sink.old; disk = disk_seen (D.state disk) })
+        (record { listeners = map L.state listeners.new; screens = map L.state screens.new; sink = W.state sink.new; disk = disk_seen (D.state result.1) }) result.0 }
+    ensures crash { let before = serve_outs_at (map L.state listeners.old) (map L.state screens.old) (W.state sink.old) (D.state disk) in
+        let after = serve_outs_at (map L.state listeners.new) (map L.state screens.new) (W.state sink.new) (D.state result.1) in
+        (serves : ServesTask (record { states = L.states; feeds = feed_texts R.tells watches.now }) files.now (task_at files.now (order_shown order.now)) before after result.0)
         × LeavesTask (record { states = L.states; feeds = feed_texts R.tells watches.now }) (record { before = D.state disk; after = D.state result.1 }) files.now
-        (task_at files.now (shown order.now)) before after result.0 serves }
-    ensures listeners_kept { KeptUnless (has_served (length screens.old) (code_of result.0)) listeners.old listeners.new }
-    ensures screens_kept { KeptUnless (has_served (length screens.old) (code_of result.0)) screens.old screens.new }
-    ensures disk_kept { KeptUnless (not (ends_before_journal (code_of result.0))) disk result.1 }
+        (task_at files.now (order_shown order.now)) before after result.0 serves }
+    ensures listeners_kept { KeptUnless (has_served (length screens.old) (exit_code result.0)) listeners.old listeners.new }
+    ensures screens_kept { KeptUnless (has_served (length screens.old) (exit_code result.0)) screens.old screens.new }
+    ensures disk_kept { KeptUnless (not (serve_ends_before_journal (exit_code result.0))) disk result.1 }
 {
-    match order.day_of(files.airport.parts().days) {
+    match order.shown_day(files.airport.parts().days) {
         Some(day) => {
             let task = Task {
                 connections: order.connections,
@@ -296,16 +296,16 @@ fn serve_journal<
     requires few { length listeners.old ≤ most_listeners }
     requires day { 0 < length screens.old → (1 ≤ task.day) × (task.day ≤ files.now.airport.days) }
     ensures serves { ServesJournal (record { states = L.states; feeds = feed_texts R.tells watches.now }) files.now task
-        (record { listeners = map L.state listeners.old; screens = map L.state screens.old; sink = W.state sink.old; disk = seen_of (D.state disk) })
-        (record { listeners = map L.state listeners.new; screens = map L.state screens.new; sink = W.state sink.new; disk = seen_of (D.state result.1) }) result.0 }
-    ensures crash { let before = outs_at (map L.state listeners.old) (map L.state screens.old) (W.state sink.old) (D.state disk) in
-        let after = outs_at (map L.state listeners.new) (map L.state screens.new) (W.state sink.new) (D.state result.1) in
+        (record { listeners = map L.state listeners.old; screens = map L.state screens.old; sink = W.state sink.old; disk = disk_seen (D.state disk) })
+        (record { listeners = map L.state listeners.new; screens = map L.state screens.new; sink = W.state sink.new; disk = disk_seen (D.state result.1) }) result.0 }
+    ensures crash { let before = serve_outs_at (map L.state listeners.old) (map L.state screens.old) (W.state sink.old) (D.state disk) in
+        let after = serve_outs_at (map L.state listeners.new) (map L.state screens.new) (W.state sink.new) (D.state result.1) in
         (serves : ServesJournal (record { states = L.states; feeds = feed_texts R.tells watches.now }) files.now task before after result.0)
-        × LeavesMet (record { states = L.states; feeds = feed_texts R.tells watches.now }) (record { before = D.state disk; after = D.state result.1 }) files.now task
-        (ends_of before) (ends_of after) serves.met serves.meets }
-    ensures listeners_kept { KeptUnless (has_served (length screens.old) (code_of result.0)) listeners.old listeners.new }
-    ensures screens_kept { KeptUnless (has_served (length screens.old) (code_of result.0)) screens.old screens.new }
-    ensures comes { ends_before_journal (code_of result.0) ≡ false }
+        × LeavesOfService (record { states = L.states; feeds = feed_texts R.tells watches.now }) (record { before = D.state disk; after = D.state result.1 }) files.now task
+        (serve_ends before) (serve_ends after) serves.met serves.meets }
+    ensures listeners_kept { KeptUnless (has_served (length screens.old) (exit_code result.0)) listeners.old listeners.new }
+    ensures screens_kept { KeptUnless (has_served (length screens.old) (exit_code result.0)) screens.old screens.new }
+    ensures comes { serve_ends_before_journal (exit_code result.0) ≡ false }
 {
     let (met, disk) = serve_desks::<Brand, L, D, R, T, Rt>(
         rt, alloc, files, task, watches, listeners, screens, disk,
@@ -315,7 +315,7 @@ fn serve_journal<
 
 // Prints the line about it, if there is one, and gives its status, which stays even if the sink fails at the line.
 fn tell_met<W: Sink>(sink: &mut W, met: &Result<ServeEnd, Unusable>) -> Status
-    ensures tells { TellsMet met.now (W.state sink.old) (W.state sink.new) result }
+    ensures tells { PrintsServeEnd met.now (W.state sink.old) (W.state sink.new) result }
 {
     match met {
         Ok(ServeEnd::Done) => Status::Done,
@@ -326,7 +326,7 @@ fn tell_met<W: Sink>(sink: &mut W, met: &Result<ServeEnd, Unusable>) -> Status
 }
 
 fn print_listener_fault<W: Sink>(sink: &mut W) -> Status
-    ensures tells { TellsMet (Ok ServeEnd.ListenerFault) (W.state sink.old) (W.state sink.new) result }
+    ensures tells { PrintsServeEnd (Ok ServeEnd.ListenerFault) (W.state sink.old) (W.state sink.new) result }
 {
     let _ = sink.put(listener_line());
     Status::ListenerFault

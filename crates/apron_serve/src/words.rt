@@ -3,8 +3,8 @@ ghost use Rattle.std.specs.Prelude.{◌≡◌, ◌<◌, ◌≤◌, ℕ, true, If
 ghost use Rattle.std.specs.Option.{option_copied, option_map};
 ghost use Rattle.apron_rules.specs.declared.parts.AirportParts.{AirportParts};
 ghost use Rattle.apron_run.specs.Words.{number_within};
-ghost use Rattle.apron_serve.specs.Orders.{most_connections, most_listeners, most_screens, day_shown, may_have, order_of, order_of_words, ordered, ordered_by};
-ghost use Rattle.apron_serve.specs.OrdersShown.{shown};
+ghost use Rattle.apron_serve.specs.Orders.{most_connections, most_listeners, most_screens, day_shown, may_have, order_of, order_of_words, order_if_counted, ordered_by};
+ghost use Rattle.apron_serve.specs.OrdersShown.{order_shown};
 
 use apron_base::{MAX_DIGITS, Word, number_of};
 use apron_run::is_plain_number;
@@ -37,7 +37,7 @@ pub(crate) struct Order<'w> {
 
 impl<'w> Order<'w> {
     /// The day that screens show of a plan of this many days, or none if it has no such day. Without screens it is the first.
-    pub(crate) fn day_of(&self, days: u32) -> Option<u32>
+    pub(crate) fn shown_day(&self, days: u32) -> Option<u32>
         ensures screens { (screens : ℕ) → may_have screens (option_copied self.now.day) ≡ true → 0 < screens
             → IfSome result (λ day. (1 ≤ day) × (day ≤ days)) }
         ensures is { (airport : AirportParts) → airport.days ≡ days → result ≡ day_shown airport (option_copied self.now.day) }
@@ -62,7 +62,7 @@ fn day_within(digits: &[u8], last: u32) -> Option<u32>
 
 /// What the words order of this many listeners of desks, and this many of screens.
 pub(crate) fn order_of(words: &[Word], listeners: usize, screens: usize) -> Option<Order<'_>>
-    ensures order { option_map shown result ≡ order_of words.now listeners screens }
+    ensures order { option_map order_shown result ≡ order_of words.now listeners screens }
     ensures few { IfSome result (λ order. (1 ≤ listeners) × (listeners ≤ most_listeners)) }
     ensures screens { IfSome result (λ order. may_have screens (option_copied order.day) ≡ true) }
     ensures some { IfSome result (λ order. 1 ≤ order.connections) }
@@ -87,7 +87,7 @@ fn may_have(screens: usize, day: Option<&Word>) -> bool
 }
 
 fn order_of_words(words: &[Word]) -> Option<Order<'_>>
-    ensures order { option_map shown result ≡ order_of_words words.now }
+    ensures order { option_map order_shown result ≡ order_of_words words.now }
     ensures some { IfSome result (λ order. 1 ≤ order.connections) }
 {
     match words {
@@ -107,24 +107,24 @@ fn ordered_by<'w>(
     number: &Word,
     day: Option<&'w Word>,
 ) -> Option<Order<'w>>
-    ensures order { option_map shown result ≡ ordered_by word.now airport.now types.now number.now (option_copied day.entry) }
+    ensures order { option_map order_shown result ≡ ordered_by word.now airport.now types.now number.now (option_copied day.entry) }
     ensures some { IfSome result (λ order. 1 ≤ order.connections) }
 {
     let number = number.text().as_bytes();
     if word.text() == "serve" && is_plain_number(number) {
-        ordered(airport, types, day, number_of(number, MAX_DIGITS))
+        order_if_counted(airport, types, day, number_of(number, MAX_DIGITS))
     } else {
         None
     }
 }
 
-fn ordered<'w>(
+fn order_if_counted<'w>(
     airport: &'w Word,
     types: &'w Word,
     day: Option<&'w Word>,
     number: Option<u64>,
 ) -> Option<Order<'w>>
-    ensures order { option_map shown result ≡ ordered airport.now types.now (option_copied day.entry) number }
+    ensures order { option_map order_shown result ≡ order_if_counted airport.now types.now (option_copied day.entry) number }
     ensures some { IfSome result (λ order. 1 ≤ order.connections) }
 {
     match number {

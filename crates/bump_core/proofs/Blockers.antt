@@ -12,11 +12,11 @@ use Rattle.visit_book.specs.declared.visits.Place.TheVariants.{Unplaced, Planned
 use Rattle.visit_book.specs.declared.visits.Visit.{Visit}
 use Rattle.visit_book.specs.Slots.{slot_of, slot_on, slots_from}
 use Rattle.plan_core.proofs.SlotLists.{slots_from_alike}
-use Rattle.plan_core.specs.Edits.{placed}
+use Rattle.plan_core.specs.Edits.{part_at_place}
 use Rattle.bump_core.specs.declared.ranks.Ranked.{Ranked}
-use Rattle.bump_core.specs.declared.ranks.Blocking.{Blocking}
-use Rattle.bump_core.specs.Ranks.{all_parts_on, blocking, blocks, is_better, is_free, parts_on, ranked}
-use Rattle.bump_core.specs.Settle.{best, blockings, place_after, settled_parts, settled_place, settled_visit, with_better}
+use Rattle.bump_core.specs.declared.ranks.Conflict.{Conflict}
+use Rattle.bump_core.specs.Ranks.{all_parts_on, blocks, blocks_before, conflict, is_free, parts_on, ranked_part}
+use Rattle.bump_core.specs.Settle.{best, conflicts, place_after, settled_parts, settled_place, settled_visit, with_better}
 use Rattle.bump_core.proofs.Rounds.{Among}
 
 any_first : {X Y : Type 0} (h : X → Option Y) (x : X) (xs : List X) (found : Option Y) → h x ≡ found
@@ -40,45 +40,45 @@ pub some_any : {X Y : Type 0} (h : X → Option Y) (y : Y) (xs : List X) (ys : L
 some_any h y [] ys e = absurd (cc)
 some_any h y (x ∷ xs) ys e = some_first h x y xs ys (h x) refl (λ z zs g. some_any h z xs zs g) e
 
-best_more : (a b : Blocking) (more : Bool) (bs : List Blocking) → ((a : Blocking) → (mine : Blocking) × (fold with_better (Some a) bs ≡ Some mine))
-    → (mine : Blocking) × (fold with_better (if more then Some b else Some a) bs ≡ Some mine)
+best_more : (a b : Conflict) (more : Bool) (bs : List Conflict) → ((a : Conflict) → (mine : Conflict) × (fold with_better (Some a) bs ≡ Some mine))
+    → (mine : Conflict) × (fold with_better (if more then Some b else Some a) bs ≡ Some mine)
 best_more a b true bs rest = rest b
 best_more a b false bs rest = rest a
 
-pub best_some : (a : Blocking) (bs : List Blocking) → (mine : Blocking) × (fold with_better (Some a) bs ≡ Some mine)
+pub best_some : (a : Conflict) (bs : List Conflict) → (mine : Conflict) × (fold with_better (Some a) bs ≡ Some mine)
 best_some a [] = (a, refl)
-best_some a (b ∷ bs) = best_more a b (is_better b.blocker a.blocker) bs (λ d. best_some d bs)
+best_some a (b ∷ bs) = best_more a b (blocks_before b.blocker a.blocker) bs (λ d. best_some d bs)
 
-free_by : (airport : AirportParts) (kept : List Ranked) (holder : Ranked) (bs : List Blocking) → blockings airport kept holder ≡ bs
-    → ((bs ≡ []) × (is_free (blocks airport) kept holder ≡ true)) ⊎ ((b : Blocking) × (best bs ≡ Some b) × (is_free (blocks airport) kept holder ≡ false))
-free_by airport kept holder [] e = inl (refl, ap not (none_any (λ other. blocking airport other holder) kept e))
+free_by : (airport : AirportParts) (kept : List Ranked) (holder : Ranked) (bs : List Conflict) → conflicts airport kept holder ≡ bs
+    → ((bs ≡ []) × (is_free (blocks airport) kept holder ≡ true)) ⊎ ((b : Conflict) × (best bs ≡ Some b) × (is_free (blocks airport) kept holder ≡ false))
+free_by airport kept holder [] e = inl (refl, ap not (none_any (λ other. conflict airport other holder) kept e))
 free_by airport kept holder (b ∷ bs) e =
-    let found = best_some b bs in inr (found.0, found.1, ap not (some_any (λ other. blocking airport other holder) b kept bs e))
+    let found = best_some b bs in inr (found.0, found.1, ap not (some_any (λ other. conflict airport other holder) b kept bs e))
 
 -- a part has a best blocker exactly if it is not free
 pub free_or_blocked : (airport : AirportParts) (kept : List Ranked) (holder : Ranked)
-    → ((best (blockings airport kept holder) ≡ None) × (is_free (blocks airport) kept holder ≡ true))
-    ⊎ ((b : Blocking) × (best (blockings airport kept holder) ≡ Some b) × (is_free (blocks airport) kept holder ≡ false))
-free_or_blocked airport kept holder = elim (free_by airport kept holder (blockings airport kept holder) refl) [
+    → ((best (conflicts airport kept holder) ≡ None) × (is_free (blocks airport) kept holder ≡ true))
+    ⊎ ((b : Conflict) × (best (conflicts airport kept holder) ≡ Some b) × (is_free (blocks airport) kept holder ≡ false))
+free_or_blocked airport kept holder = elim (free_by airport kept holder (conflicts airport kept holder) refl) [
   | inl free ↦ inl (ap best free.0, free.1)
   | inr blocked ↦ inr blocked
 ]
 
 -- whether it is free depends only on what blocks it
-pub free_same : (airport : AirportParts) (ks ls : List Ranked) (holder : Ranked) → blockings airport ks holder ≡ blockings airport ls holder
+pub free_same : (airport : AirportParts) (ks ls : List Ranked) (holder : Ranked) → conflicts airport ks holder ≡ conflicts airport ls holder
     → is_free (blocks airport) ks holder ≡ is_free (blocks airport) ls holder
 free_same airport ks ls holder e =
-    elim (free_by airport ks holder (blockings airport ks holder) refl) [
-      | inl free ↦ free.1 ∙ sym (ap not (none_any (λ other. blocking airport other holder) ls (sym e ∙ free.0)))
-      | inr blocked ↦ elim (free_by airport ls holder (blockings airport ls holder) refl) [
+    elim (free_by airport ks holder (conflicts airport ks holder) refl) [
+      | inl free ↦ free.1 ∙ sym (ap not (none_any (λ other. conflict airport other holder) ls (sym e ∙ free.0)))
+      | inr blocked ↦ elim (free_by airport ls holder (conflicts airport ls holder) refl) [
         | inl free ↦
-            let none : best (blockings airport ks holder) ≡ None = ap best (e ∙ free.0) in let some : best (blockings airport ks holder) ≡ Some blocked.0 = blocked.1 in absurd (cc)
+            let none : best (conflicts airport ks holder) ≡ None = ap best (e ∙ free.0) in let some : best (conflicts airport ks holder) ≡ Some blocked.0 = blocked.1 in absurd (cc)
         | inr other ↦ blocked.2 ∙ sym other.2
       ]
     ]
 
-pub actual_unblocked : (airport : AirportParts) (other holder : Ranked) → holder.slot.actual ≡ true → blocking airport other holder ≡ None
-unfolding blocking
+pub actual_unblocked : (airport : AirportParts) (other holder : Ranked) → holder.slot.actual ≡ true → conflict airport other holder ≡ None
+unfolding conflict
 actual_unblocked airport other holder e = rw e refl
 
 actual_free_by : (airport : AirportParts) (holder : Ranked) (kept : List Ranked) → holder.slot.actual ≡ true
@@ -95,24 +95,24 @@ abbrev pub slots_at : AirportParts → Visit → ℕ → Part → List Slot
 slots_at airport visit number part = option_to_list (slot_of airport visit number part)
 
 -- the slot of a part that is settled is left exactly if the part is free
-slots_against : (airport : AirportParts) (entry : ℕ) (kept : List Ranked) (visit : Visit) (number : ℕ) (part : Part) (stand : StandNo) (holder : Ranked) (found : Option Blocking)
-    (free : Bool) → holder ≡ ranked visit (slot_on airport visit number (placed (Planned stand) part) stand)
-    → is_free (blocks airport) kept holder ≡ free → ((found ≡ None) × (free ≡ true)) ⊎ ((b : Blocking) × (found ≡ Some b) × (free ≡ false))
-    → map (ranked visit) (slots_at airport visit number (placed (place_after entry stand found) part)) ≡ filter (is_free (blocks airport) kept) (holder ∷ [])
+slots_against : (airport : AirportParts) (entry : ℕ) (kept : List Ranked) (visit : Visit) (number : ℕ) (part : Part) (stand : StandNo) (holder : Ranked) (found : Option Conflict)
+    (free : Bool) → holder ≡ ranked_part visit (slot_on airport visit number (part_at_place (Planned stand) part) stand)
+    → is_free (blocks airport) kept holder ≡ free → ((found ≡ None) × (free ≡ true)) ⊎ ((b : Conflict) × (found ≡ Some b) × (free ≡ false))
+    → map (ranked_part visit) (slots_at airport visit number (part_at_place (place_after entry stand found) part)) ≡ filter (is_free (blocks airport) kept) (holder ∷ [])
 slots_against airport entry kept visit number part stand holder found free e is h = elim h [
   | inl here ↦ rw (here.0, is, here.1) (ap (λ x. x ∷ []) (sym e))
   | inr gone ↦ rw (gone.1, is, gone.2) refl
 ]
 
 slots_settled : (airport : AirportParts) (entry : ℕ) (kept : List Ranked) (visit : Visit) (number : ℕ) (part : Part) (place : Place)
-    → map (ranked visit) (slots_at airport visit number (placed (settled_place airport entry kept visit number (placed place part) place) part))
-    ≡ filter (is_free (blocks airport) kept) (map (ranked visit) (slots_at airport visit number (placed place part)))
+    → map (ranked_part visit) (slots_at airport visit number (part_at_place (settled_place airport entry kept visit number (part_at_place place part) place) part))
+    ≡ filter (is_free (blocks airport) kept) (map (ranked_part visit) (slots_at airport visit number (part_at_place place part)))
 slots_settled airport entry kept visit number part (Unplaced bump) = refl
 slots_settled airport entry kept visit number part (Actual stand) =
-    let holder : Ranked = ranked visit (slot_on airport visit number (placed (Actual stand) part) stand) in rw (actual_free airport holder kept refl) refl
+    let holder : Ranked = ranked_part visit (slot_on airport visit number (part_at_place (Actual stand) part) stand) in rw (actual_free airport holder kept refl) refl
 slots_settled airport entry kept visit number part (Planned stand) =
-    let holder : Ranked = ranked visit (slot_on airport visit number (placed (Planned stand) part) stand) in
-    slots_against airport entry kept visit number part stand holder (best (blockings airport kept holder)) (is_free (blocks airport) kept holder) refl refl
+    let holder : Ranked = ranked_part visit (slot_on airport visit number (part_at_place (Planned stand) part) stand) in
+    slots_against airport entry kept visit number part stand holder (best (conflicts airport kept holder)) (is_free (blocks airport) kept holder) refl refl
     (free_or_blocked airport kept holder)
 
 pub map_append : {X Y : Type 0} (f : X → Y) (xs ys : List X) → map f (xs ++ ys) ≡ map f xs ++ map f ys
@@ -120,25 +120,25 @@ map_append f [] ys = refl
 map_append f (x ∷ xs) ys = ap (λ zs. f x ∷ zs) (map_append f xs ys)
 
 slots_left : (airport : AirportParts) (entry : ℕ) (kept : List Ranked) (visit : Visit) (number : ℕ) (parts : List Part)
-    → map (ranked visit) (slots_from airport visit number (settled_parts airport entry kept visit number parts))
-    ≡ filter (is_free (blocks airport) kept) (map (ranked visit) (slots_from airport visit number parts))
+    → map (ranked_part visit) (slots_from airport visit number (settled_parts airport entry kept visit number parts))
+    ≡ filter (is_free (blocks airport) kept) (map (ranked_part visit) (slots_from airport visit number parts))
 slots_left airport entry kept visit number [] = refl
 slots_left airport entry kept visit number (part ∷ parts) =
-    let after : Part = placed (settled_place airport entry kept visit number part part.place) part in
+    let after : Part = part_at_place (settled_place airport entry kept visit number part part.place) part in
     let free : Ranked → Bool = is_free (blocks airport) kept in
     let more : List Slot = slots_from airport visit (number + 1) parts in
-    let first : map (ranked visit) (slots_at airport visit number after) ≡ filter free (map (ranked visit) (slots_at airport visit number part)) =
+    let first : map (ranked_part visit) (slots_at airport visit number after) ≡ filter free (map (ranked_part visit) (slots_at airport visit number part)) =
     slots_settled airport entry kept visit number part part.place in
-    map_append (ranked visit) (slots_at airport visit number after) (slots_from airport visit (number + 1) (settled_parts airport entry kept visit (number + 1) parts))
+    map_append (ranked_part visit) (slots_at airport visit number after) (slots_from airport visit (number + 1) (settled_parts airport entry kept visit (number + 1) parts))
     ∙ (rw (first, slots_left airport entry kept visit (number + 1) parts)
-    (sym (filter-append free (map (ranked visit) (slots_at airport visit number part)) (map (ranked visit) more)))
-    ∙ ap (filter free) (sym (map_append (ranked visit) (slots_at airport visit number part) more)))
+    (sym (filter-append free (map (ranked_part visit) (slots_at airport visit number part)) (map (ranked_part visit) more)))
+    ∙ ap (filter free) (sym (map_append (ranked_part visit) (slots_at airport visit number part) more)))
 
 -- the parts of a settled visit are those that were free
 pub parts_left : (airport : AirportParts) (entry : ℕ) (kept : List Ranked) (visit : Visit)
     → parts_on airport (settled_visit airport entry kept visit) ≡ filter (is_free (blocks airport) kept) (parts_on airport visit)
 parts_left airport entry kept visit =
-    ap (map (ranked visit)) (slots_from_alike airport (settled_visit airport entry kept visit) visit 1 (settled_parts airport entry kept visit 1 visit.parts) refl refl)
+    ap (map (ranked_part visit)) (slots_from_alike airport (settled_visit airport entry kept visit) visit 1 (settled_parts airport entry kept visit 1 visit.parts) refl refl)
     ∙ slots_left airport entry kept visit 1 visit.parts
 
 -- and the same for visits
@@ -149,12 +149,12 @@ all_left airport entry kept (visit ∷ visits) =
     rw (parts_left airport entry kept visit, all_left airport entry kept visits) (sym (filter-append (is_free (blocks airport) kept) (parts_on airport visit) (all_parts_on airport visits)))
 
 place_same : (airport : AirportParts) (entry : ℕ) (ks ls : List Ranked) (visit : Visit) (number : ℕ) (part : Part) (place : Place)
-    → ((holder : Ranked) → Among holder (map (ranked visit) (slots_at airport visit number (placed place part))) → blockings airport ks holder ≡ blockings airport ls holder)
-    → settled_place airport entry ks visit number (placed place part) place ≡ settled_place airport entry ls visit number (placed place part) place
+    → ((holder : Ranked) → Among holder (map (ranked_part visit) (slots_at airport visit number (part_at_place place part))) → conflicts airport ks holder ≡ conflicts airport ls holder)
+    → settled_place airport entry ks visit number (part_at_place place part) place ≡ settled_place airport entry ls visit number (part_at_place place part) place
 place_same airport entry ks ls visit number part (Unplaced bump) h = refl
 place_same airport entry ks ls visit number part (Actual stand) h = refl
 place_same airport entry ks ls visit number part (Planned stand) h =
-    let holder : Ranked = ranked visit (slot_on airport visit number (placed (Planned stand) part) stand) in
+    let holder : Ranked = ranked_part visit (slot_on airport visit number (part_at_place (Planned stand) part) stand) in
     ap (λ found. place_after entry stand (best found)) (h holder (inl refl))
 
 pub among_left : {X : Type 0} (x : X) (xs ys : List X) → Among x xs → Among x (xs ++ ys)
@@ -169,22 +169,22 @@ pub among_along : {X : Type 0} (x : X) (xs ys : List X) → xs ≡ ys → Among 
 among_along x xs ys e h = rw (← e) h
 
 parts_same : (airport : AirportParts) (entry : ℕ) (ks ls : List Ranked) (visit : Visit) (number : ℕ) (parts : List Part)
-    → ((holder : Ranked) → Among holder (map (ranked visit) (slots_from airport visit number parts)) → blockings airport ks holder ≡ blockings airport ls holder)
+    → ((holder : Ranked) → Among holder (map (ranked_part visit) (slots_from airport visit number parts)) → conflicts airport ks holder ≡ conflicts airport ls holder)
     → settled_parts airport entry ks visit number parts ≡ settled_parts airport entry ls visit number parts
 parts_same airport entry ks ls visit number [] h = refl
 parts_same airport entry ks ls visit number (part ∷ parts) h =
     let here : List Slot = slots_at airport visit number part in
     let more : List Slot = slots_from airport visit (number + 1) parts in
-    let whole : map (ranked visit) (here ++ more) ≡ map (ranked visit) here ++ map (ranked visit) more = map_append (ranked visit) here more in
+    let whole : map (ranked_part visit) (here ++ more) ≡ map (ranked_part visit) here ++ map (ranked_part visit) more = map_append (ranked_part visit) here more in
     let first : settled_place airport entry ks visit number part part.place ≡ settled_place airport entry ls visit number part part.place =
-    place_same airport entry ks ls visit number part part.place (λ holder in'. h holder (among_along holder _ _ (sym whole) (among_left holder (map (ranked visit) here) (map (ranked visit) more) in'))) in
+    place_same airport entry ks ls visit number part part.place (λ holder in'. h holder (among_along holder _ _ (sym whole) (among_left holder (map (ranked_part visit) here) (map (ranked_part visit) more) in'))) in
     let rest : settled_parts airport entry ks visit (number + 1) parts ≡ settled_parts airport entry ls visit (number + 1) parts =
-    parts_same airport entry ks ls visit (number + 1) parts (λ holder in'. h holder (among_along holder _ _ (sym whole) (among_right holder (map (ranked visit) here) (map (ranked visit) more) in'))) in
+    parts_same airport entry ks ls visit (number + 1) parts (λ holder in'. h holder (among_along holder _ _ (sym whole) (among_right holder (map (ranked_part visit) here) (map (ranked_part visit) more) in'))) in
     rw (first, rest) refl
 
 -- how a visit is settled depends only on the blockers of its parts
 pub visit_same : (airport : AirportParts) (entry : ℕ) (ks ls : List Ranked) (visit : Visit)
-    → ((holder : Ranked) → Among holder (parts_on airport visit) → blockings airport ks holder ≡ blockings airport ls holder)
+    → ((holder : Ranked) → Among holder (parts_on airport visit) → conflicts airport ks holder ≡ conflicts airport ls holder)
     → settled_visit airport entry ks visit ≡ settled_visit airport entry ls visit
 visit_same airport entry ks ls visit h =
     ap (λ (parts : List Part). let v : Visit = record visit { parts = parts } in v) (parts_same airport entry ks ls visit 1 visit.parts h)
@@ -205,7 +205,7 @@ pub visit_none : (airport : AirportParts) (entry : ℕ) (visit : Visit) → sett
 visit_none airport entry visit = ap (λ (parts : List Part). let v : Visit = record visit { parts = parts } in v) (parts_none airport entry visit 1 visit.parts)
 
 visits_by : (airport : AirportParts) (entry : ℕ) (ks ls : List Ranked) (visits : List Visit)
-    → ((holder : Ranked) → Among holder (all_parts_on airport visits) → blockings airport ks holder ≡ blockings airport ls holder)
+    → ((holder : Ranked) → Among holder (all_parts_on airport visits) → conflicts airport ks holder ≡ conflicts airport ls holder)
     → map (settled_visit airport entry ks) visits ≡ map (settled_visit airport entry ls) visits
 visits_by airport entry ks ls [] h = refl
 visits_by airport entry ks ls (visit ∷ visits) h =
@@ -215,7 +215,7 @@ visits_by airport entry ks ls (visit ∷ visits) h =
     ) refl
 
 pub visits_same : (airport : AirportParts) (entry : ℕ) (ks ls : List Ranked) (visits : List Visit)
-    → ((holder : Ranked) → Among holder (all_parts_on airport visits) → blockings airport ks holder ≡ blockings airport ls holder)
+    → ((holder : Ranked) → Among holder (all_parts_on airport visits) → conflicts airport ks holder ≡ conflicts airport ls holder)
     → map (settled_visit airport entry ks) visits ≡ map (settled_visit airport entry ls) visits
 visits_same airport entry ks ls visits h = visits_by airport entry ks ls visits h
 

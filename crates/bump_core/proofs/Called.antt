@@ -16,12 +16,12 @@ use Rattle.visit_book.specs.declared.visits.Visit.{Visit}
 use Rattle.visit_book.specs.Numbers.{IsNumbered, IsNumberedAbove, has_number}
 use Rattle.visit_book.specs.Slots.{slot_of, slots_from, slots_of, slots_of_visit}
 use Rattle.visit_book.specs.WellFormed.{IsWellFormed}
-use Rattle.plan_core.specs.Edits.{placed}
+use Rattle.plan_core.specs.Edits.{part_at_place}
 use Rattle.plan_core.proofs.SlotLists.{slots_are}
-use Rattle.bump_core.specs.declared.ranks.Met.{Met}
+use Rattle.bump_core.specs.declared.ranks.KeptClash.{KeptClash}
 use Rattle.bump_core.specs.declared.ranks.Ranked.{Ranked}
-use Rattle.bump_core.specs.Lists.{met, met_at, met_by, part_called, part_on}
-use Rattle.bump_core.specs.Ranks.{all_parts_on, parts_on, ranked}
+use Rattle.bump_core.specs.Lists.{kept_clash, kept_clash_at, kept_clashes_of_part, part_called, part_on}
+use Rattle.bump_core.specs.Ranks.{all_parts_on, parts_on, ranked_part}
 use Rattle.bump_core.proofs.Blockers.{among_along, map_append, slots_at}
 use Rattle.bump_core.proofs.Near.{among_cases, part_of}
 use Rattle.bump_core.proofs.Rounds.{Among}
@@ -33,11 +33,11 @@ pub record Found (airport : AirportParts) (visit : Visit) (number : ℕ) (parts 
   pub part : Part
   pub at : slice_get parts index ≡ Some part
   pub numbered : holder.slot.part.part ≡ number + index
-  pub is : option_map (ranked visit) (slot_of airport visit (number + index) part) ≡ Some holder
+  pub is : option_map (ranked_part visit) (slot_of airport visit (number + index) part) ≡ Some holder
 
 pub found_at : (airport : AirportParts) (visit : Visit) (number : ℕ) (part : Part) (place : Place) (holder : Ranked)
-    → Among holder (map (ranked visit) (slots_at airport visit number (placed place part)))
-    → (holder.slot.part.part ≡ number) × (option_map (ranked visit) (slot_of airport visit number (placed place part)) ≡ Some holder)
+    → Among holder (map (ranked_part visit) (slots_at airport visit number (part_at_place place part)))
+    → (holder.slot.part.part ≡ number) × (option_map (ranked_part visit) (slot_of airport visit number (part_at_place place part)) ≡ Some holder)
 found_at airport visit number part (Unplaced bump) holder h = absurd h
 found_at airport visit number part (Planned stand) holder h = elim h [
   | inl here ↦ (ap (λ (x : Ranked). x.slot.part.part) here, ap (λ (x : Ranked). Some x) (sym here))
@@ -58,12 +58,12 @@ suc_zero : (number : ℕ) → (suc number == 0) ≡ false
 suc_zero number = grind (arith, nat_tests)
 
 pub found_from : (airport : AirportParts) (visit : Visit) (number : ℕ) (parts : List Part) (holder : Ranked)
-    → Among holder (map (ranked visit) (slots_from airport visit number parts)) → Found airport visit number parts holder
+    → Among holder (map (ranked_part visit) (slots_from airport visit number parts)) → Found airport visit number parts holder
 found_from airport visit number [] holder h = absurd h
 found_from airport visit number (part ∷ parts) holder h =
     let here : List Slot = slots_at airport visit number part in
     let more : List Slot = slots_from airport visit (number + 1) parts in
-    elim (among_cases holder (map (ranked visit) here) (map (ranked visit) more) (among_along holder _ _ (map_append (ranked visit) here more) h)) [
+    elim (among_cases holder (map (ranked_part visit) here) (map (ranked_part visit) more) (among_along holder _ _ (map_append (ranked_part visit) here more) h)) [
       | inl first ↦
           let found = found_at airport visit number part part.place holder first in
           record { index = zero; part = part; at = refl; numbered = omega (arith, found.0); is = rw (plus_zero number) found.1 }
@@ -86,7 +86,7 @@ part_found airport visit (suc number) holder found e =
     let index : suc number - 1 ≡ found.index = omega (arith, found.numbered) in
     let same : 1 + found.index ≡ suc number = omega (arith, found.numbered) in
     rw (suc_zero number, index, found.at)
-    (subst (λ i. option_map (ranked visit) (slot_of airport visit i found.part) ≡ Some holder) same found.is)
+    (subst (λ i. option_map (ranked_part visit) (slot_of airport visit i found.part) ≡ Some holder) same found.is)
 
 -- a part on a stand is found in its visit by its number
 pub part_on_is : (airport : AirportParts) (visit : Visit) (holder : Ranked) → Among holder (parts_on airport visit)
@@ -137,22 +137,22 @@ given_twice s h g k (x ∷ xs) same = given_first s h g k x xs (h (s x)) refl (s
 
 met_case : (airport : AirportParts) (visits : List Visit) (own other : Ranked) (found : Option Meeting)
     → part_called airport visits other.slot.part ≡ Some other
-    → ◌≡◌ {A = Option Met} (option_map (λ (at : Meeting). record { own = own; other = other; minute = at.minute; rule = at.rule }) found)
-    (option_and_then (met_at airport visits own) (option_map (λ (at : Meeting). record { minute = at.minute; a = own.slot.part; b = other.slot.part; rule = at.rule }) found))
+    → ◌≡◌ {A = Option KeptClash} (option_map (λ (at : Meeting). record { own = own; other = other; minute = at.minute; rule = at.rule }) found)
+    (option_and_then (kept_clash_at airport visits own) (option_map (λ (at : Meeting). record { minute = at.minute; a = own.slot.part; b = other.slot.part; rule = at.rule }) found))
 met_case airport visits own other None called = refl
 met_case airport visits own other (Some at) called = rw called refl
 
 met_same : (airport : AirportParts) (visits : List Visit) (own other : Ranked) → part_called airport visits other.slot.part ≡ Some other
-    → met airport own other ≡ option_and_then (met_at airport visits own) (clash_with airport own.slot other.slot)
-unfolding met
+    → kept_clash airport own other ≡ option_and_then (kept_clash_at airport visits own) (clash_with airport own.slot other.slot)
+unfolding kept_clash
 met_same airport visits own other called = met_case airport visits own other (meeting airport own.slot other.slot) called
 
 -- the clashes of a slot show which parts it meets
 pub met_by_clashes : (airport : AirportParts) (visits : List Visit) (own : Ranked) (slots : List Slot) → IsNumbered visits → slots ≡ slots_of airport visits
-    → filter_map (met_at airport visits own) (clashes_with airport own.slot slots) ≡ met_by airport (all_parts_on airport visits) own
+    → filter_map (kept_clash_at airport visits own) (clashes_with airport own.slot slots) ≡ kept_clashes_of_part airport (all_parts_on airport visits) own
 met_by_clashes airport visits own slots h e =
-    ap (λ ss. filter_map (met_at airport visits own) (clashes_with airport own.slot ss)) (e ∙ slots_are_in airport visits)
-    ∙ given_twice slot_in (clash_with airport own.slot) (met_at airport visits own) (met airport own) (all_parts_on airport visits)
+    ap (λ ss. filter_map (kept_clash_at airport visits own) (clashes_with airport own.slot ss)) (e ∙ slots_are_in airport visits)
+    ∙ given_twice slot_in (clash_with airport own.slot) (kept_clash_at airport visits own) (kept_clash airport own) (all_parts_on airport visits)
     (λ other in'. met_same airport visits own other (part_called_is airport visits other h in'))
 
 -- the parts of a well-formed visit have slots of the airport
@@ -164,4 +164,4 @@ own_slots airport visit owns h e =
     let slots : All (IsSlotOf airport) (slots_of_visit airport visit) =
     subst P (append-nil (slots_of_visit airport visit)) (slots_are airport (visit ∷ []) one) in
     let Q : List Ranked → Type 0 = λ parts. All (λ own. IsSlotOf airport own.slot) parts in
-    subst Q (sym e) (All-map (λ own. IsSlotOf airport own.slot) (ranked visit) (slots_of_visit airport visit) slots)
+    subst Q (sym e) (All-map (λ own. IsSlotOf airport own.slot) (ranked_part visit) (slots_of_visit airport visit) slots)

@@ -7,7 +7,7 @@ use Rattle.std.proofs.lemmas.List.Elements.{All-from_recursion}
 use Rattle.apron_base.specs.Histories.{Rises}
 use Rattle.visit_book.specs.declared.visits.Visit.{Visit}
 use Rattle.visit_book.specs.Numbers.{IsNumbered, IsNumberedAbove, has_number, visit_at}
-use Rattle.plan_core.specs.PlanState.{number_of, put_in, put_one}
+use Rattle.plan_core.specs.PlanState.{put_in, put_one, visit_number}
 use Rattle.plan_core.proofs.Puts.{rises_from}
 use Rattle.bump_core.specs.Bumped.{bumped_by, bumped_of}
 use Rattle.bump_core.proofs.Rounds.{Among}
@@ -58,8 +58,8 @@ pub put_changed : (f : Visit → Visit) (test : Visit → Bool) (visits : List V
 put_changed f test visits keeps h = put_behind f test [] visits 0 keeps refl h
 
 rise_first : (f : Visit → Visit) (test : Visit → Bool) (base high : ℕ) (visit : Visit) (visits : List Visit) (b : Bool) → KeepsOthers f test → test visit ≡ b
-    → visit.number.0 ≡ base + 1 → Rises number_of (base + 1 + 1) high (changed f test visits)
-    → Rises number_of (base + 1) high (changed f test (visit ∷ visits))
+    → visit.number.0 ≡ base + 1 → Rises visit_number (base + 1 + 1) high (changed f test visits)
+    → Rises visit_number (base + 1) high (changed f test (visit ∷ visits))
 rise_first f test base high visit visits true keeps is number rest =
     let own : (f visit).number.0 ≡ base + 1 = keeps.number visit ∙ number in
     rw is (omega arith, rises_from ((f visit).number.0 + 1) (base + 1 + 1) high (changed f test visits) (omega arith) rest)
@@ -68,7 +68,7 @@ rise_first f test base high visit visits false keeps is number rest =
 
 -- their numbers rise
 pub changed_rise : (f : Visit → Visit) (test : Visit → Bool) (base high : ℕ) (visits : List Visit) → KeepsOthers f test → base + length visits + 1 ≤ high
-    → IsNumberedAbove base visits → Rises number_of (base + 1) high (changed f test visits)
+    → IsNumberedAbove base visits → Rises visit_number (base + 1) high (changed f test visits)
 changed_rise f test base high [] keeps le h = omega arith
 changed_rise f test base high (visit ∷ visits) keeps le h =
     rise_first f test base high visit visits (test visit) keeps refl h.0 (changed_rise f test (base + 1) high visits keeps (omega arith) h.1)

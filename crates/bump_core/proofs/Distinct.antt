@@ -12,10 +12,10 @@ use Rattle.visit_book.specs.declared.visits.Place.TheVariants.{Unplaced, Planned
 use Rattle.visit_book.specs.declared.visits.Visit.{Visit}
 use Rattle.visit_book.specs.Numbers.{IsNumbered, IsNumberedAbove}
 use Rattle.visit_book.specs.Slots.{slots_from}
-use Rattle.plan_core.specs.Edits.{placed}
+use Rattle.plan_core.specs.Edits.{part_at_place}
 use Rattle.bump_core.specs.declared.ranks.Ranked.{Ranked}
-use Rattle.bump_core.specs.Lists.{is_same}
-use Rattle.bump_core.specs.Ranks.{all_parts_on, parts_on, ranked}
+use Rattle.bump_core.specs.Lists.{is_same_part}
+use Rattle.bump_core.specs.Ranks.{all_parts_on, parts_on, ranked_part}
 use Rattle.bump_core.proofs.Blockers.{map_append, slots_at}
 use Rattle.bump_core.proofs.Called.{found_at, found_from, part_above}
 use Rattle.bump_core.proofs.Near.{among_cases, part_of}
@@ -23,7 +23,7 @@ use Rattle.bump_core.proofs.Rounds.{Among}
 
 -- the second is not the same part as the first
 abbrev pub Other : Ranked → Ranked → Type 0
-Other holder other = is_same holder.slot.part other.slot.part ≡ false
+Other holder other = is_same_part holder.slot.part other.slot.part ≡ false
 
 -- no later one is the same part
 abbrev pub Distinct : List Ranked → Type 0
@@ -33,10 +33,10 @@ Distinct (holder ∷ parts) = ((other : Ranked) → Among other parts → Other 
 eq_swap : (m n : ℕ) → (m == n) ≡ (n == m)
 eq_swap m n = grind (arith, nat_tests)
 
-same_swap : (a b : PartId) → is_same a b ≡ is_same b a
+same_swap : (a b : PartId) → is_same_part a b ≡ is_same_part b a
 same_swap a b = rw (eq_swap a.visit.0 b.visit.0, eq_swap a.part b.part) refl
 
-pub same_self : (a : PartId) → is_same a a ≡ true
+pub same_self : (a : PartId) → is_same_part a a ≡ true
 same_self a =
     let visit : (a.visit.0 == a.visit.0) ≡ true = grind (arith, nat_tests) in
     let part : (a.part == a.part) ≡ true = grind (arith, nat_tests) in
@@ -91,7 +91,7 @@ distinct_append (x ∷ xs) ys d e h = (
 )
 
 distinct_at : (airport : AirportParts) (visit : Visit) (number : ℕ) (part : Part) (place : Place)
-    → Distinct (map (ranked visit) (slots_at airport visit number (placed place part)))
+    → Distinct (map (ranked_part visit) (slots_at airport visit number (part_at_place place part)))
 distinct_at airport visit number part (Unplaced bump) = tt
 distinct_at airport visit number part (Planned stand) = (λ other in'. absurd in', tt)
 distinct_at airport visit number part (Actual stand) = (λ other in'. absurd in', tt)
@@ -108,13 +108,13 @@ other_visit : (holder other : Ranked) → holder.slot.part.visit.0 < other.slot.
 other_visit holder other h = let no' : (holder.slot.part.visit.0 == other.slot.part.visit.0) ≡ false = grind (arith, nat_tests) in rw no' refl
 
 distinct_from : (airport : AirportParts) (visit : Visit) (number : ℕ) (parts : List Part)
-    → Distinct (map (ranked visit) (slots_from airport visit number parts))
+    → Distinct (map (ranked_part visit) (slots_from airport visit number parts))
 distinct_from airport visit number [] = tt
 distinct_from airport visit number (part ∷ parts) =
     let here : List Slot = slots_at airport visit number part in
     let more : List Slot = slots_from airport visit (number + 1) parts in
-    subst Distinct (sym (map_append (ranked visit) here more))
-    (distinct_append (map (ranked visit) here) (map (ranked visit) more) (distinct_at airport visit number part part.place) (distinct_from airport visit (number + 1) parts)
+    subst Distinct (sym (map_append (ranked_part visit) here more))
+    (distinct_append (map (ranked_part visit) here) (map (ranked_part visit) more) (distinct_at airport visit number part part.place) (distinct_from airport visit (number + 1) parts)
     (λ x y in' at.
     other_part x y (omega (arith, (found_at airport visit number part part.place x in').0, (found_from airport visit (number + 1) parts y at).numbered))))
 

@@ -16,7 +16,7 @@ use Rattle.visit_book.specs.declared.visits.Visit.{Visit}
 use Rattle.visit_book.specs.Numbers.{IsNumbered, IsNumberedAbove, has_number, with_visit}
 use Rattle.visit_book.specs.Places.{IsPlaceOf, is_actual, stand_of}
 use Rattle.visit_book.specs.WellFormed.{IsEarlyIfShort, IsSpaced, IsWellFormed, latest_end}
-use Rattle.bump_core.specs.declared.ranks.Blocking.{Blocking}
+use Rattle.bump_core.specs.declared.ranks.Conflict.{Conflict}
 use Rattle.bump_core.specs.declared.ranks.Ranked.{Ranked}
 use Rattle.bump_core.specs.Kept.{EachMayLose, Loses, MayLose, StaysBut}
 use Rattle.bump_core.specs.Lists.{parts_by, place_by, visit_by}
@@ -24,7 +24,7 @@ use Rattle.bump_core.specs.Ranks.{all_parts_on, kept_of}
 use Rattle.bump_core.specs.Settled.{with_changed}
 use Rattle.bump_core.specs.Settle.{place_after, settle, settled_parts, settled_place, settled_visit}
 
-after_may : (entry : ℕ) (stand : StandNo) (found : Option Blocking)
+after_may : (entry : ℕ) (stand : StandNo) (found : Option Conflict)
     → (place_after entry stand found ≡ Planned stand) ⊎ Loses entry (Planned stand) (place_after entry stand found)
 after_may entry stand None = inl refl
 after_may entry stand (Some b) = inr (record { stand = stand; bump = _; planned = refl; unplaced = refl; had = refl; by = refl })
@@ -45,19 +45,19 @@ settled_each airport entry kept visit number (part ∷ parts) =
 pub settled_stays : (airport : AirportParts) (entry : ℕ) (kept : List Ranked) (visit : Visit) → StaysBut entry visit (settled_visit airport entry kept visit)
 settled_stays airport entry kept visit = record { rest = refl; parts = settled_each airport entry kept visit 1 visit.parts }
 
-by_may : (entry : ℕ) (found : List Blocking) (id : PartId) (place : Place)
+by_may : (entry : ℕ) (found : List Conflict) (id : PartId) (place : Place)
     → (place_by entry found id place ≡ place) ⊎ Loses entry place (place_by entry found id place)
 by_may entry found id (Unplaced bump) = inl refl
 by_may entry found id (Actual stand) = inl refl
 by_may entry found id (Planned stand) = after_may entry stand _
 
-by_each : (entry : ℕ) (found : List Blocking) (visit : VisitNo) (number : ℕ) (parts : List Part)
+by_each : (entry : ℕ) (found : List Conflict) (visit : VisitNo) (number : ℕ) (parts : List Part)
     → EachMayLose entry parts (parts_by entry found visit number parts)
 by_each entry found visit number [] = tt
 by_each entry found visit number (part ∷ parts) =
     (record { from = refl; to = refl; place = by_may entry found (record { visit = visit; part = number }) part.place }, by_each entry found visit (number + 1) parts)
 
-pub by_stays : (entry : ℕ) (found : List Blocking) (visit : Visit) → StaysBut entry visit (visit_by entry found visit)
+pub by_stays : (entry : ℕ) (found : List Conflict) (visit : Visit) → StaysBut entry visit (visit_by entry found visit)
 by_stays entry found visit = record { rest = refl; parts = by_each entry found visit.number 1 visit.parts }
 
 may_length : (entry : ℕ) (before after : List Part) → EachMayLose entry before after → length after ≡ length before

@@ -14,13 +14,13 @@ use Rattle.visit_book.specs.declared.visits.Place.TheVariants.{Unplaced, Planned
 use Rattle.visit_book.specs.declared.visits.Visit.{Visit}
 use Rattle.visit_book.specs.Numbers.{IsNumbered, IsNumberedAbove, has_number}
 use Rattle.visit_book.specs.Slots.{slots_from}
-use Rattle.plan_core.specs.Edits.{placed}
-use Rattle.bump_core.specs.declared.ranks.Blocking.{Blocking}
-use Rattle.bump_core.specs.declared.ranks.Met.{Met}
+use Rattle.plan_core.specs.Edits.{part_at_place}
+use Rattle.bump_core.specs.declared.ranks.Conflict.{Conflict}
+use Rattle.bump_core.specs.declared.ranks.KeptClash.{KeptClash}
 use Rattle.bump_core.specs.declared.ranks.Ranked.{Ranked}
 use Rattle.bump_core.specs.Bumped.{bumped_from, bumped_of, is_bumped_by}
-use Rattle.bump_core.specs.Lists.{against_others, all_met, by_own, is_blocked, is_in, is_of, is_touched, met, met_by, parts_by, place_by, visit_by}
-use Rattle.bump_core.specs.Ranks.{all_parts_on, is_better, may_block, parts_on, ranked}
+use Rattle.bump_core.specs.Lists.{against_others, by_own, is_blocked, is_in, is_of, is_touched, kept_clash, kept_clashes_of_part, kept_clashes_of_parts, parts_by, place_by, visit_by}
+use Rattle.bump_core.specs.Ranks.{all_parts_on, blocks_before, may_block, parts_on, ranked_part}
 use Rattle.bump_core.specs.Settle.{best}
 use Rattle.bump_core.proofs.Blockers.{among_along, best_some, map_append, slots_at}
 use Rattle.bump_core.proofs.Called.{part_above}
@@ -79,37 +79,37 @@ joined_by g y (x ∷ xs) in' = elim (among_cases y (g x) (flat_map g xs) in') [
 
 -- Blocked parts of other visits.
 
-met_other_by : (own other : Ranked) (found : Option Meeting) (one : Met)
-    → option_map (λ (at : Meeting). let m : Met = record { own = own; other = other; minute = at.minute; rule = at.rule } in m) found ≡ Some one
+met_other_by : (own other : Ranked) (found : Option Meeting) (one : KeptClash)
+    → option_map (λ (at : Meeting). let m : KeptClash = record { own = own; other = other; minute = at.minute; rule = at.rule } in m) found ≡ Some one
     → one.other ≡ other
 met_other_by own other None one e = absurd (cc)
 met_other_by own other (Some at) one e =
-    let same : ◌≡◌ {A = Met} (record { own = own; other = other; minute = at.minute; rule = at.rule }) one = cc in ap (λ (m : Met). m.other) (sym same)
+    let same : ◌≡◌ {A = KeptClash} (record { own = own; other = other; minute = at.minute; rule = at.rule }) one = cc in ap (λ (m : KeptClash). m.other) (sym same)
 
-met_other : (airport : AirportParts) (own other : Ranked) (one : Met) → met airport own other ≡ Some one → one.other ≡ other
-unfolding met
+met_other : (airport : AirportParts) (own other : Ranked) (one : KeptClash) → kept_clash airport own other ≡ Some one → one.other ≡ other
+unfolding kept_clash
 met_other airport own other one e = met_other_by own other (meeting airport own.slot other.slot) one e
 
-blocked_by : (one : Met) (blocking : Blocking) (may : Bool) → may_block one.own one.other ≡ may
-    → ◌≡◌ {A = Option Blocking} (if may then Some (record { blocker = one.own; blocked = one.other; minute = one.minute; rule = one.rule }) else None) (Some blocking)
+blocked_by : (one : KeptClash) (blocking : Conflict) (may : Bool) → may_block one.own one.other ≡ may
+    → ◌≡◌ {A = Option Conflict} (if may then Some (record { blocker = one.own; blocked = one.other; minute = one.minute; rule = one.rule }) else None) (Some blocking)
     → (blocking.blocked ≡ one.other) × (one.other.slot.actual ≡ false)
 blocked_by one blocking false is e = absurd (cc)
 blocked_by one blocking true is e =
-    let same : ◌≡◌ {A = Blocking} (record { blocker = one.own; blocked = one.other; minute = one.minute; rule = one.rule }) blocking = cc in
-    (ap (λ (b : Blocking). b.blocked) (sym same), not_false one.other.slot.actual (both (not one.other.slot.actual) (is_better one.own one.other) is).0)
+    let same : ◌≡◌ {A = Conflict} (record { blocker = one.own; blocked = one.other; minute = one.minute; rule = one.rule }) blocking = cc in
+    (ap (λ (b : Conflict). b.blocked) (sym same), not_false one.other.slot.actual (both (not one.other.slot.actual) (blocks_before one.own one.other) is).0)
 
 -- what an own part blocks is a planned part of the visits
-blocked_there : (airport : AirportParts) (owns parts : List Ranked) (own : List Blocking) (blocking : Blocking)
-    → Among blocking (against_others (all_met airport owns parts) own)
+blocked_there : (airport : AirportParts) (owns parts : List Ranked) (own : List Conflict) (blocking : Conflict)
+    → Among blocking (against_others (kept_clashes_of_parts airport owns parts) own)
     → Among blocking.blocked parts × (blocking.blocked.slot.actual ≡ false)
 blocked_there airport owns parts own blocking in' =
-    let mets : List Met = all_met airport owns parts in
-    let test : Met → Bool = λ m. not (is_blocked own m.own.slot.part) in
+    let mets : List KeptClash = kept_clashes_of_parts airport owns parts in
+    let test : KeptClash → Bool = λ m. not (is_blocked own m.own.slot.part) in
     let given = given_by by_own blocking (filter test mets) in' in
-    let one : Met = given.0 in
+    let one : KeptClash = given.0 in
     let among : Among one mets = (filter_among test one mets given.1).1 in
-    let mine = joined_by (met_by airport parts) one owns among in
-    let other = given_by (met airport mine.0) one parts mine.2 in
+    let mine = joined_by (kept_clashes_of_part airport parts) one owns among in
+    let other = given_by (kept_clash airport mine.0) one parts mine.2 in
     let is = blocked_by one blocking (may_block one.own one.other) refl given.2 in
     let same : blocking.blocked ≡ other.0 = is.0 ∙ met_other airport mine.0 other.0 one other.2 in
     (among_like other.0 blocking.blocked parts (sym same) other.1, ap (λ (r : Ranked). r.slot.actual) is.0 ∙ is.1)
@@ -134,15 +134,15 @@ in_own airport base (first ∷ visits) visit holder h in' part same = elim (amon
 
 -- What is blocked loses its stand.
 
-best_of : (f : Blocking → Bool) (found ys : List Blocking) → filter f found ≡ ys → list_any f found ≡ true → (b : Blocking) × (best (filter f found) ≡ Some b)
+best_of : (f : Conflict → Bool) (found ys : List Conflict) → filter f found ≡ ys → list_any f found ≡ true → (b : Conflict) × (best (filter f found) ≡ Some b)
 best_of f found [] is h = let none : list_any f found ≡ false = some_filter f found [] is in absurd (cc)
 best_of f found (y ∷ ys) is h = let some = best_some y ys in (some.0, ap best is ∙ some.1)
 
 same_number : (n : ℕ) → (n == n) ≡ true
 same_number n = grind (arith, nat_tests)
 
-lost_at : (entry : ℕ) (found : List Blocking) (visit : Visit) (number : ℕ) (airport : AirportParts) (part : Part) (place : Place) (holder : Ranked)
-    → Among holder (map (ranked visit) (slots_at airport visit number (placed place part))) → holder.slot.actual ≡ false
+lost_at : (entry : ℕ) (found : List Conflict) (visit : Visit) (number : ℕ) (airport : AirportParts) (part : Part) (place : Place) (holder : Ranked)
+    → Among holder (map (ranked_part visit) (slots_at airport visit number (part_at_place place part))) → holder.slot.actual ≡ false
     → list_any (is_of holder.slot.part) found ≡ true
     → is_bumped_by entry (place_by entry found (record { visit = visit.number; part = number }) place) ≡ true
 lost_at entry found visit number airport part (Unplaced bump) holder in' planned hit = absurd in'
@@ -165,14 +165,14 @@ tail_none [] ys e = e
 tail_none (x ∷ xs) ys e = absurd (cc)
 
 -- if one part of the visit is blocked, some parts lost their stands
-lost_from : (airport : AirportParts) (entry : ℕ) (found : List Blocking) (visit after : Visit) (number : ℕ) (parts : List Part) (holder : Ranked)
-    → Among holder (map (ranked visit) (slots_from airport visit number parts)) → holder.slot.actual ≡ false → list_any (is_of holder.slot.part) found ≡ true
+lost_from : (airport : AirportParts) (entry : ℕ) (found : List Conflict) (visit after : Visit) (number : ℕ) (parts : List Part) (holder : Ranked)
+    → Among holder (map (ranked_part visit) (slots_from airport visit number parts)) → holder.slot.actual ≡ false → list_any (is_of holder.slot.part) found ≡ true
     → bumped_from entry after number (parts_by entry found visit.number number parts) ≢ []
 lost_from airport entry found visit after number [] holder in' planned hit = absurd in'
 lost_from airport entry found visit after number (part ∷ parts) holder in' planned hit =
     let here : List Slot = slots_at airport visit number part in
     let more : List Slot = slots_from airport visit (number + 1) parts in
-    elim (among_cases holder (map (ranked visit) here) (map (ranked visit) more) (among_along holder _ _ (map_append (ranked visit) here more) in')) [
+    elim (among_cases holder (map (ranked_part visit) here) (map (ranked_part visit) more) (among_along holder _ _ (map_append (ranked_part visit) here more) in')) [
       | inl first ↦ λ e.
           let lost : is_bumped_by entry (place_by entry found (record { visit = visit.number; part = number }) part.place) ≡ true =
           lost_at entry found visit number airport part part.place holder first planned hit in
@@ -190,15 +190,15 @@ only_hit true b h none = refl
 only_hit false b h none = absurd (cc)
 
 -- a touched visit other than the changed one loses a stand
-pub touched_lost : (airport : AirportParts) (entry : ℕ) (visits : List Visit) (changed new visit : Visit) (mets : List Met) (own found : List Blocking)
+pub touched_lost : (airport : AirportParts) (entry : ℕ) (visits : List Visit) (changed new visit : Visit) (mets : List KeptClash) (own found : List Conflict)
     → IsNumbered visits
-    → Among visit visits → mets ≡ all_met airport (parts_on airport changed) (all_parts_on airport visits) → found ≡ against_others mets own
+    → Among visit visits → mets ≡ kept_clashes_of_parts airport (parts_on airport changed) (all_parts_on airport visits) → found ≡ against_others mets own
     → is_touched found new.number visit.number.0 ≡ true → has_number new.number visit ≡ false → bumped_of entry (visit_by entry found visit) ≢ []
 touched_lost airport entry visits changed new visit mets own found numbered in' mets_are found_is touched apart =
     let other : (new.number.0 == visit.number.0) ≡ false = eq_turn visit.number.0 new.number.0 apart in
     let hit = any_found (is_in visit.number.0) found (only_hit (list_any (is_in visit.number.0) found) (new.number.0 == visit.number.0) touched other) in
-    let blocking : Blocking = hit.0 in
-    let listed : Among blocking (against_others (all_met airport (parts_on airport changed) (all_parts_on airport visits)) own) =
+    let blocking : Conflict = hit.0 in
+    let listed : Among blocking (against_others (kept_clashes_of_parts airport (parts_on airport changed) (all_parts_on airport visits)) own) =
     among_along blocking found _ (found_is ∙ ap (λ ms. against_others ms own) mets_are) hit.1 in
     let there = blocked_there airport (parts_on airport changed) (all_parts_on airport visits) own blocking listed in
     let number : blocking.blocked.slot.part.visit.0 ≡ visit.number.0 = grind (arith, nat_tests, hit.2) in

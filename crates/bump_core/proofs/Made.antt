@@ -12,15 +12,15 @@ use Rattle.visit_book.specs.NewVisits.{IsNewVisitOf, new_of}
 use Rattle.visit_book.specs.Numbers.{IsNumbered, has_number, visit_at, with_visit}
 use Rattle.visit_book.specs.Slots.{slots_of}
 use Rattle.visit_book.proofs.ByPlace.{visit_at-below, visit_at-outside}
-use Rattle.plan_core.specs.Moving.{IsOneOf, moving}
-use Rattle.plan_core.specs.PlanState.{IsPlan, IsVisitAt, PlanState, installed, put_in, version_limit}
+use Rattle.plan_core.specs.Moving.{IsChangedCopy, move_change}
+use Rattle.plan_core.specs.PlanState.{IsPlan, IsVisitAt, PlanState, plan_after_change, put_in, version_limit}
 use Rattle.plan_core.proofs.Kept.{installs}
 use Rattle.plan_core.proofs.Moved.{moving_fits}
-use Rattle.bump_core.specs.declared.ranks.Blocking.{Blocking}
-use Rattle.bump_core.specs.declared.ranks.Met.{Met}
+use Rattle.bump_core.specs.declared.ranks.Conflict.{Conflict}
+use Rattle.bump_core.specs.declared.ranks.KeptClash.{KeptClash}
 use Rattle.bump_core.specs.Bumped.{bumped_by, bumped_of}
 use Rattle.bump_core.specs.Kept.{AreChanges, StaysBut}
-use Rattle.bump_core.specs.Lists.{after_by, changes_by, changes_near, is_in, is_touched, mets_of, other_blockings, own_blockings, visit_by}
+use Rattle.bump_core.specs.Lists.{after_by, changes_by, changes_near, is_in, is_touched, kept_clashes, other_conflicts, own_conflicts, visit_by}
 use Rattle.bump_core.specs.Settle.{settle}
 use Rattle.bump_core.specs.Settled.{IsChanged, IsChangedBy, with_settled}
 use Rattle.bump_core.proofs.Bumps.{bumped_later, unbumped}
@@ -34,12 +34,12 @@ neither : (a b : Bool) → (a || b) ≡ false → (a ≡ false) × (b ≡ false)
 neither true b h = absurd (cc)
 neither false b h = (refl, h)
 
-after_number : (entry : ℕ) (new : Visit) (found : List Blocking) (visit : Visit) (b : Bool) → has_number new.number visit ≡ b
+after_number : (entry : ℕ) (new : Visit) (found : List Conflict) (visit : Visit) (b : Bool) → has_number new.number visit ≡ b
     → (after_by entry new found visit).number.0 ≡ visit.number.0
 after_number entry new found visit true is = rw is (grind (arith, nat_tests))
 after_number entry new found visit false is = rw is refl
 
-after_stays : (entry : ℕ) (new : Visit) (found : List Blocking) (visit : Visit) → is_touched found new.number visit.number.0 ≡ false
+after_stays : (entry : ℕ) (new : Visit) (found : List Conflict) (visit : Visit) → is_touched found new.number visit.number.0 ≡ false
     → after_by entry new found visit ≡ visit
 after_stays entry new found visit out =
     let both = neither (list_any (is_in visit.number.0) found) (new.number.0 == visit.number.0) out in
@@ -47,7 +47,7 @@ after_stays entry new found visit out =
     rw other (unhit_visit entry found visit both.0)
 
 -- each visit keeps its number, and those that are not touched stay
-after_keeps : (entry : ℕ) (new : Visit) (found : List Blocking) → KeepsOthers (after_by entry new found) (λ visit. is_touched found new.number visit.number.0)
+after_keeps : (entry : ℕ) (new : Visit) (found : List Conflict) → KeepsOthers (after_by entry new found) (λ visit. is_touched found new.number visit.number.0)
 after_keeps entry new found = record {
   number = λ visit. after_number entry new found visit (has_number new.number visit) refl;
   stays = λ visit out. after_stays entry new found visit out;
@@ -68,14 +68,14 @@ stays_at airport version before after h at =
       bumped = bumped_later airport version before.parts after.parts h.parts at.well_formed.places at.bumped;
     }
 
-after_first : (P : Visit → Type 0) (entry : ℕ) (new : Visit) (found : List Blocking) (visit : Visit) (b : Bool) → has_number new.number visit ≡ b → P new
+after_first : (P : Visit → Type 0) (entry : ℕ) (new : Visit) (found : List Conflict) (visit : Visit) (b : Bool) → has_number new.number visit ≡ b → P new
     → (b ≡ false → P (visit_by entry found visit)) → P (after_by entry new found visit)
 after_first P entry new found visit true is p other = rw is p
 after_first P entry new found visit false is p other = rw is (other refl)
 
 -- what holds of the changed visit, and of other visits by what blocks their parts, holds of each
 -- visit as it will be
-after_has : (P : Visit → Type 0) (entry : ℕ) (new : Visit) (found : List Blocking) (visit : Visit) → P new
+after_has : (P : Visit → Type 0) (entry : ℕ) (new : Visit) (found : List Conflict) (visit : Visit) → P new
     → (has_number new.number visit ≡ false → P (visit_by entry found visit)) → P (after_by entry new found visit)
 after_has P entry new found visit p other = after_first P entry new found visit (has_number new.number visit) refl p other
 
@@ -108,7 +108,7 @@ found_within visits number before true is h at =
 found_within visits number before false is h at = grind (arith, nat_tests)
 
 -- a changed copy of one of the visits stays one when its blocked parts lose their stands
-new_same : (visits : List Visit) (entry : ℕ) (own : List Blocking) (changed : Visit) → IsOneOf visits changed → IsOneOf visits (visit_by entry own changed)
+new_same : (visits : List Visit) (entry : ℕ) (own : List Conflict) (changed : Visit) → IsChangedCopy visits changed → IsChangedCopy visits (visit_by entry own changed)
 new_same visits entry own changed of = record { before = of.before; at = of.at; same = record { new = of.same.new; added = of.same.added } }
 
 -- what the lists make of the visits is what the entry changes
@@ -117,9 +117,9 @@ pub are_changes : (plan : PlanState) (changed : Visit) (changes : List Visit) �
 are_changes plan changed changes h is are =
     let entry : ℕ = plan.version + 1 in
     let visits : List Visit = plan.visits in
-    let mets : List Met = mets_of plan.airport visits changed in
-    let own : List Blocking = own_blockings plan.airport visits changed in
-    let found : List Blocking = other_blockings plan.airport visits changed in
+    let mets : List KeptClash = kept_clashes plan.airport visits changed in
+    let own : List Conflict = own_conflicts plan.airport visits changed in
+    let found : List Conflict = other_conflicts plan.airport visits changed in
     let new : Visit = visit_by entry own changed in
     let f : Visit → Visit = after_by entry new found in
     let test : Visit → Bool = λ visit. is_touched found new.number visit.number.0 in
@@ -139,7 +139,7 @@ are_changes plan changed changes h is are =
             (λ apart. stays_at plan.airport plan.version visit (visit_by entry found visit) (by_stays entry found visit)
             (All-contains (IsVisitAt plan.airport plan.version) visits visit h.each (contained_among visits visit in'))));
         rise = changed_rise f test 0 (length visits + 1) visits keeps (omega arith) h.numbered;
-        same = changed_all (IsOneOf visits) f test visits (λ visit in' passes. after_has (IsOneOf visits) entry new found visit (new_same visits entry own changed is.of)
+        same = changed_all (IsChangedCopy visits) f test visits (λ visit in' passes. after_has (IsChangedCopy visits) entry new found visit (new_same visits entry own changed is.of)
             (λ apart. record { before = visit; at = found_there visits visit h.numbered in'; same = record { new = refl; added = refl } }));
         sound = subst (λ vs. IsSound plan.airport (slots_of plan.airport vs)) (sym settled) (settled_sound plan.airport entry (with_visit visits changed));
       };
@@ -156,7 +156,7 @@ pub no_changes : (plan : PlanState) (changes : List Visit) → IsPlan plan → c
 no_changes plan changes h none =
     let own : settle plan.airport (plan.version + 1) plan.visits ≡ plan.visits = sound_settled plan.airport (plan.version + 1) plan.visits h.sound in
     subst (AreChanges plan None) (sym none) (record {
-      movable = record { each = All-nil (IsVisitAt plan.airport (plan.version + 1)); rise = omega arith; same = All-nil (IsOneOf plan.visits); sound = h.sound };
+      movable = record { each = All-nil (IsVisitAt plan.airport (plan.version + 1)); rise = omega arith; same = All-nil (IsChangedCopy plan.visits); sound = h.sound };
       settled = sym own;
       needed = All-nil (IsChangedBy (plan.version + 1) None);
       bumped = sym (ap (bumped_by (plan.version + 1)) own ∙ not_bumped plan.airport plan.version plan.visits h.each);
@@ -164,7 +164,7 @@ no_changes plan changes h none =
 
 -- the plan with the changes installed is the settled one
 pub installs_settled : (plan : PlanState) (changed : Option Visit) (changes : List Visit) → AreChanges plan changed changes
-    → installed plan (moving plan changes) ≡ with_settled plan changed
+    → plan_after_change plan (move_change plan changes) ≡ with_settled plan changed
 installs_settled plan changed changes h =
     ap (λ visits. let after : PlanState = record { airport = plan.airport; visits = visits; drafts = plan.drafts; version = plan.version + 1 } in after) h.settled
 
@@ -180,4 +180,4 @@ pub settled_plan : (plan : PlanState) (changed : Option Visit) → IsPlan plan �
 settled_plan plan changed h is last =
     let found = changes_exist plan changed h is in
     subst IsPlan (installs_settled plan changed found.0 found.1)
-    (installs plan (moving plan found.0) h (moving_fits plan found.0 found.1.movable last))
+    (installs plan (move_change plan found.0) h (moving_fits plan found.0 found.1.movable last))

@@ -18,12 +18,12 @@ use Rattle.visit_book.specs.declared.visits.Visit.{Visit}
 use Rattle.visit_book.specs.Numbers.{IsNumbered, IsNumberedAbove, with_visit}
 use Rattle.visit_book.specs.Numbers.{has_number}
 use Rattle.visit_book.specs.Slots.{slots_from, slots_of, slots_of_visit}
-use Rattle.plan_core.specs.Edits.{placed}
+use Rattle.plan_core.specs.Edits.{part_at_place}
 use Rattle.bump_core.specs.Near.{actual_parts, others, settled_near, visit_near}
 use Rattle.bump_core.specs.declared.ranks.Ranked.{Ranked}
-use Rattle.bump_core.specs.declared.ranks.Blocking.{Blocking}
-use Rattle.bump_core.specs.Ranks.{all_parts_on, blocking, blocks, is_better, is_free, is_lower, parts_on, rank, ranked}
-use Rattle.bump_core.specs.Settle.{blockings, settle, settled_visit}
+use Rattle.bump_core.specs.declared.ranks.Conflict.{Conflict}
+use Rattle.bump_core.specs.Ranks.{all_parts_on, blocks, blocks_before, conflict, is_free, is_lower, parts_on, rank, ranked_part}
+use Rattle.bump_core.specs.Settle.{conflicts, settle, settled_visit}
 use Rattle.bump_core.proofs.Rounds.{Among, and_same, any_filter, any_same}
 use Rattle.bump_core.proofs.Order.{blocking_tells, blocks_tell, lower_cases}
 use Rattle.bump_core.proofs.Blockers.{actual_free, all_left, among_along, among_left, among_right, map_append, parts_left, slots_at, visit_same, visits_same}
@@ -37,7 +37,7 @@ among_cases x (y ∷ xs) ys h = elim h [
 ]
 
 slot_at_number : (airport : AirportParts) (visit : Visit) (number : ℕ) (part : Part) (place : Place) (slot : Slot)
-    → Among slot (slots_at airport visit number (placed place part))
+    → Among slot (slots_at airport visit number (part_at_place place part))
     → slot.part.visit.0 ≡ visit.number.0
 slot_at_number airport visit number part (Unplaced bump) slot h = absurd h
 slot_at_number airport visit number part (Planned stand) slot h = elim h [ inl here ↦ ap (λ (x : Slot). x.part.visit.0) here | inr there ↦ absurd there ]
@@ -61,7 +61,7 @@ pub record IsPartOf (visit : Visit) (holder : Ranked) : Type 0 where
 
 pub part_of : (airport : AirportParts) (visit : Visit) (holder : Ranked) → Among holder (parts_on airport visit) → IsPartOf visit holder
 part_of airport visit holder h =
-    let found = among_map (ranked visit) (slots_of_visit airport visit) holder h in
+    let found = among_map (ranked_part visit) (slots_of_visit airport visit) holder h in
     record {
       number = ap (λ (x : Ranked). x.slot.part.visit.0) found.2 ∙ slot_from_number airport visit 1 visit.parts found.0 found.1;
       class = ap (λ (x : Ranked). x.class) found.2;
@@ -86,7 +86,7 @@ same_visit : (airport : AirportParts) (p q : Slot) (m : ℕ) → (p.part.visit.0
 same_visit airport p q m e = rw e refl
 
 -- parts of one visit don't block each other
-own_by : (airport : AirportParts) (other holder : Ranked) (found : Option Blocking) → blocking airport other holder ≡ found
+own_by : (airport : AirportParts) (other holder : Ranked) (found : Option Conflict) → conflict airport other holder ≡ found
     → other.slot.part.visit.0 ≡ holder.slot.part.visit.0 → found ≡ None
 own_by airport other holder None is same = refl
 own_by airport other holder (Some b) is same =
@@ -97,8 +97,8 @@ own_by airport other holder (Some b) is same =
     absurd (cc)
 
 pub own_unblocked : (airport : AirportParts) (other holder : Ranked) → other.slot.part.visit.0 ≡ holder.slot.part.visit.0
-    → blocking airport other holder ≡ None
-own_unblocked airport other holder same = own_by airport other holder (blocking airport other holder) refl same
+    → conflict airport other holder ≡ None
+own_unblocked airport other holder same = own_by airport other holder (conflict airport other holder) refl same
 
 squeeze : (x y : ℕ) (a b : Bool) → (nat_lt x y || (x == y && a)) ≡ true → (nat_lt y x || (y == x && b)) ≡ true → (x ≡ y) × (a ≡ true) × (b ≡ true)
 squeeze x y a b h number = elim (lower_cases x y a h) [
@@ -126,8 +126,8 @@ rank_is visit holder actual h e = rw (e, h.class, h.on, h.number) refl
 
 pub between_parts : (visit : Visit) (mine other holder : Ranked) → IsPartOf visit mine → IsPartOf visit holder → mine.slot.actual ≡ false
     → holder.slot.actual ≡ false
-    → is_better mine other ≡ true → is_better other holder ≡ true → other.slot.part.visit.0 ≡ visit.number.0
-unfolding is_better rank_of
+    → blocks_before mine other ≡ true → blocks_before other holder ≡ true → other.slot.part.visit.0 ≡ visit.number.0
+unfolding blocks_before rank_of
 between_parts visit mine other holder at to e f h number =
     let first : is_lower (rank_of false visit mine.slot.part.part) (rank other) ≡ true =
     subst (λ xs. is_lower xs (rank other) ≡ true) (rank_is visit mine false at e) h in
@@ -165,7 +165,7 @@ given_within f g h (x ∷ xs) same =
 pub record Around (airport : AirportParts) (pre post : List Visit) (changed : Visit) : Type 0 where
   pub before : Apart changed.number.0 pre
   pub after : Apart changed.number.0 post
-  pub sound : (other holder : Ranked) → Among other (all_parts_on airport (pre ++ post)) → Among holder (all_parts_on airport (pre ++ post)) → blocking airport other holder ≡ None
+  pub sound : (other holder : Ranked) → Among other (all_parts_on airport (pre ++ post)) → Among holder (all_parts_on airport (pre ++ post)) → conflict airport other holder ≡ None
 
 -- the parts of the others
 abbrev pub rest_parts : AirportParts → List Visit → List Visit → List Ranked
@@ -202,11 +202,11 @@ staying airport pre post own =
     filter (is_free (blocks airport) own) (all_parts_on airport pre) ++ (own ++ filter (is_free (blocks airport) own) (all_parts_on airport post))
 
 blockings_staying : (airport : AirportParts) (pre post : List Visit) (own : List Ranked) (holder : Ranked)
-    → blockings airport (staying airport pre post own) holder
-    ≡ blockings airport (filter (is_free (blocks airport) own) (all_parts_on airport pre)) holder
-    ++ (blockings airport own holder ++ blockings airport (filter (is_free (blocks airport) own) (all_parts_on airport post)) holder)
+    → conflicts airport (staying airport pre post own) holder
+    ≡ conflicts airport (filter (is_free (blocks airport) own) (all_parts_on airport pre)) holder
+    ++ (conflicts airport own holder ++ conflicts airport (filter (is_free (blocks airport) own) (all_parts_on airport post)) holder)
 blockings_staying airport pre post own holder =
-    let given : Ranked → Option Blocking = λ other. blocking airport other holder in
+    let given : Ranked → Option Conflict = λ other. conflict airport other holder in
     let before : List Ranked = filter (is_free (blocks airport) own) (all_parts_on airport pre) in
     let after : List Ranked = filter (is_free (blocks airport) own) (all_parts_on airport post) in
     filter_map-append given before (own ++ after) ∙ ap (λ xs. filter_map given before ++ xs) (filter_map-append given own after)
@@ -226,40 +226,40 @@ in_post airport pre post holder h =
     among_along holder _ _ (sym (parts_append airport pre post)) (among_right holder (all_parts_on airport pre) (all_parts_on airport post) h)
 
 no_blockings : (airport : AirportParts) (test : Ranked → Bool) (parts : List Ranked) (holder : Ranked)
-    → ((other : Ranked) → Among other parts → blocking airport other holder ≡ None)
-    → blockings airport (filter test parts) holder ≡ []
+    → ((other : Ranked) → Among other parts → conflict airport other holder ≡ None)
+    → conflicts airport (filter test parts) holder ≡ []
 no_blockings airport test parts holder h =
-    none_given (λ other. blocking airport other holder) (filter test parts) (λ other here. h other (filter_among test other parts here).1)
+    none_given (λ other. conflict airport other holder) (filter test parts) (λ other here. h other (filter_among test other parts here).1)
 
 -- a part of another visit is blocked only by what stays of the changed one
 other_blockings : (airport : AirportParts) (pre post : List Visit) (changed : Visit) (own : List Ranked) (holder : Ranked) → Around airport pre post changed
-    → Among holder (rest_parts airport pre post) → blockings airport own holder ≡ blockings airport (staying airport pre post own) holder
+    → Among holder (rest_parts airport pre post) → conflicts airport own holder ≡ conflicts airport (staying airport pre post own) holder
 other_blockings airport pre post changed own holder around in' =
     let free : Ranked → Bool = is_free (blocks airport) own in
-    let first : blockings airport (filter free (all_parts_on airport pre)) holder ≡ [] =
+    let first : conflicts airport (filter free (all_parts_on airport pre)) holder ≡ [] =
     no_blockings airport free (all_parts_on airport pre) holder (λ other here. around.sound other holder (in_pre airport pre post other here) in') in
-    let last : blockings airport (filter free (all_parts_on airport post)) holder ≡ [] =
+    let last : conflicts airport (filter free (all_parts_on airport post)) holder ≡ [] =
     no_blockings airport free (all_parts_on airport post) holder (λ other here. around.sound other holder (in_post airport pre post other here) in') in
-    sym (blockings_staying airport pre post own holder ∙ rw (first, last) (append-nil (blockings airport own holder)))
+    sym (blockings_staying airport pre post own holder ∙ rw (first, last) (append-nil (conflicts airport own holder)))
 
 -- a part of the changed visit is blocked by what its actual parts leave of the others
 own_blockings : (airport : AirportParts) (pre post : List Visit) (changed : Visit) (ks : List Ranked) (holder : Ranked) → Around airport pre post changed
     → Among holder (parts_on airport changed)
-    → blockings airport (left_of airport pre post changed) holder
-    ≡ blockings airport (staying airport pre post (filter (is_free (blocks airport) ks) (parts_on airport changed))) holder
+    → conflicts airport (left_of airport pre post changed) holder
+    ≡ conflicts airport (staying airport pre post (filter (is_free (blocks airport) ks) (parts_on airport changed))) holder
 own_blockings airport pre post changed ks holder around in' =
     let own : List Ranked = filter (is_free (blocks airport) ks) (parts_on airport changed) in
-    let given : Ranked → Option Blocking = λ other. blocking airport other holder in
+    let given : Ranked → Option Conflict = λ other. conflict airport other holder in
     let left : Ranked → Bool = is_free (blocks airport) (actual_parts airport changed) in
     let stays : Ranked → Bool = is_free (blocks airport) own in
-    let mine : blockings airport own holder ≡ [] =
+    let mine : conflicts airport own holder ≡ [] =
     none_given given own (λ other here. own_unblocked airport other holder
     ((part_of airport changed other (filter_among (is_free (blocks airport) ks) other (parts_on airport changed) here).1).number ∙ sym (part_of airport changed holder in').number)) in
     let first : filter_map given (filter left (all_parts_on airport pre)) ≡ filter_map given (filter stays (all_parts_on airport pre)) =
     given_within left stays given (all_parts_on airport pre) (λ other here b. sym (left_same airport pre post changed ks other holder around (in_pre airport pre post other here) in' b)) in
     let last : filter_map given (filter left (all_parts_on airport post)) ≡ filter_map given (filter stays (all_parts_on airport post)) =
     given_within left stays given (all_parts_on airport post) (λ other here b. sym (left_same airport pre post changed ks other holder around (in_post airport pre post other here) in' b)) in
-    let whole : blockings airport (staying airport pre post own) holder ≡ filter_map given (filter stays (all_parts_on airport pre)) ++ filter_map given (filter stays (all_parts_on airport post)) =
+    let whole : conflicts airport (staying airport pre post own) holder ≡ filter_map given (filter stays (all_parts_on airport pre)) ++ filter_map given (filter stays (all_parts_on airport post)) =
     blockings_staying airport pre post own holder
     ∙ ap (λ xs. filter_map given (filter stays (all_parts_on airport pre)) ++ (xs ++ filter_map given (filter stays (all_parts_on airport post)))) mine in
     let both_same : filter_map given (filter left (all_parts_on airport pre)) ++ filter_map given (filter left (all_parts_on airport post))
@@ -299,7 +299,7 @@ near_fixed airport entry pre post changed new around is =
     visits_same airport entry own kept post (λ holder in'. other_blockings airport pre post changed own holder around (in_post airport pre post holder in')) in
     let middle : new ≡ settled_visit airport entry kept changed =
     is ∙ visit_same airport entry left kept changed (λ holder in'. own_blockings airport pre post changed left holder around in'
-    ∙ ap (λ mine. blockings airport (staying airport pre post mine) holder) (sym own_is)) in
+    ∙ ap (λ mine. conflicts airport (staying airport pre post mine) holder) (sym own_is)) in
     near_join (settled_visit airport entry own) (settled_visit airport entry kept) pre post changed new first middle last
     ∙ ap (λ parts. map (settled_visit airport entry parts) (pre ++ changed ∷ post)) (sym (near_staying airport entry pre post new))
 

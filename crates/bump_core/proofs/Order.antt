@@ -5,10 +5,10 @@ use Rattle.std.proofs.lemmas.Bool.Decides.{nat_tests}
 use Rattle.apron_rules.specs.declared.parts.AirportParts.{AirportParts}
 use Rattle.bump_core.specs.Near.{meets}
 use Rattle.bump_core.specs.declared.ranks.Ranked.{Ranked}
-use Rattle.bump_core.specs.declared.ranks.Blocking.{Blocking}
+use Rattle.bump_core.specs.declared.ranks.Conflict.{Conflict}
 use Rattle.apron_rules.specs.declared.rules.Meeting.{Meeting}
 use Rattle.clash_check.specs.Meetings.{meeting}
-use Rattle.bump_core.specs.Ranks.{Stay, blocking, blocks, may_block, is_better, is_lower, kept_of, rank}
+use Rattle.bump_core.specs.Ranks.{Stay, conflict, blocks, may_block, blocks_before, is_lower, kept_of, rank}
 use Rattle.bump_core.proofs.Rounds.{GoesDown, fixed_one, rounds_fixed}
 
 pub lower_cases : (x y : ℕ) (b : Bool) → (nat_lt x y || (x == y && b)) ≡ true → (x < y) ⊎ ((x ≡ y) × (b ≡ true))
@@ -49,9 +49,9 @@ both true b h = (refl, h)
 both false b h = absurd (cc)
 
 -- two parts of which the first blocks the second
-pub record Blocks (airport : AirportParts) (other part : Ranked) (b : Blocking) : Type 0 where
+pub record Blocks (airport : AirportParts) (other part : Ranked) (b : Conflict) : Type 0 where
   pub planned : part.slot.actual ≡ false
-  pub better : is_better other part ≡ true
+  pub better : blocks_before other part ≡ true
   pub meets : meeting airport other.slot part.slot ≡ Some (record { minute = b.minute; rule = b.rule })
   pub blocker : b.blocker ≡ other
   pub blocked : b.blocked ≡ part
@@ -60,58 +60,58 @@ pub not_false : (b : Bool) → not b ≡ true → b ≡ false
 not_false true h = absurd (cc)
 not_false false h = refl
 
-blocking_at : Ranked → Ranked → Meeting → Blocking
+blocking_at : Ranked → Ranked → Meeting → Conflict
 blocking_at other part at = record { blocker = other; blocked = part; minute = at.minute; rule = at.rule }
 
-blocking_by : (airport : AirportParts) (other part : Ranked) (b : Blocking) (may : Bool) (found : Option Meeting) → may_block other part ≡ may
+blocking_by : (airport : AirportParts) (other part : Ranked) (b : Conflict) (may : Bool) (found : Option Meeting) → may_block other part ≡ may
     → meeting airport other.slot part.slot ≡ found
-    → ◌≡◌ {A = Option Blocking} (if may then option_map (blocking_at other part) found else None) (Some b) → Blocks airport other part b
+    → ◌≡◌ {A = Option Conflict} (if may then option_map (blocking_at other part) found else None) (Some b) → Blocks airport other part b
 unfolding blocking_at
 blocking_by airport other part b false found is meet e = absurd (cc)
 blocking_by airport other part b true None is meet e = absurd (cc)
 blocking_by airport other part b true (Some at) is meet e =
-    let two = both (not part.slot.actual) (is_better other part) is in
+    let two = both (not part.slot.actual) (blocks_before other part) is in
     let same : blocking_at other part at ≡ b = cc in
     record {
       planned = not_false part.slot.actual two.0;
       better = two.1;
-      meets = meet ∙ ap (λ (x : Blocking). let m : Meeting = record { minute = x.minute; rule = x.rule } in Some m) same;
-      blocker = sym (ap (λ (x : Blocking). x.blocker) same);
-      blocked = sym (ap (λ (x : Blocking). x.blocked) same);
+      meets = meet ∙ ap (λ (x : Conflict). let m : Meeting = record { minute = x.minute; rule = x.rule } in Some m) same;
+      blocker = sym (ap (λ (x : Conflict). x.blocker) same);
+      blocked = sym (ap (λ (x : Conflict). x.blocked) same);
     }
 
 -- what follows from a part blocking another
-pub blocking_tells : (airport : AirportParts) (other part : Ranked) (b : Blocking) → blocking airport other part ≡ Some b → Blocks airport other part b
-unfolding blocking blocking_at
+pub blocking_tells : (airport : AirportParts) (other part : Ranked) (b : Conflict) → conflict airport other part ≡ Some b → Blocks airport other part b
+unfolding conflict blocking_at
 blocking_tells airport other part b e = blocking_by airport other part b (may_block other part) (meeting airport other.slot part.slot) refl refl e
 
-blocks_by : (airport : AirportParts) (other part : Ranked) (found : Option Blocking) → blocking airport other part ≡ found → is_some found ≡ true
-    → (part.slot.actual ≡ false) × (is_better other part ≡ true) × (meets airport other.slot part.slot ≡ true)
+blocks_by : (airport : AirportParts) (other part : Ranked) (found : Option Conflict) → conflict airport other part ≡ found → is_some found ≡ true
+    → (part.slot.actual ≡ false) × (blocks_before other part ≡ true) × (meets airport other.slot part.slot ≡ true)
 blocks_by airport other part None is h = absurd (cc)
 blocks_by airport other part (Some b) is h =
     let tells : Blocks airport other part b = blocking_tells airport other part b is in (tells.planned, tells.better, ap is_some tells.meets)
 
 pub blocks_tell : (airport : AirportParts) (other part : Ranked) → blocks airport other part ≡ true
-    → (part.slot.actual ≡ false) × (is_better other part ≡ true) × (meets airport other.slot part.slot ≡ true)
-blocks_tell airport other part h = blocks_by airport other part (blocking airport other part) refl h
+    → (part.slot.actual ≡ false) × (blocks_before other part ≡ true) × (meets airport other.slot part.slot ≡ true)
+blocks_tell airport other part h = blocks_by airport other part (conflict airport other part) refl h
 
-better_trans : (r other part : Ranked) → is_better r other ≡ true → is_better other part ≡ true → is_better r part ≡ true
-unfolding is_better
+better_trans : (r other part : Ranked) → blocks_before r other ≡ true → blocks_before other part ≡ true → blocks_before r part ≡ true
+unfolding blocks_before
 better_trans r other part h k = lower_trans (rank r) (rank other) (rank part) h k
 
-better_apart : (part : Ranked) → is_better part part ≡ false
-unfolding is_better
+better_apart : (part : Ranked) → blocks_before part part ≡ false
+unfolding blocks_before
 better_apart part = lower_apart (rank part)
 
-pub down : (airport : AirportParts) → GoesDown (blocks airport) is_better
+pub down : (airport : AirportParts) → GoesDown (blocks airport) blocks_before
 down airport = record { down = λ other part h. (blocks_tell airport other part h).1; trans = better_trans; apart = better_apart }
 
 pub kept_stay : (airport : AirportParts) (parts : List Ranked) → Stay airport parts (kept_of airport parts)
 unfolding kept_of
-kept_stay airport parts = rounds_fixed (blocks airport) is_better parts (down airport)
+kept_stay airport parts = rounds_fixed (blocks airport) blocks_before parts (down airport)
 
 pub kept_are : (airport : AirportParts) (parts kept : List Ranked) → Stay airport parts kept → kept ≡ kept_of airport parts
-kept_are airport parts kept h = fixed_one (blocks airport) is_better parts kept (kept_of airport parts) (down airport) h (kept_stay airport parts)
+kept_are airport parts kept h = fixed_one (blocks airport) blocks_before parts kept (kept_of airport parts) (down airport) h (kept_stay airport parts)
 
 stay_like : (airport : AirportParts) (parts kept other : List Ranked) → kept ≡ other → Stay airport parts other → Stay airport parts kept
 stay_like airport parts kept other e h = rw e h

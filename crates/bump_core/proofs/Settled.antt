@@ -17,8 +17,8 @@ use Rattle.clash_check.proofs.Meetings.{first_meeting, never_meeting}
 use Rattle.visit_book.specs.declared.visits.Visit.{Visit}
 use Rattle.visit_book.specs.Slots.{slots_of, slots_of_visit}
 use Rattle.bump_core.specs.declared.ranks.Ranked.{Ranked}
-use Rattle.bump_core.specs.declared.ranks.Blocking.{Blocking}
-use Rattle.bump_core.specs.Ranks.{Stay, all_parts_on, blocking, blocks, is_better, is_free, is_lower, kept_of, parts_on, rank, ranked}
+use Rattle.bump_core.specs.declared.ranks.Conflict.{Conflict}
+use Rattle.bump_core.specs.Ranks.{Stay, all_parts_on, blocks, blocks_before, conflict, is_free, is_lower, kept_of, parts_on, rank, ranked_part}
 use Rattle.bump_core.specs.Settle.{settle, settled_visit}
 use Rattle.bump_core.proofs.Rounds.{Among}
 use Rattle.bump_core.proofs.Order.{blocking_tells, both, lower_first, lower_later, kept_are, kept_stay}
@@ -62,7 +62,7 @@ one_settling airport entry visits new = (fixed_settled airport entry visits new,
 abbrev pub slot_in : Ranked → Slot
 slot_in part = part.slot
 
-pub map_slots : (visit : Visit) (slots : List Slot) → map slot_in (map (ranked visit) slots) ≡ slots
+pub map_slots : (visit : Visit) (slots : List Slot) → map slot_in (map (ranked_part visit) slots) ≡ slots
 map_slots visit [] = refl
 map_slots visit (s ∷ slots) = ap (λ ss. s ∷ ss) (map_slots visit slots)
 
@@ -167,7 +167,7 @@ lower_total (x ∷ xs) (y ∷ ys) e h k = elim (order_of x y) [
 ]
 
 -- if a part clashes with one that doesn't block it, it is actual or the other is not better
-unblocked_cases : (a b : Bool) (g : Meeting → Blocking) (found : Option Meeting) → is_some (if (not a && b) then option_map g found else None) ≡ false
+unblocked_cases : (a b : Bool) (g : Meeting → Conflict) (found : Option Meeting) → is_some (if (not a && b) then option_map g found else None) ≡ false
     → is_some found ≡ true → (a ≡ true) ⊎ (b ≡ false)
 unblocked_cases true b g found h e = inl refl
 unblocked_cases false false g found h e = inr refl
@@ -175,22 +175,22 @@ unblocked_cases false true g None h e = absurd (cc)
 unblocked_cases false true g (Some at) h e = absurd (cc)
 
 pub unblocked : (airport : AirportParts) (other part : Ranked) → blocks airport other part ≡ false → meets airport other.slot part.slot ≡ true
-    → (part.slot.actual ≡ true) ⊎ (is_better other part ≡ false)
-unfolding blocking
+    → (part.slot.actual ≡ true) ⊎ (blocks_before other part ≡ false)
+unfolding conflict
 unblocked airport other part h e =
-    unblocked_cases part.slot.actual (is_better other part) (λ (at : Meeting). let b : Blocking = record { blocker = other; blocked = part; minute = at.minute; rule = at.rule } in b)
+    unblocked_cases part.slot.actual (blocks_before other part) (λ (at : Meeting). let b : Conflict = record { blocker = other; blocked = part; minute = at.minute; rule = at.rule } in b)
     (meeting airport other.slot part.slot) h e
 
 -- an actual part is better than a planned one
-actual_better : (other part : Ranked) (a b : Bool) → other.slot.actual ≡ a → part.slot.actual ≡ b → a ≡ true → b ≡ false → is_better other part ≡ true
-unfolding is_better
+actual_better : (other part : Ranked) (a b : Bool) → other.slot.actual ≡ a → part.slot.actual ≡ b → a ≡ true → b ≡ false → blocks_before other part ≡ true
+unfolding blocks_before
 actual_better other part true false e f g h = rw (e, f) refl
 actual_better other part true true e f g h = absurd (cc)
 actual_better other part false b e f g h = absurd (cc)
 
 -- of two parts one is better, or they are of one visit
-pub better_total : (other part : Ranked) → is_better other part ≡ false → is_better part other ≡ false → other.slot.part.visit.0 ≡ part.slot.part.visit.0
-unfolding is_better
+pub better_total : (other part : Ranked) → blocks_before other part ≡ false → blocks_before part other ≡ false → other.slot.part.visit.0 ≡ part.slot.part.visit.0
+unfolding blocks_before
 better_total other part h k = let same : rank other ≡ rank part = lower_total (rank other) (rank part) refl h k in cc
 
 apart_visits : (airport : AirportParts) (part other : Slot) (minute : ℕ) (rule : Rule) (b : Bool) → (part.part.visit.0 == other.part.visit.0) ≡ b
@@ -204,12 +204,12 @@ both_actual airport other part minute rule true true e f r h k = refl
 both_actual airport other part minute rule true false e f r h k =
     elim (unblocked airport other part h (clash_meets airport other.slot part.slot minute rule r)) [
       | inl actual ↦ absurd (cc)
-      | inr worse ↦ let better : is_better other part ≡ true = actual_better other part true false e f refl refl in absurd (cc)
+      | inr worse ↦ let better : blocks_before other part ≡ true = actual_better other part true false e f refl refl in absurd (cc)
     ]
 both_actual airport other part minute rule false true e f r h k =
     elim (unblocked airport part other k (clash_meets airport part.slot other.slot minute rule (rule_at_sym airport part.slot other.slot minute ∙ r))) [
       | inl actual ↦ absurd (cc)
-      | inr worse ↦ let better : is_better part other ≡ true = actual_better part other true false f e refl refl in absurd (cc)
+      | inr worse ↦ let better : blocks_before part other ≡ true = actual_better part other true false f e refl refl in absurd (cc)
     ]
 both_actual airport other part minute rule false false e f r h k =
     elim (unblocked airport other part h (clash_meets airport other.slot part.slot minute rule r)) [
@@ -246,9 +246,9 @@ settled_sound airport entry visits =
     subst (IsSound airport) (sym are) (stay_sound airport parts (kept_of airport parts) (kept_stay airport parts))
 
 -- if every clash is between two actual parts, none blocks another
-sound_by : (airport : AirportParts) (slots : List Slot) (other part : Ranked) (found : Option Blocking) → IsSound airport slots → Contains slots other.slot
+sound_by : (airport : AirportParts) (slots : List Slot) (other part : Ranked) (found : Option Conflict) → IsSound airport slots → Contains slots other.slot
     → Contains slots part.slot
-    → blocking airport other part ≡ found → found ≡ None
+    → conflict airport other part ≡ found → found ≡ None
 sound_by airport slots other part None sound cq cp is = refl
 sound_by airport slots other part (Some b) sound cq cp is =
     let tells = blocking_tells airport other part b is in
@@ -258,12 +258,12 @@ sound_by airport slots other part (Some b) sound cq cp is =
     absurd (cc)
 
 pub sound_unblocked : (airport : AirportParts) (visits : List Visit) (other part : Ranked) → IsSound airport (slots_of airport visits)
-    → Among other (all_parts_on airport visits) → Among part (all_parts_on airport visits) → blocking airport other part ≡ None
+    → Among other (all_parts_on airport visits) → Among part (all_parts_on airport visits) → conflict airport other part ≡ None
 sound_unblocked airport visits other part sound cq cp =
     let slots : List Slot = slots_of airport visits in
     let parts : List Ranked = all_parts_on airport visits in
     let are : slots_of airport visits ≡ map slot_in parts = slots_are_in airport visits in
-    sound_by airport slots other part (blocking airport other part) sound
+    sound_by airport slots other part (conflict airport other part) sound
     (contained_among slots other.slot (among_along other.slot _ _ (sym are) (map_among slot_in parts other cq)))
     (contained_among slots part.slot (among_along part.slot _ _ (sym are) (map_among slot_in parts part cp))) refl
 
@@ -278,5 +278,5 @@ pub sound_settled : (airport : AirportParts) (entry : ℕ) (visits : List Visit)
 sound_settled airport entry visits sound =
     let parts : List Ranked = all_parts_on airport visits in
     sym (fixed_settled airport entry visits visits
-    (sym (visits_same airport entry parts [] visits (λ part in'. none_given (λ other. blocking airport other part) parts (λ other here. sound_unblocked airport visits other part sound here in'))
+    (sym (visits_same airport entry parts [] visits (λ part in'. none_given (λ other. conflict airport other part) parts (λ other here. sound_unblocked airport visits other part sound here in'))
     ∙ visits_none airport entry visits)))

@@ -8,8 +8,8 @@ use Rattle.visit_book.specs.Numbers.{IsNumbered, visit_at}
 use Rattle.plan_core.specs.Working.{with_visit_once}
 use Rattle.plan_core.proofs.ByNumber.{only}
 use Rattle.plan_core.proofs.Once.{once_only, only_alike, only_none}
-use Rattle.bump_core.specs.declared.ranks.Blocking.{Blocking}
-use Rattle.bump_core.specs.Lists.{is_in, is_touched, touched}
+use Rattle.bump_core.specs.declared.ranks.Conflict.{Conflict}
+use Rattle.bump_core.specs.Lists.{is_in, is_touched, touched_visits}
 
 -- the visit of one more number, if there is one
 pub adds_found : (visits before after : List Visit) (number : VisitNo) (visit : Visit) → IsNumbered visits → visit_at visits number ≡ Some visit
@@ -34,14 +34,14 @@ or_last false false true = refl
 or_last false false false = refl
 
 pub touched_first : (visits before after : List Visit) (changed : VisitNo) → before ≡ []
-    → ((test : ℕ → Bool) → before ≡ only test visits → after ≡ only (λ n. test n || changed.0 == n) visits) → after ≡ touched [] changed visits
+    → ((test : ℕ → Bool) → before ≡ only test visits → after ≡ only (λ n. test n || changed.0 == n) visits) → after ≡ touched_visits [] changed visits
 touched_first visits before after changed empty adds = adds (λ n. false) (empty ∙ none_only visits)
 
 -- the visit of one more blocked part
-pub touched_more : (found : List Blocking) (i : ℕ) (d : Blocking) (changed : VisitNo) (visits before after : List Visit) → i < length found
-    → before ≡ touched (take i found) changed visits
+pub touched_more : (found : List Conflict) (i : ℕ) (d : Conflict) (changed : VisitNo) (visits before after : List Visit) → i < length found
+    → before ≡ touched_visits (take i found) changed visits
     → ((test : ℕ → Bool) → before ≡ only test visits → after ≡ only (λ n. test n || (slice_index_or found i d).blocked.slot.part.visit.0 == n) visits)
-    → after ≡ touched (take (i + 1) found) changed visits
+    → after ≡ touched_visits (take (i + 1) found) changed visits
 touched_more found i d changed visits before after within so_far adds =
     let part : ℕ = (slice_index_or found i d).blocked.slot.part.visit.0 in
     adds (is_touched (take i found) changed) so_far

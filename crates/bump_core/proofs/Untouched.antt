@@ -7,10 +7,10 @@ use Rattle.apron_rules.specs.Clash.{IsSound}
 use Rattle.visit_book.specs.declared.visits.Visit.{Visit}
 use Rattle.visit_book.specs.Numbers.{IsNumbered, with_visit}
 use Rattle.visit_book.specs.Slots.{slots_of}
-use Rattle.bump_core.specs.declared.ranks.Blocking.{Blocking}
+use Rattle.bump_core.specs.declared.ranks.Conflict.{Conflict}
 use Rattle.bump_core.specs.declared.ranks.Ranked.{Ranked}
 use Rattle.bump_core.specs.Near.{meets, others}
-use Rattle.bump_core.specs.Ranks.{all_parts_on, blocking, blocks, is_better, is_free, parts_on}
+use Rattle.bump_core.specs.Ranks.{all_parts_on, blocks, blocks_before, conflict, is_free, parts_on}
 use Rattle.bump_core.specs.Settle.{settle}
 use Rattle.bump_core.proofs.Blockers.{among_along, among_left, among_right}
 use Rattle.bump_core.proofs.Distinct.{any_none}
@@ -28,7 +28,7 @@ kept_among : {X : Type 0} (f : X → Bool) (x : X) (xs : List X) → f x ≡ tru
 kept_among f x [] e h = absurd h
 kept_among f x (y ∷ xs) e h = kept_first f x y xs (f y) refl e (kept_among f x xs e) h
 
-unmet_by : (airport : AirportParts) (other part : Ranked) (found : Option Blocking) → blocking airport other part ≡ found
+unmet_by : (airport : AirportParts) (other part : Ranked) (found : Option Conflict) → conflict airport other part ≡ found
     → meets airport other.slot part.slot ≡ false → is_some found ≡ false
 unmet_by airport other part None is h = refl
 unmet_by airport other part (Some b) is h =
@@ -52,7 +52,7 @@ stays_around airport entry pre post changed part around in' unmet =
     λ other h. elim (among_cases other first (all_parts_on airport (changed ∷ post)) (among_along other _ _ (parts_append airport pre (changed ∷ post)) h)) [
       | inl before ↦ ap is_some (around.sound other part (earlier other before) in')
       | inr rest ↦ elim (among_cases other (parts_on airport changed) last rest) [
-        | inl own ↦ unmet_by airport other part (blocking airport other part) refl (unmet other own)
+        | inl own ↦ unmet_by airport other part (conflict airport other part) refl (unmet other own)
         | inr after ↦ ap is_some (around.sound other part (later other after) in')
       ]
     ] in
@@ -93,7 +93,7 @@ untouched_stays airport entry visits changed part numbered low high sound in' un
 
 better_by : (airport : AirportParts) (visit : Visit) (mine other part : Ranked) (b : Bool) → mine.slot.actual ≡ b → Contains (parts_on airport visit) mine
     → Contains (parts_on airport visit) part
-    → (other.slot.part.visit.0 ≡ visit.number.0 → ⊥) → part.slot.actual ≡ false → is_better other part ≡ true → blocks airport mine other ≡ true → b ≡ true
+    → (other.slot.part.visit.0 ≡ visit.number.0 → ⊥) → part.slot.actual ≡ false → blocks_before other part ≡ true → blocks airport mine other ≡ true → b ≡ true
 better_by airport visit mine other part true e cm cp apart planned better h = refl
 better_by airport visit mine other part false e cm cp apart planned better h =
     absurd (apart (between_parts visit mine other part (part_of airport visit mine (among_contained (parts_on airport visit) mine cm))
@@ -103,7 +103,7 @@ better_by airport visit mine other part false e cm cp apart planned better h =
 -- visit
 pub better_lose_to_actual : (airport : AirportParts) (visit : Visit) (mine other part : Ranked) → Contains (parts_on airport visit) mine
     → Contains (parts_on airport visit) part
-    → (other.slot.part.visit.0 ≡ visit.number.0 → ⊥) → part.slot.actual ≡ false → is_better other part ≡ true → blocks airport mine other ≡ true
+    → (other.slot.part.visit.0 ≡ visit.number.0 → ⊥) → part.slot.actual ≡ false → blocks_before other part ≡ true → blocks airport mine other ≡ true
     → mine.slot.actual ≡ true
 better_lose_to_actual airport visit mine other part cm cp apart planned better h =
     better_by airport visit mine other part mine.slot.actual refl cm cp apart planned better h

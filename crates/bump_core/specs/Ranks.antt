@@ -8,15 +8,15 @@ use Rattle.clash_check.specs.Meetings.{meeting}
 use Rattle.visit_book.specs.declared.visits.Visit.{Visit}
 use Rattle.visit_book.specs.Slots.{slots_of_visit}
 use Rattle.bump_core.specs.declared.ranks.Ranked.{Ranked}
-use Rattle.bump_core.specs.declared.ranks.Blocking.{Blocking}
+use Rattle.bump_core.specs.declared.ranks.Conflict.{Conflict}
 
 -- the slot of a part of the visit, with what ranks it
-abbrev pub ranked : Visit → Slot → Ranked
-ranked visit slot = record { class = visit.class; on = visit.on; slot = slot }
+abbrev pub ranked_part : Visit → Slot → Ranked
+ranked_part visit slot = record { class = visit.class; on = visit.on; slot = slot }
 
 -- the parts of a visit that are on stands
 abbrev pub parts_on : AirportParts → Visit → List Ranked
-parts_on airport visit = map (ranked visit) (slots_of_visit airport visit)
+parts_on airport visit = map (ranked_part visit) (slots_of_visit airport visit)
 
 -- the parts of all visits that are on stands
 abbrev pub all_parts_on : AirportParts → List Visit → List Ranked
@@ -37,23 +37,23 @@ abbrev pub rank : Ranked → List ℕ
 rank part = (if part.slot.actual then 0 else 1) ∷ part_rank part.class part.on part.slot.part
 
 -- a part of a lower rank is better
-unfoldable pub is_better : Ranked → Ranked → Bool
-is_better part other = is_lower (rank part) (rank other)
+unfoldable pub blocks_before : Ranked → Ranked → Bool
+blocks_before part other = is_lower (rank part) (rank other)
 
 -- the second part is planned, and the first is better
 abbrev pub may_block : Ranked → Ranked → Bool
-may_block part other = not other.slot.actual && is_better part other
+may_block part other = not other.slot.actual && blocks_before part other
 
 -- a planned part is blocked by a better one with which it clashes
-unfoldable pub blocking : AirportParts → Ranked → Ranked → Option Blocking
-blocking airport part other =
+unfoldable pub conflict : AirportParts → Ranked → Ranked → Option Conflict
+conflict airport part other =
     if may_block part other
     then option_map (λ at. record { blocker = part; blocked = other; minute = at.minute; rule = at.rule }) (meeting airport part.slot other.slot)
     else None
 
 -- the first part blocks the second
 abbrev pub blocks : AirportParts → Ranked → Ranked → Bool
-blocks airport part other = is_some (blocking airport part other)
+blocks airport part other = is_some (conflict airport part other)
 
 -- none of these blocks it
 abbrev pub is_free : {X : Type 0} → (X → X → Bool) → List X → X → Bool

@@ -5,7 +5,7 @@ use Rattle.clash_check.specs.Meetings.{meeting}
 use Rattle.visit_book.specs.declared.visits.Bump.{Bump}
 use Rattle.bump_core.specs.declared.ranks.Ranked.{Ranked}
 use Rattle.bump_core.specs.Near.{meets}
-use Rattle.bump_core.specs.Ranks.{is_better}
+use Rattle.bump_core.specs.Ranks.{blocks_before}
 
 -- the record names a part that keeps its stand, the first minute at which it clashes with the part
 -- that lost its own, and the rule of that minute; no part that keeps its stand and is better than
@@ -15,6 +15,6 @@ pub record IsRecordOf (airport : AirportParts) (kept : List Ranked) (lost : Rank
   pub keeps : Contains kept blocker
   pub named : blocker.slot.part ≡ bump.blocker
   pub stand : bump.stand ≡ lost.slot.stand
-  pub better : is_better blocker lost ≡ true
+  pub better : blocks_before blocker lost ≡ true
   pub first : meeting airport blocker.slot lost.slot ≡ Some (record { minute = bump.minute; rule = bump.rule })
-  pub best : (other : Ranked) → Contains kept other → is_better other blocker ≡ true → meets airport other.slot lost.slot ≡ false
+  pub best : (other : Ranked) → Contains kept other → blocks_before other blocker ≡ true → meets airport other.slot lost.slot ≡ false

@@ -9,25 +9,25 @@ use Rattle.visit_book.specs.declared.visits.Place.TheVariants.{Unplaced, Planned
 use Rattle.visit_book.specs.declared.visits.Visit.{Visit}
 use Rattle.visit_book.specs.Slots.{slot_on}
 use Rattle.bump_core.specs.declared.ranks.Ranked.{Ranked}
-use Rattle.bump_core.specs.declared.ranks.Blocking.{Blocking}
-use Rattle.bump_core.specs.Ranks.{all_parts_on, blocking, is_better, kept_of, ranked}
+use Rattle.bump_core.specs.declared.ranks.Conflict.{Conflict}
+use Rattle.bump_core.specs.Ranks.{all_parts_on, blocks_before, conflict, kept_of, ranked_part}
 
 -- the one whose blocker is better
-abbrev pub with_better : Option Blocking → Blocking → Option Blocking
+abbrev pub with_better : Option Conflict → Conflict → Option Conflict
 with_better None found = Some found
-with_better (Some best) found = if is_better found.blocker best.blocker then Some found else Some best
+with_better (Some best) found = if blocks_before found.blocker best.blocker then Some found else Some best
 
 -- the one with the best blocker
-abbrev pub best : List Blocking → Option Blocking
-best blockings = fold with_better None blockings
+abbrev pub best : List Conflict → Option Conflict
+best conflicts = fold with_better None conflicts
 
 -- what blocks a part, among the parts that are kept
-abbrev pub blockings : AirportParts → List Ranked → Ranked → List Blocking
-blockings airport kept part = filter_map (λ other. blocking airport other part) kept
+abbrev pub conflicts : AirportParts → List Ranked → Ranked → List Conflict
+conflicts airport kept part = filter_map (λ other. conflict airport other part) kept
 
 -- the place of a part that had this stand: what blocks it takes the stand, and the record says so
 -- with the entry's number
-abbrev pub place_after : ℕ → StandNo → Option Blocking → Place
+abbrev pub place_after : ℕ → StandNo → Option Conflict → Place
 place_after entry stand None = Planned stand
 place_after entry stand (Some found) =
     Unplaced (Some (record { stand = stand; entry = entry; blocker = found.blocker.slot.part; minute = found.minute; rule = found.rule }))
@@ -38,7 +38,7 @@ abbrev pub settled_place : AirportParts → ℕ → List Ranked → Visit → �
 settled_place airport entry kept visit number part (Unplaced bump) = Unplaced bump
 settled_place airport entry kept visit number part (Actual stand) = Actual stand
 settled_place airport entry kept visit number part (Planned stand) =
-    place_after entry stand (best (blockings airport kept (ranked visit (slot_on airport visit number part stand))))
+    place_after entry stand (best (conflicts airport kept (ranked_part visit (slot_on airport visit number part stand))))
 
 -- the parts of the visit, the first of which has this number
 abbrev pub settled_parts : AirportParts → ℕ → List Ranked → Visit → ℕ → List Part → List Part

@@ -6,7 +6,7 @@ use Rattle.stand_index.specs.Slots.{StandSlots}
 use Rattle.visit_book.specs.declared.visits.Visit.{Visit}
 use Rattle.visit_book.specs.Numbers.{with_visit}
 use Rattle.visit_book.specs.Slots.{slots_of_visit}
-use Rattle.plan_core.specs.Moving.{IsOneOf}
+use Rattle.plan_core.specs.Moving.{IsChangedCopy}
 use Rattle.plan_core.specs.PlanState.{IsVisitAt, PlanState}
 use Rattle.bump_core.specs.Bumped.{bumped_of}
 use Rattle.bump_core.specs.Settle.{settle}
@@ -29,7 +29,7 @@ with_settled plan changed = record {
 -- data
 pub record IsChanged (plan : PlanState) (visit : Visit) : Type 0 where
   pub visit_at : IsVisitAt plan.airport plan.version visit
-  pub of : IsOneOf plan.visits visit
+  pub of : IsChangedCopy plan.visits visit
 
 -- the most steps of settling: those of looking for the clashes of each part of the changed visit
 -- that is on a stand, and none if no visit is changed

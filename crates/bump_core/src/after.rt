@@ -1,18 +1,18 @@
 // The visits as they will be, by what blocks their parts.
 ghost use Rattle.std.specs.Prelude.{◌≡◌, ◌≤◌, ◌∷◌, ◌||◌, ◌==◌, [], ℕ, Bool, IfOk, OnOk, filter, fold, length, map};
 ghost use Rattle.visit_book.specs.Numbers.{IsNumbered};
-ghost use Rattle.bump_core.specs.Lists.{after_by, changes_by, is_of, part_by, touched, visit_by};
+ghost use Rattle.bump_core.specs.Lists.{after_by, changes_by, is_of, part_by, touched_visits, visit_by};
 ghost use Rattle.bump_core.specs.Settle.{best, place_after, with_better};
 
-use crate::lists::{is_better, is_of};
-use crate::ranks::Blocking;
+use crate::lists::{blocks_before, is_of};
+use crate::ranks::Conflict;
 use apron_base::{Memory, PartId, StandNo, VisitNo};
 use plan_core::add_visit_once;
 use std::alloc::Global;
 use visit_book::{Bump, Part, Place, Visit, visit_at};
 
 /// The visit by what blocks its parts.
-pub(crate) fn visit_by(entry: u32, blockings: &[Blocking], visit: &Visit) -> Visit
+pub(crate) fn visit_by(entry: u32, blockings: &[Conflict], visit: &Visit) -> Visit
     ensures is { result ≡ visit_by entry blockings.now visit.now }
 {
     let own = visit.parts.as_slice();
@@ -28,7 +28,7 @@ pub(crate) fn visit_by(entry: u32, blockings: &[Blocking], visit: &Visit) -> Vis
     Visit { parts, ..*visit }
 }
 
-fn part_by(entry: u32, blockings: &[Blocking], id: PartId, part: &Part) -> Part
+fn part_by(entry: u32, blockings: &[Conflict], id: PartId, part: &Part) -> Part
     ensures is { result ≡ part_by entry blockings.now id part.now }
 {
     match part.place {
@@ -40,7 +40,7 @@ fn part_by(entry: u32, blockings: &[Blocking], id: PartId, part: &Part) -> Part
     }
 }
 
-fn place_after(entry: u32, stand: StandNo, blocking: Option<Blocking>) -> Place
+fn place_after(entry: u32, stand: StandNo, blocking: Option<Conflict>) -> Place
     ensures is { result ≡ place_after entry stand blocking }
 {
     match blocking {
@@ -56,7 +56,7 @@ fn place_after(entry: u32, stand: StandNo, blocking: Option<Blocking>) -> Place
 }
 
 // What blocks the part with the best blocker.
-fn best_of(blockings: &[Blocking], id: PartId) -> Option<Blocking>
+fn best_of(blockings: &[Conflict], id: PartId) -> Option<Conflict>
     ensures is { result ≡ best (filter (is_of id) blockings.now) }
 {
     let mut best = None;
@@ -66,7 +66,7 @@ fn best_of(blockings: &[Blocking], id: PartId) -> Option<Blocking>
     best
 }
 
-fn better_of(best: Option<Blocking>, blocking: &Blocking, id: PartId) -> Option<Blocking>
+fn better_of(best: Option<Conflict>, blocking: &Conflict, id: PartId) -> Option<Conflict>
     ensures is { result ≡ fold with_better best (filter (is_of id) (blocking.now ∷ [])) }
 {
     if !is_of(id, blocking) {
@@ -74,7 +74,7 @@ fn better_of(best: Option<Blocking>, blocking: &Blocking, id: PartId) -> Option<
     }
     match best {
         Some(best) => {
-            if is_better(&blocking.blocker, &best.blocker) {
+            if blocks_before(&blocking.blocker, &best.blocker) {
                 Some(*blocking)
             } else {
                 Some(best)
@@ -89,26 +89,26 @@ pub(crate) fn changes_by(
     alloc: Global,
     entry: u32,
     new: &Visit,
-    blockings: &[Blocking],
+    blockings: &[Conflict],
     visits: &[Visit],
 ) -> Result<Vec<Visit>, Memory>
     requires numbered { IsNumbered visits.now }
     ensures ok { IfOk result (λ changes. changes.items ≡ changes_by entry new.now blockings.now visits.now) }
 {
-    let mut changes = touched(alloc, blockings, new.number, visits)?;
+    let mut changes = touched_visits(alloc, blockings, new.number, visits)?;
     put_after(entry, new, blockings, changes.as_mut_slice());
     Ok(changes)
 }
 
 // The visits that change, as they are, in order of number.
-fn touched(
+fn touched_visits(
     alloc: Global,
-    blockings: &[Blocking],
+    blockings: &[Conflict],
     changed: VisitNo,
     visits: &[Visit],
 ) -> Result<Vec<Visit>, Memory>
     requires numbered { IsNumbered visits.now }
-    ensures ok { IfOk result (λ some. some.items ≡ touched blockings.now changed visits.now) }
+    ensures ok { IfOk result (λ some. some.items ≡ touched_visits blockings.now changed visits.now) }
 {
     let mut some = Vec::new(alloc);
     add_numbered(&mut some, visits, changed)?;
@@ -131,7 +131,7 @@ fn add_numbered(some: &mut Vec<Visit>, visits: &[Visit], number: VisitNo) -> Res
 }
 
 // Turns each of the visits into what it will be.
-fn put_after(entry: u32, new: &Visit, blockings: &[Blocking], visits: &mut [Visit])
+fn put_after(entry: u32, new: &Visit, blockings: &[Conflict], visits: &mut [Visit])
     ensures is { visits.new ≡ map (after_by entry new.now blockings.now) visits.old }
 {
     for visit in visits {
@@ -139,7 +139,7 @@ fn put_after(entry: u32, new: &Visit, blockings: &[Blocking], visits: &mut [Visi
     }
 }
 
-fn after_by(entry: u32, new: &Visit, blockings: &[Blocking], visit: &Visit) -> Visit
+fn after_by(entry: u32, new: &Visit, blockings: &[Conflict], visit: &Visit) -> Visit
     ensures is { result ≡ after_by entry new.now blockings.now visit.now }
 {
     if visit.number.0 == new.number.0 {

@@ -28,12 +28,12 @@ fn push_bumped(parts: &mut Listed<PartId>, entry: u32, visit: &Visit) -> Result<
             visit: visit.number,
             part: index as u8 + 1,
         };
-        push_if(parts, id, is_bumped_by(entry, &own[index].place))?;
+        push_part_if(parts, id, is_bumped_by(entry, &own[index].place))?;
     }
     Ok(())
 }
 
-fn push_if(parts: &mut Listed<PartId>, id: PartId, bumped: bool) -> Result<(), Memory>
+fn push_part_if(parts: &mut Listed<PartId>, id: PartId, bumped: bool) -> Result<(), Memory>
     ensures ok { OnOk result (parts.new ≡ parts.old ++ (if bumped then id ∷ [] else [])) }
 {
     if bumped {

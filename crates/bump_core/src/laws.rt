@@ -14,7 +14,7 @@ ghost use Rattle.plan_core.specs.PlanState.{IsPlan, PlanState, version_limit};
 ghost use Rattle.bump_core.specs.declared.ranks.Ranked.{Ranked};
 ghost use Rattle.bump_core.specs.Kept.{StaysBut};
 ghost use Rattle.bump_core.specs.Near.{meets, others, settled_near};
-ghost use Rattle.bump_core.specs.Ranks.{Stay, all_parts_on, blocks, is_better, kept_of, parts_on, ranked};
+ghost use Rattle.bump_core.specs.Ranks.{Stay, all_parts_on, blocks, blocks_before, kept_of, parts_on, ranked_part};
 ghost use Rattle.bump_core.specs.Records.{IsRecordOf};
 ghost use Rattle.bump_core.specs.Settle.{settle, settled_place, settled_visit};
 ghost use Rattle.bump_core.specs.Settled.{IsChanged, with_changed, with_settled};
@@ -74,7 +74,7 @@ pub fn changed_visit_decides()
         → Contains (all_parts_on airport (others visits changed)) part → All (λ own. meets airport own.slot part.slot ≡ false) (parts_on airport changed)
         → Contains (all_parts_on airport (settle airport entry (with_visit visits changed))) part }
     ensures better { (airport : AirportParts) (visit : Visit) (own part other : Ranked) → Contains (parts_on airport visit) own → Contains (parts_on airport visit) other
-        → (part.slot.part.visit.0 ≡ visit.number.0 → ⊥) → other.slot.actual ≡ false → is_better part other ≡ true → blocks airport own part ≡ true
+        → (part.slot.part.visit.0 ≡ visit.number.0 → ⊥) → other.slot.actual ≡ false → blocks_before part other ≡ true → blocks airport own part ≡ true
         → own.slot.actual ≡ true }
 {}
 
@@ -86,5 +86,5 @@ pub fn record_names_the_best_blocker()
     ensures names { (airport : AirportParts) (entry : ℕ) (visits : List Visit) (visit : Visit) (number : ℕ) (part : Part) (stand : StandNo) (bump : Bump)
         → settled_place airport entry (kept_of airport (all_parts_on airport visits)) visit number part (Planned stand)
         ≡ Unplaced (Some bump)
-        → IsRecordOf airport (all_parts_on airport (settle airport entry visits)) (ranked visit (slot_on airport visit number part stand)) bump }
+        → IsRecordOf airport (all_parts_on airport (settle airport entry visits)) (ranked_part visit (slot_on airport visit number part stand)) bump }
 {}

@@ -2,10 +2,10 @@
 ghost use Rattle.std.specs.Prelude.{◌≡◌, ◌++◌, ◌∷◌, [], All, IfOk, OnOk, filter, filter_map, map, not, option_to_list};
 ghost use Rattle.visit_book.specs.Numbers.{IsNumbered};
 ghost use Rattle.visit_book.specs.WellFormed.{IsWellFormed};
-ghost use Rattle.bump_core.specs.Lists.{against_others, against_own, by_other, by_own, is_blocked, is_of, is_same, is_taken, met_at, part_called, part_on, takes};
-ghost use Rattle.bump_core.specs.Ranks.{is_better, may_block, parts_on, ranked};
+ghost use Rattle.bump_core.specs.Lists.{against_others, against_own, by_other, by_own, is_blocked, is_of, is_same_part, is_taken, kept_clash_at, part_called, part_on, takes};
+ghost use Rattle.bump_core.specs.Ranks.{blocks_before, may_block, parts_on, ranked_part};
 
-use crate::ranks::{Blocking, Met, Ranked};
+use crate::ranks::{Conflict, KeptClash, Ranked};
 use apron_base::{Listed, Memory, PartId, Slot};
 use apron_rules::{Airport, Clash};
 use std::alloc::Global;
@@ -13,8 +13,8 @@ use visit_book::{Visit, slot_of, visit_at};
 
 /// Whether a part ranks before another: an actual one before a planned one, then by class, by the
 /// scheduled minute on block, by visit and by part.
-pub(crate) fn is_better(part: &Ranked, other: &Ranked) -> bool
-    ensures is { result ≡ is_better part.now other.now }
+pub(crate) fn blocks_before(part: &Ranked, other: &Ranked) -> bool
+    ensures is { result ≡ blocks_before part.now other.now }
 {
     if part.slot.actual != other.slot.actual {
         part.slot.actual
@@ -33,11 +33,11 @@ pub(crate) fn is_better(part: &Ranked, other: &Ranked) -> bool
 fn may_block(part: &Ranked, other: &Ranked) -> bool
     ensures is { result ≡ may_block part.now other.now }
 {
-    !other.slot.actual && is_better(part, other)
+    !other.slot.actual && blocks_before(part, other)
 }
 
-fn is_same(part: PartId, other: PartId) -> bool
-    ensures is { result ≡ is_same part other }
+fn is_same_part(part: PartId, other: PartId) -> bool
+    ensures is { result ≡ is_same_part part other }
 {
     part.visit.0 == other.visit.0 && part.part == other.part
 }
@@ -54,7 +54,7 @@ pub(crate) fn parts_on(
     let mut found = Listed::new(alloc);
     let parts = visit.parts.as_slice();
     for index in 0..parts.len() {
-        push_part(
+        push_ranked(
             &mut found,
             visit,
             slot_of(airport, visit, index as u8 + 1, &parts[index]),
@@ -64,17 +64,17 @@ pub(crate) fn parts_on(
 }
 
 // Adds the part in this slot at the end, if there is one.
-fn push_part(found: &mut Listed<Ranked>, visit: &Visit, slot: Option<Slot>) -> Result<(), Memory>
-    ensures ok { OnOk result (found.new ≡ found.old ++ map (ranked visit.now) (option_to_list slot)) }
+fn push_ranked(found: &mut Listed<Ranked>, visit: &Visit, slot: Option<Slot>) -> Result<(), Memory>
+    ensures ok { OnOk result (found.new ≡ found.old ++ map (ranked_part visit.now) (option_to_list slot)) }
 {
     match slot {
-        Some(slot) => found.push(ranked(visit, slot)),
+        Some(slot) => found.push(ranked_part(visit, slot)),
         None => Ok(()),
     }
 }
 
-fn ranked(visit: &Visit, slot: Slot) -> Ranked
-    ensures is { result ≡ ranked visit.now slot }
+fn ranked_part(visit: &Visit, slot: Slot) -> Ranked
+    ensures is { result ≡ ranked_part visit.now slot }
 {
     Ranked {
         class: visit.class,
@@ -90,7 +90,7 @@ fn part_on(airport: &Airport, visit: &Visit, number: u8) -> Option<Ranked>
 {
     let part = visit.parts.get(number)?;
     let slot = slot_of(airport, visit, number, &part)?;
-    Some(ranked(visit, slot))
+    Some(ranked_part(visit, slot))
 }
 
 // The part of these numbers, if it is on a stand.
@@ -104,18 +104,18 @@ fn part_called(airport: &Airport, visits: &[Visit], id: PartId) -> Option<Ranked
 }
 
 /// The clash of an own part with another, from the clash of their slots.
-pub(crate) fn met_at(
+pub(crate) fn kept_clash_at(
     airport: &Airport,
     visits: &[Visit],
     own: &Ranked,
     clash: &Clash,
-) -> Option<Met>
+) -> Option<KeptClash>
     requires numbered { IsNumbered visits.now }
     requires each { All (IsWellFormed airport.now) visits.now }
-    ensures is { result ≡ met_at airport.now visits.now own.now clash.now }
+    ensures is { result ≡ kept_clash_at airport.now visits.now own.now clash.now }
 {
     match part_called(airport, visits, clash.b) {
-        Some(other) => Some(Met {
+        Some(other) => Some(KeptClash {
             own: *own,
             other,
             minute: clash.minute,
@@ -125,11 +125,11 @@ pub(crate) fn met_at(
     }
 }
 
-fn by_other(met: &Met) -> Option<Blocking>
+fn by_other(met: &KeptClash) -> Option<Conflict>
     ensures is { result ≡ by_other met.now }
 {
     if may_block(&met.other, &met.own) {
-        Some(Blocking {
+        Some(Conflict {
             blocker: met.other,
             blocked: met.own,
             minute: met.minute,
@@ -140,11 +140,11 @@ fn by_other(met: &Met) -> Option<Blocking>
     }
 }
 
-fn by_own(met: &Met) -> Option<Blocking>
+fn by_own(met: &KeptClash) -> Option<Conflict>
     ensures is { result ≡ by_own met.now }
 {
     if may_block(&met.own, &met.other) {
-        Some(Blocking {
+        Some(Conflict {
             blocker: met.own,
             blocked: met.other,
             minute: met.minute,
@@ -155,22 +155,22 @@ fn by_own(met: &Met) -> Option<Blocking>
     }
 }
 
-fn takes(met: &Met, other: &Ranked) -> bool
+fn takes(met: &KeptClash, other: &Ranked) -> bool
     ensures is { result ≡ takes other.now met.now }
 {
     met.own.slot.actual
         && may_block(&met.own, &met.other)
-        && is_same(other.slot.part, met.other.slot.part)
+        && is_same_part(other.slot.part, met.other.slot.part)
 }
 
-fn is_taken(mets: &[Met], other: &Ranked) -> bool
+fn is_taken(mets: &[KeptClash], other: &Ranked) -> bool
     ensures is { result ≡ is_taken mets.now other.now }
 {
     mets.iter().any(|met| takes(met, other))
 }
 
 /// What blocks own parts, of those that no actual own part blocks.
-pub(crate) fn against_own(alloc: Global, mets: &[Met]) -> Result<Listed<Blocking>, Memory>
+pub(crate) fn against_own(alloc: Global, mets: &[KeptClash]) -> Result<Listed<Conflict>, Memory>
     ensures ok { IfOk result (λ blockings. blockings ≡ against_own mets.now) }
 {
     let taking = by_actual(alloc, mets)?;
@@ -182,7 +182,7 @@ pub(crate) fn against_own(alloc: Global, mets: &[Met]) -> Result<Listed<Blocking
 }
 
 // The clashes of actual own parts.
-fn by_actual(alloc: Global, mets: &[Met]) -> Result<Listed<Met>, Memory>
+fn by_actual(alloc: Global, mets: &[KeptClash]) -> Result<Listed<KeptClash>, Memory>
     ensures ok { IfOk result (λ found. found ≡ filter (λ met. met.own.slot.actual) mets.now) }
 {
     let mut found = Listed::new(alloc);
@@ -196,9 +196,9 @@ fn by_actual(alloc: Global, mets: &[Met]) -> Result<Listed<Met>, Memory>
 
 // Adds what blocks the own part of a clash, unless one of these takes the other part.
 fn push_unless_taken(
-    blockings: &mut Listed<Blocking>,
-    mets: &[Met],
-    met: &Met,
+    blockings: &mut Listed<Conflict>,
+    mets: &[KeptClash],
+    met: &KeptClash,
 ) -> Result<(), Memory>
     ensures ok { OnOk result (blockings.new ≡ blockings.old ++ filter_map by_other (filter (λ met. not (is_taken mets.now met.other)) (met.now ∷ []))) }
 {
@@ -206,11 +206,11 @@ fn push_unless_taken(
     if blocking.is_some() && is_taken(mets, &met.other) {
         Ok(())
     } else {
-        push_blocking(blockings, blocking)
+        push_conflict(blockings, blocking)
     }
 }
 
-fn push_blocking(blockings: &mut Listed<Blocking>, blocking: Option<Blocking>) -> Result<(), Memory>
+fn push_conflict(blockings: &mut Listed<Conflict>, blocking: Option<Conflict>) -> Result<(), Memory>
     ensures ok { OnOk result (blockings.new ≡ blockings.old ++ option_to_list blocking) }
 {
     match blocking {
@@ -220,13 +220,13 @@ fn push_blocking(blockings: &mut Listed<Blocking>, blocking: Option<Blocking>) -
 }
 
 /// Whether it is the part that is blocked.
-pub(crate) fn is_of(id: PartId, blocking: &Blocking) -> bool
+pub(crate) fn is_of(id: PartId, blocking: &Conflict) -> bool
     ensures is { result ≡ is_of id blocking.now }
 {
-    is_same(id, blocking.blocked.slot.part)
+    is_same_part(id, blocking.blocked.slot.part)
 }
 
-fn is_blocked(blockings: &[Blocking], id: PartId) -> bool
+fn is_blocked(blockings: &[Conflict], id: PartId) -> bool
     ensures is { result ≡ is_blocked blockings.now id }
 {
     blockings.iter().any(|blocking| is_of(id, blocking))
@@ -235,9 +235,9 @@ fn is_blocked(blockings: &[Blocking], id: PartId) -> bool
 /// What own parts block, of those that nothing blocks.
 pub(crate) fn against_others(
     alloc: Global,
-    mets: &[Met],
-    own: &[Blocking],
-) -> Result<Listed<Blocking>, Memory>
+    mets: &[KeptClash],
+    own: &[Conflict],
+) -> Result<Listed<Conflict>, Memory>
     ensures ok { IfOk result (λ blockings. blockings ≡ against_others mets.now own.now) }
 {
     let mut blockings = Listed::new(alloc);
@@ -248,9 +248,9 @@ pub(crate) fn against_others(
 }
 
 fn push_unless_blocked(
-    blockings: &mut Listed<Blocking>,
-    own: &[Blocking],
-    met: &Met,
+    blockings: &mut Listed<Conflict>,
+    own: &[Conflict],
+    met: &KeptClash,
 ) -> Result<(), Memory>
     ensures ok { OnOk result (blockings.new ≡ blockings.old ++ filter_map by_own (filter (λ met. not (is_blocked own.now met.own.slot.part)) (met.now ∷ []))) }
 {
@@ -258,6 +258,6 @@ fn push_unless_blocked(
     if blocking.is_some() && is_blocked(own, met.own.slot.part) {
         Ok(())
     } else {
-        push_blocking(blockings, blocking)
+        push_conflict(blockings, blocking)
     }
 }

@@ -13,7 +13,7 @@ pub struct Ranked {
 /// A planned part, a better one that it clashes with, and the first minute and the rule of their
 /// clash.
 #[derive(Clone, Copy, Debug)]
-pub struct Blocking {
+pub struct Conflict {
     pub blocker: Ranked,
     pub blocked: Ranked,
     pub minute: Minute,
@@ -23,7 +23,7 @@ pub struct Blocking {
 /// A part of the changed visit and another part that it clashes with, with the first minute and the
 /// rule of their clash.
 #[derive(Clone, Copy, Debug)]
-pub struct Met {
+pub struct KeptClash {
     pub own: Ranked,
     pub other: Ranked,
     pub minute: Minute,

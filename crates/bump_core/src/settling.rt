@@ -5,19 +5,19 @@ ghost use Rattle.clash_check.specs.Clear.{IsClear};
 ghost use Rattle.clash_check.specs.Indexed.{all_slots};
 ghost use Rattle.clash_check.specs.Meetings.{by_part};
 ghost use Rattle.clash_check.specs.Steps.{steps_near};
-ghost use Rattle.plan_core.specs.PlanState.{IsInstallable, installed, version_limit};
+ghost use Rattle.plan_core.specs.PlanState.{IsInstallable, plan_after_change, version_limit};
 ghost use Rattle.visit_book.specs.Numbers.{IsNumbered};
 ghost use Rattle.visit_book.specs.Slots.{slots_of, slots_of_visit};
 ghost use Rattle.visit_book.specs.WellFormed.{IsWellFormed};
 ghost use Rattle.bump_core.specs.Bumped.{bumped_by};
 ghost use Rattle.bump_core.specs.Kept.{AreChanges};
-ghost use Rattle.bump_core.specs.Lists.{changes_near, met_at, met_by, mets_of};
+ghost use Rattle.bump_core.specs.Lists.{changes_near, kept_clash_at, kept_clashes, kept_clashes_of_part};
 ghost use Rattle.bump_core.specs.Ranks.{all_parts_on};
 ghost use Rattle.bump_core.specs.Settled.{IsChanged, IsChangedBy, settle_steps, with_settled};
 
 use crate::after::{changes_by, visit_by};
-use crate::lists::{against_others, against_own, met_at, parts_on};
-use crate::ranks::{Met, Ranked};
+use crate::lists::{against_others, against_own, kept_clash_at, parts_on};
+use crate::ranks::{KeptClash, Ranked};
 use apron_base::{Listed, Memory, Steps};
 use apron_rules::{Airport, Clash};
 use clash_check::clashes_of;
@@ -39,7 +39,7 @@ pub fn settle<L: Ledger>(
 ) -> Result<Change, Memory>
     requires airport { airport.now ≡ plan.now.plan.airport }
     requires changed { IfSome changed (λ visit. IsChanged plan.now.plan visit.now) }
-    ensures settled { IfOk result (λ change. installed plan.now.plan change ≡ with_settled plan.now.plan (option_map (λ visit. visit.now) changed.entry)) }
+    ensures settled { IfOk result (λ change. plan_after_change plan.now.plan change ≡ with_settled plan.now.plan (option_map (λ visit. visit.now) changed.entry)) }
     ensures fits { IfOk result (λ change. plan.now.plan.version + 1 < version_limit → IsInstallable plan.now.plan change) }
     ensures changes { IfOk result (λ change. All (IsChangedBy (plan.now.plan.version + 1) (option_map (λ visit. visit.now) changed.entry)) change.visits) }
     ensures steps { steps.new ≤ steps.old + settle_steps plan.now.plan.airport plan.now.index (option_map (λ visit. visit.now) changed.entry) }
@@ -96,7 +96,7 @@ fn changes_near<L: Ledger>(
     ensures ok { IfOk result (λ changes. changes.items ≡ changes_near airport.now entry visits.now changed.now) }
     ensures steps { steps.new ≤ steps.old + sum_by (steps_near airport.now index.now) (slots_of_visit airport.now changed.now) }
 {
-    let mets = mets_of(alloc, airport, visits, index, changed, steps)?;
+    let mets = kept_clashes(alloc, airport, visits, index, changed, steps)?;
     let own = against_own(alloc, mets.as_slice())?;
     let others = against_others(alloc, mets.as_slice(), own.as_slice())?;
     let new = visit_by(entry, own.as_slice(), changed);
@@ -105,36 +105,36 @@ fn changes_near<L: Ledger>(
 
 // The clashes of the parts of the changed visit: `clashes_of` is called once for each part that is
 // on a stand.
-fn mets_of<L: Ledger>(
+fn kept_clashes<L: Ledger>(
     alloc: Global,
     airport: &Airport,
     visits: &[Visit],
     index: &StandIndex,
     changed: &Visit,
     steps: &mut Steps<L>,
-) -> Result<Listed<Met>, Memory>
+) -> Result<Listed<KeptClash>, Memory>
     requires each { All (IsWellFormed airport.now) visits.now }
     requires numbered { IsNumbered visits.now }
     requires clear { IsClear airport.now index.now [] }
     requires ordered { by_part (all_slots index.now) ≡ slots_of airport.now visits.now }
     requires valid { IsWellFormed airport.now changed.now }
-    ensures ok { IfOk result (λ mets. mets ≡ mets_of airport.now visits.now changed.now) }
+    ensures ok { IfOk result (λ mets. mets ≡ kept_clashes airport.now visits.now changed.now) }
     ensures steps { steps.new ≤ steps.old + sum_by (steps_near airport.now index.now) (slots_of_visit airport.now changed.now) }
 {
     let owns = parts_on(alloc, airport, changed)?;
     let mut mets = Listed::new(alloc);
     for own in owns.as_slice() {
-        push_met_by(alloc, airport, visits, index, &mut mets, own, steps)?;
+        push_kept_clashes_of(alloc, airport, visits, index, &mut mets, own, steps)?;
     }
     Ok(mets)
 }
 
-fn push_met_by<L: Ledger>(
+fn push_kept_clashes_of<L: Ledger>(
     alloc: Global,
     airport: &Airport,
     visits: &[Visit],
     index: &StandIndex,
-    mets: &mut Listed<Met>,
+    mets: &mut Listed<KeptClash>,
     own: &Ranked,
     steps: &mut Steps<L>,
 ) -> Result<(), Memory>
@@ -143,31 +143,31 @@ fn push_met_by<L: Ledger>(
     requires clear { IsClear airport.now index.now [] }
     requires ordered { by_part (all_slots index.now) ≡ slots_of airport.now visits.now }
     requires own { IsSlotOf airport.now own.now.slot }
-    ensures ok { OnOk result (mets.new ≡ mets.old ++ met_by airport.now (all_parts_on airport.now visits.now) own.now) }
+    ensures ok { OnOk result (mets.new ≡ mets.old ++ kept_clashes_of_part airport.now (all_parts_on airport.now visits.now) own.now) }
     ensures steps { steps.new ≤ steps.old + steps_near airport.now index.now own.now.slot }
 {
     let clashes = clashes_of(alloc, airport, index, &own.slot, steps)?;
-    push_all_met(airport, visits, mets, own, clashes.as_slice())
+    push_kept_clashes(airport, visits, mets, own, clashes.as_slice())
 }
 
-fn push_all_met(
+fn push_kept_clashes(
     airport: &Airport,
     visits: &[Visit],
-    mets: &mut Listed<Met>,
+    mets: &mut Listed<KeptClash>,
     own: &Ranked,
     clashes: &[Clash],
 ) -> Result<(), Memory>
     requires each { All (IsWellFormed airport.now) visits.now }
     requires numbered { IsNumbered visits.now }
-    ensures ok { OnOk result (mets.new ≡ mets.old ++ filter_map (met_at airport.now visits.now own.now) clashes.now) }
+    ensures ok { OnOk result (mets.new ≡ mets.old ++ filter_map (kept_clash_at airport.now visits.now own.now) clashes.now) }
 {
     for clash in clashes {
-        push_met(mets, met_at(airport, visits, own, clash))?;
+        push_kept_clash(mets, kept_clash_at(airport, visits, own, clash))?;
     }
     Ok(())
 }
 
-fn push_met(mets: &mut Listed<Met>, met: Option<Met>) -> Result<(), Memory>
+fn push_kept_clash(mets: &mut Listed<KeptClash>, met: Option<KeptClash>) -> Result<(), Memory>
     ensures ok { OnOk result (mets.new ≡ mets.old ++ option_to_list met) }
 {
     match met {

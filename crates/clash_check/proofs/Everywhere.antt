@@ -21,7 +21,7 @@ use Rattle.apron_rules.specs.declared.rules.Rule.TheVariants.{Same}
 use Rattle.apron_rules.specs.Clash.{IsSlotOf, rule_at}
 use Rattle.apron_rules.specs.declared.rules.Meeting.{Meeting}
 use Rattle.apron_rules.specs.declared.rules.Wing.TheVariants.{Full}
-use Rattle.apron_rules.specs.Refusals.{fault_of}
+use Rattle.apron_rules.specs.Refusals.{airport_fault}
 use Rattle.apron_rules.specs.Rules.{breaks_with_wings}
 use Rattle.apron_rules.proofs.ByPlace.{row_at}
 use Rattle.apron_rules.specs.Neighbours.{first_stands, is_neighbour, neighbours_of}
@@ -65,7 +65,7 @@ no_hit airport p from end q apart = none_by (clash_within airport p from (end - 
     let told = tells airport p q from end c e in
     let yes : is_hit (max from p.from) (min end p.end) q ≡ true = rule_hit_within airport p q c.minute from end c.rule told.rule told.low told.high in cc)
 
-no_neighbour : (airport : AirportParts) (p : Slot) (from end : ℕ) (q : Slot) → fault_of airport ≡ None → is_neighbour airport p.stand q.stand ≡ false → clash_within airport p from (end - from) q ≡ None
+no_neighbour : (airport : AirportParts) (p : Slot) (from end : ℕ) (q : Slot) → airport_fault airport ≡ None → is_neighbour airport p.stand q.stand ≡ false → clash_within airport p from (end - from) q ≡ None
 no_neighbour airport p from end q none apart = none_by (clash_within airport p from (end - from) q) (λ c e.
     let listed = rule_neighbour airport p q c.minute c.rule none (tells airport p q from end c e).rule in
     let yes : is_neighbour airport p.stand q.stand ≡ true = (filter_passed (is_neighbour airport p.stand) (first_stands (length airport.stands)) q.stand listed).1 in cc)
@@ -125,7 +125,7 @@ hits_tell airport p from end slots =
     ∙ sym (filter_map-append h slots.planned slots.actual)))
 
 -- the hits at the neighbours give all clashes
-pub all_clashes : (airport : AirportParts) (index : List StandSlots) (p : Slot) (from end : ℕ) → fault_of airport ≡ None → IsIndex index → length index ≡ length airport.stands
+pub all_clashes : (airport : AirportParts) (index : List StandSlots) (p : Slot) (from end : ℕ) → airport_fault airport ≡ None → IsIndex index → length index ≡ length airport.stands
     → clashes_within airport p from (end - from) (flat_map (λ s. hits_of (at_stand index s) (max from p.from) (min end p.end)) (neighbours_of airport p.stand)) ≡ clashes_within airport p from (end - from) (all_slots index)
 all_clashes airport index p from end none is count =
     let h : Slot → Option Clash = clash_within airport p from (end - from) in
@@ -210,7 +210,7 @@ sorted_clashes airport p from end slots found sorted once are moved falls =
     Contains-permutation found sorted c moved (subst (λ (xs : List Clash). Contains xs c) (sym are) (mapped_to h slots source.0 c (ordered_from slots source.0 source.1) source.2)))
 
 -- a slot's stand is its own neighbour
-pub some_neighbour : (airport : AirportParts) (slot : Slot) → fault_of airport ≡ None → IsSlotOf airport slot → 0 < length (neighbours_of airport slot.stand)
+pub some_neighbour : (airport : AirportParts) (slot : Slot) → airport_fault airport ≡ None → IsSlotOf airport slot → 0 < length (neighbours_of airport slot.stand)
 some_neighbour airport slot none is =
     let row = row_at airport.stands slot.stand.0 is.0 in
     let kind = row_at airport.types slot.kind.0 is.1 in

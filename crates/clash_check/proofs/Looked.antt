@@ -12,7 +12,7 @@ use Rattle.apron_rules.specs.declared.rules.Clash.{Clash}
 use Rattle.apron_rules.specs.declared.rules.Rule.{Rule}
 use Rattle.apron_rules.specs.Clash.{IsSound, NeverClash, rule_at}
 use Rattle.apron_rules.specs.Neighbours.{neighbours_of}
-use Rattle.apron_rules.specs.Refusals.{fault_of}
+use Rattle.apron_rules.specs.Refusals.{airport_fault}
 use Rattle.apron_rules.proofs.Bordering.{filter_passed, neighbours_within, passes_filter}
 use Rattle.apron_rules.proofs.Phases.{meets, rule_neighbour}
 use Rattle.apron_rules.proofs.Symmetry.{rule_at_sym}
@@ -137,7 +137,7 @@ abbrev pub others_at : List StandSlots → List VisitNo → StandNo → List Slo
 others_at index without stand = filter (is_of_other without) (slots_at (at_stand index stand))
 
 -- a clash with one of other visits is with one at a neighbour
-pub clash_to_near : (airport : AirportParts) (index : List StandSlots) (without : List VisitNo) (p : Slot) (c : Clash) → fault_of airport ≡ None → (0 < length (neighbours_of airport p.stand) → IsIndex index)
+pub clash_to_near : (airport : AirportParts) (index : List StandSlots) (without : List VisitNo) (p : Slot) (c : Clash) → airport_fault airport ≡ None → (0 < length (neighbours_of airport p.stand) → IsIndex index)
     → (q : Slot) × Contains (others_of index without) q × IsClashOfBoth airport p q c
     → (q : Slot) × Contains (flat_map (others_at index without) (neighbours_of airport p.stand)) q × IsClashOfBoth airport p q c
 clash_to_near airport index without p c none is (q, listed, both) =

@@ -96,13 +96,13 @@ fn push_clashes(
         clashes.old.items ++ clashes_within airport.now slot.now from (end - from) others.now) }
 {
     for other in others {
-        push_some(clashes, clash_within(airport, slot, other, from, end))?;
+        push_found(clashes, clash_within(airport, slot, other, from, end))?;
     }
     Ok(())
 }
 
 // Adds the clash at the end, if there is one.
-fn push_some(clashes: &mut Vec<Clash>, clash: Option<Clash>) -> Result<(), Memory>
+fn push_found(clashes: &mut Vec<Clash>, clash: Option<Clash>) -> Result<(), Memory>
     ensures pushed { OnOk result (clashes.new.items ≡ clashes.old.items ++ option_to_list clash) }
 {
     if let Some(clash) = clash {

@@ -22,51 +22,51 @@ pub record CommitSaid : Type 0 where
   pub edits : List EditSaid
 
 -- a visit's number
-abbrev pub visit_at : Data → Option ℕ
-visit_at d = number_at (codes "visit") max_u32 d
+abbrev pub json_visit_number : Data → Option ℕ
+json_visit_number d = number_at (codes "visit") max_u32 d
 
 -- a part's number
-abbrev pub part_at : Data → Option ℕ
-part_at d = number_at (codes "part") max_u8 d
+abbrev pub json_part_number : Data → Option ℕ
+json_part_number d = number_at (codes "part") max_u8 d
 
 -- {"visit":N,"part":P,"stand":STAND}
-abbrev pub put_of : Data → Option EditSaid
-put_of d =
-    option_and_then (λ visit. option_and_then (λ part. option_map (put visit part) (text_at (codes "stand") d)) (part_at d)) (visit_at d)
+abbrev pub json_put : Data → Option EditSaid
+json_put d =
+    option_and_then (λ visit. option_and_then (λ part. option_map (put visit part) (text_at (codes "stand") d)) (json_part_number d)) (json_visit_number d)
 
 -- {"visit":N,"part":P}
-abbrev pub lift_of : Data → Option EditSaid
-lift_of d = option_and_then (λ visit. option_map (lift visit) (part_at d)) (visit_at d)
+abbrev pub json_lift : Data → Option EditSaid
+json_lift d = option_and_then (λ visit. option_map (lift visit) (json_part_number d)) (json_visit_number d)
 
 -- {"visit":N,"part":P,"at":M}
-abbrev pub cut_of : Data → Option EditSaid
-cut_of d =
-    option_and_then (λ visit. option_and_then (λ part. option_map (cut visit part) (number_at (codes "at") max_u32 d)) (part_at d)) (visit_at d)
+abbrev pub json_cut : Data → Option EditSaid
+json_cut d =
+    option_and_then (λ visit. option_and_then (λ part. option_map (cut visit part) (number_at (codes "at") max_u32 d)) (json_part_number d)) (json_visit_number d)
 
 -- {"visit":N,"part":P}
-abbrev pub join_of : Data → Option EditSaid
-join_of d = option_and_then (λ visit. option_map (join visit) (part_at d)) (visit_at d)
+abbrev pub json_join : Data → Option EditSaid
+json_join d = option_and_then (λ visit. option_map (join visit) (json_part_number d)) (json_visit_number d)
 
 -- the edit if exactly one of the four keys is there, whatever the value of the others would be
 abbrev pub only_edit : Option Data → Option Data → Option Data → Option Data → Option EditSaid
-only_edit (Some d) None None None = put_of d
-only_edit None (Some d) None None = lift_of d
-only_edit None None (Some d) None = cut_of d
-only_edit None None None (Some d) = join_of d
+only_edit (Some d) None None None = json_put d
+only_edit None (Some d) None None = json_lift d
+only_edit None None (Some d) None = json_cut d
+only_edit None None None (Some d) = json_join d
 only_edit putting lifting cutting joining = None
 
 -- {"put":..}, {"lift":..}, {"cut":..} or {"join":..}
-unfoldable pub edit_of : Data → Option EditSaid
-edit_of d = only_edit (get (codes "put") d) (get (codes "lift") d) (get (codes "cut") d) (get (codes "join") d)
+unfoldable pub json_edit : Data → Option EditSaid
+json_edit d = only_edit (get (codes "put") d) (get (codes "lift") d) (get (codes "cut") d) (get (codes "join") d)
 
 -- the edits in order
-abbrev pub edits_of : Items → Option (List EditSaid)
-edits_of no_items = Some []
-edits_of (item d ds) = option_and_then (λ e. option_map (λ es. e ∷ es) (edits_of ds)) (edit_of d)
+abbrev pub json_edits : Items → Option (List EditSaid)
+json_edits no_items = Some []
+json_edits (item d ds) = option_and_then (λ e. option_map (λ es. e ∷ es) (json_edits ds)) (json_edit d)
 
 -- 1 to 64 edits
 unfoldable pub edits_within : Items → Option (List EditSaid)
-edits_within ds = if nat_le 1 (items_len ds) && nat_le (items_len ds) MAX_EDITS then edits_of ds else None
+edits_within ds = if nat_le 1 (items_len ds) && nat_le (items_len ds) MAX_EDITS then json_edits ds else None
 
 -- the text, if it is a name
 abbrev pub if_name : List ℕ → Option (List ℕ)
@@ -77,8 +77,8 @@ unfoldable pub name_at : List ℕ → Data → Option (List ℕ)
 name_at key d = option_and_then if_name (text_at key d)
 
 -- {"desk":NAME,"draft":N,"base":N,"edits":[EDIT, ..]}
-unfoldable pub commit_of : Data → Option CommitSaid
-commit_of d =
+unfoldable pub json_commit : Data → Option CommitSaid
+json_commit d =
     option_and_then (λ desk.
     option_and_then (λ draft.
     option_and_then (λ base.
@@ -90,4 +90,4 @@ commit_of d =
 
 -- the commit of a body
 abbrev pub body_commit : List ℕ → Option CommitSaid
-body_commit bytes = option_and_then commit_of (body_data bytes)
+body_commit bytes = option_and_then json_commit (body_data bytes)

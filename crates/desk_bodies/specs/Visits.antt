@@ -19,24 +19,24 @@ pub record VisitSaid : Type 0 where
   pub dep : Option Key
 
 -- {"flight":FLIGHT,"day":D}
-abbrev pub key_of : Data → Option Key
-key_of d =
+abbrev pub json_key : Data → Option Key
+json_key d =
     option_and_then (λ flight. option_map (λ day. record { flight = flight; day = day }) (number_at (codes "day") max_u8 d))
     (option_and_then flight_of (text_at (codes "flight") d))
 
 -- a key, or none if it is null or missing
-abbrev pub key_if : Option Data → Option (Option Key)
-key_if None = Some None
-key_if (Some null) = Some None
-key_if (Some d) = option_map Some (key_of d)
+abbrev pub json_key_if : Option Data → Option (Option Key)
+json_key_if None = Some None
+json_key_if (Some null) = Some None
+json_key_if (Some d) = option_map Some (json_key d)
 
 -- the key under a name
-abbrev pub key_at : List ℕ → Data → Option (Option Key)
-key_at name d = key_if (get name d)
+abbrev pub json_key_at : List ℕ → Data → Option (Option Key)
+json_key_at name d = json_key_if (get name d)
 
 -- {"name":NAME,"type":TYPE,"class":C,"on":M,"off":M,"arr":KEY,"dep":KEY}
-unfoldable pub visit_of : Data → Option VisitSaid
-visit_of d =
+unfoldable pub json_visit : Data → Option VisitSaid
+json_visit d =
     option_and_then (λ name.
     option_and_then (λ kind.
     option_and_then (λ class.
@@ -44,8 +44,8 @@ visit_of d =
     option_and_then (λ off.
     option_and_then (λ arr.
     option_map (λ dep. record { name = name; kind = kind; class = class; on = on; off = off; arr = arr; dep = dep })
-    (key_at (codes "dep") d))
-    (key_at (codes "arr") d))
+    (json_key_at (codes "dep") d))
+    (json_key_at (codes "arr") d))
     (number_at (codes "off") max_u32 d))
     (number_at (codes "on") max_u32 d))
     (number_at (codes "class") greatest_class d))
@@ -54,4 +54,4 @@ visit_of d =
 
 -- the visit of a body
 abbrev pub body_visit : List ℕ → Option VisitSaid
-body_visit bytes = option_and_then visit_of (body_data bytes)
+body_visit bytes = option_and_then json_visit (body_data bytes)

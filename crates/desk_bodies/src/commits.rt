@@ -1,11 +1,11 @@
 // The body of a commit.
 ghost use Rattle.std.specs.Prelude.{◌≡◌, map, Some, None, Err, IfOk, IfSome, length, option_map};
 ghost use Rattle.serde_json.specs.View.{view, items_view};
-ghost use Rattle.desk_bodies.specs.Commits.{body_commit, commit_of, edit_of, edits_of, edits_within, part_at, visit_at, put_of, lift_of, cut_of, join_of};
+ghost use Rattle.desk_bodies.specs.Commits.{body_commit, json_commit, json_edit, json_edits, edits_within, json_part_number, json_visit_number, json_put, json_lift, json_cut, json_join};
 ghost use Rattle.desk_bodies.specs.CommitsShown.{edit_shown, commit_shown, HasFewEdits};
 
 use crate::BodyFault;
-use crate::fields::{name, number, read_json, small_number, text};
+use crate::fields::{name_at, read_json, text_at, u8_at, u32_at};
 use apron_base::{Listed, Memory, Name};
 use serde_json::Value;
 use std::alloc::Global;
@@ -43,21 +43,21 @@ pub fn read_commit(alloc: Global, body: &[u8]) -> Result<CommitText, BodyFault>
     ensures form { result ≡ Err BodyFault.Form → body_commit body.now ≡ None }
 {
     let value = read_json(alloc, body)?;
-    match commit_value(alloc, &value)? {
+    match json_commit(alloc, &value)? {
         Some(commit) => Ok(commit),
         None => Err(BodyFault::Form),
     }
 }
 
-#[tactic(auto, unfolding(crate::specs::Commits::commit_of))]
-fn commit_value(alloc: Global, value: &Value) -> Result<Option<CommitText>, Memory>
-    ensures is { IfOk result (λ o. option_map commit_shown o ≡ commit_of (view value.now)) }
+#[tactic(auto, unfolding(crate::specs::Commits::json_commit))]
+fn json_commit(alloc: Global, value: &Value) -> Result<Option<CommitText>, Memory>
+    ensures is { IfOk result (λ o. option_map commit_shown o ≡ json_commit (view value.now)) }
     ensures few { IfOk result (λ o. IfSome o (λ c. HasFewEdits c.edits)) }
 {
     let (Some(desk), Some(draft), Some(base)) = (
-        name(value, "desk"),
-        number(value, "draft"),
-        number(value, "base"),
+        name_at(value, "desk"),
+        u32_at(value, "draft"),
+        u32_at(value, "base"),
     ) else {
         return Ok(None);
     };
@@ -85,17 +85,17 @@ fn some_edits(alloc: Global, values: &[Value]) -> Result<Option<Listed<EditText>
     if values.is_empty() || values.len() > MAX_EDITS {
         return Ok(None);
     }
-    edits(alloc, values)
+    json_edits(alloc, values)
 }
 
-fn edits(alloc: Global, values: &[Value]) -> Result<Option<Listed<EditText>>, Memory>
+fn json_edits(alloc: Global, values: &[Value]) -> Result<Option<Listed<EditText>>, Memory>
     ensures are { IfOk result (λ o. option_map (λ es. map edit_shown es) o
-        ≡ edits_of (items_view values.now)) }
+        ≡ json_edits (items_view values.now)) }
     ensures count { IfOk result (λ o. IfSome o (λ es. length es ≡ length values.now)) }
 {
     let mut edits = Vec::with_capacity(alloc, values.len())?;
     for value in values {
-        match edit(alloc, value)? {
+        match json_edit(alloc, value)? {
             Some(edit) => edits.push(edit)?,
             None => return Ok(None),
         }
@@ -103,9 +103,9 @@ fn edits(alloc: Global, values: &[Value]) -> Result<Option<Listed<EditText>>, Me
     Ok(Some(Listed::from_vec(edits)))
 }
 
-#[tactic(auto, unfolding(crate::specs::Commits::edit_of))]
-fn edit(alloc: Global, value: &Value) -> Result<Option<EditText>, Memory>
-    ensures is { IfOk result (λ o. option_map edit_shown o ≡ edit_of (view value.now)) }
+#[tactic(auto, unfolding(crate::specs::Commits::json_edit))]
+fn json_edit(alloc: Global, value: &Value) -> Result<Option<EditText>, Memory>
+    ensures is { IfOk result (λ o. option_map edit_shown o ≡ json_edit (view value.now)) }
 {
     match (
         value.get("put"),
@@ -113,21 +113,21 @@ fn edit(alloc: Global, value: &Value) -> Result<Option<EditText>, Memory>
         value.get("cut"),
         value.get("join"),
     ) {
-        (Some(object), None, None, None) => put(alloc, object),
-        (None, Some(object), None, None) => Ok(lift(object)),
-        (None, None, Some(object), None) => Ok(cut(object)),
-        (None, None, None, Some(object)) => Ok(join(object)),
+        (Some(object), None, None, None) => json_put(alloc, object),
+        (None, Some(object), None, None) => Ok(json_lift(object)),
+        (None, None, Some(object), None) => Ok(json_cut(object)),
+        (None, None, None, Some(object)) => Ok(json_join(object)),
         _ => Ok(None),
     }
 }
 
-fn put(alloc: Global, object: &Value) -> Result<Option<EditText>, Memory>
-    ensures is { IfOk result (λ o. option_map edit_shown o ≡ put_of (view object.now)) }
+fn json_put(alloc: Global, object: &Value) -> Result<Option<EditText>, Memory>
+    ensures is { IfOk result (λ o. option_map edit_shown o ≡ json_put (view object.now)) }
 {
     let (Some(visit), Some(part), Some(stand)) = (
-        visit(object),
-        part(object),
-        text(object, "stand"),
+        json_visit_number(object),
+        json_part_number(object),
+        text_at(object, "stand"),
     ) else {
         return Ok(None);
     };
@@ -135,39 +135,39 @@ fn put(alloc: Global, object: &Value) -> Result<Option<EditText>, Memory>
     Ok(Some(EditText::Put { visit, part, stand }))
 }
 
-fn lift(object: &Value) -> Option<EditText>
-    ensures is { option_map edit_shown result ≡ lift_of (view object.now) }
+fn json_lift(object: &Value) -> Option<EditText>
+    ensures is { option_map edit_shown result ≡ json_lift (view object.now) }
 {
-    let visit = visit(object)?;
-    let part = part(object)?;
+    let visit = json_visit_number(object)?;
+    let part = json_part_number(object)?;
     Some(EditText::Lift { visit, part })
 }
 
-fn cut(object: &Value) -> Option<EditText>
-    ensures is { option_map edit_shown result ≡ cut_of (view object.now) }
+fn json_cut(object: &Value) -> Option<EditText>
+    ensures is { option_map edit_shown result ≡ json_cut (view object.now) }
 {
-    let visit = visit(object)?;
-    let part = part(object)?;
-    let at = number(object, "at")?;
+    let visit = json_visit_number(object)?;
+    let part = json_part_number(object)?;
+    let at = u32_at(object, "at")?;
     Some(EditText::Cut { visit, part, at })
 }
 
-fn join(object: &Value) -> Option<EditText>
-    ensures is { option_map edit_shown result ≡ join_of (view object.now) }
+fn json_join(object: &Value) -> Option<EditText>
+    ensures is { option_map edit_shown result ≡ json_join (view object.now) }
 {
-    let visit = visit(object)?;
-    let part = part(object)?;
+    let visit = json_visit_number(object)?;
+    let part = json_part_number(object)?;
     Some(EditText::Join { visit, part })
 }
 
-pub(crate) fn visit(object: &Value) -> Option<u32>
-    ensures value { result ≡ visit_at (view object.now) }
+pub(crate) fn json_visit_number(object: &Value) -> Option<u32>
+    ensures value { result ≡ json_visit_number (view object.now) }
 {
-    number(object, "visit")
+    u32_at(object, "visit")
 }
 
-pub(crate) fn part(object: &Value) -> Option<u8>
-    ensures value { result ≡ part_at (view object.now) }
+pub(crate) fn json_part_number(object: &Value) -> Option<u8>
+    ensures value { result ≡ json_part_number (view object.now) }
 {
-    small_number(object, "part")
+    u8_at(object, "part")
 }

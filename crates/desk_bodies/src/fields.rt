@@ -45,7 +45,7 @@ pub fn read_json(alloc: Global, body: &[u8]) -> Result<Value, BodyFault>
 }
 
 /// The whole number under a key, at most `most`. `None` if there is none.
-pub fn number_to(object: &Value, key: &str, most: u64) -> Option<u64>
+pub fn number_at(object: &Value, key: &str, most: u64) -> Option<u64>
     ensures value { result ≡ number_at key.now most (view object.now) }
     ensures most { IfSome result (λ n. n ≤ most) }
 {
@@ -54,23 +54,23 @@ pub fn number_to(object: &Value, key: &str, most: u64) -> Option<u64>
 }
 
 /// The whole number of 32 bits under a key. `None` if there is none.
-pub fn number(object: &Value, key: &str) -> Option<u32>
+pub fn u32_at(object: &Value, key: &str) -> Option<u32>
     ensures value { result ≡ number_at key.now max_u32 (view object.now) }
 {
-    let n = number_to(object, key, u32::MAX as u64)?;
+    let n = number_at(object, key, u32::MAX as u64)?;
     Some(n as u32)
 }
 
 /// The whole number of 8 bits under a key. `None` if there is none.
-pub fn small_number(object: &Value, key: &str) -> Option<u8>
+pub fn u8_at(object: &Value, key: &str) -> Option<u8>
     ensures value { result ≡ number_at key.now max_u8 (view object.now) }
 {
-    let n = number_to(object, key, u8::MAX as u64)?;
+    let n = number_at(object, key, u8::MAX as u64)?;
     Some(n as u8)
 }
 
 /// The text under a key. `None` if there is none.
-pub fn text<'v>(object: &'v Value, key: &str) -> Option<&'v str>
+pub fn text_at<'v>(object: &'v Value, key: &str) -> Option<&'v str>
     ensures text { option_map (λ s. s.now) result ≡ text_at key.now (view object.now) }
 {
     object.get(key)?.as_str()
@@ -78,8 +78,8 @@ pub fn text<'v>(object: &'v Value, key: &str) -> Option<&'v str>
 
 /// The name under a key. `None` if there is none.
 #[tactic(auto, using(crate::proofs::Names::named), unfolding(crate::specs::Commits::name_at))]
-pub fn name(object: &Value, key: &str) -> Option<Name>
+pub fn name_at(object: &Value, key: &str) -> Option<Name>
     ensures value { result ≡ name_at key.now (view object.now) }
 {
-    Name::new(text(object, key)?.as_bytes())
+    Name::new(text_at(object, key)?.as_bytes())
 }

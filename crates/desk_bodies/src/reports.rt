@@ -2,12 +2,12 @@
 ghost use Rattle.std.specs.Prelude.{◌≡◌, Some, None, Err, IfOk, codes, option_map};
 ghost use Rattle.serde_json.specs.Find.{get};
 ghost use Rattle.serde_json.specs.View.{view};
-ghost use Rattle.desk_bodies.specs.Reports.{body_cancel, body_report, off_of, on_of, only_event, report_of};
+ghost use Rattle.desk_bodies.specs.Reports.{body_cancel, body_report, json_off, json_on, json_report, only_event};
 ghost use Rattle.desk_bodies.specs.ReportsShown.{event_shown, report_shown};
 
 use crate::BodyFault;
-use crate::commits::{part, visit};
-use crate::fields::{number, read_json, text};
+use crate::commits::{json_part_number, json_visit_number};
+use crate::fields::{read_json, text_at, u32_at};
 use apron_base::{Memory, Minute};
 use serde_json::Value;
 use std::alloc::Global;
@@ -43,7 +43,7 @@ pub fn read_report(alloc: Global, body: &[u8]) -> Result<ReportText, BodyFault>
     ensures form { result ≡ Err BodyFault.Form → body_report body.now ≡ None }
 {
     let value = read_json(alloc, body)?;
-    match report_of(alloc, &value)? {
+    match json_report(alloc, &value)? {
         Some(report) => Ok(report),
         None => Err(BodyFault::Form),
     }
@@ -56,17 +56,17 @@ pub fn read_cancel(alloc: Global, body: &[u8]) -> Result<u32, BodyFault>
     ensures form { result ≡ Err BodyFault.Form → body_cancel body.now ≡ None }
 {
     let value = read_json(alloc, body)?;
-    match visit(&value) {
+    match json_visit_number(&value) {
         Some(visit) => Ok(visit),
         None => Err(BodyFault::Form),
     }
 }
 
-#[tactic(auto, unfolding(crate::specs::Reports::report_of))]
-fn report_of(alloc: Global, value: &Value) -> Result<Option<ReportText>, Memory>
-    ensures is { IfOk result (λ o. option_map report_shown o ≡ report_of (view value.now)) }
+#[tactic(auto, unfolding(crate::specs::Reports::json_report))]
+fn json_report(alloc: Global, value: &Value) -> Result<Option<ReportText>, Memory>
+    ensures is { IfOk result (λ o. option_map report_shown o ≡ json_report (view value.now)) }
 {
-    let Some(visit) = visit(value) else {
+    let Some(visit) = json_visit_number(value) else {
         return Ok(None);
     };
     match only_event(alloc, value)? {
@@ -81,19 +81,19 @@ fn only_event(alloc: Global, value: &Value) -> Result<Option<EventText>, Memory>
         ≡ only_event (get (codes "on") (view value.now)) (get (codes "off") (view value.now))) }
 {
     match (value.get("on"), value.get("off")) {
-        (Some(object), None) => on_of(alloc, object),
-        (None, Some(object)) => Ok(off_of(object)),
+        (Some(object), None) => json_on(alloc, object),
+        (None, Some(object)) => Ok(json_off(object)),
         _ => Ok(None),
     }
 }
 
-fn on_of(alloc: Global, object: &Value) -> Result<Option<EventText>, Memory>
-    ensures is { IfOk result (λ o. option_map event_shown o ≡ on_of (view object.now)) }
+fn json_on(alloc: Global, object: &Value) -> Result<Option<EventText>, Memory>
+    ensures is { IfOk result (λ o. option_map event_shown o ≡ json_on (view object.now)) }
 {
     let (Some(part), Some(stand), Some(minute)) = (
-        part(object),
-        text(object, "stand"),
-        number(object, "minute"),
+        json_part_number(object),
+        text_at(object, "stand"),
+        u32_at(object, "minute"),
     ) else {
         return Ok(None);
     };
@@ -105,9 +105,9 @@ fn on_of(alloc: Global, object: &Value) -> Result<Option<EventText>, Memory>
     }))
 }
 
-fn off_of(object: &Value) -> Option<EventText>
-    ensures is { option_map event_shown result ≡ off_of (view object.now) }
+fn json_off(object: &Value) -> Option<EventText>
+    ensures is { option_map event_shown result ≡ json_off (view object.now) }
 {
-    let minute = number(object, "minute")?;
+    let minute = u32_at(object, "minute")?;
     Some(EventText::Off { minute })
 }

@@ -4,11 +4,11 @@ ghost use Rattle.serde_json.specs.View.{view};
 ghost use Rattle.visit_book.specs.NewVisits.{HasFlight};
 ghost use Rattle.visit_book.specs.WellFormed.{greatest_class};
 ghost use Rattle.desk_bodies.specs.Fields.{number_at};
-ghost use Rattle.desk_bodies.specs.Visits.{body_visit, key_at, key_of, visit_of};
+ghost use Rattle.desk_bodies.specs.Visits.{body_visit, json_key, json_key_at, json_visit};
 ghost use Rattle.desk_bodies.specs.VisitsShown.{HasForm, visit_shown};
 
 use crate::BodyFault;
-use crate::fields::{name, number, number_to, read_json, small_number, text};
+use crate::fields::{name_at, number_at, read_json, text_at, u8_at, u32_at};
 use apron_base::{Memory, Minute, Name};
 use mvt_grammar::read_flight;
 use serde_json::Value;
@@ -44,28 +44,28 @@ pub fn read_visit(alloc: Global, body: &[u8]) -> Result<VisitText, BodyFault>
     ensures form { result ≡ Err BodyFault.Form → body_visit body.now ≡ None }
 {
     let value = read_json(alloc, body)?;
-    match visit_of(alloc, &value)? {
+    match json_visit(alloc, &value)? {
         Some(visit) => Ok(visit),
         None => Err(BodyFault::Form),
     }
 }
 
-#[tactic(auto, unfolding(crate::specs::Visits::visit_of))]
-fn visit_of(alloc: Global, value: &Value) -> Result<Option<VisitText>, Memory>
-    ensures is { IfOk result (λ o. option_map visit_shown o ≡ visit_of (view value.now)) }
+#[tactic(auto, unfolding(crate::specs::Visits::json_visit))]
+fn json_visit(alloc: Global, value: &Value) -> Result<Option<VisitText>, Memory>
+    ensures is { IfOk result (λ o. option_map visit_shown o ≡ json_visit (view value.now)) }
     ensures has_form { IfOk result (λ o. IfSome o HasForm) }
 {
     let (Some(name), Some(kind), Some(class)) = (
-        name(value, "name"),
-        text(value, "type"),
+        name_at(value, "name"),
+        text_at(value, "type"),
         class(value),
     ) else {
         return Ok(None);
     };
-    let (Some(on), Some(off)) = (number(value, "on"), number(value, "off")) else {
+    let (Some(on), Some(off)) = (u32_at(value, "on"), u32_at(value, "off")) else {
         return Ok(None);
     };
-    let (Some(arr), Some(dep)) = (key_at(value, "arr"), key_at(value, "dep")) else {
+    let (Some(arr), Some(dep)) = (json_key_at(value, "arr"), json_key_at(value, "dep")) else {
         return Ok(None);
     };
     let kind = String::from_str(alloc, kind)?;
@@ -84,27 +84,27 @@ fn class(object: &Value) -> Option<u8>
     ensures value { result ≡ number_at (codes "class") greatest_class (view object.now) }
     ensures most { IfSome result (λ class. class ≤ greatest_class) }
 {
-    let class = number_to(object, "class", GREATEST_CLASS)?;
+    let class = number_at(object, "class", GREATEST_CLASS)?;
     Some(class as u8)
 }
 
 // The key under a name; `Some(None)` if it is null or missing. `None` if it has another form.
 #[tactic(auto, using(crate::proofs::Keys::null_key, crate::proofs::Keys::other_key))]
-fn key_at(object: &Value, name: &str) -> Option<Option<Key>>
-    ensures value { result ≡ key_at name.now (view object.now) }
+fn json_key_at(object: &Value, name: &str) -> Option<Option<Key>>
+    ensures value { result ≡ json_key_at name.now (view object.now) }
     ensures flight { IfSome result (λ key. IfSome key HasFlight) }
 {
     match object.get(name) {
-        Some(key) if !key.is_null() => Some(Some(key_of(key)?)),
+        Some(key) if !key.is_null() => Some(Some(json_key(key)?)),
         _ => Some(None),
     }
 }
 
-fn key_of(object: &Value) -> Option<Key>
-    ensures value { result ≡ key_of (view object.now) }
+fn json_key(object: &Value) -> Option<Key>
+    ensures value { result ≡ json_key (view object.now) }
     ensures flight { IfSome result HasFlight }
 {
-    let flight = read_flight(text(object, "flight")?.as_bytes())?;
-    let day = small_number(object, "day")?;
+    let flight = read_flight(text_at(object, "flight")?.as_bytes())?;
+    let day = u8_at(object, "day")?;
     Some(Key { flight, day })
 }

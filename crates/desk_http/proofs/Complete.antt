@@ -10,7 +10,7 @@ use Rattle.apron_base.specs.declared.outside.Outcome.{Outcome}
 use Rattle.apron_base.specs.declared.outside.Outcome.TheVariants.{Ended, Closed, Cut, Malformed, Limit, ReadFault, WriteFault, Spent, Memory}
 use Rattle.apron_rules.specs.declared.parts.AirportParts.{AirportParts}
 use Rattle.http_framing.specs.Closing.{is_closing}
-use Rattle.http_framing.specs.declared.bodies.Refusal.{Refusal}
+use Rattle.http_framing.specs.declared.bodies.RequestRefusal.{RequestRefusal}
 use Rattle.http_framing.specs.Requests.{IsMalformed, Request}
 use Rattle.http_framing.specs.Streams.{Ending, ended, cut, closed, malformed, IsOpen, Requests, Splits}
 use Rattle.http_framing.proofs.OneReading.{HasRequest-unique, one_reading, request_ends}
@@ -21,7 +21,7 @@ use Rattle.desk_http.specs.Answers.{Answered, Answers, Sent, sends, sent_text}
 use Rattle.desk_http.specs.Complete.{AnswersEachBy, ComesToEnd, IsCompleteBy, IsUnhindered, SessionsAreComplete}
 use Rattle.desk_http.specs.Ports.{PortState}
 use Rattle.desk_http.specs.Runs.{Runs}
-use Rattle.desk_http.specs.Session.{ComesFirst, EndsAfter, IsCount, IsRead, Last, Moment, Progress, SessionBy, WritesLast, is_read_fault, is_write_fault, last_text, most_requests, nothing, refusal, reply, texts_of}
+use Rattle.desk_http.specs.Session.{ComesFirst, EndsAfter, IsCount, IsReadToEnd, Last, Moment, Progress, SessionBy, WritesLast, is_read_fault, is_write_fault, last_text, most_requests, nothing, refusal, reply, texts_of}
 use Rattle.desk_http.proofs.SoFar.{runs_push, texts_of-push}
 
 -- the requests that are listed of some bytes begin with those that stand open at their front, and go on behind them
@@ -92,7 +92,7 @@ module _ (Comes : PortState → Request → Answered → PortState → Type 0) (
   ends_so ending reads none = subst (λ i. Requests i done.requests ending) (sym (all_taken none)) reads
 
   -- it ended at a head that is refused
-  ends_refused : (why : Refusal) → IsMalformed done.rest why → Requests input done.requests (malformed why)
+  ends_refused : (why : RequestRefusal) → IsMalformed done.rest why → Requests input done.requests (malformed why)
   ends_refused why bad = requests_of input (done.rest ++ more) done.requests (malformed why) open_splits stay (malformed_more done.rest more why bad)
 
   -- it has answered as many as it may
@@ -124,7 +124,7 @@ module _ (Comes : PortState → Request → Answered → PortState → Type 0) (
 
   -- how it ended, for each outcome
   comes_to_end : (outcome : Outcome) (last : Last) (written : List ℕ) → EndsAfter Comes outcome done last served after.port
-      → IsRead outcome (Some more) → IsCount outcome (length done.requests) → WritesLast outcome (last_text airport last) written
+      → IsReadToEnd outcome (Some more) → IsCount outcome (length done.requests) → WritesLast outcome (last_text airport last) written
       → Wrote (is_write_fault outcome) before.sink after.sink (texts_of airport done.sents ++ written)
       → Counts (is_read_fault outcome) before.source.faults after.source.faults → IsUnhindered before after outcome
       → AnswersEachBy Comes airport before after outcome input
@@ -155,7 +155,7 @@ sessions_complete_by Comes airport before after outcome session input told free 
     let consumed : Consumes (Some input) after.source.left session.taken = subst (λ l. Consumes l after.source.left session.taken) told took.left in
     let more : HasMore input session.taken after.source.left = has_more input session.taken after.source.left consumed in
     comes_to_end Comes airport before after input session.taken more.rest more.front session.done session.served session.splits session.stay session.runs outcome session.last session.written
-    session.ends (subst (IsRead outcome) more.is session.read) session.count session.last_written session.wrote took.faults free
+    session.ends (subst (IsReadToEnd outcome) more.is session.read) session.count session.last_written session.wrote took.faults free
 
 pub sessions_complete : (asks : AirportParts → PortState → Ask → Given → PortState → Type 0) → SessionsAreComplete asks
 sessions_complete asks airport before after outcome session = sessions_complete_by (Answers asks airport) airport before after outcome session

@@ -10,12 +10,12 @@ use Rattle.apron_rules.specs.declared.parts.AirportParts.{AirportParts}
 use Rattle.http_framing.specs.Requests.{Request}
 use Rattle.http_framing.specs.Streams.{IsOpen}
 use Rattle.http_framing.proofs.StreamLaws.{splits_more}
-use Rattle.http_framing.specs.declared.incoming.End.TheVariants.{Ended as Between, Cut as Inside}
+use Rattle.http_framing.specs.declared.incoming.StreamEnd.TheVariants.{Ended as Between, Cut as Inside}
 use Rattle.desk_http.specs.Answers.{Answered, Sent, sent_text}
 use Rattle.desk_http.specs.Ports.{PortState}
 use Rattle.desk_http.specs.Serving.{SoFar, TakesTurn, outcome_of}
-use Rattle.desk_http.specs.Session.{EndsAfter, IsCount, IsRead, Last, nothing, reply, refusal, Moment, SessionBy, WritesLast, is_read_fault, is_write_fault, last_text, most_requests, no_progress, refusal_text, texts_of}
-use Rattle.desk_http.specs.declared.answering.Unanswered.TheVariants.{Exhausted, Unread}
+use Rattle.desk_http.specs.Session.{EndsAfter, IsCount, IsReadToEnd, Last, nothing, reply, refusal, Moment, SessionBy, WritesLast, is_read_fault, is_write_fault, last_text, most_requests, no_progress, refusal_text, texts_of}
+use Rattle.desk_http.specs.declared.answering.NoReplyCause.TheVariants.{Exhausted, Unread}
 use Rattle.desk_http.specs.declared.serving.Turned.{Turned}
 use Rattle.desk_http.specs.declared.serving.Turned.TheVariants.{Request as Met, Refused, AtEnd, SourceFault}
 use Rattle.desk_http.specs.declared.serving.Unserved.TheVariants.{NoReply, SinkFault}
@@ -29,7 +29,7 @@ module _ (Comes : PortState → Request → Answered → PortState → Type 0) (
     pub took : Took (is_read_fault outcome) before.source after.source piece
     pub ends : (requests : List Request) (sents : List Sent)
         → EndsAfter Comes outcome (record { requests = requests; sents = sents; rest = bytes ++ piece }) last before.port after.port
-    pub read : IsRead outcome after.source.left
+    pub read : IsReadToEnd outcome after.source.left
     pub count : (n : ℕ) → n < most_requests → IsCount outcome n
     pub last_written : WritesLast outcome (last_text airport last) written
     pub wrote : Wrote (is_write_fault outcome) before.sink after.sink written

@@ -5,7 +5,7 @@ use Rattle.http_framing.specs.Fronts.{ArePartsOf}
 use Rattle.http_framing.specs.Requests.{Request}
 use Rattle.http_framing.specs.declared.front.RequestParts.{RequestParts}
 use Rattle.desk_words.specs.declared.asks.Ask.{Ask}
-use Rattle.desk_words.specs.declared.early.Early.{Early as EarlyReply}
+use Rattle.desk_words.specs.declared.early.EarlyReply.{EarlyReply as EarlyReply}
 use Rattle.history_core.specs.Answer.{Given}
 use Rattle.desk_http.specs.Answers.{at_once, exhausted, fed, sends}
 use Rattle.desk_http.specs.FedSession.{FedAnswers, FedAnswersTo, feed_asked}
@@ -16,7 +16,7 @@ use Rattle.desk_http.specs.Replies.{IsAnswer, IsFeedReply}
 use Rattle.desk_http.specs.Routes.{said_in}
 use Rattle.desk_http.specs.declared.answering.PreparedReply.{PreparedReply}
 use Rattle.desk_http.specs.declared.answering.PreparedReply.TheVariants.{Early}
-use Rattle.desk_http.specs.declared.answering.Unanswered.TheVariants.{Exhausted}
+use Rattle.desk_http.specs.declared.answering.NoReplyCause.TheVariants.{Exhausted}
 use Rattle.desk_http.specs.declared.port.FeedAsk.{FeedAsk}
 use Rattle.desk_http.proofs.Parts.{same_said}
 

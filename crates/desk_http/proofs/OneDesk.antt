@@ -4,14 +4,14 @@ use Rattle.std.proofs.lemmas.Bool.{eqb-true}
 use Rattle.std.proofs.lemmas.Bool.Decides.{nat_tests}
 use Rattle.apron_base.specs.Counts.{Counts}
 use Rattle.apron_base.specs.Histories.{Every}
-use Rattle.apron_base.specs.Machine.{MachineState, Standing, is_fault, standing}
+use Rattle.apron_base.specs.Machine.{MachineState, Standing, history_at_risk_of, is_fault}
 use Rattle.apron_base.specs.declared.outside.Acted.{Acted}
 use Rattle.apron_base.specs.declared.outside.Acted.TheVariants.{Reply as Replied, Memory as NoMemory, Fault, Spent}
 use Rattle.apron_rules.specs.declared.parts.AirportParts.{AirportParts}
 use Rattle.desk_words.specs.declared.asks.Ask.{Ask}
 use Rattle.desk_words.specs.declared.asks.Entry.{Entry}
 use Rattle.desk_words.specs.declared.asks.What.{What}
-use Rattle.history_core.specs.Answer.{ActsAs, Given, Gives, replied, no_memory, keeper_fault}
+use Rattle.history_core.specs.Answer.{ActsAs, Given, GivesAnswer, replied, no_memory, keeper_fault}
 use Rattle.history_core.specs.AtRisk.{LeavesAtRisk}
 use Rattle.history_core.specs.History.{IsLegal, call_limit}
 use Rattle.desk_http.specs.Alone.{AloneAsks, IsAlone, numbers_from, port_over}
@@ -59,9 +59,9 @@ counts_given keeper_fault before after counts = counts
 
 -- an ask of a desk that has a machine to itself gets its turn
 pub turn : {Fixed : Type 0} (airport : AirportParts) (before after : MachineState Entry Fixed) (first : ℕ) (ask : Ask) (given : Given)
-    → IsAlone airport before.history before.next first → IsLegal airport after.history → before.next < call_limit → Gives airport before.history before.next ask given after.history
+    → IsAlone airport before.history before.next first → IsLegal airport after.history → before.next < call_limit → GivesAnswer airport before.history before.next ask given after.history
     → after.next ≡ before.next + 1 → Counts (is_unkept given) before.faults after.faults
-    → LeavesAtRisk (standing before) before.next ask.what (is_unkept given) (standing after)
+    → LeavesAtRisk (history_at_risk_of before) before.next ask.what (is_unkept given) (history_at_risk_of after)
     → AloneAsks airport (port_over first before) ask given (port_over first after)
 turn airport before after first ask given h still last gives next counts risk = (
   record {
@@ -80,7 +80,7 @@ turn airport before after first ask given h still last gives next counts risk = 
     spent = grind (arith, nat_tests);
     stays = λ spent. let all : after.next ≡ call_limit = eqb-true after.next (call_limit) spent in omega arith;
     faults = counts_given given before.faults after.faults counts;
-    at_risk = risks (standing before) (standing after) before.next ask.what given risk;
+    at_risk = risks (history_at_risk_of before) (history_at_risk_of after) before.next ask.what given risk;
   },
   refl,
   let begun = h.begun in let size : length (numbers_from first (before.next - first)) ≡ before.next - first = length-numbers_from first (before.next - first) in omega arith,
@@ -92,7 +92,7 @@ turn airport before after first ask given h still last gives next counts risk = 
 pub alone_shows : {Fixed : Type 0} (airport : AirportParts) (before after : MachineState Entry Fixed) (first : ℕ) (ask : Ask) (acted : Acted)
     → IsAlone airport before.history before.next first → IsLegal airport after.history → before.next < call_limit → ActsAs airport before.history before.next ask acted after.history
     → after.next ≡ before.next + 1 → Counts (is_fault acted) before.faults after.faults
-    → LeavesAtRisk (standing before) before.next ask.what (is_fault acted) (standing after)
+    → LeavesAtRisk (history_at_risk_of before) before.next ask.what (is_fault acted) (history_at_risk_of after)
     → ShowsAsk AloneAsks airport (port_over first before) ask acted (port_over first after)
 alone_shows airport before after first ask (Replied bytes) h still last (replied reply, shows, gives) next counts risk =
     (replied reply, shows, turn airport before after first ask (replied reply) h still last gives next counts risk)

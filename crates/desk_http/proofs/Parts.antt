@@ -5,23 +5,23 @@ use Rattle.http_framing.specs.Fronts.{ArePartsOf}
 use Rattle.http_framing.specs.Requests.{Request}
 use Rattle.http_framing.specs.declared.front.RequestParts.{RequestParts}
 use Rattle.desk_words.specs.declared.asks.Ask.{Ask}
-use Rattle.desk_words.specs.declared.early.Early.{Early as EarlyReply}
+use Rattle.desk_words.specs.declared.early.EarlyReply.{EarlyReply as EarlyReply}
 use Rattle.history_core.specs.Answer.{Given}
 use Rattle.desk_http.specs.Answers.{Answers, FindsExhausted, SendsFor, at_once, given}
 use Rattle.desk_http.specs.Finding.{said_by}
 use Rattle.desk_http.specs.Ports.{PortState}
 use Rattle.desk_http.specs.Replies.{IsAnswer, IsReply}
-use Rattle.desk_http.specs.Routes.{asked_by, routed, said_in}
+use Rattle.desk_http.specs.Routes.{ask_of_request, asked_by, said_in}
 use Rattle.desk_http.specs.declared.answering.PreparedReply.{PreparedReply}
 use Rattle.desk_http.specs.declared.answering.PreparedReply.TheVariants.{Early}
-use Rattle.desk_http.specs.declared.answering.Unanswered.TheVariants.{Exhausted}
+use Rattle.desk_http.specs.declared.answering.NoReplyCause.TheVariants.{Exhausted}
 
 pub same_said : (request : Request) (parts : RequestParts) → ArePartsOf request parts → said_by parts ≡ said_in request
 same_said request parts are = rw (are.method, are.target, are.seen, are.desk, are.body) refl
 
 module _ (asks : AirportParts → PortState → Ask → Given → PortState → Type 0) (airport : AirportParts) (before : PortState)
     (parts : RequestParts) (request : Request) (are : ArePartsOf request parts) where
-  by_parts : (asked : Result Ask EarlyReply) → asked_by airport (said_by parts) ≡ asked → asked ≡ routed airport request
+  by_parts : (asked : Result Ask EarlyReply) → asked_by airport (said_by parts) ≡ asked → asked ≡ ask_of_request airport request
   by_parts asked e = sym e ∙ ap (asked_by airport) (same_said request parts are)
 
   -- an ask is answered as the port gives it

@@ -14,7 +14,7 @@ use Rattle.std.proofs.lemmas.Str.Ascii.{IsAscii-nil, IsAscii-cons}
 use Rattle.matchit.specs.Seek.{has_slash}
 use Rattle.apron_base.specs.Digits.{are_digits, number_of}
 use Rattle.apron_base.specs.declared.digits.TheConstants.{MAX_DIGITS}
-use Rattle.desk_http.specs.Numbers.{within}
+use Rattle.desk_http.specs.Numbers.{within_32_bits}
 use Rattle.desk_http.specs.Table.{number_behind, route_at}
 use Rattle.desk_http.specs.Targets.{number_route, onto_first, pieces, plain_number, route_of, route_of_pieces, word_route, zero_digit}
 use Rattle.desk_http.specs.declared.routes.Route.{Route}
@@ -213,9 +213,9 @@ number-digits text n e =
 pub plain_number-digits : (text : List ℕ) (n : ℕ) → plain_number text ≡ Some n → list_all is_ascii_digit text ≡ true
 plain_number-digits [] n e = absurd (cc)
 plain_number-digits (digit ∷ digits) n e =
-    by (λ v. cond v None (option_and_then within (number_of (digit ∷ digits) MAX_DIGITS)) ≡ Some n → list_all is_ascii_digit (digit ∷ digits) ≡ true) (digit == zero_digit)
+    by (λ v. cond v None (option_and_then within_32_bits (number_of (digit ∷ digits) MAX_DIGITS)) ≡ Some n → list_all is_ascii_digit (digit ∷ digits) ≡ true) (digit == zero_digit)
     (λ _ e. absurd (cc))
-    (λ _ e. elim (number_of (digit ∷ digits) MAX_DIGITS) as (λ o. number_of (digit ∷ digits) MAX_DIGITS ≡ o → option_and_then within o ≡ Some n → list_all is_ascii_digit (digit ∷ digits) ≡ true) [
+    (λ _ e. elim (number_of (digit ∷ digits) MAX_DIGITS) as (λ o. number_of (digit ∷ digits) MAX_DIGITS ≡ o → option_and_then within_32_bits o ≡ Some n → list_all is_ascii_digit (digit ∷ digits) ≡ true) [
       | None ↦ λ _ e. absurd (cc)
       | Some m ↦ λ is e. number-digits (digit ∷ digits) m is
     ] refl e) e

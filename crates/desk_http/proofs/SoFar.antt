@@ -14,11 +14,11 @@ use Rattle.desk_http.specs.Ports.{PortState}
 use Rattle.desk_http.specs.Runs.{Runs}
 use Rattle.desk_http.specs.Serving.{SoFar, TakesTurn, outcome_of}
 use Rattle.desk_http.specs.Session.{Moment, texts_of}
-use Rattle.desk_http.specs.declared.answering.Unanswered.TheVariants.{Exhausted, Unread}
+use Rattle.desk_http.specs.declared.answering.NoReplyCause.TheVariants.{Exhausted, Unread}
 use Rattle.desk_http.specs.declared.serving.Turned.{Turned}
 use Rattle.desk_http.specs.declared.serving.Turned.TheVariants.{Request as Met, Refused, AtEnd, SourceFault}
 use Rattle.desk_http.specs.declared.serving.Unserved.TheVariants.{NoReply, SinkFault}
-use Rattle.http_framing.specs.declared.incoming.End.TheVariants.{Ended as Between, Cut as Inside}
+use Rattle.http_framing.specs.declared.incoming.StreamEnd.TheVariants.{Ended as Between, Cut as Inside}
 
 -- one step more
 pub runs_push : {S R A : Type 0} (step : S → R → A → S → Type 0) (old mid new : S) (requests : List R) (answers : List A) (request : R) (answer : A)

@@ -5,14 +5,14 @@ use Rattle.plan_core.specs.PlanState.{PlanState}
 use Rattle.desk_words.specs.declared.asks.Ask.{Ask}
 use Rattle.desk_words.specs.declared.asks.Entry.{Entry}
 use Rattle.desk_words.specs.declared.asks.What.{What}
-use Rattle.desk_words.specs.declared.replies.Told.TheVariants.{Ahead, Version as ToldVersion}
-use Rattle.history_core.specs.Answer.{Given, GivesAt, IsAccepted, Replies, Sought, keeper_fault, no_memory, replied, sought, told}
+use Rattle.desk_words.specs.declared.replies.ReplyBody.TheVariants.{Ahead, Version as ToldVersion}
+use Rattle.history_core.specs.Answer.{Given, GivesAt, IsAccepted, Replies, Sought, ask_outcome, keeper_fault, no_memory, replied, told}
 use Rattle.history_core.specs.History.{replay}
 use Rattle.desk_http.specs.FeedPorts.{version_ask}
 use Rattle.desk_http.specs.Ports.{CountsGiven, PortState, RisksGiven, Turn, is_unkept}
 
 -- what the ask of the version comes to at a plan: a reply, whether it is ahead or not
-version_sought : (plan : PlanState) (history : List Entry) (P : Sought → Type 0) → P (sought plan history version_ask) → P (told Ahead) ⊎ P (told ToldVersion)
+version_sought : (plan : PlanState) (history : List Entry) (P : Sought → Type 0) → P (ask_outcome plan history version_ask) → P (told Ahead) ⊎ P (told ToldVersion)
 version_sought plan history P h =
     elim (nat_lt plan.version 0) as (λ v. P (cond v (told Ahead) (told ToldVersion)) → P (told Ahead) ⊎ P (told ToldVersion)) [
       | true ↦ λ h. inl h
@@ -20,7 +20,7 @@ version_sought plan history P h =
     ] h
 
 -- it leaves the history as it is
-leaves_same : (plan : PlanState) (before after : List Entry) (call : ℕ) (given : Given) → GivesAt plan before call (sought plan before version_ask) given after → after ≡ before
+leaves_same : (plan : PlanState) (before after : List Entry) (call : ℕ) (given : Given) → GivesAt plan before call (ask_outcome plan before version_ask) given after → after ≡ before
 leaves_same plan before after call (replied reply) gives =
     elim (version_sought plan before (λ s. Replies plan before call s reply after) gives) [
       | inl h ↦ h.1
@@ -30,7 +30,7 @@ leaves_same plan before after call no_memory gives = gives
 leaves_same plan before after call keeper_fault gives = gives.1
 
 -- and is given no failed append
-none_failed : (plan : PlanState) (before after : List Entry) (call : ℕ) (given : Given) → GivesAt plan before call (sought plan before version_ask) given after → is_unkept given ≡ false
+none_failed : (plan : PlanState) (before after : List Entry) (call : ℕ) (given : Given) → GivesAt plan before call (ask_outcome plan before version_ask) given after → is_unkept given ≡ false
 none_failed plan before after call (replied reply) gives = refl
 none_failed plan before after call no_memory gives = refl
 none_failed plan before after call keeper_fault gives =

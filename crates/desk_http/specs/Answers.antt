@@ -4,15 +4,15 @@ use Rattle.apron_rules.specs.declared.parts.AirportParts.{AirportParts}
 use Rattle.http_framing.specs.Requests.{Request}
 use Rattle.desk_words.specs.Early.{early_text}
 use Rattle.desk_words.specs.declared.asks.Ask.{Ask}
-use Rattle.desk_words.specs.declared.early.Early.{Early}
+use Rattle.desk_words.specs.declared.early.EarlyReply.{EarlyReply}
 use Rattle.history_core.specs.Answer.{Given, given_text}
 use Rattle.desk_http.specs.FeedPorts.{FeedGiven, feed_given_text}
 use Rattle.desk_http.specs.Ports.{PortState, IsExhausted}
-use Rattle.desk_http.specs.Routes.{ReadsBody, routed, said_in}
+use Rattle.desk_http.specs.Routes.{ReadsBody, ask_of_request, said_in}
 
 -- what is sent for a request: a reply that is fixed before the plan is consulted, or what the port gave for an ask or a feed
 pub data Sent : Type 0 where
-  at_once : Early → Sent
+  at_once : EarlyReply → Sent
   given : Given → Sent
   fed : FeedGiven → Sent
 
@@ -35,18 +35,18 @@ TakesMemory request = ReadsBody (said_in request)
 -- `asks` says what a port of the airport gives for an ask and what it becomes
 module _ (asks : AirportParts → PortState → Ask → Given → PortState → Type 0) (airport : AirportParts) where
   -- what is sent for what is asked, and the port after it
-  abbrev pub SendsFor : PortState → Result Ask Early → Sent → PortState → Type 0
+  abbrev pub SendsFor : PortState → Result Ask EarlyReply → Sent → PortState → Type 0
   SendsFor before (Err reply) (at_once sent) after = (sent ≡ reply) × (after ≡ before)
   SendsFor before (Ok ask) (given answer) after = asks airport before ask answer after
   SendsFor before asked sent after = ⊥
 
   -- what is asked found the port's numbers exhausted
-  abbrev pub FindsExhausted : PortState → Result Ask Early → PortState → Type 0
+  abbrev pub FindsExhausted : PortState → Result Ask EarlyReply → PortState → Type 0
   FindsExhausted before (Err reply) after = ⊥
   FindsExhausted before (Ok ask) after = IsExhausted before after
 
   -- what comes of a request, and the port after it
   abbrev pub Answers : PortState → Request → Answered → PortState → Type 0
-  Answers before request (sends sent) after = SendsFor before (routed airport request) sent after
-  Answers before request exhausted after = FindsExhausted before (routed airport request) after
+  Answers before request (sends sent) after = SendsFor before (ask_of_request airport request) sent after
+  Answers before request exhausted after = FindsExhausted before (ask_of_request airport request) after
   Answers before request unread after = TakesMemory request × (after ≡ before)

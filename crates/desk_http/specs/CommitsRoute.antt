@@ -8,12 +8,12 @@ use Rattle.desk_bodies.specs.Commits.{EditSaid, put, lift, cut, join, body_commi
 use Rattle.desk_words.specs.declared.asks.Command.TheVariants.{Commit}
 use Rattle.desk_words.specs.declared.asks.What.{What}
 use Rattle.desk_words.specs.declared.asks.What.TheVariants.{Change}
-use Rattle.desk_words.specs.declared.early.Early.{Early}
-use Rattle.desk_words.specs.declared.early.Early.TheVariants.{NotJson, BadStand}
+use Rattle.desk_words.specs.declared.early.EarlyReply.{EarlyReply}
+use Rattle.desk_words.specs.declared.early.EarlyReply.TheVariants.{NotJson, BadStand}
 use Rattle.desk_http.specs.Names.{stand_named}
 
 -- the edit of this number with its stand by number, or that the airport has no such stand
-abbrev pub edit_named : AirportParts → ℕ → EditSaid → Result Edit Early
+abbrev pub edit_named : AirportParts → ℕ → EditSaid → Result Edit EarlyReply
 edit_named airport number (put visit part text) = do
   stand ← ok_or (stand_named airport text) (BadStand number)
   Ok (Put (record { 0 = visit }) part stand)
@@ -22,7 +22,7 @@ edit_named airport number (cut visit part at) = Ok (Cut (record { 0 = visit }) p
 edit_named airport number (join visit part) = Ok (Join (record { 0 = visit }) part)
 
 -- the edits, the first of this number, or the first that names a stand that the airport does not have
-abbrev pub edits_named : AirportParts → ℕ → List EditSaid → Result (List Edit) Early
+abbrev pub edits_named : AirportParts → ℕ → List EditSaid → Result (List Edit) EarlyReply
 edits_named airport number [] = Ok []
 edits_named airport number (said ∷ more) = do
   edit ← edit_named airport number said
@@ -30,7 +30,7 @@ edits_named airport number (said ∷ more) = do
   Ok (edit ∷ edits)
 
 -- what is asked with this body
-abbrev pub commit_asked : AirportParts → List ℕ → Result What Early
+abbrev pub commit_asked : AirportParts → List ℕ → Result What EarlyReply
 commit_asked airport body = do
   said ← ok_or (body_commit body) NotJson
   edits ← edits_named airport 1 said.edits

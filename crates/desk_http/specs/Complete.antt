@@ -5,7 +5,7 @@ use Rattle.apron_base.specs.Ends.{Wrote}
 use Rattle.apron_base.specs.declared.outside.Outcome.{Outcome}
 use Rattle.apron_base.specs.declared.outside.Outcome.TheVariants.{Ended, Closed, Cut, Malformed, Limit, Spent, Memory}
 use Rattle.apron_rules.specs.declared.parts.AirportParts.{AirportParts}
-use Rattle.http_framing.specs.declared.bodies.Refusal.{Refusal}
+use Rattle.http_framing.specs.declared.bodies.RequestRefusal.{RequestRefusal}
 use Rattle.http_framing.specs.Requests.{Request}
 use Rattle.http_framing.specs.Streams.{Ending, ended, cut, closed, malformed, IsOpen, Requests}
 use Rattle.desk_words.specs.declared.asks.Ask.{Ask}
@@ -29,7 +29,7 @@ abbrev pub ComesToEnd : Outcome → List ℕ → List Request → List ℕ → T
 ComesToEnd Ended input requests last = Requests input requests ended × (last ≡ [])
 ComesToEnd Closed input requests last = Requests input requests closed × (last ≡ [])
 ComesToEnd Cut input requests last = Requests input requests cut × (last ≡ [])
-ComesToEnd Malformed input requests last = (why : Refusal) × Requests input requests (malformed why) × (last ≡ refusal_text why)
+ComesToEnd Malformed input requests last = (why : RequestRefusal) × Requests input requests (malformed why) × (last ≡ refusal_text why)
 ComesToEnd Limit input requests last = All IsOpen requests × (length requests ≡ most_requests) × (last ≡ [])
 ComesToEnd outcome input requests last = ⊥
 
@@ -59,10 +59,10 @@ abbrev pub AnswersEach : (AirportParts → PortState → Ask → Given → PortS
 AnswersEach asks airport before after outcome input = AnswersEachBy (Answers asks airport) airport before after outcome input
 
 -- the same of a session over a port: `asks` says what a port of the airport gives for an ask and what it becomes
-abbrev pub IsComplete : (AirportParts → PortState → Ask → Given → PortState → Type 0) → AirportParts → Moment → Moment → Outcome → Type 0
-IsComplete asks airport before after outcome = IsCompleteBy (Answers asks airport) airport before after outcome
+abbrev pub IsSessionComplete : (AirportParts → PortState → Ask → Given → PortState → Type 0) → AirportParts → Moment → Moment → Outcome → Type 0
+IsSessionComplete asks airport before after outcome = IsCompleteBy (Answers asks airport) airport before after outcome
 
 -- the same of every session over such ports
 abbrev pub SessionsAreComplete : (AirportParts → PortState → Ask → Given → PortState → Type 0) → Type 0
 SessionsAreComplete asks =
-    (airport : AirportParts) (before after : Moment) (outcome : Outcome) → SessionOf asks airport before after outcome → IsComplete asks airport before after outcome
+    (airport : AirportParts) (before after : Moment) (outcome : Outcome) → SessionOf asks airport before after outcome → IsSessionComplete asks airport before after outcome

@@ -6,14 +6,14 @@ use Rattle.mvt_grammar.specs.declared.message.MvtFault.{MvtFault}
 use Rattle.desk_words.specs.declared.asks.Command.TheVariants.{Message}
 use Rattle.desk_words.specs.declared.asks.What.{What}
 use Rattle.desk_words.specs.declared.asks.What.TheVariants.{Change}
-use Rattle.desk_words.specs.declared.early.Early.{Early}
-use Rattle.desk_words.specs.declared.early.Early.TheVariants.{NotMvt}
+use Rattle.desk_words.specs.declared.early.EarlyReply.{EarlyReply}
+use Rattle.desk_words.specs.declared.early.EarlyReply.TheVariants.{NotMvt}
 
 -- what a desk of this name asks with a text that was read as this
-abbrev pub message_of : List ℕ → Result Mvt MvtFault → Result What Early
-message_of desk (Ok message) = Ok (Change (Message desk message))
-message_of desk (Err fault) = Err (NotMvt fault)
+abbrev pub message_ask : List ℕ → Result Mvt MvtFault → Result What EarlyReply
+message_ask desk (Ok message) = Ok (Change (Message desk message))
+message_ask desk (Err fault) = Err (NotMvt fault)
 
 -- what a desk of this name asks with this body: a text of at most 4,000 bytes, and no JSON
-abbrev pub message_asked : List ℕ → List ℕ → Result What Early
-message_asked desk body = message_of desk (read_mvt_of body)
+abbrev pub message_asked : List ℕ → List ℕ → Result What EarlyReply
+message_asked desk body = message_ask desk (read_mvt_of body)

@@ -9,7 +9,7 @@ use Rattle.desk_words.specs.declared.asks.Entry.{Entry}
 use Rattle.desk_words.specs.declared.asks.Ask.{Ask}
 use Rattle.desk_words.specs.declared.asks.What.{What}
 use Rattle.history_core.specs.History.{call_limit, call_of, IsLegal}
-use Rattle.history_core.specs.Answer.{Given, keeper_fault, shown, Gives}
+use Rattle.history_core.specs.Answer.{Given, keeper_fault, acted_from, GivesAnswer}
 use Rattle.history_core.specs.AtRisk.{IsAskedFor}
 
 -- a port: the least number that a call of it can have, the history that it has seen, the entry at risk that its own calls left where there is one (of a
@@ -54,7 +54,7 @@ pub record Turn (airport : AirportParts) (before : PortState) (ask : Ask) (given
   pub numbers : Rises call_of 1 call history
   pub above : Every (λ own. own < call) before.calls
   pub last : call < call_limit
-  pub gives : Gives airport history call ask given after.seen
+  pub gives : GivesAnswer airport history call ask given after.seen
   pub first : after.first ≡ before.first
   pub calls : after.calls ≡ before.calls ++ call ∷ []
   pub spent : before.spent ≡ false
@@ -69,4 +69,4 @@ IsExhausted before after = after ≡ record before { spent = true }
 -- what an act shows of an ask, where `asks` says what the port gives and becomes
 abbrev pub ShowsAsk : (AirportParts → PortState → Ask → Given → PortState → Type 0) → AirportParts → PortState → Ask → Acted → PortState → Type 0
 ShowsAsk asks airport before ask Spent after = IsExhausted before after
-ShowsAsk asks airport before ask acted after = (given : Given) × (acted ≡ shown airport given) × asks airport before ask given after
+ShowsAsk asks airport before ask acted after = (given : Given) × (acted ≡ acted_from airport given) × asks airport before ask given after

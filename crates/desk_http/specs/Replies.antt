@@ -9,8 +9,8 @@ use Rattle.desk_http.specs.FeedPorts.{FeedGiven, feed_given_text}
 use Rattle.desk_http.specs.Ports.{PortState, IsExhausted}
 use Rattle.desk_http.specs.declared.answering.PreparedReply.{PreparedReply}
 use Rattle.desk_http.specs.declared.answering.PreparedReply.TheVariants.{Told, Early, Fixed}
-use Rattle.desk_http.specs.declared.answering.Unanswered.{Unanswered}
-use Rattle.desk_http.specs.declared.answering.Unanswered.TheVariants.{Exhausted, Unread}
+use Rattle.desk_http.specs.declared.answering.NoReplyCause.{NoReplyCause}
+use Rattle.desk_http.specs.declared.answering.NoReplyCause.TheVariants.{Exhausted, Unread}
 use Rattle.desk_http.specs.declared.port.FeedAsk.{FeedAsk}
 
 -- the bytes of a reply
@@ -20,12 +20,12 @@ reply_bytes (Early early) = early_text early
 reply_bytes (Fixed bytes) = bytes.now
 
 -- what came of a request for which no reply is sent
-abbrev pub answered_as : Unanswered → Answered
+abbrev pub answered_as : NoReplyCause → Answered
 answered_as Exhausted = exhausted
 answered_as Unread = unread
 
 -- the answer is what came of the request, where `came` says what came of it and what the port became
-abbrev pub IsAnswer : AirportParts → (Answered → PortState → Type 0) → Result PreparedReply Unanswered → PortState → Type 0
+abbrev pub IsAnswer : AirportParts → (Answered → PortState → Type 0) → Result PreparedReply NoReplyCause → PortState → Type 0
 IsAnswer airport came (Ok reply) after = (sent : Sent) × came (sends sent) after × (reply_bytes reply ≡ sent_text airport sent)
 IsAnswer airport came (Err why) after = came (answered_as why) after
 

@@ -8,26 +8,26 @@ use Rattle.desk_bodies.specs.Reports.{EventSaid, body_cancel, body_report, off, 
 use Rattle.desk_words.specs.declared.asks.Command.TheVariants.{Cancel, Report}
 use Rattle.desk_words.specs.declared.asks.What.{What}
 use Rattle.desk_words.specs.declared.asks.What.TheVariants.{Change}
-use Rattle.desk_words.specs.declared.early.Early.{Early}
-use Rattle.desk_words.specs.declared.early.Early.TheVariants.{NoStand, NotJson}
+use Rattle.desk_words.specs.declared.early.EarlyReply.{EarlyReply}
+use Rattle.desk_words.specs.declared.early.EarlyReply.TheVariants.{NoStand, NotJson}
 use Rattle.desk_http.specs.Names.{stand_named}
 
 -- what happened, the stand by number, or that the airport has no such stand
-abbrev pub event_named : AirportParts → EventSaid → Result Event Early
+abbrev pub event_named : AirportParts → EventSaid → Result Event EarlyReply
 event_named airport (on part text minute) = do
   stand ← ok_or (stand_named airport text) NoStand
   Ok (On part stand minute)
 event_named airport (off minute) = Ok (Off minute)
 
 -- what a desk of this name asks with the body of a report
-abbrev pub report_asked : AirportParts → List ℕ → List ℕ → Result What Early
+abbrev pub report_asked : AirportParts → List ℕ → List ℕ → Result What EarlyReply
 report_asked airport desk body = do
   said ← ok_or (body_report body) NotJson
   event ← event_named airport said.event
   Ok (Change (Report desk (record { 0 = said.visit }) event))
 
 -- what is asked with the body of a cancel
-abbrev pub cancel_asked : List ℕ → Result What Early
+abbrev pub cancel_asked : List ℕ → Result What EarlyReply
 cancel_asked body = do
   visit ← ok_or (body_cancel body) NotJson
   Ok (Change (Cancel (record { 0 = visit })))

@@ -10,9 +10,9 @@ use Rattle.http_framing.specs.declared.fields.FieldNumber.TheVariants.{Absent, W
 use Rattle.desk_words.specs.declared.asks.Ask.{Ask}
 use Rattle.desk_words.specs.declared.asks.What.{What}
 use Rattle.desk_words.specs.declared.asks.What.TheVariants as what
-use Rattle.desk_words.specs.declared.early.Early.{Early}
-use Rattle.desk_words.specs.declared.early.Early.TheVariants.{NoRoute, OnlyGet, OnlyPost, BadSeen, BadDesk}
-use Rattle.desk_http.specs.Numbers.{within}
+use Rattle.desk_words.specs.declared.early.EarlyReply.{EarlyReply}
+use Rattle.desk_words.specs.declared.early.EarlyReply.TheVariants.{NoRoute, OnlyGet, OnlyPost, BadSeen, BadDesk}
+use Rattle.desk_http.specs.Numbers.{within_32_bits}
 use Rattle.desk_http.specs.CommitsRoute.{commit_asked}
 use Rattle.desk_http.specs.DaysRoute.{day_asked}
 use Rattle.desk_http.specs.Desks.{desk_named, no_desk}
@@ -60,14 +60,14 @@ abbrev pub method_of : Route → List ℕ
 method_of route = if takes_body route then codes "POST" else codes "GET"
 
 -- the reply to another method than the route's
-abbrev pub only : Route → Early
+abbrev pub only : Route → EarlyReply
 only route = if takes_body route then OnlyPost else OnlyGet
 
 -- the version that a desk says it has seen: 0 where it says none
-abbrev pub seen_of : FieldNumber → Option ℕ
-seen_of Absent = Some 0
-seen_of (Written number) = within number
-seen_of Wrong = None
+abbrev pub seen_version : FieldNumber → Option ℕ
+seen_version Absent = Some 0
+seen_version (Written number) = within_32_bits number
+seen_version Wrong = None
 
 -- the desk of a request of this route that told this desk: `-` if the route passes the field over
 abbrev pub desk_for : Route → Option (List ℕ) → Option (List ℕ)
@@ -88,13 +88,13 @@ abbrev pub said_in : Request → Said
 said_in request = record {
   method = request.head.method;
   target = request.head.target;
-  seen = seen_of (number_field (codes "x-seen") (pairs request.head));
+  seen = seen_version (number_field (codes "x-seen") (pairs request.head));
   desk = desk_named (text_field (codes "x-desk") (pairs request.head));
   body = request.body;
 }
 
 -- the route that a request takes, by its method
-abbrev pub route_taken : List ℕ → List ℕ → Result Route Early
+abbrev pub route_taken : List ℕ → List ℕ → Result Route EarlyReply
 route_taken method target = do
   route ← ok_or (route_of target) NoRoute
   taken ← refuse_if (not (bytes_eq method (method_of route))) (only route)
@@ -109,7 +109,7 @@ pub record ReadsBody (said : Said) : Type 0 where
   pub desk : IsSome (desk_for route said.desk)
 
 -- what a desk asks of a route with this body, where a day is looked at and no body
-abbrev pub what_asked : AirportParts → Route → List ℕ → List ℕ → Result What Early
+abbrev pub what_asked : AirportParts → Route → List ℕ → List ℕ → Result What EarlyReply
 what_asked airport Visits desk body = visit_added airport body
 what_asked airport Commits desk body = commit_asked airport body
 what_asked airport Mvt desk body = message_asked desk body
@@ -126,7 +126,7 @@ what_asked airport (Day day) desk body = day_asked airport day (what.Day day)
 
 -- what is asked, or the first reply that is fixed: by the target and the method, then by the version that the desk says it has seen, then by the desk's
 -- name, then by the day or the body
-abbrev pub asked_by : AirportParts → Said → Result Ask Early
+abbrev pub asked_by : AirportParts → Said → Result Ask EarlyReply
 asked_by airport said = do
   route ← route_taken said.method said.target
   version ← ok_or said.seen BadSeen
@@ -135,5 +135,5 @@ asked_by airport said = do
   Ok (record { seen = version; what = asked })
 
 -- what the request asks
-abbrev pub routed : AirportParts → Request → Result Ask Early
-routed airport request = asked_by airport (said_in request)
+abbrev pub ask_of_request : AirportParts → Request → Result Ask EarlyReply
+ask_of_request airport request = asked_by airport (said_in request)

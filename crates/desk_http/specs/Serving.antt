@@ -8,8 +8,8 @@ use Rattle.apron_rules.specs.declared.parts.AirportParts.{AirportParts}
 use Rattle.http_framing.specs.Closing.{is_closing}
 use Rattle.http_framing.specs.Fronts.{IsEnd}
 use Rattle.http_framing.specs.Requests.{Request, HasRequest, IsMalformed, IsPartial}
-use Rattle.http_framing.specs.declared.bodies.Refusal.{Refusal}
-use Rattle.http_framing.specs.declared.incoming.End.TheVariants.{Ended as Between, Cut as Inside}
+use Rattle.http_framing.specs.declared.bodies.RequestRefusal.{RequestRefusal}
+use Rattle.http_framing.specs.declared.incoming.StreamEnd.TheVariants.{Ended as Between, Cut as Inside}
 use Rattle.http_framing.specs.Streams.{IsOpen, Splits}
 use Rattle.desk_http.specs.Answers.{Answered, sends, Sent, sent_text}
 use Rattle.desk_http.specs.Ports.{PortState}
@@ -18,7 +18,7 @@ use Rattle.desk_http.specs.Replies.{answered_as}
 use Rattle.desk_http.specs.Session.{Moment, refusal_text, texts_of}
 use Rattle.desk_http.specs.declared.reading.More.{More}
 use Rattle.desk_http.specs.declared.reading.More.TheVariants.{Taken, AtEnd as NoMore, Fault}
-use Rattle.desk_http.specs.declared.answering.Unanswered.TheVariants.{Exhausted, Unread}
+use Rattle.desk_http.specs.declared.answering.NoReplyCause.TheVariants.{Exhausted, Unread}
 use Rattle.desk_http.specs.declared.serving.Turned.{Turned}
 use Rattle.desk_http.specs.declared.serving.Turned.TheVariants.{Request as Met, Refused, AtEnd, SourceFault}
 use Rattle.desk_http.specs.declared.serving.Unserved.{Unserved}
@@ -71,17 +71,17 @@ module _ (Comes : PortState → Request → Answered → PortState → Type 0) (
     pub counted : length requests ≡ count
 
   -- what was met at the front of the bytes, and what was done with it
-  abbrev pub Meets : Moment → Moment → List ℕ → List ℕ → Turned → Type 0
-  Meets before after bytes left (Met closes served) =
+  abbrev pub ServesFront : Moment → Moment → List ℕ → List ℕ → Turned → Type 0
+  ServesFront before after bytes left (Met closes served) =
       (request : Request) × HasRequest bytes request left × (closes ≡ is_closing request.head)
       × IsServed airport (Comes before.port request) before.sink after.sink served after.port
-  Meets before after bytes left (Refused told) =
-      (why : Refusal) × IsMalformed bytes why × Puts before.sink after.sink told (refusal_text why) × (after.port ≡ before.port)
-  Meets before after bytes left (AtEnd end) = IsEnd bytes end × IsAtEnd after.source.left × (after.sink ≡ before.sink) × (after.port ≡ before.port)
-  Meets before after bytes left SourceFault = IsPartial bytes × (after.sink ≡ before.sink) × (after.port ≡ before.port)
+  ServesFront before after bytes left (Refused told) =
+      (why : RequestRefusal) × IsMalformed bytes why × Puts before.sink after.sink told (refusal_text why) × (after.port ≡ before.port)
+  ServesFront before after bytes left (AtEnd end) = IsEnd bytes end × IsAtEnd after.source.left × (after.sink ≡ before.sink) × (after.port ≡ before.port)
+  ServesFront before after bytes left SourceFault = IsPartial bytes × (after.sink ≡ before.sink) × (after.port ≡ before.port)
 
   -- one turn: more bytes were taken, and then what stood at the front was met
   pub record TakesTurn (before after : Moment) (bytes left : List ℕ) (turned : Turned) : Type 0 where
     pub piece : List ℕ
     pub took : Took (is_source_fault turned) before.source after.source piece
-    pub meets : Meets before after (bytes ++ piece) left turned
+    pub meets : ServesFront before after (bytes ++ piece) left turned

@@ -6,11 +6,11 @@ use Rattle.apron_base.specs.Ends.{SinkState, SourceState, Took, Wrote}
 use Rattle.apron_base.specs.declared.outside.Outcome.{Outcome}
 use Rattle.apron_base.specs.declared.outside.Outcome.TheVariants.{Ended, Closed, Cut, Malformed, Limit, ReadFault, WriteFault, Spent, Memory}
 use Rattle.apron_rules.specs.declared.parts.AirportParts.{AirportParts}
-use Rattle.http_framing.specs.declared.bodies.Refusal.{Refusal}
-use Rattle.http_framing.specs.declared.bodies.Refusal.TheVariants.{Head, Encoding, Large, Length}
+use Rattle.http_framing.specs.declared.bodies.RequestRefusal.{RequestRefusal}
+use Rattle.http_framing.specs.declared.bodies.RequestRefusal.TheVariants.{Head, Encoding, Large, Length}
 use Rattle.http_framing.specs.Closing.{is_closing}
 use Rattle.http_framing.specs.Requests.{Request, HasRequest, IsPartial, IsMalformed}
-use Rattle.http_framing.specs.Streams.{Ends, ended, cut, Splits, IsOpen}
+use Rattle.http_framing.specs.Streams.{EndsStream, ended, cut, Splits, IsOpen}
 use Rattle.desk_words.specs.declared.asks.Ask.{Ask}
 use Rattle.desk_words.specs.Fixed.{bad_encoding_text, bad_head_text, large_body_text, no_length_text}
 use Rattle.history_core.specs.Answer.{Given}
@@ -34,10 +34,10 @@ pub record Progress : Type 0 where
 pub data Last : Type 0 where
   nothing : Last
   reply : Request → Sent → Last
-  refusal : Refusal → Last
+  refusal : RequestRefusal → Last
 
 -- the bytes of the reply to bytes that are refused
-abbrev pub refusal_text : Refusal → List ℕ
+abbrev pub refusal_text : RequestRefusal → List ℕ
 refusal_text Head = bad_head_text
 refusal_text Encoding = bad_encoding_text
 refusal_text Large = large_body_text
@@ -68,10 +68,10 @@ is_write_fault WriteFault = true
 is_write_fault outcome = false
 
 -- the source was read to its end where the outcome rests on its end
-abbrev pub IsRead : Outcome → Option (List ℕ) → Type 0
-IsRead Ended left = IsAtEnd left
-IsRead Cut left = IsAtEnd left
-IsRead outcome left = Unit {0}
+abbrev pub IsReadToEnd : Outcome → Option (List ℕ) → Type 0
+IsReadToEnd Ended left = IsAtEnd left
+IsReadToEnd Cut left = IsAtEnd left
+IsReadToEnd outcome left = Unit {0}
 
 -- how many requests left the session open: the most at the limit, else fewer
 abbrev pub IsCount : Outcome → ℕ → Type 0
@@ -84,14 +84,14 @@ WritesLast WriteFault text written = (count : ℕ) × (written ≡ take count te
 WritesLast outcome text written = written ≡ text
 
 -- why a session ends that asks nothing more of its port, by the bytes that are left and what is sent last
-abbrev pub Stops : Outcome → List ℕ → Last → Type 0
-Stops Ended rest nothing = Ends rest ended
-Stops Cut rest nothing = Ends rest cut
-Stops Malformed rest (refusal why) = IsMalformed rest why
-Stops WriteFault rest (refusal why) = IsMalformed rest why
-Stops ReadFault rest nothing = IsPartial rest
-Stops Limit rest nothing = Unit {0}
-Stops outcome rest last = ⊥
+abbrev pub StopsSession : Outcome → List ℕ → Last → Type 0
+StopsSession Ended rest nothing = EndsStream rest ended
+StopsSession Cut rest nothing = EndsStream rest cut
+StopsSession Malformed rest (refusal why) = IsMalformed rest why
+StopsSession WriteFault rest (refusal why) = IsMalformed rest why
+StopsSession ReadFault rest nothing = IsPartial rest
+StopsSession Limit rest nothing = Unit {0}
+StopsSession outcome rest last = ⊥
 
 -- nothing was answered, and nothing is left of what was taken
 abbrev pub no_progress : Progress
@@ -106,17 +106,17 @@ module _ (Comes : PortState → Request → Answered → PortState → Type 0) w
     pub comes : Comes before request answered after
 
   -- why a session ends, by the request at the front of the bytes that are left, or with its port as it was
-  abbrev pub EndsAt : Outcome → List ℕ → Last → PortState → PortState → Type 0
-  EndsAt Closed rest (reply request sent) before after = (is_closing request.head ≡ true) × ComesFirst rest request (sends sent) before after
-  EndsAt WriteFault rest (reply request sent) before after = ComesFirst rest request (sends sent) before after
-  EndsAt Spent rest nothing before after = (request : Request) × ComesFirst rest request exhausted before after
-  EndsAt Memory rest nothing before after = (request : Request) × ComesFirst rest request unread before after
-  EndsAt outcome rest last before after = Stops outcome rest last × (after ≡ before)
+  abbrev pub EndsSession : Outcome → List ℕ → Last → PortState → PortState → Type 0
+  EndsSession Closed rest (reply request sent) before after = (is_closing request.head ≡ true) × ComesFirst rest request (sends sent) before after
+  EndsSession WriteFault rest (reply request sent) before after = ComesFirst rest request (sends sent) before after
+  EndsSession Spent rest nothing before after = (request : Request) × ComesFirst rest request exhausted before after
+  EndsSession Memory rest nothing before after = (request : Request) × ComesFirst rest request unread before after
+  EndsSession outcome rest last before after = StopsSession outcome rest last × (after ≡ before)
 
   -- the same with want of memory before anything was read
   abbrev pub EndsAfter : Outcome → Progress → Last → PortState → PortState → Type 0
-  EndsAfter Memory done nothing before after = EndsAt Memory done.rest nothing before after ⊎ ((done ≡ no_progress) × (after ≡ before))
-  EndsAfter outcome done last before after = EndsAt outcome done.rest last before after
+  EndsAfter Memory done nothing before after = EndsSession Memory done.rest nothing before after ⊎ ((done ≡ no_progress) × (after ≡ before))
+  EndsAfter outcome done last before after = EndsSession outcome done.rest last before after
 
   -- One session: it took these bytes, answered the requests at their front one after another, and ended with what was sent last.
   pub record SessionBy (airport : AirportParts) (before after : Moment) (outcome : Outcome) : Type 0 where
@@ -130,7 +130,7 @@ module _ (Comes : PortState → Request → Answered → PortState → Type 0) w
     pub stay : All IsOpen done.requests
     pub runs : Runs (λ old request sent new. Comes old request (sends sent) new) before.port done.requests done.sents served
     pub ends : EndsAfter outcome done last served after.port
-    pub read : IsRead outcome after.source.left
+    pub read : IsReadToEnd outcome after.source.left
     pub count : IsCount outcome (length done.requests)
     pub last_written : WritesLast outcome (last_text airport last) written
     pub wrote : Wrote (is_write_fault outcome) before.sink after.sink (texts_of airport done.sents ++ written)

@@ -4,7 +4,7 @@ use Rattle.std.specs.Option.{option_and_then}
 use Rattle.std.specs.Str.{bytes_eq}
 use Rattle.apron_base.specs.Digits.{number_of}
 use Rattle.apron_base.specs.declared.digits.TheConstants.{MAX_DIGITS}
-use Rattle.desk_http.specs.Numbers.{within}
+use Rattle.desk_http.specs.Numbers.{within_32_bits}
 use Rattle.desk_http.specs.declared.routes.Route.{Route}
 use Rattle.desk_http.specs.declared.routes.Route.TheVariants.{Visits, Commits, Mvt, Reports, Cancels, Version, Unplaced, Airport, Visit, Entry, Plan, Chart, Day}
 
@@ -29,7 +29,7 @@ zero_digit = 48
 -- the number of 32 bits that 1 to 10 digits write, of which the first is no zero
 abbrev pub plain_number : List ℕ → Option ℕ
 plain_number [] = None
-plain_number (digit ∷ digits) = if digit == zero_digit then None else option_and_then within (number_of (digit ∷ digits) MAX_DIGITS)
+plain_number (digit ∷ digits) = if digit == zero_digit then None else option_and_then within_32_bits (number_of (digit ∷ digits) MAX_DIGITS)
 
 -- the route that a word alone names
 abbrev pub word_route : List ℕ → Option Route

@@ -8,18 +8,18 @@ use Rattle.desk_bodies.specs.Visits.{VisitSaid, body_visit}
 use Rattle.desk_words.specs.declared.asks.Command.TheVariants.{AddVisit}
 use Rattle.desk_words.specs.declared.asks.What.{What}
 use Rattle.desk_words.specs.declared.asks.What.TheVariants.{Change}
-use Rattle.desk_words.specs.declared.early.Early.{Early}
-use Rattle.desk_words.specs.declared.early.Early.TheVariants.{NotJson, BadType, BadTimes}
+use Rattle.desk_words.specs.declared.early.EarlyReply.{EarlyReply}
+use Rattle.desk_words.specs.declared.early.EarlyReply.TheVariants.{NotJson, BadType, BadTimes}
 use Rattle.desk_http.specs.Names.{type_named}
 
 -- what a visit is to be added with: its type by number, or that the airport has no such type
-abbrev pub new_named : AirportParts → VisitSaid → Result NewVisit Early
+abbrev pub new_named : AirportParts → VisitSaid → Result NewVisit EarlyReply
 new_named airport said = do
   kind ← ok_or (type_named airport said.kind) BadType
   Ok (record { name = said.name; kind = kind; class = said.class; on = said.on; off = said.off; arr = said.arr; dep = said.dep })
 
 -- what is asked with this body
-abbrev pub visit_added : AirportParts → List ℕ → Result What Early
+abbrev pub visit_added : AirportParts → List ℕ → Result What EarlyReply
 visit_added airport body = do
   said ← ok_or (body_visit body) NotJson
   new ← new_named airport said

@@ -9,7 +9,7 @@ use crate::routes::{Unasked, asked_by};
 use crate::targets::DeskRoutes;
 use apron_base::{Acted, Failed, Listed, Sink};
 use desk_words::asks::Ask;
-use desk_words::early::{Early, early_bytes};
+use desk_words::early::{EarlyReply, early_bytes};
 use desk_words::fixed;
 use http_framing::RequestParts;
 use std::alloc::Global;
@@ -20,14 +20,14 @@ pub(crate) enum PreparedReply {
     /// What the plan gave.
     Told(Listed<u8>),
     /// What was fixed before the plan was consulted, whose text takes no memory.
-    Early(Early),
+    Early(EarlyReply),
     /// A constant.
     Fixed(&'static [u8]),
 }
 
 /// Why no reply is sent for a request.
 #[derive(Clone, Copy, Debug, PartialEq, Eq)]
-pub(crate) enum Unanswered {
+pub(crate) enum NoReplyCause {
     /// The port's call numbers are exhausted.
     Exhausted,
     /// No memory to read the request; it asked nothing.
@@ -65,7 +65,7 @@ pub(crate) trait Answerer<P: DeskPort> {
         alloc: Global,
         port: &mut P,
         parts: &RequestParts<'_>,
-    ) -> Result<PreparedReply, Unanswered>
+    ) -> Result<PreparedReply, NoReplyCause>
         ensures airport { P.airport_of port.new ≡ P.airport_of port.old }
         ensures place { P.place port.new ≡ P.place port.old }
         ensures came { (request : Request) → ArePartsOf request parts.now
@@ -82,11 +82,11 @@ impl<P: DeskPort> Answerer<P> for DeskRoutes {
         alloc: Global,
         port: &mut P,
         parts: &RequestParts<'_>,
-    ) -> Result<PreparedReply, Unanswered> {
+    ) -> Result<PreparedReply, NoReplyCause> {
         match asked_by(alloc, self, port.airport(), parts) {
-            Ok(ask) => answer_ask(alloc, port, &ask).ok_or(Unanswered::Exhausted),
+            Ok(ask) => answer_ask(alloc, port, &ask).ok_or(NoReplyCause::Exhausted),
             Err(Unasked::AtOnce(early)) => Ok(PreparedReply::Early(early)),
-            Err(Unasked::Memory) => Err(Unanswered::Unread),
+            Err(Unasked::Memory) => Err(NoReplyCause::Unread),
         }
     }
 }

@@ -7,14 +7,14 @@ ghost use Rattle.desk_http.specs.Finding.{said_by};
 ghost use Rattle.desk_http.specs.Replies.{IsFeedReply};
 ghost use Rattle.desk_http.specs.Targets.{slash};
 
-use crate::answering::{Answerer, PreparedReply, Unanswered};
+use crate::answering::{Answerer, NoReplyCause, PreparedReply};
 use crate::names::name_told;
 use crate::port::{Feed, FeedAsk, FeedPort};
 use crate::routes::seen_of;
 use crate::serving::session_by;
 use crate::targets::{DeskRoutes, plain_number};
 use apron_base::{Acted, Name, Outcome, Sink, Source};
-use desk_words::early::Early;
+use desk_words::early::EarlyReply;
 use desk_words::fixed;
 use http_framing::RequestParts;
 use std::alloc::Global;
@@ -57,11 +57,11 @@ impl<P: FeedPort> Answerer<P> for FedRoutes {
         alloc: Global,
         port: &mut P,
         parts: &RequestParts<'_>,
-    ) -> Result<PreparedReply, Unanswered> {
+    ) -> Result<PreparedReply, NoReplyCause> {
         match feed_asked(parts) {
             None => self.desk.answer(alloc, port, parts),
             Some(Err(early)) => Ok(PreparedReply::Early(early)),
-            Some(Ok(ask)) => answer_feed(alloc, port, &ask).ok_or(Unanswered::Exhausted),
+            Some(Ok(ask)) => answer_feed(alloc, port, &ask).ok_or(NoReplyCause::Exhausted),
         }
     }
 }
@@ -82,19 +82,19 @@ fn answer_feed<P: FeedPort>(alloc: Global, port: &mut P, ask: &FeedAsk) -> Optio
 }
 
 // The feed that a request with these parts asks for, where its target names one. Its body is passed over.
-fn feed_asked(request: &RequestParts<'_>) -> Option<Result<FeedAsk, Early>>
+fn feed_asked(request: &RequestParts<'_>) -> Option<Result<FeedAsk, EarlyReply>>
     ensures asked { result ≡ feed_asked_lem (said_by request.now) }
 {
     Some(feed_asked_of(request, feed_of(request.target)?))
 }
 
-fn feed_asked_of(request: &RequestParts<'_>, feed: Feed) -> Result<FeedAsk, Early>
+fn feed_asked_of(request: &RequestParts<'_>, feed: Feed) -> Result<FeedAsk, EarlyReply>
     ensures asked { result ≡ feed_asked_of_lem (said_by request.now) feed }
 {
     if request.method != b"GET".as_slice() {
-        return Err(Early::OnlyGet);
+        return Err(EarlyReply::OnlyGet);
     }
-    let seen = seen_of(request.seen).ok_or(Early::BadSeen)?;
+    let seen = seen_of(request.seen).ok_or(EarlyReply::BadSeen)?;
     Ok(FeedAsk { seen, feed })
 }
 

@@ -1,9 +1,9 @@
 // Numbers of 32 bits.
 ghost use Rattle.std.specs.Prelude.{◌≡◌};
-ghost use Rattle.desk_http.specs.Numbers.{within as within_lem};
+ghost use Rattle.desk_http.specs.Numbers.{within_32_bits as within_lem};
 
 /// The number, where it has 32 bits.
-pub(crate) fn within(number: u64) -> Option<u32>
+pub(crate) fn within_32_bits(number: u64) -> Option<u32>
     ensures value { result ≡ within_lem number }
 {
     if number <= u32::MAX as u64 {

@@ -1,18 +1,18 @@
 // What a request asks.
 ghost use Rattle.std.specs.Prelude.{◌≡◌, Err, IfOk};
 ghost use Rattle.history_core.specs.History.{IsAskOf, IsWhatOf};
-ghost use Rattle.desk_http.specs.Finding.{Finds, said_by};
+ghost use Rattle.desk_http.specs.Finding.{FindsOrReplies, said_by};
 ghost use Rattle.http_framing.specs.Fields.{text_shown};
 ghost use Rattle.desk_http.specs.Desks.{desk_named as desk_named_lem};
-ghost use Rattle.desk_http.specs.Routes.{ReadsBody, asked_by as asked_by_lem, body_of, desk_for as desk_for_lem, json, method_of as method_of_lem, only as only_lem, route_taken as route_taken_lem, seen_of as seen_of_lem, takes_body as takes_body_lem, what_asked as what_asked_lem};
+ghost use Rattle.desk_http.specs.Routes.{ReadsBody, asked_by as asked_by_lem, body_of, desk_for as desk_for_lem, json, method_of as method_of_lem, only as only_lem, route_taken as route_taken_lem, seen_version as seen_of_lem, takes_body as takes_body_lem, what_asked as what_asked_lem};
 
-use crate::numbers::within;
+use crate::numbers::within_32_bits;
 use crate::targets::DeskRoutes;
 use apron_base::{Memory, Name};
 use apron_rules::Airport;
 use desk_bodies::BodyFault;
 use desk_words::asks::{Ask, What};
-use desk_words::early::Early;
+use desk_words::early::EarlyReply;
 use http_framing::{FieldNumber, FieldText, RequestParts};
 use std::alloc::Global;
 
@@ -57,18 +57,18 @@ pub enum Route {
 #[derive(Clone, Copy, Debug, PartialEq, Eq)]
 pub(crate) enum Unasked {
     /// This reply is fixed before the plan is consulted.
-    AtOnce(Early),
+    AtOnce(EarlyReply),
     /// Memory is wanting to read the body.
     Memory,
 }
 
-impl From<Early> for Unasked {
+impl From<EarlyReply> for Unasked {
     ghost use Rattle.std.specs.Prelude.{◌≡◌};
     ghost use Rattle.desk_http.specs.declared.routes.Unasked.TheVariants.{AtOnce};
 
     ghost from_gives = { λ early unasked. unasked ≡ AtOnce early };
 
-    fn from(early: Early) -> Self {
+    fn from(early: EarlyReply) -> Self {
         Unasked::AtOnce(early)
     }
 }
@@ -92,7 +92,7 @@ impl From<BodyFault> for Unasked {
 
     fn from(fault: BodyFault) -> Self {
         match fault {
-            BodyFault::Form => Unasked::AtOnce(Early::NotJson),
+            BodyFault::Form => Unasked::AtOnce(EarlyReply::NotJson),
             BodyFault::Memory => Unasked::Memory,
         }
     }
@@ -105,22 +105,22 @@ pub(crate) fn asked_by(
     airport: &Airport,
     request: &RequestParts<'_>,
 ) -> Result<Ask, Unasked>
-    ensures asked { Finds (asked_by_lem airport.now (said_by request.now)) result }
+    ensures asked { FindsOrReplies (asked_by_lem airport.now (said_by request.now)) result }
     ensures memory { result ≡ Err Unasked.Memory → ReadsBody (said_by request.now) }
     ensures valid { IfOk result (IsAskOf airport.now) }
 {
     let route = route_taken(routes, request.method, request.target)?;
-    let seen = seen_of(request.seen).ok_or(Early::BadSeen)?;
-    let desk = desk_for(route, request.desk).ok_or(Early::BadDesk)?;
+    let seen = seen_of(request.seen).ok_or(EarlyReply::BadSeen)?;
+    let desk = desk_for(route, request.desk).ok_or(EarlyReply::BadDesk)?;
     let what = what_asked(alloc, airport, route, desk, request.body)?;
     Ok(Ask { seen, what })
 }
 
 // The route that a request takes, by its method.
-fn route_taken(routes: &DeskRoutes, method: &[u8], target: &[u8]) -> Result<Route, Early>
+fn route_taken(routes: &DeskRoutes, method: &[u8], target: &[u8]) -> Result<Route, EarlyReply>
     ensures is { result ≡ route_taken_lem method.now target.now }
 {
-    let route = routes.route_of(target).ok_or(Early::NoRoute)?;
+    let route = routes.route_of(target).ok_or(EarlyReply::NoRoute)?;
     if method != method_of(route) {
         return Err(only(route));
     }
@@ -151,13 +151,13 @@ fn method_of(route: Route) -> &'static [u8]
 }
 
 // The reply to another method than the route's.
-fn only(route: Route) -> Early
+fn only(route: Route) -> EarlyReply
     ensures is { result ≡ only_lem route }
 {
     if takes_body(route) {
-        Early::OnlyPost
+        EarlyReply::OnlyPost
     } else {
-        Early::OnlyGet
+        EarlyReply::OnlyGet
     }
 }
 
@@ -167,7 +167,7 @@ pub(crate) fn seen_of(seen: FieldNumber) -> Option<u32>
 {
     match seen {
         FieldNumber::Absent => Some(0),
-        FieldNumber::Written(number) => within(number),
+        FieldNumber::Written(number) => within_32_bits(number),
         FieldNumber::Wrong => None,
     }
 }
@@ -190,7 +190,7 @@ fn what_asked(
     desk: Name,
     body: &[u8],
 ) -> Result<What, Unasked>
-    ensures asked { Finds (what_asked_lem airport.now route desk body.now) result }
+    ensures asked { FindsOrReplies (what_asked_lem airport.now route desk body.now) result }
     ensures memory { result ≡ Err Unasked.Memory → body_of route ≡ json }
     ensures valid { IfOk result (IsWhatOf airport.now) }
 {

@@ -2,17 +2,17 @@
 ghost use Rattle.std.specs.Prelude.{◌≡◌};
 ghost use Rattle.http_framing.specs.Fronts.{ArePartsOf};
 ghost use Rattle.http_framing.specs.Requests.{Request};
-ghost use Rattle.desk_http.specs.Complete.{IsComplete};
+ghost use Rattle.desk_http.specs.Complete.{IsSessionComplete};
 ghost use Rattle.desk_http.specs.Session.{SessionBy, SessionOf, refusal_text as refusal_text_lem};
 ghost use Rattle.desk_http.specs.Serving.{IsServed, TakesTurn, outcome_of as outcome_of_lem};
 
 use crate::DeskPort;
-use crate::answering::{Answerer, Unanswered};
+use crate::answering::{Answerer, NoReplyCause};
 use crate::reading::{More, take_more};
 use crate::targets::DeskRoutes;
 use apron_base::{Failed, Outcome, Sink, Source};
 use desk_words::fixed;
-use http_framing::{End, Front, Incoming, Refusal, RequestParts};
+use http_framing::{Front, Incoming, RequestParts, RequestRefusal, StreamEnd};
 use std::alloc::Global;
 
 // The most requests that one session answers.
@@ -30,7 +30,7 @@ pub fn session<P: DeskPort, S: Source, W: Sink>(
     ensures of { SessionOf P.asks (P.airport_of port.old)
         (record { source = S.state source.old; sink = W.state sink.old; port = P.port port.old })
         (record { source = S.state source.new; sink = W.state sink.new; port = P.port port.new }) result }
-    ensures complete { IsComplete P.asks (P.airport_of port.old)
+    ensures complete { IsSessionComplete P.asks (P.airport_of port.old)
         (record { source = S.state source.old; sink = W.state sink.old; port = P.port port.old })
         (record { source = S.state source.new; sink = W.state sink.new; port = P.port port.new }) result }
     ensures airport { P.airport_of port.new ≡ P.airport_of port.old }
@@ -80,14 +80,14 @@ pub(crate) enum Turned {
     /// A request was met that is refused, and told so or not.
     Refused(Result<(), Failed>),
     /// The source has ended.
-    AtEnd(End),
+    AtEnd(StreamEnd),
     SourceFault,
 }
 
 /// Why no reply was written, or not the whole of it.
 #[derive(Clone, Copy, Debug, PartialEq, Eq)]
 pub(crate) enum Unserved {
-    NoReply(Unanswered),
+    NoReply(NoReplyCause),
     SinkFault,
 }
 
@@ -105,13 +105,13 @@ fn outcome_of(turned: Turned) -> Option<Outcome>
             served: Err(why),
         } => Some(match why {
             Unserved::SinkFault => Outcome::WriteFault,
-            Unserved::NoReply(Unanswered::Exhausted) => Outcome::Spent,
-            Unserved::NoReply(Unanswered::Unread) => Outcome::Memory,
+            Unserved::NoReply(NoReplyCause::Exhausted) => Outcome::Spent,
+            Unserved::NoReply(NoReplyCause::Unread) => Outcome::Memory,
         }),
         Turned::Refused(Ok(())) => Some(Outcome::Malformed),
         Turned::Refused(Err(Failed)) => Some(Outcome::WriteFault),
-        Turned::AtEnd(End::Ended) => Some(Outcome::Ended),
-        Turned::AtEnd(End::Cut) => Some(Outcome::Cut),
+        Turned::AtEnd(StreamEnd::Ended) => Some(Outcome::Ended),
+        Turned::AtEnd(StreamEnd::Cut) => Some(Outcome::Cut),
         Turned::SourceFault => Some(Outcome::ReadFault),
     }
 }
@@ -136,8 +136,8 @@ fn take_turn<P: DeskPort, A: Answerer<P>, S: Source, W: Sink>(
         match incoming.front() {
             Front::Whole(request) => {
                 let RequestParts { closes, length, .. } = request;
-                let served = serve(alloc, answerer, port, sink, &request);
-                incoming.pass_over(length);
+                let served = serve_request(alloc, answerer, port, sink, &request);
+                incoming.consume(length);
                 return Turned::Request { closes, served };
             }
             Front::Malformed(why) => return Turned::Refused(sink.put(refusal_text(why))),
@@ -151,7 +151,7 @@ fn take_turn<P: DeskPort, A: Answerer<P>, S: Source, W: Sink>(
 }
 
 // Answers the request with these parts, and writes its reply.
-fn serve<P: DeskPort, A: Answerer<P>, W: Sink>(
+fn serve_request<P: DeskPort, A: Answerer<P>, W: Sink>(
     alloc: Global,
     answerer: &A,
     port: &mut P,
@@ -173,13 +173,13 @@ fn serve<P: DeskPort, A: Answerer<P>, W: Sink>(
 }
 
 // The whole text of the reply to a request that is refused.
-fn refusal_text(why: Refusal) -> &'static [u8]
+fn refusal_text(why: RequestRefusal) -> &'static [u8]
     ensures text { result.now ≡ refusal_text_lem why }
 {
     match why {
-        Refusal::Head => fixed::bad_head(),
-        Refusal::Encoding => fixed::bad_encoding(),
-        Refusal::Large => fixed::large_body(),
-        Refusal::Length => fixed::no_length(),
+        RequestRefusal::Head => fixed::bad_head(),
+        RequestRefusal::Encoding => fixed::bad_encoding(),
+        RequestRefusal::Large => fixed::large_body(),
+        RequestRefusal::Length => fixed::no_length(),
     }
 }

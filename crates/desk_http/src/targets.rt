@@ -4,7 +4,7 @@ ghost use Rattle.desk_http.specs.Table.{number_behind as number_behind_lem, rout
 ghost use Rattle.desk_http.specs.Targets.{plain_number as plain_number_lem, route_of as route_of_lem};
 
 use crate::Route;
-use crate::numbers::within;
+use crate::numbers::within_32_bits;
 use apron_base::{MAX_DIGITS, Memory, number_of};
 use matchit::{InsertError, Router};
 use std::alloc::Global;
@@ -61,23 +61,23 @@ fn all_patterns(alloc: Global) -> Result<Router<Pattern>, InsertError>
     ensures all { IfOk result (λ router. router ≡ table) }
 {
     let mut router = Router::new(alloc);
-    add(&mut router, "/visits", Pattern::Visits)?;
-    add(&mut router, "/commits", Pattern::Commits)?;
-    add(&mut router, "/mvt", Pattern::Mvt)?;
-    add(&mut router, "/reports", Pattern::Reports)?;
-    add(&mut router, "/cancels", Pattern::Cancels)?;
-    add(&mut router, "/version", Pattern::Version)?;
-    add(&mut router, "/unplaced", Pattern::Unplaced)?;
-    add(&mut router, "/airport", Pattern::Airport)?;
-    add(&mut router, "/visits/{n}", Pattern::Visit)?;
-    add(&mut router, "/entries/{n}", Pattern::Entry)?;
-    add(&mut router, "/plan/{day}", Pattern::Plan)?;
-    add(&mut router, "/chart/{day}", Pattern::Chart)?;
-    add(&mut router, "/day/{day}", Pattern::Day)?;
+    add_route(&mut router, "/visits", Pattern::Visits)?;
+    add_route(&mut router, "/commits", Pattern::Commits)?;
+    add_route(&mut router, "/mvt", Pattern::Mvt)?;
+    add_route(&mut router, "/reports", Pattern::Reports)?;
+    add_route(&mut router, "/cancels", Pattern::Cancels)?;
+    add_route(&mut router, "/version", Pattern::Version)?;
+    add_route(&mut router, "/unplaced", Pattern::Unplaced)?;
+    add_route(&mut router, "/airport", Pattern::Airport)?;
+    add_route(&mut router, "/visits/{n}", Pattern::Visit)?;
+    add_route(&mut router, "/entries/{n}", Pattern::Entry)?;
+    add_route(&mut router, "/plan/{day}", Pattern::Plan)?;
+    add_route(&mut router, "/chart/{day}", Pattern::Chart)?;
+    add_route(&mut router, "/day/{day}", Pattern::Day)?;
     Ok(router)
 }
 
-fn add(router: &mut Router<Pattern>, text: &str, pattern: Pattern) -> Result<(), InsertError>
+fn add_route(router: &mut Router<Pattern>, text: &str, pattern: Pattern) -> Result<(), InsertError>
     ensures added { OnOk result (router.new ≡ with_route text.now pattern router.old) }
 {
     router.insert(text, pattern)
@@ -117,6 +117,6 @@ pub(crate) fn plain_number(text: &[u8]) -> Option<u32>
 {
     match text {
         [] | [b'0', ..] => None,
-        _ => within(number_of(text, MAX_DIGITS)?),
+        _ => within_32_bits(number_of(text, MAX_DIGITS)?),
     }
 }

@@ -13,17 +13,17 @@ use Rattle.apron_base.specs.declared.outside.Acted.TheVariants.{Reply as Replied
 use Rattle.apron_rules.specs.declared.parts.AirportParts.{AirportParts}
 use Rattle.desk_words.specs.declared.asks.Ask.{Ask}
 use Rattle.desk_words.specs.declared.asks.Entry.{Entry}
-use Rattle.history_core.specs.Answer.{ActsLegally, Given, Gives, keeper_fault, no_memory, replied, shown}
+use Rattle.history_core.specs.Answer.{ActsLegally, Given, GivesAnswer, acted_from, keeper_fault, no_memory, replied}
 use Rattle.history_core.specs.History.{IsLegal, call_of}
 use Rattle.turn_board.specs.Board.{GotTurn, SeatState, Sits, TurnBoardState}
 use Rattle.turn_board.specs.declared.view.Call.{Call}
 use Rattle.desk_http.specs.Ports.{CountsGiven, RisksGiven, ShowsAsk, Turn, is_unkept}
-use Rattle.desk_turns.specs.Machines.{Adds, AsksBoard}
-use Rattle.desk_turns.specs.Seats.{is_risen, latest_at_risk, number_of, port_of, put_by}
+use Rattle.desk_turns.specs.Machines.{AddsAsked, AsksBoard}
+use Rattle.desk_turns.specs.Seats.{call_number, is_risen, latest_at_risk, port_of, put_by}
 use Rattle.desk_turns.proofs.AtRisk.{latest_new, latest_still, put_older, put_own}
 use Rattle.desk_turns.proofs.Plain.{risks_wider}
 
-pub every_map : (P : ℕ → Type 0) (calls : List (Call Entry)) → Every (λ (call : Call Entry). P call.number) calls → Every P (map number_of calls)
+pub every_map : (P : ℕ → Type 0) (calls : List (Call Entry)) → Every (λ (call : Call Entry). P call.number) calls → Every P (map call_number calls)
 every_map P [] h = tt
 every_map P (call ∷ calls) h = (h.0, every_map P calls h.1)
 
@@ -32,7 +32,7 @@ risen_push calls last = let more = sum_by-append (λ (call : Call Entry). cond (
 
 -- the count of a port rises where something was given for a failure, and never falls
 counts : (given : Given) (airport : AirportParts) (answer : Acted) (last : Call Entry) (before : ℕ)
-    → is_fault answer ≡ is_fault (shown airport given) → Counts (is_fault answer) last.found last.left
+    → is_fault answer ≡ is_fault (acted_from airport given) → Counts (is_fault answer) last.found last.left
     → CountsGiven given before (before + cond (is_risen last) 1 0)
 counts (replied reply) airport answer last before shows faults = omega arith
 counts no_memory airport answer last before shows faults = omega arith
@@ -42,15 +42,15 @@ counts keeper_fault airport answer last before shows faults =
     let one : cond {A = ℕ} (is_risen last) 1 0 ≡ 1 = ap (λ (b : Bool). cond {A = ℕ} b 1 0) risen in
     (omega arith, omega (arith, one))
 
-unkept : (given : Given) (airport : AirportParts) → is_fault (shown airport given) ≡ true → is_unkept given ≡ true
+unkept : (given : Given) (airport : AirportParts) → is_fault (acted_from airport given) ≡ true → is_unkept given ≡ true
 unkept (replied reply) airport failed = absurd cc
 unkept no_memory airport failed = absurd cc
 unkept keeper_fault airport failed = refl
 
 -- what a port tells at risk: what it told, since what the call found there is older than it; or what the call put there, which failed
 risks : (given : Given) (airport : AirportParts) (ask : Ask) (answer : Acted) (calls : List (Call Entry)) (last : Call Entry) (found : Standing Entry) (seen : List Entry)
-    → is_fault answer ≡ is_fault (shown airport given) → Every (λ (call : Call Entry). call.number < last.number) calls → IfSome found.at_risk (λ entry. call_of entry < last.number)
-    → ActsAtRisk (λ entry. (call_of entry ≡ last.number) × Adds ask entry) (is_fault answer) found (record { entries = seen; at_risk = last.at_risk })
+    → is_fault answer ≡ is_fault (acted_from airport given) → Every (λ (call : Call Entry). call.number < last.number) calls → IfSome found.at_risk (λ entry. call_of entry < last.number)
+    → ActsAtRisk (λ entry. (call_of entry ≡ last.number) × AddsAsked ask entry) (is_fault answer) found (record { entries = seen; at_risk = last.at_risk })
     → RisksGiven (latest_at_risk calls) last.number ask.what given (latest_at_risk (calls ++ last ∷ []))
 risks given airport ask answer calls last found seen shows above older (inl none) = inr (inl (latest_still calls last (ap (put_by last.number) none)))
 risks given airport ask answer calls last found seen shows above older (inr (inl (same, entries))) =
@@ -67,10 +67,10 @@ risks given airport ask answer calls last found seen shows above older (inr (inr
 -- the turn of an ask by a call that found this history, and could add no entry but one of the ask
 pub turn_of : {M Fixed Asks : Type 0} (state : M → MachineState Entry Fixed) (airport : AirportParts) (board : TurnBoardState Fixed) (adds : Asks → Entry → Type 0)
     (answers : Fixed → List Entry → ℕ → Asks → Acted → List Entry → Type 0) (before after : SeatState Entry Fixed) (own : Asks) (ask : Ask) (answer : Acted) (given : Given)
-    → ((entry : Entry) → adds own entry → Adds ask entry) → after.exhausted ≡ false
+    → ((entry : Entry) → adds own entry → AddsAsked ask entry) → after.exhausted ≡ false
     → (got : GotTurn state call_of adds answers before (record { ask = own; answer = answer }) after)
-    → is_fault answer ≡ is_fault (shown airport given) → IsLegal airport (state got.found).history → IsLegal airport after.seen
-    → Gives airport (state got.found).history got.ticket ask given after.seen
+    → is_fault answer ≡ is_fault (acted_from airport given) → IsLegal airport (state got.found).history → IsLegal airport after.seen
+    → GivesAnswer airport (state got.found).history got.ticket ask given after.seen
     → (turn : Turn airport (port_of (record { board = board; seat = before })) ask given (port_of (record { board = board; seat = after })))
     × (turn.history ≡ (state got.found).history)
 turn_of state airport board adds answers before after own ask answer given added still got shows found left gives =
@@ -92,13 +92,13 @@ turn_of state airport board adds answers before after own ask answer given added
         last = got.end;
         gives = gives;
         first = refl;
-        calls = ap (map number_of) got.calls ∙ map-append number_of before.calls (last ∷ []);
+        calls = ap (map call_number) got.calls ∙ map-append call_number before.calls (last ∷ []);
         spent = got.note;
         stays = λ spent. absurd (cc);
         faults = subst (CountsGiven given (count_by is_risen before.calls)) (sym risen) (counts given airport answer last (count_by is_risen before.calls) shows got.acts.faults);
         at_risk = subst (RisksGiven (latest_at_risk before.calls) got.ticket ask.what given) (ap latest_at_risk (sym got.calls))
             (risks given airport ask answer before.calls last _ (state got.left).history shows got.new got.older
-            (risks_wider (λ entry. (call_of entry ≡ got.ticket) × adds own entry) (λ entry. (call_of entry ≡ got.ticket) × Adds ask entry) _ _ _
+            (risks_wider (λ entry. (call_of entry ≡ got.ticket) × adds own entry) (λ entry. (call_of entry ≡ got.ticket) × AddsAsked ask entry) _ _ _
             (λ entry put. (put.0, added entry put.1)) got.at_risk));
       },
       refl,
@@ -106,8 +106,8 @@ turn_of state airport board adds answers before after own ask answer given added
 
 -- what a call that got its turn was given
 turn : {M Fixed : Type 0} (state : M → MachineState Entry Fixed) (airport : Fixed → AirportParts) (board : TurnBoardState Fixed) (before after : SeatState Entry Fixed) (ask : Ask) (answer : Acted)
-    → Sits board before → after.exhausted ≡ false → GotTurn state call_of Adds (λ fixed. ActsLegally (airport fixed)) before (record { ask = ask; answer = answer }) after
-    → (given : Given) × (answer ≡ shown (airport board.start.fixed) given)
+    → Sits board before → after.exhausted ≡ false → GotTurn state call_of AddsAsked (λ fixed. ActsLegally (airport fixed)) before (record { ask = ask; answer = answer }) after
+    → (given : Given) × (answer ≡ acted_from (airport board.start.fixed) given)
     × Turn (airport board.start.fixed) (port_of (record { board = board; seat = before })) ask given (port_of (record { board = board; seat = after }))
 turn {Fixed} state airport board before after ask answer sits still got =
     let history : List Entry = (state got.found).history in
@@ -118,7 +118,7 @@ turn {Fixed} state airport board before after ask answer sits still got =
     let given : Given = act.acts.0 in (
       given,
       act.acts.1,
-      (turn_of state (airport board.start.fixed) board Adds (λ fixed. ActsLegally (airport fixed)) before after ask ask answer given (λ entry added. added) still got
+      (turn_of state (airport board.start.fixed) board AddsAsked (λ fixed. ActsLegally (airport fixed)) before after ask ask answer given (λ entry added. added) still got
           (ap is_fault act.acts.1) act.found act.left act.acts.2).0,
     )
 
@@ -130,7 +130,7 @@ module _ {M Fixed : Type 0} (state : M → MachineState Entry Fixed) (airport : 
   -- a call that was answered otherwise than by `Spent`
   shows_turn : (board : TurnBoardState Fixed) (before after : SeatState Entry Fixed) (ask : Ask) (answer : Acted) → answer ≢ Spent → Sits board before
       → AsksBoard state airport before (record { ask = ask; answer = answer }) after
-      → (given : Given) × (answer ≡ shown (airport board.start.fixed) given)
+      → (given : Given) × (answer ≡ acted_from (airport board.start.fixed) given)
       × Turn (airport board.start.fixed) (port_of (record { board = board; seat = before })) ask given (port_of (record { board = board; seat = after }))
   shows_turn board before after ask answer some sits asks =
       turn state airport board before after ask answer sits (not_true after.exhausted (λ spent. some (asks.spent.1 spent))) (asks.answered some)

@@ -11,7 +11,7 @@ use Rattle.turn_board.specs.Board.{GotTurn, SeatState, Sits, TurnBoardState}
 use Rattle.desk_http.specs.FeedPorts.{ShowsFeed, version_ask}
 use Rattle.desk_http.specs.Ports.{Turn}
 use Rattle.desk_http.specs.declared.port.FeedAsk.{FeedAsk}
-use Rattle.desk_turns.specs.Feeds.{FeedTurns, FeedsLegally}
+use Rattle.desk_turns.specs.Feeds.{FeedTurns, IsLegalFeed}
 use Rattle.desk_turns.specs.Machines.{AsksAt}
 use Rattle.desk_turns.specs.Seats.{port_of}
 use Rattle.desk_turns.proofs.Asking.{not_true, turn_of}
@@ -20,13 +20,13 @@ module _ {M Fixed Asks : Type 0} (state : M → MachineState Entry Fixed) (airpo
     (adds : Asks → Entry → Type 0) (answers : Fixed → List Entry → ℕ → Asks → Acted → List Entry → Type 0) (own : Asks) (ask : FeedAsk)
     (none : (entry : Entry) → adds own entry → ⊥)
     (feeds : (fixed : Fixed) (before : List Entry) (call : ℕ) (answer : Acted) (after : List Entry)
-    → answers fixed before call own answer after → FeedsLegally (airport fixed) (text fixed ask) before answer after)
+    → answers fixed before call own answer after → IsLegalFeed (airport fixed) (text fixed ask) before answer after)
     (board : TurnBoardState Fixed) (before after : SeatState Entry Fixed) (sits : Sits board before) where
   -- what a call that got its turn was answered, at the airport of the board
   fed : (answer : Acted) (got : GotTurn state call_of adds answers before (record { ask = own; answer = answer }) after)
-      → FeedsLegally (airport board.start.fixed) (text board.start.fixed ask) (state got.found).history answer (state got.left).history
+      → IsLegalFeed (airport board.start.fixed) (text board.start.fixed ask) (state got.found).history answer (state got.left).history
   fed answer got =
-      subst (λ (at : Fixed). FeedsLegally (airport at) (text at ask) (state got.found).history answer (state got.left).history) (got.start board.start sits.start).0
+      subst (λ (at : Fixed). IsLegalFeed (airport at) (text at ask) (state got.found).history answer (state got.left).history) (got.start board.start sits.start).0
       (feeds (state got.found).fixed (state got.found).history got.ticket answer (state got.left).history got.answered)
 
   -- the turn of a feed that did not fail, at the history that it found

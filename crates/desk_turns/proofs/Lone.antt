@@ -3,15 +3,15 @@ use Rattle.std.proofs.Common.{◌≡◌, ◌≢◌, ◌≤◌, ◌==◌, ℕ, Bo
 use Rattle.std.specs.Prelude.{nat_lt}
 use Rattle.std.proofs.lemmas.Bool.Decides.{nat_tests}
 use Rattle.apron_base.specs.Counts.{Counts}
-use Rattle.apron_base.specs.Machine.{ActsAtRisk, MachineState, Standing, is_fault, standing}
+use Rattle.apron_base.specs.Machine.{ActsAtRisk, MachineState, Standing, history_at_risk_of, is_fault}
 use Rattle.apron_base.specs.declared.outside.Acted.{Acted}
 use Rattle.apron_base.specs.declared.outside.Acted.TheVariants.{Reply as Replied, Memory as NoMemory, Fault, Spent}
 use Rattle.apron_rules.specs.declared.parts.AirportParts.{AirportParts}
 use Rattle.desk_words.specs.declared.asks.Ask.{Ask}
 use Rattle.desk_words.specs.declared.asks.Entry.{Entry}
-use Rattle.desk_words.specs.declared.replies.Told.{Told}
-use Rattle.desk_words.specs.declared.replies.Told.TheVariants.{Ahead, Version as ToldVersion}
-use Rattle.history_core.specs.Answer.{ActsLegally, Given, GivesAt, Sought, keeper_fault, no_memory, replied, shown, told}
+use Rattle.desk_words.specs.declared.replies.ReplyBody.{ReplyBody}
+use Rattle.desk_words.specs.declared.replies.ReplyBody.TheVariants.{Ahead, Version as ToldVersion}
+use Rattle.history_core.specs.Answer.{ActsLegally, Given, GivesAt, Sought, acted_from, keeper_fault, no_memory, replied, told}
 use Rattle.history_core.specs.AtRisk.{IsAskedFor}
 use Rattle.history_core.specs.History.{IsLegal, call_limit, call_of, replay}
 use Rattle.desk_http.specs.Alone.{AloneAsks, IsAlone, port_over}
@@ -20,18 +20,18 @@ use Rattle.desk_http.specs.Ports.{IsExhausted, ShowsAsk}
 use Rattle.desk_http.specs.declared.port.FeedAsk.{FeedAsk}
 use Rattle.desk_http.proofs.OneDesk.{alone_shows, turn}
 use Rattle.desk_turns.specs.Alone.{ActsNext, AloneFeeds}
-use Rattle.desk_turns.specs.Feeds.{FeedsLegally}
-use Rattle.desk_turns.specs.Machines.{Adds, uncopied}
+use Rattle.desk_turns.specs.Feeds.{IsLegalFeed}
+use Rattle.desk_turns.specs.Machines.{AddsAsked, answer_if_uncopied}
 use Rattle.desk_turns.proofs.Plain.{risks_wider}
 
 -- a reply about the plan as it is leaves the history, and is no fault
-told_keeps : (airport : AirportParts) (history : List Entry) (call : ℕ) (what : Told) (given : Given) (after : List Entry)
-    → GivesAt (replay airport history) history call (told what) given after → (after ≡ history) × (is_fault (shown airport given) ≡ false)
+told_keeps : (airport : AirportParts) (history : List Entry) (call : ℕ) (what : ReplyBody) (given : Given) (after : List Entry)
+    → GivesAt (replay airport history) history call (told what) given after → (after ≡ history) × (is_fault (acted_from airport given) ≡ false)
 told_keeps airport history call what (replied reply) after gives = (gives.1, refl)
 told_keeps airport history call what no_memory after gives = (gives, refl)
 told_keeps airport history call what keeper_fault after gives = absurd gives.0
 
-either_told : (first : Bool) (one other : Told) → (what : Told) × (cond first (told one) (told other) ≡ told what)
+either_told : (first : Bool) (one other : ReplyBody) → (what : ReplyBody) × (cond first (told one) (told other) ≡ told what)
 either_told true one other = (one, refl)
 either_told false one other = (other, refl)
 
@@ -41,7 +41,7 @@ version_keeps : (airport : AirportParts) (history : List Entry) (call : ℕ) (an
 version_keeps airport history call answer after acts =
     let what = either_told (nat_lt (replay airport history).version 0) Ahead ToldVersion in
     let given : Given = acts.acts.0 in
-    let keeps : (after ≡ history) × (is_fault (shown airport given) ≡ false) =
+    let keeps : (after ≡ history) × (is_fault (acted_from airport given) ≡ false) =
     told_keeps airport history call what.0 given after (subst (λ (asked : Sought). GivesAt (replay airport history) history call asked given after) what.1 acts.acts.2) in
     (keeps.0, subst (λ (acted : Acted). is_fault acted ≡ false) (sym acts.acts.1) keeps.1)
 
@@ -71,9 +71,9 @@ module _ {Fixed Asks : Type 0} (airport : Fixed → AirportParts) (adds : Asks �
       turn (airport before.fixed) before after first ask no_memory (record { begun = begun; numbers = acts.numbers; legal = legal })
       (subst (IsLegal (airport before.fixed)) (sym same) legal) acts.last same acts.acts.next
       (subst (λ (failed : Bool). Counts failed before.faults after.faults) fine acts.acts.faults)
-      (risks_none (λ entry. (call_of entry ≡ before.next) × adds own entry) (IsAskedFor before.next ask.what) (is_fault answer) (standing before) (standing after) fine acts.at_risk)
+      (risks_none (λ entry. (call_of entry ≡ before.next) × adds own entry) (IsAskedFor before.next ask.what) (is_fault answer) (history_at_risk_of before) (history_at_risk_of after) fine acts.at_risk)
 
-  module _ (ask : Ask) (added : (entry : Entry) → adds own entry → Adds ask entry)
+  module _ (ask : Ask) (added : (entry : Entry) → adds own entry → AddsAsked ask entry)
       (acts_as : (fixed : Fixed) (history : List Entry) (call : ℕ) (answer : Acted) (left : List Entry) → answers fixed history call own answer left → ActsLegally (airport fixed) history call ask answer left) where
     -- an ask that the machine answers as a board does
     acted : (answer : Acted) → ActsNext call_of adds answers before (record { ask = own; answer = answer }) after
@@ -104,14 +104,14 @@ module _ {Fixed Asks : Type 0} (airport : Fixed → AirportParts) (adds : Asks �
 
     pub shows_uncopied : (answer : Acted) → (answer ≡ Spent → (after ≡ before) × (before.next ≡ call_limit))
         → (answer ≢ Spent → ActsNext number adds answers before (record { ask = own; answer = answer }) after)
-        → ShowsAsk AloneAsks (airport before.fixed) (port_over first before) ask (uncopied answer) (port_over first after)
+        → ShowsAsk AloneAsks (airport before.fixed) (port_over first before) ask (answer_if_uncopied answer) (port_over first after)
     shows_uncopied (Replied bytes) unasked asked = wanted (Replied bytes) (numbered (Replied bytes) (asked (λ e. cc)))
     shows_uncopied NoMemory unasked asked = wanted NoMemory (numbered NoMemory (asked (λ e. cc)))
     shows_uncopied Fault unasked asked = wanted Fault (numbered Fault (asked (λ e. cc)))
     shows_uncopied Spent unasked asked = exhausted (unasked refl).0 (unasked refl).1
 
   module _ (text : FeedAsk → List Entry → List ℕ) (ask : FeedAsk)
-      (feeds : (history : List Entry) (call : ℕ) (answer : Acted) (left : List Entry) → answers before.fixed history call own answer left → FeedsLegally (airport before.fixed) (text ask) history answer left) where
+      (feeds : (history : List Entry) (call : ℕ) (answer : Acted) (left : List Entry) → answers before.fixed history call own answer left → IsLegalFeed (airport before.fixed) (text ask) history answer left) where
     pub shows_feed : (answer : Acted) → (answer ≡ Spent → (after ≡ before) × (before.next ≡ call_limit))
         → (answer ≢ Spent → ActsNext number adds answers before (record { ask = own; answer = answer }) after)
         → ShowsFeed (AloneFeeds text (airport before.fixed)) (port_over first before) ask answer (port_over first after)

@@ -8,7 +8,7 @@ use Rattle.desk_words.specs.declared.asks.Entry.{Entry}
 use Rattle.history_core.specs.Answer.{ActsLegally}
 use Rattle.history_core.specs.History.{call_of}
 use Rattle.turn_board.specs.Board.{GotTurn, SeatState}
-use Rattle.desk_turns.specs.Machines.{Adds, AsksAt, AsksBoard}
+use Rattle.desk_turns.specs.Machines.{AddsAsked, AsksAt, AsksBoard}
 
 -- what is at risk by one relation is so by a wider one
 pub risks_wider : (adds others : Entry → Type 0) (failed : Bool) (before after : Standing Entry) → ((entry : Entry) → adds entry → others entry)
@@ -19,11 +19,11 @@ risks_wider adds others failed before after wider (inr (inr (is, (entry, put, ad
 
 module _ {M Fixed Asks : Type 0} (state : M → MachineState Entry Fixed) (airport : Fixed → AirportParts) (adds : Asks → Entry → Type 0)
     (answers : Fixed → List Entry → ℕ → Asks → Acted → List Entry → Type 0) (own : Asks) (ask : Ask)
-    (added : (entry : Entry) → adds own entry → Adds ask entry)
+    (added : (entry : Entry) → adds own entry → AddsAsked ask entry)
     (acts : (fixed : Fixed) (before : List Entry) (call : ℕ) (answer : Acted) (after : List Entry) → answers fixed before call own answer after → ActsLegally (airport fixed) before call ask answer after) where
   -- a call that got its turn
   got_plain : (before after : SeatState Entry Fixed) (answer : Acted) → GotTurn state call_of adds answers before (record { ask = own; answer = answer }) after
-      → GotTurn state call_of Adds (λ fixed. ActsLegally (airport fixed)) before (record { ask = ask; answer = answer }) after
+      → GotTurn state call_of AddsAsked (λ fixed. ActsLegally (airport fixed)) before (record { ask = ask; answer = answer }) after
   got_plain before after answer got = record {
     found = got.found;
     left = got.left;
@@ -37,7 +37,7 @@ module _ {M Fixed Asks : Type 0} (state : M → MachineState Entry Fixed) (airpo
     start = got.start;
     faults = got.faults;
     older = got.older;
-    at_risk = risks_wider (λ entry. (call_of entry ≡ got.ticket) × adds own entry) (λ entry. (call_of entry ≡ got.ticket) × Adds ask entry) _ _ _
+    at_risk = risks_wider (λ entry. (call_of entry ≡ got.ticket) × adds own entry) (λ entry. (call_of entry ≡ got.ticket) × AddsAsked ask entry) _ _ _
         (λ entry put. (put.0, added entry put.1)) got.at_risk;
     acts = got.acts;
     answered = acts (state got.found).fixed (state got.found).history got.ticket answer (state got.left).history got.answered;

@@ -10,7 +10,7 @@ use Rattle.apron_base.specs.Listener.{ListenerState}
 use Rattle.apron_base.specs.Machine.{MachineState}
 use Rattle.desk_words.specs.declared.asks.Entry.{Entry}
 use Rattle.history_core.specs.History.{IsLegal, call_of}
-use Rattle.turn_board.specs.Board.{Closes, IsPutAtRisk, Meets, Opens, SeatState, TurnBoardState}
+use Rattle.turn_board.specs.Board.{Closes, IsPutAtRisk, Meets, OpensTurnBoard, SeatState, TurnBoardState}
 use Rattle.turn_board.specs.Totals.{below, times}
 use Rattle.turn_board.specs.declared.view.Call.{Call}
 use Rattle.turn_board.proofs.Totals.{every_append, every_both, every_front, every_more, every_rest, times_append}
@@ -18,8 +18,8 @@ use Rattle.desk_http.specs.Ports.{IsLater}
 use Rattle.desk_http.specs.Session.{SessionKind}
 use Rattle.desk_turns.specs.declared.worker.WorkEnd.{WorkEnd}
 use Rattle.desk_turns.specs.declared.worker.WorkEnd.TheVariants.{Done, ListenerFault}
-use Rattle.desk_turns.specs.Crew.{HasSeen, IsUnkeptOf, ServesBoard, TellsAtRisk, Worker, WorksAt, calls_of, end_of}
-use Rattle.desk_turns.specs.Seats.{ServedState, is_risen, latest_at_risk, number_of, port_of}
+use Rattle.desk_turns.specs.Crew.{HasSeen, IsUnkeptOf, ServesBoard, TellsAtRisk, Worker, WorksAt, crew_calls, end_of}
+use Rattle.desk_turns.specs.Seats.{ServedState, call_number, is_risen, latest_at_risk, port_of}
 use Rattle.desk_turns.specs.Together.{AreLater, HasCallOf, StaysAtRisk, WorkTogether, WorksBeside}
 use Rattle.desk_turns.specs.Work.{EndStates, Works}
 use Rattle.desk_turns.proofs.Any.{any_append, any_here, any_none, any_there}
@@ -40,10 +40,10 @@ risen_append : (xs ys : List (Call Entry)) → count_by is_risen (xs ++ ys) ≡ 
 risen_append xs ys = sum_by-append (λ (call : Call Entry). cond (is_risen call) 1 0) xs ys
 
 -- how often a number was called, by the calls' numbers alone
-times_count : (number : ℕ) (calls : List (Call Entry)) → times number calls ≡ count_by (λ call. number == call) (map number_of calls)
+times_count : (number : ℕ) (calls : List (Call Entry)) → times number calls ≡ count_by (λ call. number == call) (map call_number calls)
 times_count number [] = refl
 times_count number (call ∷ calls) =
-    let more = count_append (λ (own : ℕ). number == own) (call.number ∷ []) (map number_of calls) in
+    let more = count_append (λ (own : ℕ). number == own) (call.number ∷ []) (map call_number calls) in
     let rest = times_count number calls in
     omega (arith, more, rest)
 
@@ -61,7 +61,7 @@ module _ {In Out Fixed : Type 0} (states : EndStates In Out) (kind : SessionKind
   beside : (before less mid other after : Held Fixed) → less.seen ≡ before.seen → Meets call_of mid other after → (worker : Worker In Out)
       → WorksBeside states kind asked less mid worker → WorksBeside states kind asked before after worker
   beside before less mid other after same meets worker work =
-      let numbers : map number_of after.calls ≡ map number_of mid.calls ++ map number_of other.calls = ap (map number_of) meets.calls ∙ map-append number_of mid.calls other.calls in
+      let numbers : map call_number after.calls ≡ map call_number mid.calls ++ map call_number other.calls = ap (map call_number) meets.calls ∙ map-append call_number mid.calls other.calls in
       let risen : count_by is_risen after.calls ≡ count_by is_risen mid.calls + count_by is_risen other.calls = ap (count_by is_risen) meets.calls ∙ risen_append mid.calls other.calls in
       let more : List Entry = meets.mine.rest in record {
         fresh = record { seen = work.fresh.seen ∙ same; calls = work.fresh.calls; at_risk = work.fresh.at_risk; spent = work.fresh.spent; faults = work.fresh.faults };
@@ -73,7 +73,7 @@ module _ {In Out Fixed : Type 0} (states : EndStates In Out) (kind : SessionKind
               (λ (call : ℕ). Every (λ (entry : Entry). call < call_of entry) (work.seen.new ++ more)) (λ call a b. every_append (λ (entry : Entry). call < call_of entry) work.seen.new more a b)
               worker.after.port.calls work.seen.above (work.own more (every_map (λ (call : ℕ). Every (λ (entry : Entry). call < call_of entry) more) mid.calls meets.mine.later));
         };
-        own = λ entries later. work.own entries (every_front (λ (call : ℕ). Every (λ (entry : Entry). call < call_of entry) entries) (map number_of mid.calls) (map number_of other.calls)
+        own = λ entries later. work.own entries (every_front (λ (call : ℕ). Every (λ (entry : Entry). call < call_of entry) entries) (map call_number mid.calls) (map call_number other.calls)
             (subst (λ (calls : List ℕ). AreLater calls entries) numbers later));
         exhausted = λ spent. meets.note ∙ ap (λ (note : Bool). note || other.exhausted) (work.exhausted spent);
         faults = let few = work.faults in omega (arith, risen, few);
@@ -87,11 +87,11 @@ module _ {In Out Fixed : Type 0} (states : EndStates In Out) (kind : SessionKind
       → WorksBeside states kind asked before after (record { before = record { listener = a; port = port_of started }; after = record { listener = b; port = port_of ended }; end = one })
   itself before mid after started ended a b one mine works meets =
       let own : List (Call Entry) = ended.seat.calls in
-      let numbers : map number_of after.calls ≡ map number_of mid.calls ++ map number_of own = ap (map number_of) meets.calls ∙ map-append number_of mid.calls own in
+      let numbers : map call_number after.calls ≡ map call_number mid.calls ++ map call_number own = ap (map call_number) meets.calls ∙ map-append call_number mid.calls own in
       let risen : count_by is_risen after.calls ≡ count_by is_risen mid.calls + count_by is_risen own = ap (count_by is_risen) meets.calls ∙ risen_append mid.calls own in record {
         fresh = record {
           seen = ap (λ (seat : Held Fixed). seat.seen) mine;
-          calls = ap (λ (seat : Held Fixed). map number_of seat.calls) mine;
+          calls = ap (λ (seat : Held Fixed). map call_number seat.calls) mine;
           at_risk = ap (λ (seat : Held Fixed). latest_at_risk seat.calls) mine;
           spent = ap (λ (seat : Held Fixed). seat.exhausted) mine;
           faults = ap (λ (seat : Held Fixed). count_by is_risen seat.calls) mine;
@@ -102,7 +102,7 @@ module _ {In Out Fixed : Type 0} (states : EndStates In Out) (kind : SessionKind
           is = meets.theirs.is;
           above = every_map (λ (call : ℕ). Every (λ (entry : Entry). call < call_of entry) meets.theirs.rest) own meets.theirs.later;
         };
-        own = λ entries later. every_rest (λ (call : ℕ). Every (λ (entry : Entry). call < call_of entry) entries) (map number_of mid.calls) (map number_of own)
+        own = λ entries later. every_rest (λ (call : ℕ). Every (λ (entry : Entry). call < call_of entry) entries) (map call_number mid.calls) (map call_number own)
             (subst (λ (calls : List ℕ). AreLater calls entries) numbers later);
         exhausted = λ spent. meets.note ∙ either_true mid.exhausted ended.seat.exhausted spent;
         faults = omega (arith, risen);
@@ -163,7 +163,7 @@ module _ {In Out Fixed : Type 0} (states : EndStates In Out) (kind : SessionKind
             let own = times_count number ended.seat.calls in
             let theirs = rest.calls number in
             let less_calls = ap (λ (seat : Held Fixed). times number seat.calls) less_is in
-            let counts = count_append (λ (call : ℕ). number == call) (map number_of ended.seat.calls) (calls_of rest.workers) in
+            let counts = count_append (λ (call : ℕ). number == call) (map call_number ended.seat.calls) (crew_calls rest.workers) in
             omega (arith, all, own, theirs, less_calls, counts);
         at_risk = at_risk_of before less mid ended.seat after worker rest.workers (ap (λ (seat : Held Fixed). seat.calls) less_is) meets.calls refl rest.at_risk;
       }
@@ -238,7 +238,7 @@ unkept workers calls history (Some entry) told put = record {
 -- `kinds` says of which kind the sessions are, by the fixed part
 module _ {In Out Fixed : Type 0} (states : EndStates In Out) (kinds : Fixed → SessionKind) (asked : ℕ) where
   pub serves : (machine left : MachineState Entry Fixed) (board : TurnBoardState Fixed) (first last : Held Fixed) (olds news : List (ListenerState In Out)) (end : WorkEnd)
-      → Opens machine board first
+      → OpensTurnBoard machine board first
       → WorkTogether states (kinds board.start.fixed) asked (record { listeners = olds; seat = first }) (record { listeners = news; seat = last }) end
       → Closes call_of board last left → IsLegal (kinds left.fixed).airport left.history
       → ServesBoard states kinds asked (record { listeners = olds; board = machine }) (record { listeners = news; board = left }) end
@@ -275,8 +275,8 @@ module _ {In Out Fixed : Type 0} (states : EndStates In Out) (kinds : Fixed → 
             let all = closes.calls number in
             let own = together.calls number in
             let start = none number in
-            subst (λ (least : ℕ). count_by (λ call. number == call) (calls_of together.workers) ≡ cond (nat_le least number && nat_lt number closes.end) 1 0) next
-            (once board.start.first closes.end number (count_by (λ call. number == call) (calls_of together.workers)) closes.order.0 (omega arith));
+            subst (λ (least : ℕ). count_by (λ call. number == call) (crew_calls together.workers) ≡ cond (nat_le least number && nat_lt number closes.end) 1 0) next
+            (once board.start.first closes.end number (count_by (λ call. number == call) (crew_calls together.workers)) closes.order.0 (omega arith));
         exhausted = every_more (WorksBeside states (kinds board.start.fixed) asked first last) (λ (worker : Worker In Out). worker.after.port.spent ≡ true → closes.end ≡ _)
             (λ worker work spent. closes.exhausted (work.exhausted spent)) together.workers together.work;
         faults = let least = closes.since in omega arith;

@@ -44,8 +44,8 @@ AreAllOnce first end calls = (number : ℕ) → count_by (λ call. number == cal
 
 module _ {In Out : Type 0} where
   -- the calls of all workers
-  abbrev pub calls_of : List (Worker In Out) → List ℕ
-  calls_of workers = flat_map (λ (worker : Worker In Out). worker.after.port.calls) workers
+  abbrev pub crew_calls : List (Worker In Out) → List ℕ
+  crew_calls workers = flat_map (λ (worker : Worker In Out). worker.after.port.calls) workers
 
   -- the worker has seen this history at its end
   abbrev pub HasSeen : List Entry → Worker In Out → Type 0
@@ -86,7 +86,7 @@ pub record ServesBoard {In Out Fixed : Type 0} (states : EndStates In Out) (kind
   pub longest : (after.board.history ≡ before.board.history) ⊎ Any (HasSeen after.board.history) workers
   pub last : ℕ
   pub order : (before.board.next ≤ last) × (last ≤ call_limit)
-  pub calls : AreAllOnce before.board.next last (calls_of workers)
+  pub calls : AreAllOnce before.board.next last (crew_calls workers)
   pub exhausted : Every (λ (worker : Worker In Out). worker.after.port.spent ≡ true → last ≡ call_limit) workers
   pub faults : before.board.faults ≤ after.board.faults
   pub at_risk : IfSome after.board.at_risk (IsUnkeptOf workers after.board.history)

@@ -11,7 +11,7 @@ use Rattle.desk_http.specs.declared.port.FeedAsk.{FeedAsk}
 
 -- A feed, where `text` says what its reply is at each history: it found a history that is legal at the airport, was answered no reply but its own there,
 -- did not fail, and left the history.
-pub record FeedsLegally (airport : AirportParts) (text : List Entry → List ℕ) (before : List Entry) (answer : Acted) (after : List Entry) : Type 0 where
+pub record IsLegalFeed (airport : AirportParts) (text : List Entry → List ℕ) (before : List Entry) (answer : Acted) (after : List Entry) : Type 0 where
   pub found : IsLegal airport before
   pub fed : (bytes : List ℕ) → answer ≡ Reply bytes → bytes ≡ text before
   pub fine : answer ≢ Fault

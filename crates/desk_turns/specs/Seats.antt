@@ -18,12 +18,12 @@ module _ {Fixed : Type 0} where
   fixed_of served = served.board.start.fixed
 
   -- what no call of the seat changes: its board and its share
-  abbrev pub place_of : ServedState Fixed → TurnBoardState Fixed × ℕ
-  place_of served = (served.board, served.seat.share)
+  abbrev pub board_and_share : ServedState Fixed → TurnBoardState Fixed × ℕ
+  board_and_share served = (served.board, served.seat.share)
 
 -- the number of a call
-abbrev pub number_of : Call Entry → ℕ
-number_of call = call.number
+abbrev pub call_number : Call Entry → ℕ
+call_number call = call.number
 
 -- the machine's count of faults rose over a call, or stands at its last value
 abbrev pub is_risen : Call Entry → Bool
@@ -52,7 +52,7 @@ port_of served = record {
   first = 1;
   seen = served.seat.seen;
   at_risk = latest_at_risk served.seat.calls;
-  calls = map number_of served.seat.calls;
+  calls = map call_number served.seat.calls;
   spent = served.seat.exhausted;
   faults = count_by is_risen served.seat.calls;
 }

@@ -11,8 +11,8 @@ use Rattle.turn_board.specs.declared.view.Call.{Call}
 use Rattle.desk_http.specs.Ports.{IsLater}
 use Rattle.desk_http.specs.Session.{SessionKind}
 use Rattle.desk_turns.specs.declared.worker.WorkEnd.{WorkEnd}
-use Rattle.desk_turns.specs.Crew.{HasSeen, IsFresh, TellsAtRisk, Worker, calls_of, end_of}
-use Rattle.desk_turns.specs.Seats.{is_risen, number_of}
+use Rattle.desk_turns.specs.Crew.{HasSeen, IsFresh, TellsAtRisk, Worker, crew_calls, end_of}
+use Rattle.desk_turns.specs.Seats.{call_number, is_risen}
 use Rattle.desk_turns.specs.Work.{EndStates, Works}
 
 -- the listeners of the workers in order, and the seat that theirs are cut from
@@ -38,7 +38,7 @@ pub record WorksBeside {In Out Fixed : Type 0} (states : EndStates In Out) (kind
   pub fresh : IsFresh before.seen worker.before.port
   pub works : Works states kind asked worker.before worker.after worker.end
   pub seen : IsLater worker.after.port.seen worker.after.port.calls after.seen
-  pub own : (entries : List Entry) → AreLater (map number_of after.calls) entries → AreLater worker.after.port.calls entries
+  pub own : (entries : List Entry) → AreLater (map call_number after.calls) entries → AreLater worker.after.port.calls entries
   pub exhausted : worker.after.port.spent ≡ true → after.exhausted ≡ true
   pub faults : worker.after.port.faults ≤ count_by is_risen after.calls
 
@@ -52,5 +52,5 @@ pub record WorkTogether {In Out Fixed : Type 0} (states : EndStates In Out) (kin
   pub work : Every (WorksBeside states kind asked before.seat after.seat) workers
   pub begins : IsLater before.seat.seen [] after.seat.seen
   pub longest : (after.seat.seen ≡ before.seat.seen) ⊎ Any (HasSeen after.seat.seen) workers
-  pub calls : (number : ℕ) → times number after.seat.calls ≡ times number before.seat.calls + count_by (λ call. number == call) (calls_of workers)
+  pub calls : (number : ℕ) → times number after.seat.calls ≡ times number before.seat.calls + count_by (λ call. number == call) (crew_calls workers)
   pub at_risk : (entry : Entry) → HasCallOf entry after.seat.calls → StaysAtRisk entry after.seat.calls → HasCallOf entry before.seat.calls ⊎ Any (TellsAtRisk entry) workers

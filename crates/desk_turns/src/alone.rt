@@ -8,7 +8,7 @@ ghost use Rattle.desk_turns.specs.Alone.{ActsNext};
 
 use crate::feeds::FeedMachine;
 use crate::machine::DeskMachine;
-use crate::served::uncopied;
+use crate::served::answer_if_uncopied;
 use apron_base::{Acted, CALL_END, Machine, Memory, Name};
 use apron_rules::Airport;
 use desk_http::{DeskPort, FeedPort};
@@ -147,7 +147,7 @@ where
     let Ok(own) = M::copied(alloc, &version) else {
         unreachable!()
     };
-    uncopied(act_next(alloc, machine, &own))
+    answer_if_uncopied(act_next(alloc, machine, &own))
 }
 
 // Asks a machine with the number of its next call. It is answered `Spent`, and not asked, where there is no such number.

@@ -58,14 +58,14 @@ pub fn serve_board<
             let mut port = SeatPort::new(rt, &turns, airport, seat);
             let ends = work_all(rt, alloc, &mut port, listeners, connections, job);
             let seat = port.into_seat();
-            (Ok(ends), closed(turns, seat))
+            (Ok(ends), close_turns(turns, seat))
         }
         Err(board) => (Err(Memory), board),
     }
 }
 
 // The board, once all seats have met this one.
-fn closed<M: DeskMachine>(turns: TurnBoard<M>, seat: Seat<M>) -> M
+fn close_turns<M: DeskMachine>(turns: TurnBoard<M>, seat: Seat<M>) -> M
     requires sits { Sits turns seat }
     requires share { seat.share ≡ all_shares }
     ensures closes { Closes call_of turns seat (M.state result) }

@@ -5,7 +5,7 @@ ghost use Rattle.desk_http.specs.FedSession.{FedAnswers};
 ghost use Rattle.desk_http.specs.Ports.{Turn};
 ghost use Rattle.desk_http.specs.Session.{SessionOfKind};
 ghost use Rattle.desk_turns.specs.Feeds.{FeedTurns};
-ghost use Rattle.desk_turns.specs.Seats.{fixed_of, place_of, port_of};
+ghost use Rattle.desk_turns.specs.Seats.{board_and_share, fixed_of, port_of};
 
 use crate::machine::DeskMachine;
 use crate::served::SeatPort;
@@ -22,8 +22,8 @@ pub trait FeedMachine: DeskMachine {
     ghost use Rattle.apron_base.specs.declared.outside.Acted.{Acted};
     ghost use Rattle.desk_words.specs.declared.asks.Entry.{Entry};
     ghost use Rattle.desk_http.specs.declared.port.FeedAsk.{FeedAsk};
-    ghost use Rattle.desk_turns.specs.Feeds.{FeedsLegally};
-    ghost use Rattle.desk_turns.specs.Machines.{IsCommand};
+    ghost use Rattle.desk_turns.specs.Feeds.{IsLegalFeed};
+    ghost use Rattle.desk_turns.specs.Machines.{AsksCommand};
 
     /// How it is asked for a feed.
     ghost fed: { FeedAsk → Self.Ask };
@@ -34,7 +34,7 @@ pub trait FeedMachine: DeskMachine {
     /// A copy of what a desk asks, as it is asked here. At `Err` no memory was there to copy a command.
     fn copied(alloc: Global, ask: &Ask) -> Result<Self::Ask, Memory>
         ensures same { IfOk result (λ own. own ≡ Self.plain ask.now) }
-        ensures uncopied { OnErr result (IsCommand ask.now) };
+        ensures uncopied { OnErr result (AsksCommand ask.now) };
 
     /// The ask for a feed: the bumps that the watch of this name picks, of those after the version `after`, for a desk that has
     /// seen the version `seen`. It takes no memory.
@@ -49,7 +49,7 @@ pub trait FeedMachine: DeskMachine {
 
     /// A feed gets its reply at the history that it finds, or there is no memory; it leaves that history.
     ghost feeds_as: { (fixed : Self.Fixed) (before : List Entry) (call : ℕ) (ask : FeedAsk) (answer : Acted) (after : List Entry)
-        → Self.answers fixed before call (fed ask) answer after → FeedsLegally (Self.airport fixed) (feed_text fixed ask) before answer after };
+        → Self.answers fixed before call (fed ask) answer after → IsLegalFeed (Self.airport fixed) (feed_text fixed ask) before answer after };
 }
 
 impl<'s, R: Wait, M: FeedMachine, B: Turns<M>> FeedPort for SeatPort<'s, R, M, B>
@@ -91,7 +91,7 @@ where
     })
         (record { source = S.state source.old; sink = W.state sink.old; port = port_of port.old })
         (record { source = S.state source.new; sink = W.state sink.new; port = port_of port.new }) result }
-    ensures place { place_of port.new ≡ place_of port.old }
+    ensures place { board_and_share port.new ≡ board_and_share port.old }
 {
     session_fed(alloc, port, source, sink)
 }

@@ -19,7 +19,7 @@ pub trait DeskMachine: Machine<Entry = Entry> {
     ghost use Rattle.history_core.specs.Answer.{ActsLegally};
     ghost use Rattle.history_core.specs.History.{IsAskOf, IsLegal, call_limit, call_of};
     ghost use Rattle.turn_board.specs.Board.{Sits};
-    ghost use Rattle.desk_turns.specs.Machines.{Adds, AsksAt, IsCommand};
+    ghost use Rattle.desk_turns.specs.Machines.{AddsAsked, AsksAt, AsksCommand};
 
     /// The airport of its plan.
     ghost airport: { Self.Fixed → AirportParts };
@@ -46,7 +46,7 @@ pub trait DeskMachine: Machine<Entry = Entry> {
         ensures sits { Sits (B.state board.now) seat.new }
         ensures share { seat.new.share ≡ seat.old.share }
         ensures asks { IfOk result (λ answer. AsksAt Self.state Self.number Self.adds Self.answers seat.old (record { ask = plain ask.now; answer = answer }) seat.new) }
-        ensures uncopied { OnErr result ((seat.new ≡ seat.old) × IsCommand ask.now) };
+        ensures uncopied { OnErr result ((seat.new ≡ seat.old) × AsksCommand ask.now) };
 
     /// The number of an entry is that of the call which added it.
     ghost numbers: { Self.number ≡ call_of };
@@ -55,7 +55,7 @@ pub trait DeskMachine: Machine<Entry = Entry> {
     ghost can_ask: { (fixed : Self.Fixed) (ask : Ask) → IsAskOf (airport fixed) ask → Self.valid fixed (plain ask) };
 
     /// It can add the entry of the command that a desk asks, and no other.
-    ghost adds_asked: { (ask : Ask) (entry : Entry) → Self.adds (plain ask) entry → Adds ask entry };
+    ghost adds_asked: { (ask : Ask) (entry : Entry) → Self.adds (plain ask) entry → AddsAsked ask entry };
 
     /// It answers a desk's ask as the board does.
     ghost answers_as: { (fixed : Self.Fixed) (before : List Entry) (call : ℕ) (ask : Ask) (answer : Acted) (after : List Entry)

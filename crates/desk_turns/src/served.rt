@@ -3,7 +3,7 @@ ghost use Rattle.std.specs.Prelude.{◌≡◌, IfOk, OnErr};
 ghost use Rattle.desk_words.specs.declared.asks.Ask.{Ask};
 ghost use Rattle.history_core.specs.History.{IsAskOf};
 ghost use Rattle.turn_board.specs.Board.{Sits};
-ghost use Rattle.desk_turns.specs.Machines.{AsksAt, AsksBoard, IsCommand, uncopied};
+ghost use Rattle.desk_turns.specs.Machines.{AsksAt, AsksBoard, AsksCommand, answer_if_uncopied};
 ghost use Rattle.desk_turns.specs.Seats.{fixed_of};
 
 use crate::machine::DeskMachine;
@@ -96,13 +96,13 @@ impl<'s, R: Wait, M: DeskMachine, B: Turns<M>> SeatPort<'s, R, M, B> {
 
 impl<'s, R: Wait, M: DeskMachine, B: Turns<M>> DeskPort for SeatPort<'s, R, M, B> {
     ghost use Rattle.desk_http.specs.Ports.{Turn};
-    ghost use Rattle.desk_turns.specs.Seats.{fixed_of, place_of, port_of};
+    ghost use Rattle.desk_turns.specs.Seats.{board_and_share, fixed_of, port_of};
 
     type Place = (TurnBoard<M>, u64);
 
     ghost airport_of = { λ s. M.airport (fixed_of s) };
 
-    ghost place = { place_of };
+    ghost place = { board_and_share };
 
     ghost port = { port_of };
 
@@ -167,7 +167,7 @@ fn ask_plainly<R: Wait, M: DeskMachine, B: Turns<M>>(
     ensures sits { Sits (B.state board.now) seat.new }
     ensures share { seat.new.share ≡ seat.old.share }
     ensures asks { IfOk result (λ answer. AsksBoard M.state M.airport seat.old (record { ask = ask.now; answer = answer }) seat.new) }
-    ensures uncopied { OnErr result ((seat.new ≡ seat.old) × IsCommand ask.now) }
+    ensures uncopied { OnErr result ((seat.new ≡ seat.old) × AsksCommand ask.now) }
 {
     M::ask_at(rt, alloc, board, seat, ask)
 }
@@ -191,12 +191,12 @@ fn call_uncopied<R: Wait, M: DeskMachine, B: Turns<M>>(
     let Ok(answer) = ask_plainly(rt, alloc, board, seat, &version) else {
         unreachable!()
     };
-    uncopied(answer)
+    answer_if_uncopied(answer)
 }
 
 /// The answer to an ask that could not be copied, by that to the call that was made in its place.
-pub(crate) fn uncopied(answer: Acted) -> Acted
-    ensures is { result ≡ uncopied answer }
+pub(crate) fn answer_if_uncopied(answer: Acted) -> Acted
+    ensures is { result ≡ answer_if_uncopied answer }
 {
     match answer {
         Acted::Spent => Acted::Spent,

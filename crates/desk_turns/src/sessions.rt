@@ -17,7 +17,7 @@ pub trait SessionMachine: DeskMachine {
     ghost use Rattle.desk_http.specs.Complete.{IsCompleteOfKind};
     ghost use Rattle.desk_http.specs.Ports.{PortState};
     ghost use Rattle.desk_http.specs.Session.{SessionOfKind};
-    ghost use Rattle.desk_turns.specs.Seats.{fixed_of, place_of, port_of};
+    ghost use Rattle.desk_turns.specs.Seats.{board_and_share, fixed_of, port_of};
 
     /// What comes of a request, and what the port of the seat becomes.
     ghost comes: { Self.Fixed → PortState → Request → Answered → PortState → Type 0 };
@@ -35,7 +35,7 @@ pub trait SessionMachine: DeskMachine {
         ensures complete { IsCompleteOfKind (record { airport = Self.airport (fixed_of port.old); comes = comes (fixed_of port.old) })
             (record { source = S.state source.old; sink = W.state sink.old; port = port_of port.old })
             (record { source = S.state source.new; sink = W.state sink.new; port = port_of port.new }) result }
-        ensures place { place_of port.new ≡ place_of port.old };
+        ensures place { board_and_share port.new ≡ board_and_share port.old };
 }
 
 impl<'a, K: Keeper> SessionMachine for Board<'a, K> {
@@ -55,7 +55,7 @@ impl<'a, K: Keeper> SessionMachine for Board<'a, K> {
 }
 
 impl<'s, R: Wait, M: SessionMachine, B: Turns<M>> SessionPort for SeatPort<'s, R, M, B> {
-    ghost use Rattle.desk_turns.specs.Seats.{fixed_of, place_of, port_of};
+    ghost use Rattle.desk_turns.specs.Seats.{board_and_share, fixed_of, port_of};
 
     type Fixed = M::Fixed;
 
@@ -63,7 +63,7 @@ impl<'s, R: Wait, M: SessionMachine, B: Turns<M>> SessionPort for SeatPort<'s, R
 
     ghost fixed = { fixed_of };
 
-    ghost place = { place_of };
+    ghost place = { board_and_share };
 
     ghost port = { port_of };
 

@@ -6,7 +6,7 @@ pub(crate) trait SplitPort: SessionPort {
     ghost use Rattle.std.specs.Prelude.{◌≡◌, ◌≤◌, ◌-◌, [], false};
     ghost use Rattle.history_core.specs.History.{call_of};
     ghost use Rattle.turn_board.specs.Board.{Meets};
-    ghost use Rattle.desk_turns.specs.Seats.{ServedState, fixed_of, place_of, port_of};
+    ghost use Rattle.desk_turns.specs.Seats.{ServedState, board_and_share, fixed_of, port_of};
 
     /// The board and the seat.
     ghost served: { Self → ServedState Self.Fixed };
@@ -16,7 +16,7 @@ pub(crate) trait SplitPort: SessionPort {
     fn is_seat(&self)
         ensures tells { (port : Self) → Self.port port ≡ port_of (served port) }
         ensures fixes { (port : Self) → Self.fixed port ≡ fixed_of (served port) }
-        ensures keeps { (port other : Self) → Self.place port ≡ Self.place other → place_of (served port) ≡ place_of (served other) };
+        ensures keeps { (port other : Self) → Self.place port ≡ Self.place other → board_and_share (served port) ≡ board_and_share (served other) };
 
     /// The port of a new seat with a share of one, which has seen as much and has called nothing.
     fn split(&mut self) -> Self

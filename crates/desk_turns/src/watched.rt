@@ -1,6 +1,6 @@
 // A board with watches: desks take turns at it, and it answers feeds.
 ghost use Rattle.std.specs.Prelude.{◌≡◌, IfOk, OnErr};
-ghost use Rattle.desk_turns.specs.Machines.{IsCommand};
+ghost use Rattle.desk_turns.specs.Machines.{AsksCommand};
 
 use crate::feeds::{FeedMachine, serve_fed};
 use crate::machine::DeskMachine;
@@ -92,9 +92,9 @@ impl<'a, K: Keeper, R: Stated + 'a, T: NoteTest + 'a> SessionMachine
 /// A copy of what a desk asks, as a board with watches is asked it. At `Err` there is no memory to copy a command.
 pub fn watch_ask_of(alloc: Global, ask: &Ask) -> Result<WatchAsk, Memory>
     ensures same { IfOk result (λ own. own ≡ WatchAsk.Plain ask.now) }
-    ensures uncopied { OnErr result (IsCommand ask.now) }
+    ensures uncopied { OnErr result (AsksCommand ask.now) }
 {
-    Ok(WatchAsk::Plain(copy_of(alloc, ask)?))
+    Ok(WatchAsk::Plain(copy_of_ask(alloc, ask)?))
 }
 
 /// How a board with watches is asked for a feed. It takes no memory.
@@ -109,9 +109,9 @@ pub fn watch_feed(seen: u32, watch: &Name, after: u32) -> WatchAsk
 }
 
 // The same ask. At `Err` there is no memory to copy a command.
-fn copy_of(alloc: Global, ask: &Ask) -> Result<Ask, Memory>
+fn copy_of_ask(alloc: Global, ask: &Ask) -> Result<Ask, Memory>
     ensures same { IfOk result (λ made. made ≡ ask.now) }
-    ensures command { OnErr result (IsCommand ask.now) }
+    ensures command { OnErr result (AsksCommand ask.now) }
 {
     let what = match &ask.what {
         What::Change(command) => What::Change(command.copy(alloc)?),

@@ -8,8 +8,8 @@ use Rattle.std.proofs.lemmas.List.Kept.{AllPairs-cons}
 use Rattle.serde_json.proofs.OnLiterals.{serde_json_on_literals}
 use Rattle.mvt_grammar.specs.declared.message.MvtFault.{MvtFault}
 use Rattle.mvt_grammar.specs.declared.message.MvtFault.TheVariants.{TooLong, NoIdentifier, BadFlightLine, BadElement, Twice}
-use Rattle.desk_words.specs.declared.early.Early.{Early}
-use Rattle.desk_words.specs.declared.early.Early.TheVariants.{NoRoute, OnlyGet, OnlyPost, BadSeen, BadDesk, NoDay, NotJson, NotMvt, BadType, BadStand, NoStand, BadTimes}
+use Rattle.desk_words.specs.declared.early.EarlyReply.{EarlyReply}
+use Rattle.desk_words.specs.declared.early.EarlyReply.TheVariants.{NoRoute, OnlyGet, OnlyPost, BadSeen, BadDesk, NoDay, NotJson, NotMvt, BadType, BadStand, NoStand, BadTimes}
 use Rattle.desk_words.specs.Early.{IsEarly, IsMvtFault, early_text}
 use Rattle.desk_words.specs.Fixed.{fixed_texts, no_memory_text, keeper_fault_text, bad_encoding_text, bad_head_text, large_body_text, no_length_text}
 use Rattle.desk_words.proofs.Lines.{behind_three}
@@ -68,7 +68,7 @@ mvt_fault_apart (BadElement place) =
 mvt_fault_apart (Twice place) =
     behind_apart (early_text (NotMvt (Twice place))) (codes "\r\n" ++ place_body place twice_end) fixed_texts (twice_behind place) refl
 
-pub early_apart : (early : Early) → All (λ text. early_text early ≢ text) fixed_texts
+pub early_apart : (early : EarlyReply) → All (λ text. early_text early ≢ text) fixed_texts
 unfolding digits serde_json_on_literals early_text no_memory_text keeper_fault_text bad_head_text bad_encoding_text large_body_text no_length_text
 early_apart NoRoute = differs_apart (early_text NoRoute) fixed_texts refl
 early_apart OnlyGet = differs_apart (early_text OnlyGet) fixed_texts refl
@@ -84,13 +84,13 @@ early_apart NoStand = differs_apart (early_text NoStand) fixed_texts refl
 early_apart BadTimes = differs_apart (early_text BadTimes) fixed_texts refl
 
 -- those that are constants
-abbrev constants : List Early
+abbrev constants : List EarlyReply
 constants =
     NoRoute ∷ OnlyGet ∷ OnlyPost ∷ BadSeen ∷ BadDesk ∷ NoDay ∷ NotJson ∷ NotMvt TooLong ∷ NotMvt NoIdentifier
     ∷ NotMvt BadFlightLine ∷ BadType ∷ NoStand ∷ BadTimes ∷ []
 
 -- the one of this text that is a constant
-abbrev constant_of : List ℕ → Early
+abbrev constant_of : List ℕ → EarlyReply
 constant_of text = unwrap_or (find (λ early. bytes_eq text (early_text early)) constants) NoRoute
 
 -- the fault of a body with a place, after its first bytes, by its third last byte: that of
@@ -104,13 +104,13 @@ fault_in text = fault_by (slice_index text (length text - 3)) text
 
 -- the reply of this text, with what comes after its third line: a body that begins with `{"ed`
 -- names an edit, and one with `{"at` a place
-abbrev read_with : List ℕ → List ℕ → Early
+abbrev read_with : List ℕ → List ℕ → EarlyReply
 read_with text behind =
     if slice_index behind 5 == 100 then BadStand (number_in 17 (drop 10 behind))
     else if slice_index behind 5 == 116 then NotMvt (fault_in (drop 8 behind)) else constant_of text
 
 -- the reply of this text
-abbrev read_early : List ℕ → Early
+abbrev read_early : List ℕ → EarlyReply
 read_early text = read_with text (behind_three text)
 
 stand_read : (edit : ℕ) → IsEarly (BadStand edit) → read_early (early_text (BadStand edit)) ≡ BadStand edit
@@ -131,7 +131,7 @@ mvt_fault_read (Twice place) small =
     ∙ ap (λ (byte : ℕ). NotMvt (fault_by byte (decimal place ++ twice_end))) (byte_of_end (decimal place) twice_end 28 3 refl)
     ∙ ap (λ (n : ℕ). NotMvt (Twice n)) (number_in-text place twice_end small)
 
-early_read : (early : Early) → IsEarly early → read_early (early_text early) ≡ early
+early_read : (early : EarlyReply) → IsEarly early → read_early (early_text early) ≡ early
 unfolding digits serde_json_on_literals early_text
 early_read NoRoute small = refl
 early_read OnlyGet small = refl
@@ -147,5 +147,5 @@ early_read NoStand small = refl
 early_read BadTimes small = refl
 
 -- early replies with the same text are the same
-pub early_one : (early other : Early) → IsEarly early → IsEarly other → early_text early ≡ early_text other → early ≡ other
+pub early_one : (early other : EarlyReply) → IsEarly early → IsEarly other → early_text early ≡ early_text other → early ≡ other
 early_one early other small small_other same = sym (early_read early small) ∙ (ap read_early same ∙ early_read other small_other)

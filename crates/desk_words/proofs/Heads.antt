@@ -2,7 +2,7 @@
 use Rattle.std.proofs.Common.{◌≡◌, ◌∷◌, ◌++◌, ℕ, List, [], codes, decimal, append_assoc, append-nil}
 use Rattle.std.specs.List.{flat_map}
 use Rattle.http.specs.StatusCode.{status_text}
-use Rattle.desk_words.specs.Texts.{head_of, version_line}
+use Rattle.desk_words.specs.Texts.{reply_head, version_line}
 
 -- three lines that end alike, and an empty one
 three_lines : (end a x b y c z : List ℕ)
@@ -11,7 +11,7 @@ three_lines : (end a x b y c z : List ℕ)
 three_lines end a x b y c z = simp (append_assoc, append-nil)
 
 pub bare_head : (code : ℕ) (media : List ℕ) (length_of_body : ℕ)
-    → head_of code media [] length_of_body
+    → reply_head code media [] length_of_body
     ≡ codes "HTTP/1.1 " ++ (status_text code ++ (codes "\r\nContent-Type: " ++ (media ++ (codes "\r\nContent-Length: " ++ (decimal length_of_body ++ codes "\r\n\r\n")))))
 bare_head code media length_of_body =
     three_lines (codes "\r\n") (codes "HTTP/1.1 ") (status_text code) (codes "Content-Type: ") media (codes "Content-Length: ") (decimal length_of_body)
@@ -23,7 +23,7 @@ four_lines : (end a x b y c z d w : List ℕ)
 four_lines end a x b y c z d w = simp (append_assoc, append-nil)
 
 pub versioned_head : (code : ℕ) (media : List ℕ) (length_of_body version : ℕ)
-    → head_of code media (version_line version ∷ []) length_of_body
+    → reply_head code media (version_line version ∷ []) length_of_body
     ≡ codes "HTTP/1.1 " ++ (status_text code ++ (codes "\r\nContent-Type: " ++ (media ++ (codes "\r\nContent-Length: " ++ (decimal length_of_body
     ++ (codes "\r\nX-Version: " ++ (decimal version ++ codes "\r\n\r\n")))))))
 versioned_head code media length_of_body version =

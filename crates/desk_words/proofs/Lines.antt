@@ -4,7 +4,7 @@ use Rattle.std.specs.Prelude.{if◌then◌else◌}
 use Rattle.std.specs.List.{flat_map}
 use Rattle.std.specs.Fmt.{digits, digits_onto, digit_glyph}
 use Rattle.http.specs.StatusCode.{status_text}
-use Rattle.desk_words.specs.Texts.{after_line, ended, json_media, text_of}
+use Rattle.desk_words.specs.Texts.{after_line, json_media, text_of, with_line_end}
 
 -- no byte of the line ends it
 abbrev pub is_one_line : List ℕ → Bool
@@ -23,7 +23,7 @@ line_past true line more one rest = absurd (true≢false (sym one))
 line_past false line more one rest = rest one
 
 -- what comes after a line is the rest
-after_line-ended : (line more : List ℕ) → is_one_line line ≡ true → after_line (ended line ++ more) ≡ more
+after_line-ended : (line more : List ℕ) → is_one_line line ≡ true → after_line (with_line_end line ++ more) ≡ more
 after_line-ended [] more one = refl
 after_line-ended (byte ∷ line) more one = line_past (byte == 10) line more one (after_line-ended line more)
 
@@ -52,9 +52,9 @@ decimal_one_line n = digits_one_line 64 n [] refl
 
 -- what comes after three lines is the rest
 after_three : (a b c more : List ℕ) → is_one_line a ≡ true → is_one_line b ≡ true → is_one_line c ≡ true
-    → behind_three (ended a ++ (ended b ++ (ended c ++ more))) ≡ more
+    → behind_three (with_line_end a ++ (with_line_end b ++ (with_line_end c ++ more))) ≡ more
 after_three a b c more one two three =
-    rw (after_line-ended a (ended b ++ (ended c ++ more)) one, after_line-ended b (ended c ++ more) two, after_line-ended c more three) refl
+    rw (after_line-ended a (with_line_end b ++ (with_line_end c ++ more)) one, after_line-ended b (with_line_end c ++ more) two, after_line-ended c more three) refl
 
 grouped : (a b c d e f : List ℕ) → ((a ++ (b ++ (c ++ d))) ++ e) ++ f ≡ a ++ (b ++ (c ++ (d ++ (e ++ f))))
 grouped a b c d e f = simp append_assoc
@@ -62,15 +62,15 @@ grouped a b c d e f = simp append_assoc
 -- after the three lines of each reply come the extra lines, the empty one and the body
 pub behind_lines_of : (code : ℕ) (media : List ℕ) (extra : List (List ℕ)) (body : List ℕ) → is_one_line (codes "HTTP/1.1 " ++ status_text code) ≡ true
     → is_one_line (codes "Content-Type: " ++ media) ≡ true
-    → behind_three (text_of code media extra body) ≡ flat_map ended extra ++ (codes "\r\n" ++ body)
+    → behind_three (text_of code media extra body) ≡ flat_map with_line_end extra ++ (codes "\r\n" ++ body)
 behind_lines_of code media extra body one two =
     let first = codes "HTTP/1.1 " ++ status_text code in
     let second = codes "Content-Type: " ++ media in
     let third = codes "Content-Length: " ++ decimal (length body) in
-    ap behind_three (grouped (ended first) (ended second) (ended third) (flat_map ended extra) (codes "\r\n") body)
-    ∙ after_three first second third (flat_map ended extra ++ (codes "\r\n" ++ body)) one two (decimal_one_line (length body))
+    ap behind_three (grouped (with_line_end first) (with_line_end second) (with_line_end third) (flat_map with_line_end extra) (codes "\r\n") body)
+    ∙ after_three first second third (flat_map with_line_end extra ++ (codes "\r\n" ++ body)) one two (decimal_one_line (length body))
 
 -- the same if the body is JSON
 pub behind_lines : (code : ℕ) (extra : List (List ℕ)) (body : List ℕ) → is_one_line (codes "HTTP/1.1 " ++ status_text code) ≡ true
-    → behind_three (text_of code json_media extra body) ≡ flat_map ended extra ++ (codes "\r\n" ++ body)
+    → behind_three (text_of code json_media extra body) ≡ flat_map with_line_end extra ++ (codes "\r\n" ++ body)
 behind_lines code extra body one = behind_lines_of code json_media extra body one refl

@@ -10,7 +10,7 @@ use Rattle.http.specs.StatusCode.{status_text}
 use Rattle.serde_json.proofs.OnLiterals.{serde_json_on_literals}
 use Rattle.serde_json.specs.Written.{compact_text}
 use Rattle.mvt_grammar.specs.declared.message.MvtFault.TheVariants.{BadElement, Twice}
-use Rattle.desk_words.specs.declared.early.Early.TheVariants.{BadStand, NotMvt}
+use Rattle.desk_words.specs.declared.early.EarlyReply.TheVariants.{BadStand, NotMvt}
 use Rattle.desk_words.specs.Early.{early_text, mvt_fault_data, stand_error_data}
 use Rattle.desk_words.specs.Texts.{json_media, text_of}
 use Rattle.desk_words.proofs.Heads.{bare_head}

@@ -11,14 +11,14 @@ use Rattle.mvt_grammar.specs.declared.message.MvtFault.{MvtFault}
 use Rattle.mvt_grammar.specs.declared.message.MvtFault.TheVariants.{TooLong, NoIdentifier, BadFlightLine, BadElement, Twice}
 use Rattle.visit_book.specs.declared.edits.EditFault.{EditFault}
 use Rattle.visit_book.specs.declared.edits.EditFault.TheVariants.{UnknownVisit, Overtaken, Gone, NoSuchPart, OnBlock, BadCut, BadJoin, Unfit, Clash, Memory}
-use Rattle.desk_words.specs.declared.early.Early.{Early}
-use Rattle.desk_words.specs.declared.early.Early.TheVariants.{NoRoute, OnlyGet, OnlyPost, BadSeen, BadDesk, NoDay, NotJson, NotMvt, BadType, BadStand, NoStand, BadTimes}
+use Rattle.desk_words.specs.declared.early.EarlyReply.{EarlyReply}
+use Rattle.desk_words.specs.declared.early.EarlyReply.TheVariants.{NoRoute, OnlyGet, OnlyPost, BadSeen, BadDesk, NoDay, NotJson, NotMvt, BadType, BadStand, NoStand, BadTimes}
 use Rattle.desk_words.specs.declared.replies.Reply.{Reply}
-use Rattle.desk_words.specs.declared.replies.Told.{Told}
-use Rattle.desk_words.specs.declared.replies.Told.TheVariants.{Added, Committed, Message, Reported, Cancelled, Version, Visit as AVisit, Plan, Unplaced, Chart, Entry, Airport, Day, NoVisit, NoEntry, Ahead, Full, OtherName, Edit, Denied}
+use Rattle.desk_words.specs.declared.replies.ReplyBody.{ReplyBody}
+use Rattle.desk_words.specs.declared.replies.ReplyBody.TheVariants.{Added, Committed, Message, Reported, Cancelled, Version, Visit as AVisit, Plan, Unplaced, Chart, Entry, Airport, Day, NoVisit, NoEntry, Ahead, Full, OtherName, Edit, Denied}
 use Rattle.desk_words.specs.Early.{early_text}
 use Rattle.desk_words.specs.Fixed.{fixed_texts, no_memory_text, keeper_fault_text, bad_encoding_text, bad_head_text, large_body_text, no_length_text}
-use Rattle.desk_words.specs.Replies.{body_text, code_of, fault_code, media_of, reply_text}
+use Rattle.desk_words.specs.Replies.{body_text, fault_code, media_of, reply_text, status_code}
 use Rattle.desk_words.specs.Texts.{shows_version, text_of, version_line}
 use Rattle.desk_words.proofs.Apart.{both}
 use Rattle.desk_words.proofs.Lines.{behind_lines_of, is_one_line}
@@ -37,7 +37,7 @@ fault_one_line (Unfit edit by) = refl
 fault_one_line (Clash clash) = refl
 fault_one_line Memory = refl
 
-code_one_line : (told : Told) → is_one_line (codes "HTTP/1.1 " ++ status_text (code_of told)) ≡ true
+code_one_line : (told : ReplyBody) → is_one_line (codes "HTTP/1.1 " ++ status_text (status_code told)) ≡ true
 unfolding digits
 code_one_line (Added entry visit) = refl
 code_one_line (Committed entry) = refl
@@ -66,7 +66,7 @@ version_shows : (code version : ℕ) (media body : List ℕ) → is_one_line (co
 version_shows code version media body one two =
     ap (λ (text : List ℕ). starts_with nat_eq text (codes "X-Version: ")) (behind_lines_of code media (version_line version ∷ []) body one two)
 
-media_one_line : (told : Told) → is_one_line (codes "Content-Type: " ++ media_of told) ≡ true
+media_one_line : (told : ReplyBody) → is_one_line (codes "Content-Type: " ++ media_of told) ≡ true
 media_one_line (Added entry visit) = refl
 media_one_line (Committed entry) = refl
 media_one_line (Message bumped visit) = refl
@@ -90,7 +90,7 @@ media_one_line (Denied why) = refl
 
 pub reply_shows : (airport : AirportParts) (reply : Reply) → shows_version (reply_text airport reply) ≡ true
 unfolding reply_text
-reply_shows airport reply = version_shows (code_of reply.told) reply.version (media_of reply.told) (body_text airport reply.version reply.told) (code_one_line reply.told) (media_one_line reply.told)
+reply_shows airport reply = version_shows (status_code reply.told) reply.version (media_of reply.told) (body_text airport reply.version reply.told) (code_one_line reply.told) (media_one_line reply.told)
 
 mvt_fault_shows_none : (fault : MvtFault) → shows_version (early_text (NotMvt fault)) ≡ false
 unfolding digits serde_json_on_literals early_text
@@ -100,7 +100,7 @@ mvt_fault_shows_none BadFlightLine = refl
 mvt_fault_shows_none (BadElement place) = ap (λ (text : List ℕ). starts_with nat_eq text (codes "X-Version: ")) (element_behind place)
 mvt_fault_shows_none (Twice place) = ap (λ (text : List ℕ). starts_with nat_eq text (codes "X-Version: ")) (twice_behind place)
 
-pub early_shows_none : (early : Early) → shows_version (early_text early) ≡ false
+pub early_shows_none : (early : EarlyReply) → shows_version (early_text early) ≡ false
 unfolding digits serde_json_on_literals early_text
 early_shows_none NoRoute = refl
 early_shows_none OnlyGet = refl
@@ -134,7 +134,7 @@ fixed_show_none = each_shows_none fixed_texts refl
 told_apart : (text other : List ℕ) → shows_version text ≡ true → shows_version other ≡ false → text ≢ other
 told_apart text other shown hidden same = true≢false (sym shown ∙ (ap shows_version same ∙ hidden))
 
-pub reply_not_early : (airport : AirportParts) (reply : Reply) (early : Early) → reply_text airport reply ≢ early_text early
+pub reply_not_early : (airport : AirportParts) (reply : Reply) (early : EarlyReply) → reply_text airport reply ≢ early_text early
 reply_not_early airport reply early = told_apart (reply_text airport reply) (early_text early) (reply_shows airport reply) (early_shows_none early)
 
 pub reply_not_fixed : (airport : AirportParts) (reply : Reply) → All (λ text. reply_text airport reply ≢ text) fixed_texts

@@ -4,8 +4,8 @@ use Rattle.serde_json.specs.Data.{Data, string, object, member, no_members}
 use Rattle.serde_json.specs.Written.{compact_text}
 use Rattle.mvt_grammar.specs.declared.message.MvtFault.{MvtFault}
 use Rattle.mvt_grammar.specs.declared.message.MvtFault.TheVariants.{TooLong, NoIdentifier, BadFlightLine, BadElement, Twice}
-use Rattle.desk_words.specs.declared.early.Early.{Early}
-use Rattle.desk_words.specs.declared.early.Early.TheVariants.{NoRoute, OnlyGet, OnlyPost, BadSeen, BadDesk, NoDay, NotJson, NotMvt, BadType, BadStand, NoStand, BadTimes}
+use Rattle.desk_words.specs.declared.early.EarlyReply.{EarlyReply}
+use Rattle.desk_words.specs.declared.early.EarlyReply.TheVariants.{NoRoute, OnlyGet, OnlyPost, BadSeen, BadDesk, NoDay, NotJson, NotMvt, BadType, BadStand, NoStand, BadTimes}
 use Rattle.desk_words.specs.Fixed.{error_data, plain_text}
 use Rattle.desk_words.specs.PartObjects.{whole}
 use Rattle.desk_words.specs.Texts.{json_media, text_of}
@@ -44,13 +44,13 @@ IsMvtFault (Twice place) = place < 2 ^ 32
 IsMvtFault _ = ⊤
 
 -- the number of its edit, if it has one, fits 8 bits, and the place of the fault in a message 32
-abbrev pub IsEarly : Early → Type 0
+abbrev pub IsEarly : EarlyReply → Type 0
 IsEarly (BadStand edit) = edit < 2 ^ 8
 IsEarly (NotMvt fault) = IsMvtFault fault
 IsEarly _ = ⊤
 
 -- the whole text of such a reply
-unfoldable pub early_text : Early → List ℕ
+unfoldable pub early_text : EarlyReply → List ℕ
 early_text NoRoute = plain_text 404 (error_data (codes "route"))
 early_text OnlyGet = method_text (codes "Allow: GET")
 early_text OnlyPost = method_text (codes "Allow: POST")

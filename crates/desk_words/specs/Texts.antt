@@ -12,8 +12,8 @@ abbrev pub plain_media : List ℕ
 plain_media = codes "text/plain"
 
 -- a line and its end
-abbrev pub ended : List ℕ → List ℕ
-ended line = line ++ codes "\r\n"
+abbrev pub with_line_end : List ℕ → List ℕ
+with_line_end line = line ++ codes "\r\n"
 
 -- the lines before the empty one: the code with its phrase, the media type and length of the body,
 -- and the extra lines
@@ -22,12 +22,12 @@ head_lines code media extra length_of_body =
     (codes "HTTP/1.1 " ++ status_text code) ∷ (codes "Content-Type: " ++ media) ∷ (codes "Content-Length: " ++ decimal length_of_body) ∷ extra
 
 -- the lines and the empty one
-abbrev pub head_of : ℕ → List ℕ → List (List ℕ) → ℕ → List ℕ
-head_of code media extra length_of_body = flat_map ended (head_lines code media extra length_of_body) ++ codes "\r\n"
+abbrev pub reply_head : ℕ → List ℕ → List (List ℕ) → ℕ → List ℕ
+reply_head code media extra length_of_body = flat_map with_line_end (head_lines code media extra length_of_body) ++ codes "\r\n"
 
 -- the text of a reply of this code, with a body of this media type and these extra lines
 abbrev pub text_of : ℕ → List ℕ → List (List ℕ) → List ℕ → List ℕ
-text_of code media extra body = head_of code media extra (length body) ++ body
+text_of code media extra body = reply_head code media extra (length body) ++ body
 
 -- the line with a version
 abbrev pub version_line : ℕ → List ℕ

@@ -10,7 +10,7 @@ use mvt_grammar::MvtFault;
 
 /// A reply that is fixed before the plan is consulted.
 #[derive(Clone, Copy, Debug, PartialEq, Eq)]
-pub enum Early {
+pub enum EarlyReply {
     /// No route has this target.
     NoRoute,
     /// The route takes only GET.
@@ -41,40 +41,40 @@ pub enum Early {
 }
 
 /// The reply's whole text, head and body.
-pub fn early_bytes(early: Early) -> ShortText
+pub fn early_bytes(early: EarlyReply) -> ShortText
     ensures text { result ≡ early_text early }
 {
     match early {
-        Early::NoRoute => ShortText::of(
+        EarlyReply::NoRoute => ShortText::of(
             b"HTTP/1.1 404 Not Found\r\nContent-Type: application/json\r\nContent-Length: 17\r\n\r\n{\"error\":\"route\"}",
         ),
-        Early::OnlyGet => ShortText::of(
+        EarlyReply::OnlyGet => ShortText::of(
             b"HTTP/1.1 405 Method Not Allowed\r\nContent-Type: application/json\r\nContent-Length: 18\r\nAllow: GET\r\n\r\n{\"error\":\"method\"}",
         ),
-        Early::OnlyPost => ShortText::of(
+        EarlyReply::OnlyPost => ShortText::of(
             b"HTTP/1.1 405 Method Not Allowed\r\nContent-Type: application/json\r\nContent-Length: 18\r\nAllow: POST\r\n\r\n{\"error\":\"method\"}",
         ),
-        Early::BadSeen => ShortText::of(
+        EarlyReply::BadSeen => ShortText::of(
             b"HTTP/1.1 400 Bad Request\r\nContent-Type: application/json\r\nContent-Length: 16\r\n\r\n{\"error\":\"seen\"}",
         ),
-        Early::BadDesk => ShortText::of(
+        EarlyReply::BadDesk => ShortText::of(
             b"HTTP/1.1 400 Bad Request\r\nContent-Type: application/json\r\nContent-Length: 16\r\n\r\n{\"error\":\"desk\"}",
         ),
-        Early::NoDay => ShortText::of(
+        EarlyReply::NoDay => ShortText::of(
             b"HTTP/1.1 404 Not Found\r\nContent-Type: application/json\r\nContent-Length: 15\r\n\r\n{\"error\":\"day\"}",
         ),
-        Early::NotJson => ShortText::of(
+        EarlyReply::NotJson => ShortText::of(
             b"HTTP/1.1 400 Bad Request\r\nContent-Type: application/json\r\nContent-Length: 16\r\n\r\n{\"error\":\"json\"}",
         ),
-        Early::NotMvt(fault) => not_mvt(fault),
-        Early::BadType => ShortText::of(
+        EarlyReply::NotMvt(fault) => not_mvt(fault),
+        EarlyReply::BadType => ShortText::of(
             b"HTTP/1.1 422 Unprocessable Entity\r\nContent-Type: application/json\r\nContent-Length: 16\r\n\r\n{\"error\":\"type\"}",
         ),
-        Early::BadStand { edit } => bad_stand(edit),
-        Early::NoStand => ShortText::of(
+        EarlyReply::BadStand { edit } => bad_stand(edit),
+        EarlyReply::NoStand => ShortText::of(
             b"HTTP/1.1 422 Unprocessable Entity\r\nContent-Type: application/json\r\nContent-Length: 17\r\n\r\n{\"error\":\"stand\"}",
         ),
-        Early::BadTimes => ShortText::of(
+        EarlyReply::BadTimes => ShortText::of(
             b"HTTP/1.1 422 Unprocessable Entity\r\nContent-Type: application/json\r\nContent-Length: 17\r\n\r\n{\"error\":\"times\"}",
         ),
     }
@@ -82,7 +82,7 @@ pub fn early_bytes(early: Early) -> ShortText
 
 // The reply to a text that is not a movement message.
 fn not_mvt(fault: MvtFault) -> ShortText
-    ensures text { result ≡ early_text (Early.NotMvt fault) }
+    ensures text { result ≡ early_text (EarlyReply.NotMvt fault) }
 {
     match fault {
         MvtFault::TooLong => ShortText::of(
@@ -94,13 +94,13 @@ fn not_mvt(fault: MvtFault) -> ShortText
         MvtFault::BadFlightLine => ShortText::of(
             b"HTTP/1.1 400 Bad Request\r\nContent-Type: application/json\r\nContent-Length: 32\r\n\r\n{\"error\":\"mvt\",\"fault\":\"flight\"}",
         ),
-        MvtFault::BadElement(place) => numbered(
+        MvtFault::BadElement(place) => reply_with_number(
             b"400 Bad Request",
             b"{\"at\":",
             place,
             b",\"error\":\"mvt\",\"fault\":\"element\"}",
         ),
-        MvtFault::Twice(place) => numbered(
+        MvtFault::Twice(place) => reply_with_number(
             b"400 Bad Request",
             b"{\"at\":",
             place,
@@ -111,9 +111,9 @@ fn not_mvt(fault: MvtFault) -> ShortText
 
 // The reply that names an edit.
 fn bad_stand(edit: u8) -> ShortText
-    ensures text { result ≡ early_text (Early.BadStand edit) }
+    ensures text { result ≡ early_text (EarlyReply.BadStand edit) }
 {
-    numbered(
+    reply_with_number(
         b"422 Unprocessable Entity",
         b"{\"edit\":",
         u32::from(edit),
@@ -122,7 +122,7 @@ fn bad_stand(edit: u8) -> ShortText
 }
 
 // The reply of this status whose body has a number between its start and its end.
-fn numbered(status: &[u8], start: &[u8], number: u32, end: &[u8]) -> ShortText
+fn reply_with_number(status: &[u8], start: &[u8], number: u32, end: &[u8]) -> ShortText
     requires short { length status.now + length start.now + length end.now ≤ 100 }
     ensures text { (code : ℕ) → status_text code ≡ status.now → result ≡ text_of code json_media [] (start.now ++ (decimal number ++ end.now)) }
 {

@@ -2,7 +2,7 @@
 // ones are alike.
 ghost use Rattle.std.specs.Prelude.{◌≡◌, ◌≢◌, true, false, All, AllPairs};
 ghost use Rattle.apron_rules.specs.declared.parts.AirportParts.{AirportParts};
-ghost use Rattle.desk_words.specs.declared.early.Early.{Early};
+ghost use Rattle.desk_words.specs.declared.early.EarlyReply.{EarlyReply};
 ghost use Rattle.desk_words.specs.declared.replies.Reply.{Reply};
 ghost use Rattle.desk_words.specs.Early.{IsEarly, early_text};
 ghost use Rattle.desk_words.specs.Fixed.{fixed_texts};
@@ -13,13 +13,13 @@ ghost use Rattle.desk_words.specs.Texts.{shows_version};
 /// Each reply whose cause the plan gave shows a version, and no other one does.
 pub fn replies_of_plans_show_a_version()
     ensures replies { (airport : AirportParts) (reply : Reply) → shows_version (reply_text airport reply) ≡ true }
-    ensures early { (early : Early) → shows_version (early_text early) ≡ false }
+    ensures early { (early : EarlyReply) → shows_version (early_text early) ≡ false }
     ensures fixed { All (λ text. shows_version text ≡ false) fixed_texts }
 {}
 
 /// So no reply whose cause the plan gave has the text of an early or a fixed reply.
 pub fn no_reply_is_early_or_fixed()
-    ensures early { (airport : AirportParts) (reply : Reply) (early : Early) → reply_text airport reply ≢ early_text early }
+    ensures early { (airport : AirportParts) (reply : Reply) (early : EarlyReply) → reply_text airport reply ≢ early_text early }
     ensures fixed { (airport : AirportParts) (reply : Reply) → All (λ text. reply_text airport reply ≢ text) fixed_texts }
 {}
 
@@ -27,8 +27,8 @@ pub fn no_reply_is_early_or_fixed()
 /// reply says which one it is.
 pub fn fixed_texts_differ()
     ensures fixed { AllPairs (λ text other. text ≢ other) fixed_texts }
-    ensures early { (early : Early) → All (λ text. early_text early ≢ text) fixed_texts }
-    ensures one { (early other : Early) → IsEarly early → IsEarly other → early_text early ≡ early_text other → early ≡ other }
+    ensures early { (early : EarlyReply) → All (λ text. early_text early ≢ text) fixed_texts }
+    ensures one { (early other : EarlyReply) → IsEarly early → IsEarly other → early_text early ≡ early_text other → early ≡ other }
 {}
 
 /// Some replies, spelt out.

@@ -2,8 +2,8 @@
 ghost use Rattle.std.specs.Prelude.{◌≡◌, ◌∷◌, ◌++◌, [], string_bytes, IfOk, OnOk};
 ghost use Rattle.serde_json.specs.Written.{compact_text};
 ghost use Rattle.apron_dates.specs.Dates.{IsFirstDay};
-ghost use Rattle.desk_words.specs.Texts.{head_of, text_of, version_line};
-ghost use Rattle.desk_words.specs.Replies.{IsTellable, added_data, body_text, code_of, fault_code, media_of, reply_text, version_data};
+ghost use Rattle.desk_words.specs.Texts.{reply_head, text_of, version_line};
+ghost use Rattle.desk_words.specs.Replies.{IsTellable, added_data, body_text, fault_code, media_of, reply_text, status_code, version_data};
 
 use crate::airport_objects::push_airport;
 use crate::asks::EntryKind;
@@ -47,7 +47,7 @@ pub struct PartRow {
 
 /// What came of what was asked.
 #[derive(Debug, Drop)]
-pub enum Told {
+pub enum ReplyBody {
     /// The visit's entry made version `entry`: now, or when the same visit came before.
     Added {
         entry: u32,
@@ -136,7 +136,7 @@ pub enum Denial {
 #[derive(Debug, Drop)]
 pub struct Reply {
     pub version: u32,
-    pub told: Told,
+    pub told: ReplyBody,
 }
 
 /// The reply's whole text, head and body, for a plan of this airport. A lack of memory, also as the
@@ -145,16 +145,16 @@ pub fn reply_bytes(alloc: Global, airport: &Airport, reply: &Reply) -> Result<Li
     requires tellable { IsTellable reply.now.told }
     ensures text { IfOk result (λ bytes. bytes ≡ reply_text airport.now reply.now) }
 {
-    if let Told::Chart { text } = &reply.told {
+    if let ReplyBody::Chart { text } = &reply.told {
         // It may have 100 megabytes, so it is copied once.
         return with_body(alloc, reply, text.as_slice());
     }
-    let body = told_body(alloc, airport.parts(), reply.version, &reply.told)?;
+    let body = reply_body(alloc, airport.parts(), reply.version, &reply.told)?;
     with_body(alloc, reply, body.as_slice())
 }
 
 fn with_body(alloc: Global, reply: &Reply, body: &[u8]) -> Result<Listed<u8>, Memory>
-    ensures text { IfOk result (λ bytes. bytes ≡ text_of (code_of reply.now.told) (media_of reply.now.told) (version_line reply.now.version ∷ []) body.now) }
+    ensures text { IfOk result (λ bytes. bytes ≡ text_of (status_code reply.now.told) (media_of reply.now.told) (version_line reply.now.version ∷ []) body.now) }
 {
     text_of(
         alloc,
@@ -165,27 +165,27 @@ fn with_body(alloc: Global, reply: &Reply, body: &[u8]) -> Result<Listed<u8>, Me
     )
 }
 
-fn code(told: &Told) -> StatusCode
-    ensures is { result ≡ code_of told.now }
+fn code(told: &ReplyBody) -> StatusCode
+    ensures is { result ≡ status_code told.now }
 {
     match told {
-        Told::Added { .. }
-        | Told::Committed { .. }
-        | Told::Message { .. }
-        | Told::Reported { .. }
-        | Told::Cancelled
-        | Told::Version
-        | Told::Visit(_)
-        | Told::Plan { .. }
-        | Told::Unplaced { .. }
-        | Told::Chart { .. }
-        | Told::Entry { .. }
-        | Told::Airport
-        | Told::Day { .. } => StatusCode::OK,
-        Told::NoVisit | Told::NoEntry => StatusCode::NOT_FOUND,
-        Told::Ahead | Told::Full | Told::OtherName { .. } => StatusCode::CONFLICT,
-        Told::Edit(fault) => fault_code(*fault),
-        Told::Denied(_) => StatusCode::UNPROCESSABLE_ENTITY,
+        ReplyBody::Added { .. }
+        | ReplyBody::Committed { .. }
+        | ReplyBody::Message { .. }
+        | ReplyBody::Reported { .. }
+        | ReplyBody::Cancelled
+        | ReplyBody::Version
+        | ReplyBody::Visit(_)
+        | ReplyBody::Plan { .. }
+        | ReplyBody::Unplaced { .. }
+        | ReplyBody::Chart { .. }
+        | ReplyBody::Entry { .. }
+        | ReplyBody::Airport
+        | ReplyBody::Day { .. } => StatusCode::OK,
+        ReplyBody::NoVisit | ReplyBody::NoEntry => StatusCode::NOT_FOUND,
+        ReplyBody::Ahead | ReplyBody::Full | ReplyBody::OtherName { .. } => StatusCode::CONFLICT,
+        ReplyBody::Edit(fault) => fault_code(*fault),
+        ReplyBody::Denied(_) => StatusCode::UNPROCESSABLE_ENTITY,
     }
 }
 
@@ -198,11 +198,11 @@ fn fault_code(fault: EditFault) -> StatusCode
     }
 }
 
-fn media(told: &Told) -> &'static str
+fn media(told: &ReplyBody) -> &'static str
     ensures is { result.now ≡ media_of told.now }
 {
     match told {
-        Told::Chart { .. } => PLAIN,
+        ReplyBody::Chart { .. } => PLAIN,
         _ => JSON,
     }
 }
@@ -232,18 +232,18 @@ fn head_of(
     length: usize,
 ) -> Result<String, AllocError>
     ensures text { IfOk result
-        (λ s. string_bytes s ≡ head_of code media.now (version_line version ∷ []) length) }
+        (λ s. string_bytes s ≡ reply_head code media.now (version_line version ∷ []) length) }
 {
     format!(in alloc;
         "HTTP/1.1 {code}\r\nContent-Type: {media}\r\nContent-Length: {length}\r\nX-Version: {version}\r\n\r\n"
     )
 }
 
-fn told_body(
+fn reply_body(
     alloc: Global,
     airport: &AirportParts,
     version: u32,
-    told: &Told,
+    told: &ReplyBody,
 ) -> Result<Vec<u8>, Memory>
     requires first { IsFirstDay airport.now.first }
     requires tellable { IsTellable told.now }
@@ -255,16 +255,16 @@ fn told_body(
 }
 
 // Bytes in which most bodies are written without asking for memory again. An airport may take more.
-fn room_for(told: &Told) -> usize {
+fn room_for(told: &ReplyBody) -> usize {
     let listed = match told {
-        Told::Message { bumped, .. } | Told::Reported { bumped } => {
+        ReplyBody::Message { bumped, .. } | ReplyBody::Reported { bumped } => {
             bumped.as_slice().len().saturating_mul(MOST_PART)
         }
-        Told::Plan { parts } => parts.as_slice().len().saturating_mul(MOST_PLACED),
-        Told::Unplaced { parts } => parts.as_slice().len().saturating_mul(MOST_WAITING),
-        Told::Day { visits } => visits.as_slice().len().saturating_mul(MOST_VISIT),
-        Told::Visit(_) => MOST_VISIT,
-        Told::Chart { text } => text.as_slice().len(),
+        ReplyBody::Plan { parts } => parts.as_slice().len().saturating_mul(MOST_PLACED),
+        ReplyBody::Unplaced { parts } => parts.as_slice().len().saturating_mul(MOST_WAITING),
+        ReplyBody::Day { visits } => visits.as_slice().len().saturating_mul(MOST_VISIT),
+        ReplyBody::Visit(_) => MOST_VISIT,
+        ReplyBody::Chart { text } => text.as_slice().len(),
         _ => 0,
     };
     listed.saturating_add(MOST_OTHER)
@@ -274,7 +274,7 @@ fn push_body(
     body: &mut Vec<u8>,
     airport: &AirportParts,
     version: u32,
-    told: &Told,
+    told: &ReplyBody,
 ) -> Result<(), Memory>
     requires first { IsFirstDay airport.now.first }
     requires tellable { IsTellable told.now }
@@ -282,33 +282,38 @@ fn push_body(
         (body.new.items ≡ body.old.items ++ body_text airport.now version told.now) }
 {
     match told {
-        Told::Added { entry, visit } => push_added(body, *entry, *visit),
-        Told::Committed { entry } => push_version(body, *entry),
-        Told::Message { bumped, visit } => push_message(body, bumped.as_slice(), *visit, version),
-        Told::Reported { bumped } => push_reported(body, bumped.as_slice(), version),
-        Told::Cancelled | Told::Version => push_version(body, version),
-        Told::Visit(visit) => push_visit(body, airport, visit, Some(version)),
-        Told::Plan { parts } => push_plan(body, airport, parts.as_slice(), version),
-        Told::Unplaced { parts } => push_unplaced(body, airport, parts.as_slice(), version),
-        Told::Chart { text } => {
+        ReplyBody::Added { entry, visit } => push_added(body, *entry, *visit),
+        ReplyBody::Committed { entry } => push_version(body, *entry),
+        ReplyBody::Message { bumped, visit } => push_message(
+            body,
+            bumped.as_slice(),
+            *visit,
+            version,
+        ),
+        ReplyBody::Reported { bumped } => push_reported(body, bumped.as_slice(), version),
+        ReplyBody::Cancelled | ReplyBody::Version => push_version(body, version),
+        ReplyBody::Visit(visit) => push_visit(body, airport, visit, Some(version)),
+        ReplyBody::Plan { parts } => push_plan(body, airport, parts.as_slice(), version),
+        ReplyBody::Unplaced { parts } => push_unplaced(body, airport, parts.as_slice(), version),
+        ReplyBody::Chart { text } => {
             body.extend_from_slice(text.as_slice())?;
             Ok(())
         }
-        Told::Entry {
+        ReplyBody::Entry {
             entry,
             call,
             desk,
             kind,
         } => push_entry(body, *entry, *call, desk, *kind, version),
-        Told::Airport => push_airport(body, airport, version),
-        Told::Day { visits } => push_day(body, airport, visits.as_slice(), version),
-        Told::NoVisit => push_refused(body, b"visit", version),
-        Told::NoEntry => push_refused(body, b"entry", version),
-        Told::Ahead => push_refused(body, b"ahead", version),
-        Told::Full => push_refused(body, b"full", version),
-        Told::OtherName { visit } => push_other_name(body, *visit, version),
-        Told::Edit(fault) => push_fault(body, *fault, version),
-        Told::Denied(why) => push_refused(body, denial_word(*why), version),
+        ReplyBody::Airport => push_airport(body, airport, version),
+        ReplyBody::Day { visits } => push_day(body, airport, visits.as_slice(), version),
+        ReplyBody::NoVisit => push_refused(body, b"visit", version),
+        ReplyBody::NoEntry => push_refused(body, b"entry", version),
+        ReplyBody::Ahead => push_refused(body, b"ahead", version),
+        ReplyBody::Full => push_refused(body, b"full", version),
+        ReplyBody::OtherName { visit } => push_other_name(body, *visit, version),
+        ReplyBody::Edit(fault) => push_fault(body, *fault, version),
+        ReplyBody::Denied(why) => push_refused(body, denial_word(*why), version),
     }
 }
 

@@ -17,7 +17,7 @@ use Rattle.desk_words.specs.declared.asks.Command.TheVariants.{AddVisit, Commit,
 use Rattle.entry_bytes.specs.declared.faults.EntryFault.TheVariants.{BadField}
 use Rattle.visit_book.specs.Edits.{IsEditOf}
 use Rattle.entry_bytes.specs.Widths.{EditFits}
-use Rattle.entry_bytes.specs.Commits.{commit_at, commit_text, cut_at, edit_at, edit_text, edit_of, edits_at, join_at, lift_at, part_text, put_at}
+use Rattle.entry_bytes.specs.Commits.{parse_commit, commit_text, parse_cut, parse_edit, edit_text, parse_edit_of_tag, parse_edits, parse_join, parse_lift, part_bytes, parse_put}
 use Rattle.entry_bytes.specs.Keys.{sized_text}
 use Rattle.entry_bytes.specs.Readings.{Reading, byte, number, such_that}
 use Rattle.entry_bytes.proofs.Fields.{byte-spells, byte-front, name-spells, number-spells, wide32}
@@ -35,10 +35,10 @@ tag_of (Cut visit part at) = 3
 tag_of (Join visit part) = 4
 
 abbrev back_of : Edit → List ℕ
-back_of (Put visit part stand) = part_text visit part ++ to_le_bytes w16 stand.0
-back_of (Lift visit part) = part_text visit part
-back_of (Cut visit part at) = part_text visit part ++ to_le_bytes w32 at
-back_of (Join visit part) = part_text visit part
+back_of (Put visit part stand) = part_bytes visit part ++ to_le_bytes w16 stand.0
+back_of (Lift visit part) = part_bytes visit part
+back_of (Cut visit part at) = part_bytes visit part ++ to_le_bytes w32 at
+back_of (Join visit part) = part_bytes visit part
 
 abbrev stand_in : Edit → ℕ
 stand_in (Put visit part stand) = stand.0
@@ -90,8 +90,8 @@ put_bytes airport (Lift v p) h = absurd (omega (arith, h.0))
 put_bytes airport (Cut v p at) h = absurd (omega (arith, h.0))
 put_bytes airport (Join v p) h = absurd (omega (arith, h.0))
 
-put-spells : (airport : AirportParts) → Spells (put_at airport) back_of (HasTag airport 1) 9
-unfolding put_at
+put-spells : (airport : AirportParts) → Spells (parse_put airport) back_of (HasTag airport 1) 9
+unfolding parse_put
 put-spells airport = Spells-as back_of (HasTag airport 1) 9
     (Spells-then number_in (HasTag airport 1) (number-spells w32 (2 ^ 32) wide32)
     (λ v a. Spells-then part_of (OfVisit airport 1 v) byte-spells
@@ -118,8 +118,8 @@ lift_bytes airport (Put v p s) h = absurd (omega (arith, h.0))
 lift_bytes airport (Cut v p at) h = absurd (omega (arith, h.0))
 lift_bytes airport (Join v p) h = absurd (omega (arith, h.0))
 
-lift-spells : (airport : AirportParts) → Spells lift_at back_of (HasTag airport 2) 9
-unfolding lift_at
+lift-spells : (airport : AirportParts) → Spells parse_lift back_of (HasTag airport 2) 9
+unfolding parse_lift
 lift-spells airport = Spells-as back_of (HasTag airport 2) 9
     (Spells-then number_in (HasTag airport 2) (number-spells w32 (2 ^ 32) wide32)
     (λ v a. Spells-then part_of (OfVisit airport 2 v) byte-spells
@@ -149,8 +149,8 @@ cut_bytes airport (Put v p s) h = absurd (omega (arith, h.0))
 cut_bytes airport (Lift v p) h = absurd (omega (arith, h.0))
 cut_bytes airport (Join v p) h = absurd (omega (arith, h.0))
 
-cut-spells : (airport : AirportParts) → Spells cut_at back_of (HasTag airport 3) 9
-unfolding cut_at
+cut-spells : (airport : AirportParts) → Spells parse_cut back_of (HasTag airport 3) 9
+unfolding parse_cut
 cut-spells airport = Spells-as back_of (HasTag airport 3) 9
     (Spells-then number_in (HasTag airport 3) (number-spells w32 (2 ^ 32) wide32)
     (λ v a. Spells-then part_of (OfVisit airport 3 v) byte-spells
@@ -175,8 +175,8 @@ join_bytes airport (Put v p s) h = absurd (omega (arith, h.0))
 join_bytes airport (Lift v p) h = absurd (omega (arith, h.0))
 join_bytes airport (Cut v p at) h = absurd (omega (arith, h.0))
 
-join-spells : (airport : AirportParts) → Spells join_at back_of (HasTag airport 4) 9
-unfolding join_at
+join-spells : (airport : AirportParts) → Spells parse_join back_of (HasTag airport 4) 9
+unfolding parse_join
 join-spells airport = Spells-as back_of (HasTag airport 4) 9
     (Spells-then number_in (HasTag airport 4) (number-spells w32 (2 ^ 32) wide32)
     (λ v a. Spells-then part_of (OfVisit airport 4 v) byte-spells
@@ -190,18 +190,18 @@ join-spells airport = Spells-as back_of (HasTag airport 4) 9
 tagged_with : (airport : AirportParts) (tag most : ℕ) (field : Reading Edit) → Spells field back_of (HasTag airport most) 9 → (tag == most) ≡ true → Spells field back_of (HasTag airport tag) 9
 tagged_with airport tag most field s e = subst (λ t. Spells field back_of (HasTag airport t) 9) (sym (eqb-true tag most e)) s
 
-at_tag : (airport : AirportParts) (tag : ℕ) → Announces (edit_of airport tag) back_of (HasTag airport tag) 9
+at_tag : (airport : AirportParts) (tag : ℕ) → Announces (parse_edit_of_tag airport tag) back_of (HasTag airport tag) 9
 at_tag airport tag =
     let P = HasTag airport tag in
-    let fourth : Option (Reading Edit) = cond (tag == 4) (Some join_at) None in
-    let third : Option (Reading Edit) = cond (tag == 3) (Some cut_at) fourth in
-    let second : Option (Reading Edit) = cond (tag == 2) (Some lift_at) third in
-    Announces-or (tag == 1) (put_at airport) second back_of P 9 (tagged_with airport tag 1 (put_at airport) (put-spells airport))
-    (Announces-or (tag == 2) lift_at third back_of P 9 (tagged_with airport tag 2 lift_at (lift-spells airport))
-    (Announces-or (tag == 3) cut_at fourth back_of P 9 (tagged_with airport tag 3 cut_at (cut-spells airport))
-    (Announces-or (tag == 4) join_at None back_of P 9 (tagged_with airport tag 4 join_at (join-spells airport)) tt)))
+    let fourth : Option (Reading Edit) = cond (tag == 4) (Some parse_join) None in
+    let third : Option (Reading Edit) = cond (tag == 3) (Some parse_cut) fourth in
+    let second : Option (Reading Edit) = cond (tag == 2) (Some parse_lift) third in
+    Announces-or (tag == 1) (parse_put airport) second back_of P 9 (tagged_with airport tag 1 (parse_put airport) (put-spells airport))
+    (Announces-or (tag == 2) parse_lift third back_of P 9 (tagged_with airport tag 2 parse_lift (lift-spells airport))
+    (Announces-or (tag == 3) parse_cut fourth back_of P 9 (tagged_with airport tag 3 parse_cut (cut-spells airport))
+    (Announces-or (tag == 4) parse_join None back_of P 9 (tagged_with airport tag 4 parse_join (join-spells airport)) tt)))
 
-has_field : (airport : AirportParts) (edit : Edit) → IsEditSpelt airport edit → IsSome (edit_of airport (tag_of edit))
+has_field : (airport : AirportParts) (edit : Edit) → IsEditSpelt airport edit → IsSome (parse_edit_of_tag airport (tag_of edit))
 has_field airport (Put visit part stand) h = refl
 has_field airport (Lift visit part) h = refl
 has_field airport (Cut visit part at) h = refl
@@ -213,10 +213,10 @@ same_bytes (Lift visit part) = refl
 same_bytes (Cut visit part at) = refl
 same_bytes (Join visit part) = refl
 
-edit-spells : (airport : AirportParts) → Spells (edit_at airport) edit_text (IsEditSpelt airport) 10
-unfolding edit_at
+edit-spells : (airport : AirportParts) → Spells (parse_edit airport) edit_text (IsEditSpelt airport) 10
+unfolding parse_edit
 edit-spells airport = Spells-as edit_text (IsEditSpelt airport) 10
-    (Spells-tagged BadField (edit_of airport) tag_of back_of (IsEditSpelt airport) 9 byte-spells byte-front (λ at. omega arith) (at_tag airport) (has_field airport))
+    (Spells-tagged BadField (parse_edit_of_tag airport) tag_of back_of (IsEditSpelt airport) 9 byte-spells byte-front (λ at. omega arith) (at_tag airport) (has_field airport))
     (λ edit h. h) (λ edit h. h) (λ edit h. same_bytes edit) (omega arith)
 
 -- ---- 1 to 64 edits
@@ -244,12 +244,12 @@ pub record AreEditsSpelt (airport : AirportParts) (edits : List Edit) : Type 0 w
   pub count : IsCount (length edits)
   pub each : AllByRecursion (IsEditSpelt airport) edits
 
-edits-spells : (airport : AirportParts) → Spells (edits_at airport) (λ edits. length edits ∷ flat_map edit_text edits) (AreEditsSpelt airport) 641
-unfolding edits_at
+edits-spells : (airport : AirportParts) → Spells (parse_edits airport) (λ edits. length edits ∷ flat_map edit_text edits) (AreEditsSpelt airport) 641
+unfolding parse_edits
 edits-spells airport = Spells-as (λ edits. length edits ∷ flat_map edit_text edits) (AreEditsSpelt airport) 641
     (Spells-then length (AreEditsSpelt airport) count-spells
     (λ count c. Spells-as (flat_map edit_text) (λ edits. (length edits ≡ count) × AreEditsSpelt airport edits) 640
-    (Spells-repeated (edit_at airport) edit_text (IsEditSpelt airport) 10 (edit-spells airport) count)
+    (Spells-repeated (parse_edit airport) edit_text (IsEditSpelt airport) 10 (edit-spells airport) count)
     (λ edits h. let same : length edits ≡ count = h.0 in (same, record { count = (omega (arith, c.0), omega (arith, c.1)); each = h.1 }))
     (λ edits h. (h.0, h.1.each)) (λ edits h. refl) (omega (arith, summed-is count, c.1)))
     (λ edits h. h.count))
@@ -347,8 +347,8 @@ commit_same airport command h =
     let c = is_commit airport command h in
     subst (λ x. commit_back x ≡ back_in x) (sym c.made) (regrouped c.desk c.draft c.base c.edits)
 
-pub commit-spells : (airport : AirportParts) → Spells (commit_at airport) commit_back (IsCommitOf airport) 662
-unfolding commit_at
+pub commit-spells : (airport : AirportParts) → Spells (parse_commit airport) commit_back (IsCommitOf airport) 662
+unfolding parse_commit
 commit-spells airport = Spells-as commit_back (IsCommitOf airport) 662
     (Spells-then desk_in (IsCommitOf airport) name-spells
     (λ d a. Spells-then draft_in (OfDesk airport d) (number-spells w32 (2 ^ 32) wide32)

@@ -22,19 +22,19 @@ use Rattle.entry_bytes.specs.declared.faults.EntryFault.{EntryFault}
 use Rattle.entry_bytes.specs.declared.faults.EntryFault.TheVariants.{BadField, BadKind, TrailingBytes}
 use Rattle.entry_bytes.specs.declared.faults.ReadFault.{ReadFault}
 use Rattle.entry_bytes.specs.declared.faults.ReadFault.TheVariants as faults
-use Rattle.entry_bytes.specs.Gives.{Fails}
+use Rattle.entry_bytes.specs.Gives.{FailsReading}
 use Rattle.visit_book.specs.Edits.{IsEditOf}
 use Rattle.desk_words.specs.Commands.{IsCommandOf}
-use Rattle.entry_bytes.specs.Widths.{EditFits, Fits, IsEntryOf}
-use Rattle.entry_bytes.specs.Commits.{commit_at, commit_text}
-use Rattle.entry_bytes.specs.Entries.{Kinds, call_at, command_at, command_text, decoded, desk_message_at, desk_report_at, entry_at, entry_text, fields_of, read_with, with_none_left}
-use Rattle.entry_bytes.specs.Faults.{IsWithin, fault_of}
+use Rattle.entry_bytes.specs.Widths.{EditFits, FitsWidths, IsEntryOf}
+use Rattle.entry_bytes.specs.Commits.{commit_text, parse_commit}
+use Rattle.entry_bytes.specs.Entries.{Kinds, command_text, decode_entry, entry_text, fields_of, parse_call, parse_command, parse_desk_message, parse_desk_report, parse_entry, read_with, with_none_left}
+use Rattle.entry_bytes.specs.Faults.{IsWithin, entry_fault}
 use Rattle.entry_bytes.specs.Keys.{sized_text}
 use Rattle.entry_bytes.specs.Laws.{AreBytes}
-use Rattle.entry_bytes.specs.Messages.{message_at, message_text}
-use Rattle.entry_bytes.specs.NewVisits.{new_visit_at, new_visit_text}
-use Rattle.entry_bytes.specs.Readings.{Left, Reading, ◌>>=◌, give, number}
-use Rattle.entry_bytes.specs.Reports.{cancel_at, event_text, report_at, report_text}
+use Rattle.entry_bytes.specs.Messages.{message_text, parse_message}
+use Rattle.entry_bytes.specs.NewVisits.{new_visit_text, parse_new_visit}
+use Rattle.entry_bytes.specs.Readings.{RestOfEntry, Reading, ◌>>=◌, give, number}
+use Rattle.entry_bytes.specs.Reports.{event_text, parse_cancel, parse_report, report_text}
 use Rattle.entry_bytes.proofs.Fields.{byte-spells, byte-front, name-spells, number-spells, number-front, wide32, wide64}
 use Rattle.entry_bytes.proofs.VisitsSpelt.{IsVisitOf, new_visit-spells}
 use Rattle.entry_bytes.proofs.CommitsSpelt.{IsCommitOf, IsCommitSpelt, IsEditSpelt, commit-spells, commit_back, is_commit}
@@ -88,7 +88,7 @@ is_visit airport (Message desk message) h = absurd (omega (arith, h.0))
 is_visit airport (Report desk visit event) h = absurd (omega (arith, h.0))
 is_visit airport (Cancel visit) h = absurd (omega (arith, h.0))
 
-pub visit-spells : (airport : AirportParts) → Spells (new_visit_at airport >>= λ new. give (AddVisit new)) back_of (HasKind airport 1) 42
+pub visit-spells : (airport : AirportParts) → Spells (parse_new_visit airport >>= λ new. give (AddVisit new)) back_of (HasKind airport 1) 42
 visit-spells airport = Spells-made AddVisit back_of (HasKind airport 1) (new_visit-spells airport) (λ new h. (refl, h)) (is_visit airport) (λ new. refl)
 
 -- ---- kind 2
@@ -108,7 +108,7 @@ commit_same airport command h =
     let c = is_commit airport command (commit_here airport command h) in
     subst (λ x. back_of x ≡ commit_back x) (sym c.made) refl
 
-pub second-spells : (airport : AirportParts) → Spells (commit_at airport) back_of (HasKind airport 2) 662
+pub second-spells : (airport : AirportParts) → Spells (parse_commit airport) back_of (HasKind airport 2) 662
 second-spells airport = Spells-as back_of (HasKind airport 2) 662 (commit-spells airport) (commit_there airport) (commit_here airport) (commit_same airport) (omega arith)
 
 -- ---- kind 5
@@ -120,8 +120,8 @@ is_cancel airport (Message desk message) h = absurd (omega (arith, h.0))
 is_cancel airport (Report desk visit event) h = absurd (omega (arith, h.0))
 is_cancel airport (Cancel visit) h = (visit.0, h.1, refl)
 
-pub fifth-spells : (airport : AirportParts) → Spells cancel_at back_of (HasKind airport 5) 4
-unfolding cancel_at
+pub fifth-spells : (airport : AirportParts) → Spells parse_cancel back_of (HasKind airport 5) 4
+unfolding parse_cancel
 fifth-spells airport =
     Spells-made (λ n. Cancel (visit_no n)) back_of (HasKind airport 5) (number-spells w32 (2 ^ 32) wide32) (λ n h. (refl, h)) (is_cancel airport) (λ n. refl)
 
@@ -142,7 +142,7 @@ is_message desk (Message name message) h = (message, h.1, ap (λ n. Message n me
 is_message desk (Report name visit event) h = absurd h
 is_message desk (Cancel visit) h = absurd h
 
-pub message_of-spells : (desk : List ℕ) → Spells (message_at >>= λ message. give (Message desk message)) message_back (IsMessageOf desk) 86
+pub message_of-spells : (desk : List ℕ) → Spells (parse_message >>= λ message. give (Message desk message)) message_back (IsMessageOf desk) 86
 message_of-spells desk = Spells-made (Message desk) message_back (IsMessageOf desk) message-spells (λ message h. (refl, h)) (is_message desk) (λ message. refl)
 
 -- ---- the report of a desk
@@ -193,8 +193,8 @@ report_same airport desk command h =
     let r = is_report airport desk command h in
     subst (λ x. report_back x ≡ to_le_bytes w32 (number_in x) ++ event_back x) (sym r.made) refl
 
-pub report_of-spells : (airport : AirportParts) (desk : List ℕ) → Spells (report_at airport desk) report_back (IsReportOf airport desk) 12
-unfolding report_at
+pub report_of-spells : (airport : AirportParts) (desk : List ℕ) → Spells (parse_report airport desk) report_back (IsReportOf airport desk) 12
+unfolding parse_report
 report_of-spells airport desk = Spells-as report_back (IsReportOf airport desk) 12
     (Spells-then number_in (IsReportOf airport desk) (number-spells w32 (2 ^ 32) wide32)
     (λ n b. Spells-made (Report desk (visit_no n)) event_back (λ command. (number_in command ≡ n) × IsReportOf airport desk command) (event-spells airport)
@@ -232,8 +232,8 @@ message_same airport (Message desk message) h = refl
 message_same airport (Report desk visit event) h = absurd (omega (arith, h.0))
 message_same airport (Cancel visit) h = absurd (omega (arith, h.0))
 
-sixth-spells : (airport : AirportParts) → Spells desk_message_at back_of (HasKind airport 6) 99
-unfolding desk_message_at
+sixth-spells : (airport : AirportParts) → Spells parse_desk_message back_of (HasKind airport 6) 99
+unfolding parse_desk_message
 sixth-spells airport = Spells-as back_of (HasKind airport 6) 99
     (Spells-then desk_in (HasKind airport 6) name-spells
     (λ d a. Spells-as message_back (λ command. (desk_in command ≡ d) × HasKind airport 6 command) 86 (message_of-spells d)
@@ -272,8 +272,8 @@ all_same airport (Message desk message) h = absurd (omega (arith, h.0))
 all_same airport (Report desk visit event) h = refl
 all_same airport (Cancel visit) h = absurd (omega (arith, h.0))
 
-seventh-spells : (airport : AirportParts) → Spells (desk_report_at airport) back_of (HasKind airport 7) 25
-unfolding desk_report_at
+seventh-spells : (airport : AirportParts) → Spells (parse_desk_report airport) back_of (HasKind airport 7) 25
+unfolding parse_desk_report
 seventh-spells airport = Spells-as back_of (HasKind airport 7) 25
     (Spells-then desk_in (HasKind airport 7) name-spells
     (λ d a. Spells-as report_back (λ command. (desk_in command ≡ d) × HasKind airport 7 command) 12 (report_of-spells airport d)
@@ -291,17 +291,17 @@ kind_is airport kind known few fields le s e =
 at_kind : (airport : AirportParts) (kind : ℕ) → Announces (fields_of airport kind) back_of (HasKind airport kind) 662
 at_kind airport kind =
     let P = HasKind airport kind in
-    let first : Reading Command = new_visit_at airport >>= λ new. give (AddVisit new) in
-    let from_7 : Option (Reading Command) = cond (kind == 7) (Some (desk_report_at airport)) None in
-    let from_6 : Option (Reading Command) = cond (kind == 6) (Some desk_message_at) from_7 in
-    let from_5 : Option (Reading Command) = cond (kind == 5) (Some cancel_at) from_6 in
-    let from_2 : Option (Reading Command) = cond (kind == 2) (Some (commit_at airport)) from_5 in
+    let first : Reading Command = parse_new_visit airport >>= λ new. give (AddVisit new) in
+    let from_7 : Option (Reading Command) = cond (kind == 7) (Some (parse_desk_report airport)) None in
+    let from_6 : Option (Reading Command) = cond (kind == 6) (Some parse_desk_message) from_7 in
+    let from_5 : Option (Reading Command) = cond (kind == 5) (Some parse_cancel) from_6 in
+    let from_2 : Option (Reading Command) = cond (kind == 2) (Some (parse_commit airport)) from_5 in
     Announces-or (kind == 1) first from_2 back_of P 662 (kind_is airport kind 1 42 first (omega arith) (visit-spells airport))
-    (Announces-or (kind == 2) (commit_at airport) from_5 back_of P 662 (kind_is airport kind 2 662 (commit_at airport) (omega arith) (second-spells airport))
-    (Announces-or (kind == 5) cancel_at from_6 back_of P 662 (kind_is airport kind 5 4 cancel_at (omega arith) (fifth-spells airport))
-    (Announces-or (kind == 6) desk_message_at from_7 back_of P 662 (kind_is airport kind 6 99 desk_message_at (omega arith) (sixth-spells airport))
-    (Announces-or (kind == 7) (desk_report_at airport) None back_of P 662
-    (kind_is airport kind 7 25 (desk_report_at airport) (omega arith) (seventh-spells airport))
+    (Announces-or (kind == 2) (parse_commit airport) from_5 back_of P 662 (kind_is airport kind 2 662 (parse_commit airport) (omega arith) (second-spells airport))
+    (Announces-or (kind == 5) parse_cancel from_6 back_of P 662 (kind_is airport kind 5 4 parse_cancel (omega arith) (fifth-spells airport))
+    (Announces-or (kind == 6) parse_desk_message from_7 back_of P 662 (kind_is airport kind 6 99 parse_desk_message (omega arith) (sixth-spells airport))
+    (Announces-or (kind == 7) (parse_desk_report airport) None back_of P 662
+    (kind_is airport kind 7 25 (parse_desk_report airport) (omega arith) (seventh-spells airport))
     tt))))
 
 has_fields : (airport : AirportParts) (command : Command) → IsSpelt airport command → IsSome (fields_of airport (kind_of command))
@@ -318,8 +318,8 @@ same_bytes (Message desk message) = refl
 same_bytes (Report desk visit event) = refl
 same_bytes (Cancel visit) = refl
 
-command-spells : (airport : AirportParts) → Spells (command_at (fields_of airport)) command_text (IsSpelt airport) 663
-unfolding command_at
+command-spells : (airport : AirportParts) → Spells (parse_command (fields_of airport)) command_text (IsSpelt airport) 663
+unfolding parse_command
 command-spells airport = Spells-as command_text (IsSpelt airport) 663
     (Spells-tagged (λ at. BadKind) (fields_of airport) kind_of back_of (IsSpelt airport) 662 byte-spells byte-front (λ at. tt) (at_kind airport) (has_fields airport))
     (λ command h. h) (λ command h. h) (λ command h. same_bytes command) (omega arith)
@@ -335,7 +335,7 @@ spelt_of airport [] f h = tt
 spelt_of airport (edit ∷ edits) f h =
     ((All-head EditFits edit edits f, All-head (IsEditOf airport) edit edits h), spelt_of airport edits (All-tail EditFits edit edits f) (All-tail (IsEditOf airport) edit edits h))
 
-pub said : (airport : AirportParts) (command : Command) → IsSpelt airport command → Fits command × IsCommandOf airport command
+pub said : (airport : AirportParts) (command : Command) → IsSpelt airport command → FitsWidths command × IsCommandOf airport command
 said airport (AddVisit new) h = (h.fits, h.at_airport)
 said airport (Commit desk draft base edits) h =
     let each = fits_of airport edits h.edits.each in (
@@ -346,7 +346,7 @@ said airport (Message desk message) h = (h.0, h.1)
 said airport (Report desk visit event) h = ((h.0, h.1, h.2.0), h.2.1)
 said airport (Cancel visit) h = (h, tt)
 
-pub spelt : (airport : AirportParts) (command : Command) → Fits command → IsCommandOf airport command → IsSpelt airport command
+pub spelt : (airport : AirportParts) (command : Command) → FitsWidths command → IsCommandOf airport command → IsSpelt airport command
 spelt airport (AddVisit new) f h = record { fits = f; at_airport = h }
 spelt airport (Commit desk draft base edits) f h = record {
   desk = f.desk;
@@ -360,7 +360,7 @@ spelt airport (Cancel visit) f h = f
 
 -- ---- entries of any kinds
 
-call-spells : Spells call_at (to_le_bytes w64) (λ call. call < CALL_END) 8
+call-spells : Spells parse_call (to_le_bytes w64) (λ call. call < CALL_END) 8
 call-spells = Spells-such (λ call. nat_lt call CALL_END) (number w64) (to_le_bytes w64) (λ n. n < 2 ^ 64) (λ call. call < CALL_END) 8 8 (number-spells w64 (2 ^ 64) wide64) (number-front w64)
     (λ n h test. ltb-true n CALL_END test) (λ n h. omega arith) (λ n h. lt-ltb n CALL_END h) (λ n h. omega arith)
 
@@ -380,9 +380,9 @@ text_with spelling entry = to_le_bytes w64 entry.call ++ spelling entry.command
 regrouped : (spelling : Command → List ℕ) (entry : Entry) → text_with spelling entry ≡ to_le_bytes w64 entry.call ++ (spelling entry.command ++ [])
 regrouped spelling entry = ap (λ t. to_le_bytes w64 entry.call ++ t) (sym (append-nil (spelling entry.command)))
 
-pub entry_with-spells : (kinds : Kinds) (spelling : Command → List ℕ) (P : Command → Type 0) → Spells (command_at kinds) spelling P 663
-    → Spells (entry_at kinds) (text_with spelling) (IsCalled P) 671
-unfolding entry_at
+pub entry_with-spells : (kinds : Kinds) (spelling : Command → List ℕ) (P : Command → Type 0) → Spells (parse_command kinds) spelling P 663
+    → Spells (parse_entry kinds) (text_with spelling) (IsCalled P) 671
+unfolding parse_entry
 entry_with-spells kinds spelling P s = Spells-as (text_with spelling) (IsCalled P) 671
     (Spells-then (λ entry. entry.call) (IsCalled P) call-spells
     (λ call c. Spells-then (λ entry. entry.command) (λ entry. (entry.call ≡ call) × IsCalled P entry) s
@@ -392,12 +392,12 @@ entry_with-spells kinds spelling P s = Spells-as (text_with spelling) (IsCalled 
     (λ entry h. h.0))
     (λ entry h. h) (λ entry h. h) (λ entry h. regrouped spelling entry) (omega arith)
 
-pub whole_is_read_back : (kinds : Kinds) (text : Entry → List ℕ) (P : Entry → Type 0) → Spells (entry_at kinds) text P 671 → (entry : Entry) → P entry
+pub whole_is_read_back : (kinds : Kinds) (text : Entry → List ℕ) (P : Entry → Type 0) → Spells (parse_entry kinds) text P 671 → (entry : Entry) → P entry
     → read_with kinds (text entry) ≡ Ok entry
 whole_is_read_back kinds text P s entry h =
-    ap (λ bytes. with_none_left (entry_at kinds (left_at 0 bytes))) (sym (append-nil (text entry))) ∙ ap with_none_left (s.again entry 0 [] h)
+    ap (λ bytes. with_none_left (parse_entry kinds (left_at 0 bytes))) (sym (append-nil (text entry))) ∙ ap with_none_left (s.again entry 0 [] h)
 
-ended_ok : (read : Result (Entry × Left) EntryFault) (entry : Entry) → with_none_left read ≡ Ok entry → (x : Entry × Left) × (read ≡ Ok x) × (length x.1.bytes ≡ 0) × (x.0 ≡ entry)
+ended_ok : (read : Result (Entry × RestOfEntry) EntryFault) (entry : Entry) → with_none_left read ≡ Ok entry → (x : Entry × RestOfEntry) × (read ≡ Ok x) × (length x.1.bytes ≡ 0) × (x.0 ≡ entry)
 ended_ok (Ok x) entry e = let parts = tested (eqb (length x.1.bytes) 0) x.0 entry (TrailingBytes x.1.at) e in (x, refl, eqb-true (length x.1.bytes) 0 parts.0, parts.1)
   where
     tested : (test : Bool) (y z : Entry) (fault : EntryFault) → cond test (Ok y) (Err fault) ≡ Ok z → (test ≡ true) × (y ≡ z)
@@ -405,17 +405,17 @@ ended_ok (Ok x) entry e = let parts = tested (eqb (length x.1.bytes) 0) x.0 entr
     tested false y z fault e = absurd cc
 ended_ok (Err fault) entry e = absurd cc
 
-pub whole_is_spelt : (kinds : Kinds) (text : Entry → List ℕ) (P : Entry → Type 0) → Spells (entry_at kinds) text P 671 → (bytes : List ℕ) (entry : Entry) → AreBytes bytes
+pub whole_is_spelt : (kinds : Kinds) (text : Entry → List ℕ) (P : Entry → Type 0) → Spells (parse_entry kinds) text P 671 → (bytes : List ℕ) (entry : Entry) → AreBytes bytes
     → read_with kinds bytes ≡ Ok entry → (bytes ≡ text entry) × P entry
 whole_is_spelt kinds text P s bytes entry fits e =
-    let x = ended_ok (entry_at kinds (left_at 0 bytes)) entry e in
+    let x = ended_ok (parse_entry kinds (left_at 0 bytes)) entry e in
     let taken = s.takes (left_at 0 bytes) x.0 fits x.1 in
     let nothing : x.0.1.bytes ≡ [] = nil_from_length x.0.1.bytes x.2 in
     let whole : bytes ≡ text x.0.0 = taken.0.parts ∙ ap (λ rest. text x.0.0 ++ rest) nothing ∙ append-nil (text x.0.0) in
     subst (λ other. (bytes ≡ text other) × P other) x.3 (whole, taken.1)
 
-ended_near : (read : Result (Entry × Left) EntryFault) (fault : EntryFault) → with_none_left read ≡ Err fault
-    → (read ≡ Err fault) ⊎ ((x : Entry × Left) × (read ≡ Ok x) × (TrailingBytes x.1.at ≡ fault))
+ended_near : (read : Result (Entry × RestOfEntry) EntryFault) (fault : EntryFault) → with_none_left read ≡ Err fault
+    → (read ≡ Err fault) ⊎ ((x : Entry × RestOfEntry) × (read ≡ Ok x) × (TrailingBytes x.1.at ≡ fault))
 ended_near (Ok x) fault e = inr (x, refl, tested (eqb (length x.1.bytes) 0) x.0 (TrailingBytes x.1.at) fault e)
   where
     tested : (test : Bool) (y : Entry) (missing found : EntryFault) → cond test (Ok y) (Err missing) ≡ Err found → missing ≡ found
@@ -423,9 +423,9 @@ ended_near (Ok x) fault e = inr (x, refl, tested (eqb (length x.1.bytes) 0) x.0 
     tested false y missing found e = err_is {A = Entry} missing found e
 ended_near (Err found) fault e = inl (ap Err (err_is {A = Entry} found fault e))
 
-pub whole_is_near : (kinds : Kinds) (text : Entry → List ℕ) (P : Entry → Type 0) → Spells (entry_at kinds) text P 671 → (bytes : List ℕ) (fault : EntryFault) → AreBytes bytes
+pub whole_is_near : (kinds : Kinds) (text : Entry → List ℕ) (P : Entry → Type 0) → Spells (parse_entry kinds) text P 671 → (bytes : List ℕ) (fault : EntryFault) → AreBytes bytes
     → read_with kinds bytes ≡ Err fault → IsWithin 671 fault
-whole_is_near kinds text P s bytes fault fits e = elim (ended_near (entry_at kinds (left_at 0 bytes)) fault e) [
+whole_is_near kinds text P s bytes fault fits e = elim (ended_near (parse_entry kinds (left_at 0 bytes)) fault e) [
   | inl bad ↦ IsWithin-wider (0 + 671) 671 fault (omega arith) (s.near (left_at 0 bytes) fault fits bad)
   | inr (x, good, trailing) ↦
       let taken = s.takes (left_at 0 bytes) x fits good in
@@ -434,8 +434,8 @@ whole_is_near kinds text P s bytes fault fits e = elim (ended_near (entry_at kin
       subst (IsWithin 671) trailing place
 ]
 
-pub near_of : (read : Result Entry EntryFault) (fault : ReadFault) → ((found : EntryFault) → read ≡ Err found → IsWithin 671 found) → Fails fault read
-    → IsWithin 671 (fault_of fault)
+pub near_of : (read : Result Entry EntryFault) (fault : ReadFault) → ((found : EntryFault) → read ≡ Err found → IsWithin 671 found) → FailsReading fault read
+    → IsWithin 671 (entry_fault fault)
 near_of read faults.BadKind near e = tt
 near_of read (faults.BadField at) near e = near (BadField at) e
 near_of read (faults.TrailingBytes at) near e = near (TrailingBytes at) e
@@ -443,19 +443,19 @@ near_of read faults.Memory near e = tt
 
 -- ---- the laws
 
-entry-spells : (airport : AirportParts) → Spells (entry_at (fields_of airport)) entry_text (IsEntryOf airport) 671
+entry-spells : (airport : AirportParts) → Spells (parse_entry (fields_of airport)) entry_text (IsEntryOf airport) 671
 entry-spells airport = Spells-as entry_text (IsEntryOf airport) 671 (entry_with-spells (fields_of airport) command_text (IsSpelt airport) (command-spells airport))
     (λ entry h. let told = said airport entry.command h.1 in record { call = h.0; fits = told.0; command = told.1 })
     (λ entry h. (h.call, spelt airport entry.command h.fits h.command)) (λ entry h. refl) (omega arith)
 
-pub entry_is_read_back : (airport : AirportParts) (entry : Entry) → IsEntryOf airport entry → decoded airport (entry_text entry) ≡ Ok entry
-unfolding decoded
+pub entry_is_read_back : (airport : AirportParts) (entry : Entry) → IsEntryOf airport entry → decode_entry airport (entry_text entry) ≡ Ok entry
+unfolding decode_entry
 entry_is_read_back airport entry h = whole_is_read_back (fields_of airport) entry_text (IsEntryOf airport) (entry-spells airport) entry h
 
-pub entry_is_spelt : (airport : AirportParts) (bytes : List ℕ) (entry : Entry) → AreBytes bytes → decoded airport bytes ≡ Ok entry → (bytes ≡ entry_text entry) × IsEntryOf airport entry
-unfolding decoded
+pub entry_is_spelt : (airport : AirportParts) (bytes : List ℕ) (entry : Entry) → AreBytes bytes → decode_entry airport bytes ≡ Ok entry → (bytes ≡ entry_text entry) × IsEntryOf airport entry
+unfolding decode_entry
 entry_is_spelt airport bytes entry fits e = whole_is_spelt (fields_of airport) entry_text (IsEntryOf airport) (entry-spells airport) bytes entry fits e
 
-pub fault_is_near : (airport : AirportParts) (bytes : List ℕ) (fault : EntryFault) → AreBytes bytes → decoded airport bytes ≡ Err fault → IsWithin 671 fault
-unfolding decoded
+pub fault_is_near : (airport : AirportParts) (bytes : List ℕ) (fault : EntryFault) → AreBytes bytes → decode_entry airport bytes ≡ Err fault → IsWithin 671 fault
+unfolding decode_entry
 fault_is_near airport bytes fault fits e = whole_is_near (fields_of airport) entry_text (IsEntryOf airport) (entry-spells airport) bytes fault fits e

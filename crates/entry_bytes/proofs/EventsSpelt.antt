@@ -9,7 +9,7 @@ use Rattle.visit_book.specs.Reports.{IsEventOf}
 use Rattle.visit_book.specs.declared.reports.Event.{Event}
 use Rattle.visit_book.specs.declared.reports.Event.TheVariants.{On, Off}
 use Rattle.entry_bytes.specs.declared.faults.EntryFault.TheVariants.{BadField}
-use Rattle.entry_bytes.specs.Reports.{event_at, event_of, event_text, off_at, on_at}
+use Rattle.entry_bytes.specs.Reports.{event_of, event_text, parse_event, parse_off, parse_on}
 use Rattle.entry_bytes.specs.Widths.{EventFits}
 use Rattle.entry_bytes.proofs.Fields.{byte-front, byte-spells, number-spells, wide32}
 use Rattle.entry_bytes.proofs.Spells.{Announces, Announces-or, Spells, Spells-as, Spells-made, Spells-tagged, Spells-then}
@@ -67,8 +67,8 @@ on_bytes : (airport : AirportParts) (event : Event) → HasTag airport 1 event
 on_bytes airport (On p s m) h = refl
 on_bytes airport (Off m) h = absurd (omega (arith, h.0))
 
-on-spells : (airport : AirportParts) → Spells (on_at airport) back_of (HasTag airport 1) 7
-unfolding on_at
+on-spells : (airport : AirportParts) → Spells (parse_on airport) back_of (HasTag airport 1) 7
+unfolding parse_on
 on-spells airport = Spells-as back_of (HasTag airport 1) 7
     (Spells-then part_in (HasTag airport 1) byte-spells
     (λ p a. Spells-then stand_in (OfPart airport p) (place-spells (length airport.stands))
@@ -84,8 +84,8 @@ is_off : (airport : AirportParts) (event : Event) → HasTag airport 2 event →
 is_off airport (On p s m) h = absurd (omega (arith, h.0))
 is_off airport (Off m) h = (m, h.1.0, refl)
 
-off-spells : (airport : AirportParts) → Spells off_at back_of (HasTag airport 2) 7
-unfolding off_at
+off-spells : (airport : AirportParts) → Spells parse_off back_of (HasTag airport 2) 7
+unfolding parse_off
 off-spells airport = Spells-as back_of (HasTag airport 2) 7
     (Spells-made Off back_of (HasTag airport 2) (number-spells w32 (2 ^ 32) wide32) (λ m c. (refl, (c, tt))) (is_off airport) (λ m. refl))
     (λ event h. h) (λ event h. h) (λ event h. refl) (omega arith)
@@ -95,10 +95,10 @@ off-spells airport = Spells-as back_of (HasTag airport 2) 7
 at_tag : (airport : AirportParts) (tag : ℕ) → Announces (event_of airport tag) back_of (HasTag airport tag) 7
 at_tag airport tag =
     let P = HasTag airport tag in
-    Announces-or (tag == 1) (on_at airport) (cond (tag == 2) (Some off_at) None) back_of P 7
-    (λ e. subst (λ t. Spells (on_at airport) back_of (HasTag airport t) 7) (sym (eqb-true tag 1 e)) (on-spells airport))
-    (Announces-or (tag == 2) off_at None back_of P 7
-    (λ e. subst (λ t. Spells off_at back_of (HasTag airport t) 7) (sym (eqb-true tag 2 e)) (off-spells airport))
+    Announces-or (tag == 1) (parse_on airport) (cond (tag == 2) (Some parse_off) None) back_of P 7
+    (λ e. subst (λ t. Spells (parse_on airport) back_of (HasTag airport t) 7) (sym (eqb-true tag 1 e)) (on-spells airport))
+    (Announces-or (tag == 2) parse_off None back_of P 7
+    (λ e. subst (λ t. Spells parse_off back_of (HasTag airport t) 7) (sym (eqb-true tag 2 e)) (off-spells airport))
     tt)
 
 has_field : (airport : AirportParts) (event : Event) → IsEventSpelt airport event → IsSome (event_of airport (tag_of event))
@@ -109,8 +109,8 @@ same_bytes : (event : Event) → event_text event ≡ tag_of event ∷ back_of e
 same_bytes (On p s m) = refl
 same_bytes (Off m) = refl
 
-pub event-spells : (airport : AirportParts) → Spells (event_at airport) event_text (IsEventSpelt airport) 8
-unfolding event_at
+pub event-spells : (airport : AirportParts) → Spells (parse_event airport) event_text (IsEventSpelt airport) 8
+unfolding parse_event
 event-spells airport = Spells-as event_text (IsEventSpelt airport) 8
     (Spells-tagged BadField (event_of airport) tag_of back_of (IsEventSpelt airport) 7 byte-spells byte-front (λ at. omega arith) (at_tag airport) (has_field airport))
     (λ event h. h) (λ event h. h) (λ event h. same_bytes event) (omega arith)

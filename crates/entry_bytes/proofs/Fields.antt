@@ -13,7 +13,7 @@ use Rattle.entry_bytes.specs.declared.faults.EntryFault.TheVariants.{BadField}
 use Rattle.entry_bytes.specs.Faults.{IsWithin}
 use Rattle.entry_bytes.specs.Keys.{sized_text}
 use Rattle.entry_bytes.specs.Laws.{AreBytes}
-use Rattle.entry_bytes.specs.Readings.{Left, Reading, going_on, give, bad_at, bytes_of, byte, first_byte, number, text, name}
+use Rattle.entry_bytes.specs.Readings.{RestOfEntry, Reading, going_on, give, bad_at, field_bytes, byte, first_byte, number, text, name}
 use Rattle.entry_bytes.proofs.Spells.{left_at, Takes, Takes-then, IsWithin-wider, Spells, Spells-such, IsAtFront, ok_is, err_is, going_on-ok, going_on-err}
 
 -- ---- bytes
@@ -35,13 +35,13 @@ guard_err : {A : Type 0} (b : Bool) (at : ℕ) (x : A) (fault : EntryFault) → 
 guard_err {A} true at x fault e = let le : at ≤ at = omega arith in subst (IsWithin at) (err_is {A = A} (BadField at) fault e) le
 guard_err false at x fault e = absurd cc
 
-pub record BytesTaken (left : Left) (wanted : ℕ) (read : List ℕ × Left) : Type 0 where
+pub record BytesTaken (left : RestOfEntry) (wanted : ℕ) (read : List ℕ × RestOfEntry) : Type 0 where
   pub taken : Takes left read.0 read.1
   pub count : length read.0 ≡ wanted
   pub bytes : AreBytes read.0
 
-bytes-takes : (at count : ℕ) (left : Left) (read : List ℕ × Left) → AreBytes left.bytes → bytes_of at count left ≡ Ok read → BytesTaken left count read
-unfolding bytes_of
+bytes-takes : (at count : ℕ) (left : RestOfEntry) (read : List ℕ × RestOfEntry) → AreBytes left.bytes → field_bytes at count left ≡ Ok read → BytesTaken left count read
+unfolding field_bytes
 bytes-takes at count left read fits e =
     let bytes = left.bytes in
     let g = guard_ok (ltb (length bytes) count) (BadField at) (take count bytes, left_at (left.at + count) (drop count bytes)) read e in
@@ -54,19 +54,19 @@ bytes-takes at count left read fits e =
     } in
     subst (BytesTaken left count) g.1 (record { taken = taken; count = exact; bytes = AreBytes-take count bytes fits })
 
-bytes-again : (at count from : ℕ) (bytes more : List ℕ) → length bytes ≡ count → bytes_of at count (left_at from (bytes ++ more)) ≡ Ok (bytes, left_at (from + count) more)
-unfolding bytes_of
+bytes-again : (at count from : ℕ) (bytes more : List ℕ) → length bytes ≡ count → field_bytes at count (left_at from (bytes ++ more)) ≡ Ok (bytes, left_at (from + count) more)
+unfolding field_bytes
 bytes-again at count from bytes more exact =
     let long : ltb (length (bytes ++ more)) count ≡ false = le-ltb (length (bytes ++ more)) count (omega (arith, length-append bytes more)) in
     rw (long, take_at bytes more count exact, drop_at bytes more count exact) refl
 
-bytes-near : (at count : ℕ) (left : Left) (fault : EntryFault) → bytes_of at count left ≡ Err fault → IsWithin at fault
-unfolding bytes_of
+bytes-near : (at count : ℕ) (left : RestOfEntry) (fault : EntryFault) → field_bytes at count left ≡ Err fault → IsWithin at fault
+unfolding field_bytes
 bytes-near at count left fault e = guard_err (ltb (length left.bytes) count) at (take count left.bytes, left_at (left.at + count) (drop count left.bytes)) fault e
 
 -- ---- one byte
 
-first-takes : (at : ℕ) (bytes : List ℕ) (read : ℕ × Left) → AreBytes bytes → first_byte at bytes ≡ Ok read → Takes (left_at at bytes) (read.0 ∷ []) read.1 × (read.0 < 256)
+first-takes : (at : ℕ) (bytes : List ℕ) (read : ℕ × RestOfEntry) → AreBytes bytes → first_byte at bytes ≡ Ok read → Takes (left_at at bytes) (read.0 ∷ []) read.1 × (read.0 < 256)
 first-takes at [] read fits e = absurd cc
 first-takes at (b ∷ bytes) read fits e =
     let below : b < 256 = fits 0 in
@@ -75,10 +75,10 @@ first-takes at (b ∷ bytes) read fits e =
     subst (λ r. Takes (left_at at (b ∷ bytes)) (r.0 ∷ []) r.1 × (r.0 < 256)) (ok_is (b, left_at (at + 1) bytes) read e) (taken, below)
 
 first-near : (at : ℕ) (bytes : List ℕ) (fault : EntryFault) → first_byte at bytes ≡ Err fault → IsWithin at fault
-first-near at [] fault e = let le : at ≤ at = omega arith in subst (IsWithin at) (err_is {A = ℕ × Left} (BadField at) fault e) le
+first-near at [] fault e = let le : at ≤ at = omega arith in subst (IsWithin at) (err_is {A = ℕ × RestOfEntry} (BadField at) fault e) le
 first-near at (b ∷ bytes) fault e = absurd cc
 
-byte-takes : (left : Left) (read : ℕ × Left) → AreBytes left.bytes → byte left ≡ Ok read → Takes left (read.0 ∷ []) read.1 × (read.0 < 256)
+byte-takes : (left : RestOfEntry) (read : ℕ × RestOfEntry) → AreBytes left.bytes → byte left ≡ Ok read → Takes left (read.0 ∷ []) read.1 × (read.0 < 256)
 unfolding byte
 byte-takes left read fits e = first-takes left.at left.bytes read fits e
 
@@ -133,11 +133,11 @@ wide64 = record {
 abbrev said : Width → List ℕ → Reading ℕ
 said width bytes = give (from_le_bytes width bytes)
 
-number-takes : (width : Width) (limit : ℕ) → IsWide width limit → (left : Left) (read : ℕ × Left) → AreBytes left.bytes → number width left ≡ Ok read
+number-takes : (width : Width) (limit : ℕ) → IsWide width limit → (left : RestOfEntry) (read : ℕ × RestOfEntry) → AreBytes left.bytes → number width left ≡ Ok read
     → Takes left (to_le_bytes width read.0) read.1 × (read.0 < limit)
 unfolding number
 number-takes width limit wide left read fits e =
-    let b = going_on-ok (bytes_of left.at (byte_len width) left) (said width) read e in
+    let b = going_on-ok (field_bytes left.at (byte_len width) left) (said width) read e in
     let t = bytes-takes left.at (byte_len width) left b.0 fits b.1 in
     let n = from_le_bytes width b.0.0 in
     let taken : Takes left (to_le_bytes width n) b.0.1 = subst (λ text. Takes left text b.0.1) (sym (wide.back b.0.0 t.count t.bytes)) t.taken in
@@ -153,7 +153,7 @@ number-again width limit wide n at more lt =
 
 pub number-front : (width : Width) → IsAtFront (number width)
 unfolding number
-number-front width left fault e = elim (going_on-err (bytes_of left.at (byte_len width) left) (said width) fault e) [
+number-front width left fault e = elim (going_on-err (field_bytes left.at (byte_len width) left) (said width) fault e) [
   | inl bad ↦ bytes-near left.at (byte_len width) left fault bad
   | inr (x, good, bad) ↦ absurd cc
 ]
@@ -168,10 +168,10 @@ number-spells width limit wide = record {
 
 -- ---- texts
 
-text-takes : (left : Left) (read : List ℕ × Left) → AreBytes left.bytes → text left ≡ Ok read → Takes left (sized_text read.0) read.1 × (length read.0 < 256)
+text-takes : (left : RestOfEntry) (read : List ℕ × RestOfEntry) → AreBytes left.bytes → text left ≡ Ok read → Takes left (sized_text read.0) read.1 × (length read.0 < 256)
 unfolding text
 text-takes left read fits e =
-    let b = going_on-ok (byte left) (bytes_of left.at) read e in
+    let b = going_on-ok (byte left) (field_bytes left.at) read e in
     let one = byte-takes left b.0 fits b.1 in
     let two = bytes-takes left.at b.0.0 b.0.1 read one.0.fits b.2 in
     let both = Takes-then left (b.0.0 ∷ []) b.0.1 read.0 read.1 one.0 two.taken in
@@ -181,13 +181,13 @@ text-again : (bytes : List ℕ) (at : ℕ) (more : List ℕ) → text (left_at a
 unfolding text
 text-again bytes at more =
     let place : at + 1 + length bytes ≡ at + length (sized_text bytes) = omega arith in
-    ap (λ r. going_on r (bytes_of at)) (byte-again (length bytes) at (bytes ++ more))
+    ap (λ r. going_on r (field_bytes at)) (byte-again (length bytes) at (bytes ++ more))
     ∙ bytes-again at (length bytes) (at + 1) bytes more refl
     ∙ ap (λ n. Ok (bytes, left_at n more)) place
 
 pub text-front : IsAtFront text
 unfolding text
-text-front left fault e = elim (going_on-err (byte left) (bytes_of left.at) fault e) [
+text-front left fault e = elim (going_on-err (byte left) (field_bytes left.at) fault e) [
   | inl bad ↦ byte-front left fault bad
   | inr (x, good, bad) ↦ bytes-near left.at x.0 x.1 fault bad
 ]
@@ -208,7 +208,7 @@ name-spells = Spells-such is_name text sized_text (λ bytes. length bytes < 256)
     (λ bytes h test. (name_decides bytes).0 test) name-short (λ bytes h. (name_decides bytes).1 h) (λ bytes h. let few = h.few in omega arith)
 
 -- a text that was read is read as a name if it is one
-pub named : (left after : Left) (bytes : List ℕ) (found : Option (List ℕ)) → text left ≡ Ok (bytes, after) → SomeIff found (IsName bytes) bytes
+pub named : (left after : RestOfEntry) (bytes : List ℕ) (found : Option (List ℕ)) → text left ≡ Ok (bytes, after) → SomeIff found (IsName bytes) bytes
     → MatchOption found (name left ≡ Err (BadField left.at)) (λ value. name left ≡ Ok (value, after))
 named left after bytes None e h =
     let no = false_from_ne_true (is_name bytes) (λ t. h ((name_decides bytes).0 t)) in

@@ -12,15 +12,15 @@ use Rattle.desk_words.specs.declared.asks.Entry.{Entry}
 use Rattle.entry_bytes.specs.declared.faults.EntryFault.{EntryFault}
 use Rattle.entry_bytes.specs.declared.faults.EntryFault.TheVariants.{BadKind}
 use Rattle.entry_bytes.specs.Widths.{IsEntryOf}
-use Rattle.entry_bytes.specs.Commits.{commit_at, commit_text}
-use Rattle.entry_bytes.specs.Entries.{command_at, entry_at}
+use Rattle.entry_bytes.specs.Commits.{commit_text, parse_commit}
+use Rattle.entry_bytes.specs.Entries.{parse_command, parse_entry}
 use Rattle.entry_bytes.specs.Faults.{IsWithin}
-use Rattle.entry_bytes.specs.Former.{NamesNoDesk, former_command_text, former_decoded, former_fields_of, former_text, no_desk}
+use Rattle.entry_bytes.specs.Former.{NamesNoDesk, decode_former_entry, former_command_text, former_fields_of, former_text, no_desk}
 use Rattle.entry_bytes.specs.Laws.{AreBytes}
-use Rattle.entry_bytes.specs.Messages.{message_at, message_text}
-use Rattle.entry_bytes.specs.NewVisits.{new_visit_at, new_visit_text}
+use Rattle.entry_bytes.specs.Messages.{message_text, parse_message}
+use Rattle.entry_bytes.specs.NewVisits.{new_visit_text, parse_new_visit}
 use Rattle.entry_bytes.specs.Readings.{Reading, ◌>>=◌, give}
-use Rattle.entry_bytes.specs.Reports.{cancel_at, report_at, report_text}
+use Rattle.entry_bytes.specs.Reports.{parse_cancel, parse_report, report_text}
 use Rattle.entry_bytes.proofs.Fields.{byte-spells, byte-front}
 use Rattle.entry_bytes.proofs.EntriesSpelt.{HasKind, IsMessageOf, IsReportOf, IsSpelt, among, back_of, entry_with-spells, fifth-spells, message_back, message_of-spells, report_back, report_of-spells, said, second-spells, spelt, visit-spells, whole_is_near, whole_is_read_back, whole_is_spelt}
 use Rattle.entry_bytes.proofs.Spells.{Announces, Announces-or, Spells, Spells-as, Spells-tagged}
@@ -128,7 +128,7 @@ message_same airport (Message desk message) h = refl
 message_same airport (Report desk visit event) h = absurd (omega (arith, h.0))
 message_same airport (Cancel visit) h = absurd (omega (arith, h.0))
 
-third-spells : (airport : AirportParts) → Spells (message_at >>= λ message. give (Message no_desk message)) former_back (HadKind airport 3) 86
+third-spells : (airport : AirportParts) → Spells (parse_message >>= λ message. give (Message no_desk message)) former_back (HadKind airport 3) 86
 third-spells airport =
     Spells-as former_back (HadKind airport 3) 86 (message_of-spells no_desk) (message_there airport) (message_here airport) (message_same airport) (omega arith)
 
@@ -153,7 +153,7 @@ report_same airport (Message desk message) h = absurd (omega (arith, h.0))
 report_same airport (Report desk visit event) h = refl
 report_same airport (Cancel visit) h = absurd (omega (arith, h.0))
 
-fourth-spells : (airport : AirportParts) → Spells (report_at airport no_desk) former_back (HadKind airport 4) 12
+fourth-spells : (airport : AirportParts) → Spells (parse_report airport no_desk) former_back (HadKind airport 4) 12
 fourth-spells airport =
     Spells-as former_back (HadKind airport 4) 12 (report_of-spells airport no_desk) (report_there airport) (report_here airport) (report_same airport) (omega arith)
 
@@ -167,21 +167,21 @@ kind_is airport kind known few fields le s e =
 at_kind : (airport : AirportParts) (kind : ℕ) → Announces (former_fields_of airport kind) former_back (HadKind airport kind) 662
 at_kind airport kind =
     let P = HadKind airport kind in
-    let first : Reading Command = new_visit_at airport >>= λ new. give (AddVisit new) in
-    let third : Reading Command = message_at >>= λ message. give (Message no_desk message) in
-    let fourth : Reading Command = report_at airport no_desk in
-    let from_5 : Option (Reading Command) = cond (kind == 5) (Some cancel_at) None in
+    let first : Reading Command = parse_new_visit airport >>= λ new. give (AddVisit new) in
+    let third : Reading Command = parse_message >>= λ message. give (Message no_desk message) in
+    let fourth : Reading Command = parse_report airport no_desk in
+    let from_5 : Option (Reading Command) = cond (kind == 5) (Some parse_cancel) None in
     let from_4 : Option (Reading Command) = cond (kind == 4) (Some fourth) from_5 in
     let from_3 : Option (Reading Command) = cond (kind == 3) (Some third) from_4 in
-    let from_2 : Option (Reading Command) = cond (kind == 2) (Some (commit_at airport)) from_3 in
+    let from_2 : Option (Reading Command) = cond (kind == 2) (Some (parse_commit airport)) from_3 in
     let low_1 : 1 ≤ 2 = omega arith in
     let low_2 : 2 ≤ 2 = omega arith in
     Announces-or (kind == 1) first from_2 former_back P 662 (kind_is airport kind 1 42 first (omega arith) (kept-spells airport 1 42 first (inl low_1) (visit-spells airport)))
-    (Announces-or (kind == 2) (commit_at airport) from_3 former_back P 662
-    (kind_is airport kind 2 662 (commit_at airport) (omega arith) (kept-spells airport 2 662 (commit_at airport) (inl low_2) (second-spells airport)))
+    (Announces-or (kind == 2) (parse_commit airport) from_3 former_back P 662
+    (kind_is airport kind 2 662 (parse_commit airport) (omega arith) (kept-spells airport 2 662 (parse_commit airport) (inl low_2) (second-spells airport)))
     (Announces-or (kind == 3) third from_4 former_back P 662 (kind_is airport kind 3 86 third (omega arith) (third-spells airport))
     (Announces-or (kind == 4) fourth from_5 former_back P 662 (kind_is airport kind 4 12 fourth (omega arith) (fourth-spells airport))
-    (Announces-or (kind == 5) cancel_at None former_back P 662 (kind_is airport kind 5 4 cancel_at (omega arith) (kept-spells airport 5 4 cancel_at (inr refl) (fifth-spells airport)))
+    (Announces-or (kind == 5) parse_cancel None former_back P 662 (kind_is airport kind 5 4 parse_cancel (omega arith) (kept-spells airport 5 4 parse_cancel (inr refl) (fifth-spells airport)))
     tt))))
 
 has_fields : (airport : AirportParts) (command : Command) → WasSpelt airport command → IsSome (former_fields_of airport (former_kind_of command))
@@ -198,8 +198,8 @@ same_bytes (Message desk message) = refl
 same_bytes (Report desk visit event) = refl
 same_bytes (Cancel visit) = refl
 
-command-spells : (airport : AirportParts) → Spells (command_at (former_fields_of airport)) former_command_text (WasSpelt airport) 663
-unfolding command_at
+command-spells : (airport : AirportParts) → Spells (parse_command (former_fields_of airport)) former_command_text (WasSpelt airport) 663
+unfolding parse_command
 command-spells airport = Spells-as former_command_text (WasSpelt airport) 663
     (Spells-tagged (λ at. BadKind) (former_fields_of airport) former_kind_of former_back (WasSpelt airport) 662 byte-spells byte-front (λ at. tt) (at_kind airport) (has_fields airport))
     (λ command h. h) (λ command h. h) (λ command h. same_bytes command) (omega arith)
@@ -209,26 +209,26 @@ command-spells airport = Spells-as former_command_text (WasSpelt airport) 663
 abbrev WasEntryOf : AirportParts → Entry → Type 0
 WasEntryOf airport entry = IsEntryOf airport entry × NamesNoDesk entry.command
 
-entry-spells : (airport : AirportParts) → Spells (entry_at (former_fields_of airport)) former_text (WasEntryOf airport) 671
+entry-spells : (airport : AirportParts) → Spells (parse_entry (former_fields_of airport)) former_text (WasEntryOf airport) 671
 entry-spells airport = Spells-as former_text (WasEntryOf airport) 671
     (entry_with-spells (former_fields_of airport) former_command_text (WasSpelt airport) (command-spells airport))
     (λ entry h. let told = said airport entry.command h.1.0 in (record { call = h.0; fits = told.0; command = told.1 }, h.1.1))
     (λ entry h. (h.0.call, (spelt airport entry.command h.0.fits h.0.command, h.1))) (λ entry h. refl) (omega arith)
 
 pub former_entry_is_read_back : (airport : AirportParts) (entry : Entry) → IsEntryOf airport entry → NamesNoDesk entry.command
-    → former_decoded airport (former_text entry) ≡ Ok entry
-unfolding former_decoded
+    → decode_former_entry airport (former_text entry) ≡ Ok entry
+unfolding decode_former_entry
 former_entry_is_read_back airport entry h none =
     whole_is_read_back (former_fields_of airport) former_text (WasEntryOf airport) (entry-spells airport) entry (h, none)
 
-pub former_entry_is_spelt : (airport : AirportParts) (bytes : List ℕ) (entry : Entry) → AreBytes bytes → former_decoded airport bytes ≡ Ok entry
+pub former_entry_is_spelt : (airport : AirportParts) (bytes : List ℕ) (entry : Entry) → AreBytes bytes → decode_former_entry airport bytes ≡ Ok entry
     → (bytes ≡ former_text entry) × IsEntryOf airport entry × NamesNoDesk entry.command
-unfolding former_decoded
+unfolding decode_former_entry
 former_entry_is_spelt airport bytes entry fits e =
     let is = whole_is_spelt (former_fields_of airport) former_text (WasEntryOf airport) (entry-spells airport) bytes entry fits e in
     (is.0, is.1.0, is.1.1)
 
-pub former_fault_is_near : (airport : AirportParts) (bytes : List ℕ) (fault : EntryFault) → AreBytes bytes → former_decoded airport bytes ≡ Err fault → IsWithin 671 fault
-unfolding former_decoded
+pub former_fault_is_near : (airport : AirportParts) (bytes : List ℕ) (fault : EntryFault) → AreBytes bytes → decode_former_entry airport bytes ≡ Err fault → IsWithin 671 fault
+unfolding decode_former_entry
 former_fault_is_near airport bytes fault fits e =
     whole_is_near (former_fields_of airport) former_text (WasEntryOf airport) (entry-spells airport) bytes fault fits e

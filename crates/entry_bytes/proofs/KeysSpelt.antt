@@ -11,7 +11,7 @@ use Rattle.mvt_grammar.specs.Readable.{IsFlight}
 use Rattle.apron_rules.specs.declared.parts.AirportParts.{AirportParts}
 use Rattle.visit_book.specs.declared.visits.Key.{Key}
 use Rattle.entry_bytes.specs.declared.faults.EntryFault.TheVariants.{BadField}
-use Rattle.entry_bytes.specs.Keys.{is_suffix_byte, key_at, key_text, optional_key_at, optional_key_text, optional_key_of, suffix_byte, suffix_of, sized_text}
+use Rattle.entry_bytes.specs.Keys.{is_suffix_byte, parse_key, key_bytes, parse_optional_key, optional_key_text, optional_key_of, suffix_byte, suffix_of, sized_text}
 use Rattle.entry_bytes.specs.Readings.{Reading, byte, give, number, such_that, text, ◌>>=◌}
 use Rattle.entry_bytes.proofs.Fields.{byte-spells, byte-front, number-spells, number-front, text-spells, text-front, wide16}
 use Rattle.entry_bytes.proofs.Spells.{Announces, Announces-or, Spells, Spells-as, Spells-give, Spells-such, Spells-tagged, Spells-then}
@@ -78,9 +78,9 @@ key_of airline number suffix day = record { flight = record { airline = airline;
 same_key : (a a' : List ℕ) (n n' : ℕ) (s s' : Option ℕ) (d d' : ℕ) → a ≡ a' → n ≡ n' → s ≡ s' → d ≡ d' → key_of a n s d ≡ key_of a' n' s' d'
 same_key a a' n n' s s' d d' ea en es ed = cc
 
-pub key-spells : (airport : AirportParts) → Spells (key_at airport) key_text (IsKeyOf airport) 8
-unfolding key_at
-key-spells airport = Spells-as key_text (IsKeyOf airport) 8
+pub key-spells : (airport : AirportParts) → Spells (parse_key airport) key_bytes (IsKeyOf airport) 8
+unfolding parse_key
+key-spells airport = Spells-as key_bytes (IsKeyOf airport) 8
     (Spells-then (λ key. key.flight.airline) (IsKeyOf airport) airline-spells
     (λ airline a. Spells-then (λ key. key.flight.number) (λ key. (key.flight.airline ≡ airline) × IsKeyOf airport key) flight_number-spells
     (λ n b. Spells-then (λ key. suffix_byte key.flight.suffix) (λ key. (key.flight.number ≡ n) × ((key.flight.airline ≡ airline) × IsKeyOf airport key)) suffix-spells
@@ -103,7 +103,7 @@ tag_of (Some key) = 1
 
 abbrev back_of : Option Key → List ℕ
 back_of None = []
-back_of (Some key) = key_text key
+back_of (Some key) = key_bytes key
 
 abbrev key_in : Option Key → Key
 key_in None = key_of [] 0 None 0
@@ -134,11 +134,11 @@ in_some : (airport : AirportParts) (key : Option Key) → HasTag airport 1 key �
 in_some airport None h = absurd (omega (arith, h.0))
 in_some airport (Some key) h = h.1
 
-some_bytes : (airport : AirportParts) (key : Option Key) → HasTag airport 1 key → back_of key ≡ key_text (key_in key) ++ []
+some_bytes : (airport : AirportParts) (key : Option Key) → HasTag airport 1 key → back_of key ≡ key_bytes (key_in key) ++ []
 some_bytes airport None h = absurd (omega (arith, h.0))
-some_bytes airport (Some key) h = sym (append-nil (key_text key))
+some_bytes airport (Some key) h = sym (append-nil (key_bytes key))
 
-some-spells : (airport : AirportParts) → Spells (key_at airport >>= λ key. give (Some key)) back_of (HasTag airport 1) 8
+some-spells : (airport : AirportParts) → Spells (parse_key airport >>= λ key. give (Some key)) back_of (HasTag airport 1) 8
 some-spells airport = Spells-as back_of (HasTag airport 1) 8
     (Spells-then key_in (HasTag airport 1) (key-spells airport)
     (λ k h. Spells-give (Some k) (λ key. (key_in key ≡ k) × HasTag airport 1 key) (refl, (refl, h)) (λ key e. only_some airport key k e))
@@ -149,7 +149,7 @@ at_tag : (airport : AirportParts) (tag : ℕ) → Announces (optional_key_of air
 at_tag airport tag =
     let P = HasTag airport tag in
     let first : Reading (Option Key) = give None in
-    let second : Reading (Option Key) = key_at airport >>= λ key. give (Some key) in
+    let second : Reading (Option Key) = parse_key airport >>= λ key. give (Some key) in
     Announces-or (tag == 0) first (cond (tag == 1) (Some second) None) back_of P 8
     (λ e. subst (λ t. Spells first back_of (HasTag airport t) 8) (sym (eqb-true tag 0 e)) (none-spells airport))
     (Announces-or (tag == 1) second None back_of P 8
@@ -164,8 +164,8 @@ same_bytes : (key : Option Key) → optional_key_text key ≡ tag_of key ∷ bac
 same_bytes None = refl
 same_bytes (Some key) = refl
 
-pub optional_key-spells : (airport : AirportParts) → Spells (optional_key_at airport) optional_key_text (AreKeysOf airport) 9
-unfolding optional_key_at
+pub optional_key-spells : (airport : AirportParts) → Spells (parse_optional_key airport) optional_key_text (AreKeysOf airport) 9
+unfolding parse_optional_key
 optional_key-spells airport = Spells-as optional_key_text (AreKeysOf airport) 9
     (Spells-tagged BadField (optional_key_of airport) tag_of back_of (AreKeysOf airport) 8 byte-spells byte-front (λ at. omega arith) (at_tag airport) (has_field airport))
     (λ key h. h) (λ key h. h) (λ key h. same_bytes key) (omega arith)

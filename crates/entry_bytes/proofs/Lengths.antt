@@ -14,17 +14,17 @@ use Rattle.desk_words.specs.declared.asks.Command.{Command}
 use Rattle.desk_words.specs.declared.asks.Command.TheVariants.{AddVisit, Commit, Message, Report, Cancel}
 use Rattle.desk_words.specs.declared.asks.Entry.{Entry}
 use Rattle.desk_words.specs.Commands.{IsCommand}
-use Rattle.entry_bytes.specs.Widths.{Fits, VisitFits}
+use Rattle.entry_bytes.specs.Widths.{FitsWidths, VisitFits}
 use Rattle.entry_bytes.specs.Commits.{commit_text, edit_text}
 use Rattle.entry_bytes.specs.Entries.{command_text, entry_text}
-use Rattle.entry_bytes.specs.Keys.{key_text, optional_key_text, suffix_byte, sized_text}
+use Rattle.entry_bytes.specs.Keys.{key_bytes, optional_key_text, suffix_byte, sized_text}
 use Rattle.entry_bytes.specs.NewVisits.{new_visit_text}
 use Rattle.entry_bytes.specs.Messages.{message_text}
 use Rattle.entry_bytes.specs.Reports.{event_text, report_text}
 use Rattle.entry_bytes.proofs.KeysSpelt.{length-airline}
 use Rattle.entry_bytes.proofs.MessagesSpelt.{length-message}
 
-length-key : (key : Key) → HasFlight key → length (key_text key) ≤ 8
+length-key : (key : Key) → HasFlight key → length (key_bytes key) ≤ 8
 length-key key h =
     let airline = length-airline key.flight.airline h.airline in
     omega (arith, length-append (sized_text key.flight.airline ++ to_le_bytes w16 key.flight.number) (suffix_byte key.flight.suffix ∷ key.day ∷ []), length-append key.flight.airline (to_le_bytes w16 key.flight.number))
@@ -62,7 +62,7 @@ length-event : (event : Event) → length (event_text event) ≤ 8
 length-event (On part stand minute) = omega arith
 length-event (Off minute) = omega arith
 
-length-command : (command : Command) → Fits command → IsCommand command → length (command_text command) ≤ 663
+length-command : (command : Command) → FitsWidths command → IsCommand command → length (command_text command) ≤ 663
 length-command (AddVisit new) f h = let one = length-new_visit new f h in omega arith
 length-command (Commit desk draft base edits) f h = let one = length-commit desk draft base edits f.desk.few h.1 in omega arith
 length-command (Message desk message) f h = omega (arith, length-append desk (message_text message), length-message message h, f.few)
@@ -70,5 +70,5 @@ length-command (Report desk visit event) f h = omega (arith, length-append desk 
 length-command (Cancel visit) f h = omega arith
 
 -- an entry has at most 671 bytes
-pub length-entry : (entry : Entry) → Fits entry.command → IsCommand entry.command → length (entry_text entry) ≤ 671
+pub length-entry : (entry : Entry) → FitsWidths entry.command → IsCommand entry.command → length (entry_text entry) ≤ 671
 length-entry entry f h = omega (arith, length-append (to_le_bytes w64 entry.call) (command_text entry.command), length-command entry.command f h)

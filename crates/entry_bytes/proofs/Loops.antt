@@ -10,51 +10,51 @@ use Rattle.entry_bytes.specs.Commits.{edit_text}
 use Rattle.entry_bytes.specs.declared.faults.EntryFault.{EntryFault}
 use Rattle.entry_bytes.specs.declared.faults.ReadFault.{ReadFault}
 use Rattle.entry_bytes.specs.declared.faults.ReadFault.TheVariants as faults
-use Rattle.entry_bytes.specs.Gives.{Fails}
-use Rattle.entry_bytes.specs.Readings.{Left, Reading, ◌>>=◌, going_on, give, repeated}
+use Rattle.entry_bytes.specs.Gives.{FailsReading}
+use Rattle.entry_bytes.specs.Readings.{RestOfEntry, Reading, ◌>>=◌, going_on, give, parse_many}
 
 -- what was read before, and what is still read
-abbrev pub with_front : {A : Type 0} → List A → Result (List A × Left) EntryFault → Result (List A × Left) EntryFault
+abbrev pub with_front : {A : Type 0} → List A → Result (List A × RestOfEntry) EntryFault → Result (List A × RestOfEntry) EntryFault
 with_front front read = going_on read (λ others. give (front ++ others))
 
-regrouped : {A : Type 0} (front : List A) (x : A) (read : Result (List A × Left) EntryFault)
+regrouped : {A : Type 0} (front : List A) (x : A) (read : Result (List A × RestOfEntry) EntryFault)
     → with_front front (going_on read (λ others. give (x ∷ others))) ≡ with_front (front ++ x ∷ []) read
 regrouped front x (Ok read) = ap (λ xs. Ok (xs, read.1)) (sym (append_assoc front (x ∷ []) read.0))
 regrouped front x (Err fault) = refl
 
 abbrev behind_first : {A : Type 0} → Reading A → ℕ → A → Reading (List A)
-behind_first field count first = repeated count field >>= λ others. give (first ∷ others)
+behind_first field count first = parse_many count field >>= λ others. give (first ∷ others)
 
-pub goes_on : {A : Type 0} (field : Reading A) (front : List A) (count i : ℕ) (left after : Left) (x : A) (total : Result (List A × Left) EntryFault) → i < count → field left ≡ Ok (x, after)
-    → with_front front (repeated (count - i) field left) ≡ total → with_front (front ++ x ∷ []) (repeated (count - (i + 1)) field after) ≡ total
-unfolding repeated
+pub goes_on : {A : Type 0} (field : Reading A) (front : List A) (count i : ℕ) (left after : RestOfEntry) (x : A) (total : Result (List A × RestOfEntry) EntryFault) → i < count → field left ≡ Ok (x, after)
+    → with_front front (parse_many (count - i) field left) ≡ total → with_front (front ++ x ∷ []) (parse_many (count - (i + 1)) field after) ≡ total
+unfolding parse_many
 goes_on field front count i left after x total lt h so_far =
     let k : count - i ≡ suc (count - (i + 1)) = omega arith in
-    sym (regrouped front x (repeated (count - (i + 1)) field after))
+    sym (regrouped front x (parse_many (count - (i + 1)) field after))
     ∙ ap (λ r. with_front front (going_on r (behind_first field (count - (i + 1))))) (sym h)
-    ∙ ap (λ n. with_front front (repeated n field left)) (sym k)
+    ∙ ap (λ n. with_front front (parse_many n field left)) (sym k)
     ∙ so_far
 
-pub ends : {A : Type 0} (fault : ReadFault) (field : Reading A) (front : List A) (count i : ℕ) (left : Left) (total : Result (List A × Left) EntryFault) → i < count → Fails fault (field left)
-    → with_front front (repeated (count - i) field left) ≡ total → Fails fault total
-unfolding repeated
+pub ends : {A : Type 0} (fault : ReadFault) (field : Reading A) (front : List A) (count i : ℕ) (left : RestOfEntry) (total : Result (List A × RestOfEntry) EntryFault) → i < count → FailsReading fault (field left)
+    → with_front front (parse_many (count - i) field left) ≡ total → FailsReading fault total
+unfolding parse_many
 ends faults.Memory field front count i left total lt h so_far = tt
 ends faults.BadKind field front count i left total lt h so_far =
     let k : count - i ≡ suc (count - (i + 1)) = omega arith in
-    sym so_far ∙ ap (λ n. with_front front (repeated n field left)) k ∙ ap (λ r. with_front front (going_on r (behind_first field (count - (i + 1))))) h
+    sym so_far ∙ ap (λ n. with_front front (parse_many n field left)) k ∙ ap (λ r. with_front front (going_on r (behind_first field (count - (i + 1))))) h
 ends (faults.BadField at) field front count i left total lt h so_far =
     let k : count - i ≡ suc (count - (i + 1)) = omega arith in
-    sym so_far ∙ ap (λ n. with_front front (repeated n field left)) k ∙ ap (λ r. with_front front (going_on r (behind_first field (count - (i + 1))))) h
+    sym so_far ∙ ap (λ n. with_front front (parse_many n field left)) k ∙ ap (λ r. with_front front (going_on r (behind_first field (count - (i + 1))))) h
 ends (faults.TrailingBytes at) field front count i left total lt h so_far =
     let k : count - i ≡ suc (count - (i + 1)) = omega arith in
-    sym so_far ∙ ap (λ n. with_front front (repeated n field left)) k ∙ ap (λ r. with_front front (going_on r (behind_first field (count - (i + 1))))) h
+    sym so_far ∙ ap (λ n. with_front front (parse_many n field left)) k ∙ ap (λ r. with_front front (going_on r (behind_first field (count - (i + 1))))) h
 
-pub is_done : {A : Type 0} (field : Reading A) (front : List A) (count i : ℕ) (left : Left) (total : Result (List A × Left) EntryFault) → count ≤ i
-    → with_front front (repeated (count - i) field left) ≡ total → total ≡ Ok (front, left)
-unfolding repeated
+pub is_done : {A : Type 0} (field : Reading A) (front : List A) (count i : ℕ) (left : RestOfEntry) (total : Result (List A × RestOfEntry) EntryFault) → count ≤ i
+    → with_front front (parse_many (count - i) field left) ≡ total → total ≡ Ok (front, left)
+unfolding parse_many
 is_done field front count i left total le so_far =
     let k : count - i ≡ 0 = omega arith in
-    sym so_far ∙ ap (λ n. with_front front (repeated n field left)) k ∙ ap (λ xs. Ok (xs, left)) (append-nil front)
+    sym so_far ∙ ap (λ n. with_front front (parse_many n field left)) k ∙ ap (λ xs. Ok (xs, left)) (append-nil front)
 
 -- one more edit is written after those before it
 pub written_more : (edits : List Edit) (i : ℕ) (d : Edit) (start out new : List ℕ) → i < length edits → out ≡ start ++ flat_map edit_text (take i edits) → new ≡ out ++ edit_text (get_or edits i d)

@@ -10,7 +10,7 @@ use Rattle.mvt_grammar.proofs.Gives.{read_mvt_of-readable}
 use Rattle.mvt_grammar.proofs.Lengths.{length-canonical}
 use Rattle.mvt_grammar.proofs.RoundTrip.{read_mvt_of-canonical}
 use Rattle.entry_bytes.specs.Keys.{sized_text}
-use Rattle.entry_bytes.specs.Messages.{if_canonical, message_at, message_of, message_text}
+use Rattle.entry_bytes.specs.Messages.{canonical_message, if_canonical, message_text, parse_message}
 use Rattle.entry_bytes.specs.Readings.{text}
 use Rattle.entry_bytes.proofs.Fields.{text-front, text-spells}
 use Rattle.entry_bytes.proofs.Spells.{Spells, Spells-told}
@@ -29,11 +29,11 @@ if_told bytes (Ok found) message e =
 if_told bytes (Err fault) message e = absurd cc
 
 -- a text that has a message is its canonical text
-told_by : (bytes : List ℕ) (message : Mvt) → message_of bytes ≡ Some message → (bytes ≡ canonical message) × IsReadable message
+told_by : (bytes : List ℕ) (message : Mvt) → canonical_message bytes ≡ Some message → (bytes ≡ canonical message) × IsReadable message
 told_by bytes message e = let t = if_told bytes (read_mvt_of bytes) message e in (t.1, read_mvt_of-readable bytes message t.0)
 
 -- the canonical text of a message has that message
-tells : (message : Mvt) → IsReadable message → message_of (canonical message) ≡ Some message
+tells : (message : Mvt) → IsReadable message → canonical_message (canonical message) ≡ Some message
 tells message h =
     ap (if_canonical (canonical message)) (read_mvt_of-canonical message h)
     ∙ ap (λ (same : Bool). cond same (Some message) None) ((bytes_decides (canonical message) (canonical message)).1 refl)
@@ -44,7 +44,7 @@ short message h = let few = length-canonical message h in omega arith
 pub length-message : (message : Mvt) → IsReadable message → length (message_text message) ≤ 86
 length-message message h = let few = length-canonical message h in omega arith
 
-pub message-spells : Spells message_at message_text IsReadable 86
-unfolding message_at
-message-spells = Spells-told message_of text sized_text (λ bytes. length bytes < 256) canonical IsReadable 256 86 text-spells text-front
+pub message-spells : Spells parse_message message_text IsReadable 86
+unfolding parse_message
+message-spells = Spells-told canonical_message text sized_text (λ bytes. length bytes < 256) canonical IsReadable 256 86 text-spells text-front
     (λ bytes message h e. told_by bytes message e) short tells length-message

@@ -6,25 +6,25 @@ use Rattle.entry_bytes.specs.declared.faults.EntryFault.{EntryFault}
 use Rattle.entry_bytes.specs.declared.faults.EntryFault.TheVariants.{BadKind, BadField, TrailingBytes, Memory}
 use Rattle.entry_bytes.specs.Faults.{IsWithin}
 use Rattle.entry_bytes.specs.Laws.{AreBytes}
-use Rattle.entry_bytes.specs.Readings.{Left, Reading, going_on, ◌>>=◌, give, given, bad_at, such_that, telling, byte, announced, tagged, repeated}
+use Rattle.entry_bytes.specs.Readings.{RestOfEntry, Reading, going_on, ◌>>=◌, give, or_bad_field, bad_at, such_that, meaning_of_field, byte, or_no_kind, by_tag, parse_many}
 
-abbrev pub left_at : ℕ → List ℕ → Left
+abbrev pub left_at : ℕ → List ℕ → RestOfEntry
 left_at at bytes = record { at = at; bytes = bytes }
 
 -- what a reading took from the front
-pub record Takes (left : Left) (text : List ℕ) (rest : Left) : Type 0 where
+pub record Takes (left : RestOfEntry) (text : List ℕ) (rest : RestOfEntry) : Type 0 where
   pub parts : left.bytes ≡ text ++ rest.bytes
   pub place : rest.at ≡ left.at + length text
   pub fits : AreBytes rest.bytes
 
-pub Takes-then : (a : Left) (x : List ℕ) (b : Left) (y : List ℕ) (c : Left) → Takes a x b → Takes b y c → Takes a (x ++ y) c
+pub Takes-then : (a : RestOfEntry) (x : List ℕ) (b : RestOfEntry) (y : List ℕ) (c : RestOfEntry) → Takes a x b → Takes b y c → Takes a (x ++ y) c
 Takes-then a x b y c p q = record {
   parts = p.parts ∙ ap (λ (t : List ℕ). x ++ t) q.parts ∙ sym (append_assoc x y c.bytes);
   place = omega (arith, p.place, q.place, length-append x y);
   fits = q.fits;
 }
 
-pub Takes-nothing : (left : Left) → AreBytes left.bytes → Takes left [] left
+pub Takes-nothing : (left : RestOfEntry) → AreBytes left.bytes → Takes left [] left
 Takes-nothing left fits = record { parts = refl; place = omega arith; fits = fits }
 
 pub IsWithin-wider : (low high : ℕ) (fault : EntryFault) → low ≤ high → IsWithin low fault → IsWithin high fault
@@ -36,10 +36,10 @@ IsWithin-wider low high Memory le h = tt
 -- a reading that reads exactly the spelling of each value of a kind, which has at most this many
 -- bytes, and whose faults are among these
 pub record Spells {A : Type 0} (field : Reading A) (spelt : A → List ℕ) (P : A → Type 0) (most : ℕ) : Type 0 where
-  pub takes : (left : Left) (read : A × Left) → AreBytes left.bytes → field left ≡ Ok read → Takes left (spelt read.0) read.1 × P read.0
+  pub takes : (left : RestOfEntry) (read : A × RestOfEntry) → AreBytes left.bytes → field left ≡ Ok read → Takes left (spelt read.0) read.1 × P read.0
   pub again : (x : A) (at : ℕ) (more : List ℕ) → P x → field (left_at at (spelt x ++ more)) ≡ Ok (x, left_at (at + length (spelt x)) more)
   pub short : (x : A) → P x → length (spelt x) ≤ most
-  pub near : (left : Left) (fault : EntryFault) → AreBytes left.bytes → field left ≡ Err fault → IsWithin (left.at + most) fault
+  pub near : (left : RestOfEntry) (fault : EntryFault) → AreBytes left.bytes → field left ≡ Err fault → IsWithin (left.at + most) fault
 
 -- ---- results
 
@@ -55,13 +55,13 @@ failed fault = Err fault
 pub err_is : {A : Type 0} (f g : EntryFault) → failed {A = A} f ≡ failed {A = A} g → f ≡ g
 err_is f g e = cc
 
-pub going_on-ok : {A B : Type 0} (read : Result (A × Left) EntryFault) (next : A → Reading B) (y : B × Left) → going_on read next ≡ Ok y
-    → (x : A × Left) × (read ≡ Ok x) × (next x.0 x.1 ≡ Ok y)
+pub going_on-ok : {A B : Type 0} (read : Result (A × RestOfEntry) EntryFault) (next : A → Reading B) (y : B × RestOfEntry) → going_on read next ≡ Ok y
+    → (x : A × RestOfEntry) × (read ≡ Ok x) × (next x.0 x.1 ≡ Ok y)
 going_on-ok (Ok x) next y e = (x, refl, e)
 going_on-ok (Err fault) next y e = absurd cc
 
-pub going_on-err : {A B : Type 0} (read : Result (A × Left) EntryFault) (next : A → Reading B) (fault : EntryFault) → going_on read next ≡ Err fault
-    → (read ≡ Err fault) ⊎ ((x : A × Left) × (read ≡ Ok x) × (next x.0 x.1 ≡ Err fault))
+pub going_on-err : {A B : Type 0} (read : Result (A × RestOfEntry) EntryFault) (next : A → Reading B) (fault : EntryFault) → going_on read next ≡ Err fault
+    → (read ≡ Err fault) ⊎ ((x : A × RestOfEntry) × (read ≡ Ok x) × (next x.0 x.1 ≡ Err fault))
 going_on-err (Ok x) next fault e = inr (x, refl, e)
 going_on-err (Err found) next fault e = inl (ap Err (err_is found fault e))
 
@@ -147,15 +147,15 @@ Spells-as {A} {field} {spelt} {P} {most} told Q more s there back same le = reco
 
 -- its faults are at its first byte
 abbrev pub IsAtFront : {A : Type 0} → Reading A → Type 0
-IsAtFront field = (left : Left) (fault : EntryFault) → field left ≡ Err fault → IsWithin left.at fault
+IsAtFront field = (left : RestOfEntry) (fault : EntryFault) → field left ≡ Err fault → IsWithin left.at fault
 
-such_ok : {A : Type 0} (test : Bool) (x : A) (at : ℕ) (left : Left) (read : A × Left) → cond test (give x) (bad_at at) left ≡ Ok read → (test ≡ true) × ((x, left) ≡ read)
+such_ok : {A : Type 0} (test : Bool) (x : A) (at : ℕ) (left : RestOfEntry) (read : A × RestOfEntry) → cond test (give x) (bad_at at) left ≡ Ok read → (test ≡ true) × ((x, left) ≡ read)
 such_ok true x at left read e = (refl, ok_is (x, left) read e)
 such_ok false x at left read e = absurd cc
 
-such_err : {A : Type 0} (test : Bool) (x : A) (at : ℕ) (left : Left) (fault : EntryFault) → cond test (give x) (bad_at at) left ≡ Err fault → IsWithin at fault
+such_err : {A : Type 0} (test : Bool) (x : A) (at : ℕ) (left : RestOfEntry) (fault : EntryFault) → cond test (give x) (bad_at at) left ≡ Err fault → IsWithin at fault
 such_err true x at left fault e = absurd cc
-such_err {A} false x at left fault e = let le : at ≤ at = omega arith in subst (IsWithin at) (err_is {A = A × Left} (BadField at) fault e) le
+such_err {A} false x at left fault e = let le : at ≤ at = omega arith in subst (IsWithin at) (err_is {A = A × RestOfEntry} (BadField at) fault e) le
 
 pub Spells-such : {A : Type 0} (test : A → Bool) (field : Reading A) (spelt : A → List ℕ) (P Q : A → Type 0) (most few : ℕ)
     → Spells field spelt P most → IsAtFront field
@@ -179,32 +179,32 @@ Spells-such test field spelt P Q most few s front there back tested shorter = re
 
 -- ---- fields that mean something
 
-given_ok : {A : Type 0} (value : Option A) (at : ℕ) (left : Left) (read : A × Left) → given at value left ≡ Ok read → (value ≡ Some read.0) × (left ≡ read.1)
+given_ok : {A : Type 0} (value : Option A) (at : ℕ) (left : RestOfEntry) (read : A × RestOfEntry) → or_bad_field at value left ≡ Ok read → (value ≡ Some read.0) × (left ≡ read.1)
 given_ok None at left read e = absurd cc
 given_ok (Some x) at left read e = let same = ok_is (x, left) read e in (ap (λ r. Some r.0) same, ap (λ r. r.1) same)
 
-given_err : {A : Type 0} (value : Option A) (at : ℕ) (left : Left) (fault : EntryFault) → given at value left ≡ Err fault → IsWithin at fault
-given_err {A} None at left fault e = let le : at ≤ at = omega arith in subst (IsWithin at) (err_is {A = A × Left} (BadField at) fault e) le
+given_err : {A : Type 0} (value : Option A) (at : ℕ) (left : RestOfEntry) (fault : EntryFault) → or_bad_field at value left ≡ Err fault → IsWithin at fault
+given_err {A} None at left fault e = let le : at ≤ at = omega arith in subst (IsWithin at) (err_is {A = A × RestOfEntry} (BadField at) fault e) le
 given_err (Some x) at left fault e = absurd cc
 
 pub Spells-told : {A B : Type 0} (told : A → Option B) (field : Reading A) (spelt : A → List ℕ) (P : A → Type 0) (text_of : B → A) (Q : B → Type 0) (most few : ℕ)
     → Spells field spelt P most → IsAtFront field
     → ((x : A) (y : B) → P x → told x ≡ Some y → (x ≡ text_of y) × Q y) → ((y : B) → Q y → P (text_of y)) → ((y : B) → Q y → told (text_of y) ≡ Some y)
     → ((y : B) → Q y → length (spelt (text_of y)) ≤ few)
-    → Spells (telling told field) (λ y. spelt (text_of y)) Q few
+    → Spells (meaning_of_field told field) (λ y. spelt (text_of y)) Q few
 Spells-told told field spelt P text_of Q most few s front there back tells shorter = record {
   takes = λ left read fits e.
-      let b = going_on-ok (field left) (λ value. given left.at (told value)) read e in
+      let b = going_on-ok (field left) (λ value. or_bad_field left.at (told value)) read e in
       let one = s.takes left b.0 fits b.1 in
       let c = given_ok (told b.0.0) left.at b.0.1 read b.2 in
       let d = there b.0.0 read.0 one.1 c.0 in
       let taken : Takes left (spelt (text_of read.0)) b.0.1 = subst (λ x. Takes left (spelt x) b.0.1) d.0 one.0 in
       (subst (λ rest. Takes left (spelt (text_of read.0)) rest) c.1 taken, d.1);
   again = λ y at more q.
-      ap (λ r. going_on r (λ value. given at (told value))) (s.again (text_of y) at more (back y q))
-      ∙ ap (λ o. given at o (left_at (at + length (spelt (text_of y))) more)) (tells y q);
+      ap (λ r. going_on r (λ value. or_bad_field at (told value))) (s.again (text_of y) at more (back y q))
+      ∙ ap (λ o. or_bad_field at o (left_at (at + length (spelt (text_of y))) more)) (tells y q);
   short = shorter;
-  near = λ left fault fits e. elim (going_on-err (field left) (λ value. given left.at (told value)) fault e) [
+  near = λ left fault fits e. elim (going_on-err (field left) (λ value. or_bad_field left.at (told value)) fault e) [
     | inl bad ↦ IsWithin-wider left.at (left.at + few) fault (omega arith) (front left fault bad)
     | inr (x, good, bad) ↦ IsWithin-wider left.at (left.at + few) fault (omega arith) (given_err (told x.0) left.at x.1 fault bad)
   ];
@@ -221,13 +221,13 @@ pub Announces-or : {A : Type 0} (test : Bool) (field : Reading A) (others : Opti
 Announces-or true field others back P most this rest = this refl
 Announces-or false field others back P most this rest = rest
 
-announced-takes : {A : Type 0} (fault : EntryFault) (field : Option (Reading A)) (back : A → List ℕ) (P : A → Type 0) (most : ℕ) (left : Left) (read : A × Left)
-    → Announces field back P most → AreBytes left.bytes → announced fault field left ≡ Ok read → Takes left (back read.0) read.1 × P read.0
+announced-takes : {A : Type 0} (fault : EntryFault) (field : Option (Reading A)) (back : A → List ℕ) (P : A → Type 0) (most : ℕ) (left : RestOfEntry) (read : A × RestOfEntry)
+    → Announces field back P most → AreBytes left.bytes → or_no_kind fault field left ≡ Ok read → Takes left (back read.0) read.1 × P read.0
 announced-takes fault None back P most left read h fits e = absurd cc
 announced-takes fault (Some field) back P most left read h fits e = h.takes left read fits e
 
 announced-again : {A : Type 0} (fault : EntryFault) (field : Option (Reading A)) (back : A → List ℕ) (P : A → Type 0) (most : ℕ) (x : A) (at : ℕ) (more : List ℕ)
-    → Announces field back P most → IsSome field → P x → announced fault field (left_at at (back x ++ more)) ≡ Ok (x, left_at (at + length (back x)) more)
+    → Announces field back P most → IsSome field → P x → or_no_kind fault field (left_at at (back x ++ more)) ≡ Ok (x, left_at (at + length (back x)) more)
 announced-again fault None back P most x at more h some p = absurd cc
 announced-again fault (Some field) back P most x at more h some p = h.again x at more p
 
@@ -235,9 +235,9 @@ announced-short : {A : Type 0} (field : Option (Reading A)) (back : A → List �
 announced-short None back P most x h some p = absurd cc
 announced-short (Some field) back P most x h some p = h.short x p
 
-announced-near : {A : Type 0} (missing : EntryFault) (field : Option (Reading A)) (back : A → List ℕ) (P : A → Type 0) (most : ℕ) (left : Left) (fault : EntryFault)
-    → Announces field back P most → IsWithin (left.at + most) missing → AreBytes left.bytes → announced missing field left ≡ Err fault → IsWithin (left.at + most) fault
-announced-near {A} missing None back P most left fault h near fits e = subst (IsWithin (left.at + most)) (err_is {A = A × Left} missing fault e) near
+announced-near : {A : Type 0} (missing : EntryFault) (field : Option (Reading A)) (back : A → List ℕ) (P : A → Type 0) (most : ℕ) (left : RestOfEntry) (fault : EntryFault)
+    → Announces field back P most → IsWithin (left.at + most) missing → AreBytes left.bytes → or_no_kind missing field left ≡ Err fault → IsWithin (left.at + most) fault
+announced-near {A} missing None back P most left fault h near fits e = subst (IsWithin (left.at + most)) (err_is {A = A × RestOfEntry} missing fault e) near
 announced-near missing (Some field) back P most left fault h near fits e = h.near left fault fits e
 
 pub Spells-tagged : {A : Type 0} (fault_at : ℕ → EntryFault) (field_of : ℕ → Option (Reading A)) (tag_of : A → ℕ) (back : A → List ℕ) (Q : A → Type 0) (most : ℕ)
@@ -245,10 +245,10 @@ pub Spells-tagged : {A : Type 0} (fault_at : ℕ → EntryFault) (field_of : ℕ
     → ((at : ℕ) → IsWithin at (fault_at at))
     → ((tag : ℕ) → Announces (field_of tag) back (λ y. (tag_of y ≡ tag) × Q y) most)
     → ((y : A) → Q y → IsSome (field_of (tag_of y)))
-    → Spells (tagged fault_at field_of) (λ y. tag_of y ∷ back y) Q (1 + most)
+    → Spells (by_tag fault_at field_of) (λ y. tag_of y ∷ back y) Q (1 + most)
 Spells-tagged fault_at field_of tag_of back Q most b front placed all some = record {
   takes = λ left read fits e.
-      let first = going_on-ok (byte left) (λ tag. announced (fault_at left.at) (field_of tag)) read e in
+      let first = going_on-ok (byte left) (λ tag. or_no_kind (fault_at left.at) (field_of tag)) read e in
       let tag = first.0.0 in
       let one = b.takes left first.0 fits first.1 in
       let two = announced-takes (fault_at left.at) (field_of tag) back (λ y. (tag_of y ≡ tag) × Q y) most first.0.1 read (all tag) one.0.fits first.2 in
@@ -258,9 +258,9 @@ Spells-tagged fault_at field_of tag_of back Q most b front placed all some = rec
       let one = b.again (tag_of y) at (back y ++ more) tt in
       let two = announced-again (fault_at at) (field_of (tag_of y)) back (λ z. (tag_of z ≡ tag_of y) × Q z) most y (at + 1) more (all (tag_of y)) (some y q) (refl, q) in
       let place : at + 1 + length (back y) ≡ at + length (tag_of y ∷ back y) = omega arith in
-      ap (λ r. going_on r (λ tag. announced (fault_at at) (field_of tag))) one ∙ two ∙ ap (λ n. Ok (y, left_at n more)) place;
+      ap (λ r. going_on r (λ tag. or_no_kind (fault_at at) (field_of tag))) one ∙ two ∙ ap (λ n. Ok (y, left_at n more)) place;
   short = λ y q. let h = announced-short (field_of (tag_of y)) back (λ z. (tag_of z ≡ tag_of y) × Q z) most y (all (tag_of y)) (some y q) (refl, q) in omega arith;
-  near = λ left fault fits e. elim (going_on-err (byte left) (λ tag. announced (fault_at left.at) (field_of tag)) fault e) [
+  near = λ left fault fits e. elim (going_on-err (byte left) (λ tag. or_no_kind (fault_at left.at) (field_of tag)) fault e) [
     | inl bad ↦ IsWithin-wider left.at (left.at + (1 + most)) fault (omega arith) (front left fault bad)
     | inr (x, good, bad) ↦
         let one = (b.takes left x fits good).0 in
@@ -278,15 +278,15 @@ summed most zero = 0
 summed most (suc count) = most + summed most count
 
 abbrev behind_first : {A : Type 0} → Reading A → ℕ → A → Reading (List A)
-behind_first field count first = repeated count field >>= λ others. give (first ∷ others)
+behind_first field count first = parse_many count field >>= λ others. give (first ∷ others)
 
 -- the values of a list of this length
 abbrev pub AreSpelt : {A : Type 0} → (A → Type 0) → ℕ → List A → Type 0
 AreSpelt P count xs = (length xs ≡ count) × AllByRecursion P xs
 
 none_again : {A : Type 0} (field : Reading A) (spelt : A → List ℕ) (P : A → Type 0) (xs : List A) (at : ℕ) (more : List ℕ) → AreSpelt P 0 xs
-    → repeated 0 field (left_at at (flat_map spelt xs ++ more)) ≡ Ok (xs, left_at (at + length (flat_map spelt xs)) more)
-unfolding repeated
+    → parse_many 0 field (left_at at (flat_map spelt xs ++ more)) ≡ Ok (xs, left_at (at + length (flat_map spelt xs)) more)
+unfolding parse_many
 none_again field spelt P [] at more h = let place : at ≡ at + 0 = omega arith in ap (λ n. Ok ([], left_at n more)) place
 none_again field spelt P (x ∷ xs) at more h = absurd (omega (arith, h.0))
 
@@ -295,9 +295,9 @@ none_short spelt P [] h = omega arith
 none_short spelt P (x ∷ xs) h = absurd (omega (arith, h.0))
 
 more_again : {A : Type 0} (field : Reading A) (spelt : A → List ℕ) (P : A → Type 0) (most all count : ℕ) → Spells field spelt P most
-    → Spells (repeated count field) (flat_map spelt) (AreSpelt P count) all → (xs : List A) (at : ℕ) (more : List ℕ) → AreSpelt P (suc count) xs
-    → repeated (suc count) field (left_at at (flat_map spelt xs ++ more)) ≡ Ok (xs, left_at (at + length (flat_map spelt xs)) more)
-unfolding repeated
+    → Spells (parse_many count field) (flat_map spelt) (AreSpelt P count) all → (xs : List A) (at : ℕ) (more : List ℕ) → AreSpelt P (suc count) xs
+    → parse_many (suc count) field (left_at at (flat_map spelt xs ++ more)) ≡ Ok (xs, left_at (at + length (flat_map spelt xs)) more)
+unfolding parse_many
 more_again field spelt P most all count s t [] at more h = absurd (omega (arith, h.0))
 more_again field spelt P most all count s t (x ∷ xs) at more h =
     let rest = flat_map spelt xs in
@@ -311,42 +311,42 @@ more_again field spelt P most all count s t (x ∷ xs) at more h =
     ∙ ap (λ n. Ok (x ∷ xs, left_at n more)) place
 
 more_short : {A : Type 0} (field : Reading A) (spelt : A → List ℕ) (P : A → Type 0) (most all count : ℕ) → Spells field spelt P most
-    → Spells (repeated count field) (flat_map spelt) (AreSpelt P count) all → (xs : List A) → AreSpelt P (suc count) xs → length (flat_map spelt xs) ≤ most + all
+    → Spells (parse_many count field) (flat_map spelt) (AreSpelt P count) all → (xs : List A) → AreSpelt P (suc count) xs → length (flat_map spelt xs) ≤ most + all
 more_short field spelt P most all count s t [] h = absurd (omega (arith, h.0))
 more_short field spelt P most all count s t (x ∷ xs) h =
     let length_ : length xs ≡ count = omega (arith, h.0) in
     omega (arith, length-append (spelt x) (flat_map spelt xs), s.short x h.1.0, t.short xs (length_, h.1.1))
 
 more_takes : {A : Type 0} (field : Reading A) (spelt : A → List ℕ) (P : A → Type 0) (most all count : ℕ) → Spells field spelt P most
-    → Spells (repeated count field) (flat_map spelt) (AreSpelt P count) all → (left : Left) (read : List A × Left) → AreBytes left.bytes → repeated (suc count) field left ≡ Ok read
+    → Spells (parse_many count field) (flat_map spelt) (AreSpelt P count) all → (left : RestOfEntry) (read : List A × RestOfEntry) → AreBytes left.bytes → parse_many (suc count) field left ≡ Ok read
     → Takes left (flat_map spelt read.0) read.1 × AreSpelt P (suc count) read.0
-unfolding repeated
+unfolding parse_many
 more_takes field spelt P most all count s t left read fits e =
     let a = going_on-ok (field left) (behind_first field count) read e in
-    let b = going_on-ok (repeated count field a.0.1) (λ others. give (a.0.0 ∷ others)) read a.2 in
+    let b = going_on-ok (parse_many count field a.0.1) (λ others. give (a.0.0 ∷ others)) read a.2 in
     let one = s.takes left a.0 fits a.1 in
     let two = t.takes a.0.1 b.0 one.0.fits b.1 in
     let both = Takes-then left (spelt a.0.0) a.0.1 (flat_map spelt b.0.0) b.0.1 one.0 two.0 in
     subst (λ r. Takes left (flat_map spelt r.0) r.1 × AreSpelt P (suc count) r.0) (ok_is (a.0.0 ∷ b.0.0, b.0.1) read b.2) (both, (ap suc two.1.0, (one.1, two.1.1)))
 
 more_near : {A : Type 0} (field : Reading A) (spelt : A → List ℕ) (P : A → Type 0) (most all count : ℕ) → Spells field spelt P most
-    → Spells (repeated count field) (flat_map spelt) (AreSpelt P count) all → (left : Left) (fault : EntryFault) → AreBytes left.bytes → repeated (suc count) field left ≡ Err fault
+    → Spells (parse_many count field) (flat_map spelt) (AreSpelt P count) all → (left : RestOfEntry) (fault : EntryFault) → AreBytes left.bytes → parse_many (suc count) field left ≡ Err fault
     → IsWithin (left.at + (most + all)) fault
-unfolding repeated
+unfolding parse_many
 more_near field spelt P most all count s t left fault fits e = elim (going_on-err (field left) (behind_first field count) fault e) [
   | inl bad ↦ IsWithin-wider (left.at + most) (left.at + (most + all)) fault (omega arith) (s.near left fault fits bad)
   | inr (x, good, rest) ↦
       let one = s.takes left x fits good in
       let length_ = s.short x.0 one.1 in
-      elim (going_on-err (repeated count field x.1) (λ others. give (x.0 ∷ others)) fault rest) [
+      elim (going_on-err (parse_many count field x.1) (λ others. give (x.0 ∷ others)) fault rest) [
         | inl bad ↦ IsWithin-wider (x.1.at + all) (left.at + (most + all)) fault (omega (arith, one.0.place, length_)) (t.near x.1 fault one.0.fits bad)
         | inr (y, fine, none) ↦ absurd cc
       ]
 ]
 
 pub Spells-repeated : {A : Type 0} (field : Reading A) (spelt : A → List ℕ) (P : A → Type 0) (most : ℕ) → Spells field spelt P most → (count : ℕ)
-    → Spells (repeated count field) (flat_map spelt) (AreSpelt P count) (summed most count)
-unfolding repeated
+    → Spells (parse_many count field) (flat_map spelt) (AreSpelt P count) (summed most count)
+unfolding parse_many
 Spells-repeated field spelt P most s zero = record {
   takes = λ left read fits e. subst (λ r. Takes left (flat_map spelt r.0) r.1 × AreSpelt P 0 r.0) (ok_is ([], left) read e) (Takes-nothing left fits, (refl, tt));
   again = none_again field spelt P;

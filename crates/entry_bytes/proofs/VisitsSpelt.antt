@@ -14,7 +14,7 @@ use Rattle.visit_book.specs.declared.visits.Key.{Key}
 use Rattle.visit_book.specs.declared.visits.NewVisit.{NewVisit}
 use Rattle.entry_bytes.specs.Widths.{VisitFits}
 use Rattle.entry_bytes.specs.Keys.{optional_key_text, sized_text}
-use Rattle.entry_bytes.specs.NewVisits.{is_off_of, new_visit_at, new_visit_text}
+use Rattle.entry_bytes.specs.NewVisits.{is_off_of, new_visit_text, parse_new_visit}
 use Rattle.entry_bytes.specs.Readings.{byte, number, such_that}
 use Rattle.entry_bytes.proofs.Fields.{byte-spells, byte-front, name-spells, number-spells, number-front, wide16, wide32}
 use Rattle.entry_bytes.proofs.KeysSpelt.{AreKeysOf, optional_key-spells}
@@ -168,8 +168,8 @@ regrouped : (new : NewVisit) → new_visit_text new
     ≡ sized_text new.name ++ (to_le_bytes w16 new.kind.0 ++ (new.class ∷ [] ++ (to_le_bytes w32 new.on ++ (to_le_bytes w32 new.off ++ (optional_key_text new.arr ++ (optional_key_text new.dep ++ []))))))
 regrouped new = simp (append_assoc, append-nil) refl
 
-pub new_visit-spells : (airport : AirportParts) → Spells (new_visit_at airport) new_visit_text (IsVisitOf airport) 42
-unfolding new_visit_at
+pub new_visit-spells : (airport : AirportParts) → Spells (parse_new_visit airport) new_visit_text (IsVisitOf airport) 42
+unfolding parse_new_visit
 new_visit-spells airport = Spells-as new_visit_text (IsVisitOf airport) 42
     (Spells-then (λ new. new.name) (IsVisitOf airport) name-spells
     (λ name a. Spells-then (λ new. new.kind.0) (Named airport name) (place-spells (length airport.types))

@@ -11,78 +11,78 @@ use Rattle.visit_book.specs.declared.edits.Edit.TheVariants.{Put, Lift, Cut, Joi
 use Rattle.desk_words.specs.declared.asks.Command.{Command}
 use Rattle.desk_words.specs.declared.asks.Command.TheVariants.{Commit}
 use Rattle.entry_bytes.specs.declared.faults.EntryFault.TheVariants.{BadField}
-use Rattle.entry_bytes.specs.Readings.{Reading, ◌>>=◌, byte, give, name, number, repeated, such_that, tagged}
+use Rattle.entry_bytes.specs.Readings.{Reading, ◌>>=◌, byte, give, name, number, parse_many, such_that, by_tag}
 use Rattle.entry_bytes.specs.Keys.{sized_text}
 
 -- the visit and the part that an edit changes
-abbrev pub part_text : VisitNo → ℕ → List ℕ
-part_text visit part = to_le_bytes w32 visit.0 ++ part ∷ []
+abbrev pub part_bytes : VisitNo → ℕ → List ℕ
+part_bytes visit part = to_le_bytes w32 visit.0 ++ part ∷ []
 
 -- a tag, the visit and the part; then the stand of a put, or the minute of a cut
 abbrev pub edit_text : Edit → List ℕ
-edit_text (Put visit part stand) = 1 ∷ (part_text visit part ++ to_le_bytes w16 stand.0)
-edit_text (Lift visit part) = 2 ∷ part_text visit part
-edit_text (Cut visit part at) = 3 ∷ (part_text visit part ++ to_le_bytes w32 at)
-edit_text (Join visit part) = 4 ∷ part_text visit part
+edit_text (Put visit part stand) = 1 ∷ (part_bytes visit part ++ to_le_bytes w16 stand.0)
+edit_text (Lift visit part) = 2 ∷ part_bytes visit part
+edit_text (Cut visit part at) = 3 ∷ (part_bytes visit part ++ to_le_bytes w32 at)
+edit_text (Join visit part) = 4 ∷ part_bytes visit part
 
 -- all that a commit has, in this order
 abbrev pub commit_text : List ℕ → ℕ → ℕ → List Edit → List ℕ
 commit_text desk draft base edits = sized_text desk ++ to_le_bytes w32 draft ++ to_le_bytes w32 base ++ length edits ∷ [] ++ flat_map edit_text edits
 
 -- what comes after the tag of a put, on a stand of the airport
-unfoldable pub put_at : AirportParts → Reading Edit
-put_at airport = do
+unfoldable pub parse_put : AirportParts → Reading Edit
+parse_put airport = do
   visit ← number w32
   part ← byte
   stand ← such_that (λ stand. nat_lt stand (length airport.stands)) (number w16)
   give (Put (record { 0 = visit }) part (record { 0 = stand }))
 
 -- what comes after the tag of a lift
-unfoldable pub lift_at : Reading Edit
-lift_at = do
+unfoldable pub parse_lift : Reading Edit
+parse_lift = do
   visit ← number w32
   part ← byte
   give (Lift (record { 0 = visit }) part)
 
 -- what comes after the tag of a cut
-unfoldable pub cut_at : Reading Edit
-cut_at = do
+unfoldable pub parse_cut : Reading Edit
+parse_cut = do
   visit ← number w32
   part ← byte
   at ← number w32
   give (Cut (record { 0 = visit }) part at)
 
 -- what comes after the tag of a join
-unfoldable pub join_at : Reading Edit
-join_at = do
+unfoldable pub parse_join : Reading Edit
+parse_join = do
   visit ← number w32
   part ← byte
   give (Join (record { 0 = visit }) part)
 
 -- the edit of a tag
-abbrev pub edit_of : AirportParts → ℕ → Option (Reading Edit)
-edit_of airport tag =
-    if tag == 1 then Some (put_at airport)
-    else (if tag == 2 then Some lift_at
-    else (if tag == 3 then Some cut_at
-    else (if tag == 4 then Some join_at
+abbrev pub parse_edit_of_tag : AirportParts → ℕ → Option (Reading Edit)
+parse_edit_of_tag airport tag =
+    if tag == 1 then Some (parse_put airport)
+    else (if tag == 2 then Some parse_lift
+    else (if tag == 3 then Some parse_cut
+    else (if tag == 4 then Some parse_join
     else None)))
 
 -- an edit at the airport
-unfoldable pub edit_at : AirportParts → Reading Edit
-edit_at airport = tagged BadField (edit_of airport)
+unfoldable pub parse_edit : AirportParts → Reading Edit
+parse_edit airport = by_tag BadField (parse_edit_of_tag airport)
 
 -- 1 to 64 edits
-unfoldable pub edits_at : AirportParts → Reading (List Edit)
-edits_at airport = do
+unfoldable pub parse_edits : AirportParts → Reading (List Edit)
+parse_edits airport = do
   count ← such_that (λ count. nat_le 1 count && nat_le count most_edits) byte
-  repeated count (edit_at airport)
+  parse_many count (parse_edit airport)
 
 -- a commit at the airport
-unfoldable pub commit_at : AirportParts → Reading Command
-commit_at airport = do
+unfoldable pub parse_commit : AirportParts → Reading Command
+parse_commit airport = do
   desk ← name
   draft ← number w32
   base ← number w32
-  edits ← edits_at airport
+  edits ← parse_edits airport
   give (Commit desk draft base edits)

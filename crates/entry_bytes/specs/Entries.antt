@@ -8,12 +8,12 @@ use Rattle.desk_words.specs.declared.asks.Command.TheVariants.{AddVisit, Commit,
 use Rattle.desk_words.specs.declared.asks.Entry.{Entry}
 use Rattle.entry_bytes.specs.declared.faults.EntryFault.{EntryFault}
 use Rattle.entry_bytes.specs.declared.faults.EntryFault.TheVariants.{BadKind, TrailingBytes}
-use Rattle.entry_bytes.specs.Readings.{Left, Reading, ◌>>=◌, give, name, number, such_that, tagged}
+use Rattle.entry_bytes.specs.Readings.{RestOfEntry, Reading, ◌>>=◌, give, name, number, such_that, by_tag}
 use Rattle.entry_bytes.specs.Keys.{sized_text}
-use Rattle.entry_bytes.specs.NewVisits.{new_visit_at, new_visit_text}
-use Rattle.entry_bytes.specs.Commits.{commit_at, commit_text}
-use Rattle.entry_bytes.specs.Messages.{message_at, message_text}
-use Rattle.entry_bytes.specs.Reports.{cancel_at, report_at, report_text}
+use Rattle.entry_bytes.specs.NewVisits.{new_visit_text, parse_new_visit}
+use Rattle.entry_bytes.specs.Commits.{commit_text, parse_commit}
+use Rattle.entry_bytes.specs.Messages.{message_text, parse_message}
+use Rattle.entry_bytes.specs.Reports.{parse_cancel, parse_report, report_text}
 
 -- the kind and the fields of a command
 abbrev pub command_text : Command → List ℕ
@@ -28,26 +28,26 @@ abbrev pub entry_text : Entry → List ℕ
 entry_text entry = to_le_bytes w64 entry.call ++ command_text entry.command
 
 -- a message that a desk passed on
-unfoldable pub desk_message_at : Reading Command
-desk_message_at = do
+unfoldable pub parse_desk_message : Reading Command
+parse_desk_message = do
   desk ← name
-  message ← message_at
+  message ← parse_message
   give (Message desk message)
 
 -- a report of a desk at the airport
-unfoldable pub desk_report_at : AirportParts → Reading Command
-desk_report_at airport = do
+unfoldable pub parse_desk_report : AirportParts → Reading Command
+parse_desk_report airport = do
   desk ← name
-  report_at airport desk
+  parse_report airport desk
 
 -- the fields of a kind
 abbrev pub fields_of : AirportParts → ℕ → Option (Reading Command)
 fields_of airport kind =
-    if kind == 1 then Some (new_visit_at airport >>= λ new. give (AddVisit new))
-    else (if kind == 2 then Some (commit_at airport)
-    else (if kind == 5 then Some cancel_at
-    else (if kind == 6 then Some desk_message_at
-    else (if kind == 7 then Some (desk_report_at airport)
+    if kind == 1 then Some (parse_new_visit airport >>= λ new. give (AddVisit new))
+    else (if kind == 2 then Some (parse_commit airport)
+    else (if kind == 5 then Some parse_cancel
+    else (if kind == 6 then Some parse_desk_message
+    else (if kind == 7 then Some (parse_desk_report airport)
     else None))))
 
 -- what each kind of command is read by, if there is such a kind
@@ -55,28 +55,28 @@ abbrev pub Kinds : Type 0
 Kinds = ℕ → Option (Reading Command)
 
 -- the command of a kind that exists
-unfoldable pub command_at : Kinds → Reading Command
-command_at kinds = tagged (λ at. BadKind) kinds
+unfoldable pub parse_command : Kinds → Reading Command
+parse_command kinds = by_tag (λ at. BadKind) kinds
 
 -- a call number, which is below 2^62
-abbrev pub call_at : Reading ℕ
-call_at = such_that (λ call. nat_lt call CALL_END) (number w64)
+abbrev pub parse_call : Reading ℕ
+parse_call = such_that (λ call. nat_lt call CALL_END) (number w64)
 
 -- an entry with a command of one of these kinds
-unfoldable pub entry_at : Kinds → Reading Entry
-entry_at kinds = do
-  call ← call_at
-  command ← command_at kinds
+unfoldable pub parse_entry : Kinds → Reading Entry
+parse_entry kinds = do
+  call ← parse_call
+  command ← parse_command kinds
   give (record { call = call; command = command })
 
 -- nothing may be left over
-abbrev pub with_none_left : Result (Entry × Left) EntryFault → Result Entry EntryFault
+abbrev pub with_none_left : Result (Entry × RestOfEntry) EntryFault → Result Entry EntryFault
 with_none_left (Ok read) = if length read.1.bytes == 0 then Ok read.0 else Err (TrailingBytes read.1.at)
 with_none_left (Err fault) = Err fault
 
 -- the entry that all of the bytes together spell, with these kinds of commands
 abbrev pub read_with : Kinds → List ℕ → Result Entry EntryFault
-read_with kinds bytes = with_none_left (entry_at kinds (record { at = 0; bytes = bytes }))
+read_with kinds bytes = with_none_left (parse_entry kinds (record { at = 0; bytes = bytes }))
 
 -- The entry that the bytes spell for an airport, or the first fault from left to right, at its
 -- field. So a call number from 2^62 on is a fault that comes before an unknown kind. If on block is
@@ -84,5 +84,5 @@ read_with kinds bytes = with_none_left (entry_at kinds (record { at = 0; bytes =
 -- sooner than the least minutes of the type, the fault is at that minute. A fault in a flight or a
 -- day is at the part of the key that does not have its form. If the text of a message is not the
 -- canonical one, the fault is at the whole text.
-unfoldable pub decoded : AirportParts → List ℕ → Result Entry EntryFault
-decoded airport bytes = read_with (fields_of airport) bytes
+unfoldable pub decode_entry : AirportParts → List ℕ → Result Entry EntryFault
+decode_entry airport bytes = read_with (fields_of airport) bytes

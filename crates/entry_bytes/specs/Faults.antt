@@ -13,8 +13,8 @@ IsWithin most (TrailingBytes at) = at ≤ most
 IsWithin most Memory = Unit {0}
 
 -- the same fault
-abbrev pub fault_of : ReadFault → EntryFault
-fault_of faults.BadKind = BadKind
-fault_of (faults.BadField at) = BadField at
-fault_of (faults.TrailingBytes at) = TrailingBytes at
-fault_of faults.Memory = Memory
+abbrev pub entry_fault : ReadFault → EntryFault
+entry_fault faults.BadKind = BadKind
+entry_fault (faults.BadField at) = BadField at
+entry_fault (faults.TrailingBytes at) = TrailingBytes at
+entry_fault faults.Memory = Memory

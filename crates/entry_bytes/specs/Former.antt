@@ -8,14 +8,14 @@ use Rattle.desk_words.specs.declared.asks.Command.{Command}
 use Rattle.desk_words.specs.declared.asks.Command.TheVariants.{AddVisit, Commit, Message, Report, Cancel}
 use Rattle.desk_words.specs.declared.asks.Entry.{Entry}
 use Rattle.entry_bytes.specs.declared.faults.EntryFault.{EntryFault}
-use Rattle.entry_bytes.specs.Commits.{commit_at, commit_text}
+use Rattle.entry_bytes.specs.Commits.{commit_text, parse_commit}
 use Rattle.entry_bytes.specs.Entries.{entry_text, read_with}
 use Rattle.entry_bytes.specs.Faults.{IsWithin}
 use Rattle.entry_bytes.specs.Laws.{AreBytes, most_bytes}
-use Rattle.entry_bytes.specs.Messages.{message_at, message_text}
-use Rattle.entry_bytes.specs.NewVisits.{new_visit_at, new_visit_text}
+use Rattle.entry_bytes.specs.Messages.{message_text, parse_message}
+use Rattle.entry_bytes.specs.NewVisits.{new_visit_text, parse_new_visit}
 use Rattle.entry_bytes.specs.Readings.{Reading, ◌>>=◌, give}
-use Rattle.entry_bytes.specs.Reports.{cancel_at, report_at, report_text}
+use Rattle.entry_bytes.specs.Reports.{parse_cancel, parse_report, report_text}
 use Rattle.entry_bytes.specs.Widths.{IsEntryOf}
 
 -- the name that stands in for the desk of a message or report that named none
@@ -25,16 +25,16 @@ no_desk = codes "-"
 -- the fields of a kind, as they were
 abbrev pub former_fields_of : AirportParts → ℕ → Option (Reading Command)
 former_fields_of airport kind =
-    if kind == 1 then Some (new_visit_at airport >>= λ new. give (AddVisit new))
-    else (if kind == 2 then Some (commit_at airport)
-    else (if kind == 3 then Some (message_at >>= λ message. give (Message no_desk message))
-    else (if kind == 4 then Some (report_at airport no_desk)
-    else (if kind == 5 then Some cancel_at
+    if kind == 1 then Some (parse_new_visit airport >>= λ new. give (AddVisit new))
+    else (if kind == 2 then Some (parse_commit airport)
+    else (if kind == 3 then Some (parse_message >>= λ message. give (Message no_desk message))
+    else (if kind == 4 then Some (parse_report airport no_desk)
+    else (if kind == 5 then Some parse_cancel
     else None))))
 
 -- the entry that the bytes spelt for an airport, or the first fault from left to right
-unfoldable pub former_decoded : AirportParts → List ℕ → Result Entry EntryFault
-former_decoded airport bytes = read_with (former_fields_of airport) bytes
+unfoldable pub decode_former_entry : AirportParts → List ℕ → Result Entry EntryFault
+decode_former_entry airport bytes = read_with (former_fields_of airport) bytes
 
 -- the kind and the fields of a command, as they were
 abbrev pub former_command_text : Command → List ℕ
@@ -49,8 +49,8 @@ abbrev pub former_text : Entry → List ℕ
 former_text entry = to_le_bytes w64 entry.call ++ former_command_text entry.command
 
 -- the bytes that spell the same entry now, or the fault of those that spelt it
-abbrev pub lifted : AirportParts → List ℕ → Result (List ℕ) EntryFault
-lifted airport bytes = result_map_both entry_text (λ fault. fault) (former_decoded airport bytes)
+abbrev pub lift_entry : AirportParts → List ℕ → Result (List ℕ) EntryFault
+lift_entry airport bytes = result_map_both entry_text (λ fault. fault) (decode_former_entry airport bytes)
 
 -- the command existed then: a message or a report is of no desk
 abbrev pub NamesNoDesk : Command → Type 0
@@ -61,16 +61,16 @@ NamesNoDesk command = Unit {0}
 -- an entry of the airport that existed then was read back from the bytes that it had
 abbrev pub FormerEntryIsReadBack : Type 0
 FormerEntryIsReadBack = (airport : AirportParts) (entry : Entry) → IsEntryOf airport entry → NamesNoDesk entry.command
-    → former_decoded airport (former_text entry) ≡ Ok entry
+    → decode_former_entry airport (former_text entry) ≡ Ok entry
 
 -- bytes that were read as an entry are the bytes that it had, and it is one of the airport, of no
 -- desk if it is a message or a report
 abbrev pub FormerEntryIsSpelt : Type 0
-FormerEntryIsSpelt = (airport : AirportParts) (bytes : List ℕ) (entry : Entry) → AreBytes bytes → former_decoded airport bytes ≡ Ok entry
+FormerEntryIsSpelt = (airport : AirportParts) (bytes : List ℕ) (entry : Entry) → AreBytes bytes → decode_former_entry airport bytes ≡ Ok entry
     → (bytes ≡ former_text entry) × IsEntryOf airport entry × NamesNoDesk entry.command
 
 -- a fault in what was an entry is among as many first bytes as an entry can have, or right after
 -- them
 abbrev pub FormerFaultIsNear : Type 0
-FormerFaultIsNear = (airport : AirportParts) (bytes : List ℕ) (fault : EntryFault) → AreBytes bytes → former_decoded airport bytes ≡ Err fault
+FormerFaultIsNear = (airport : AirportParts) (bytes : List ℕ) (fault : EntryFault) → AreBytes bytes → decode_former_entry airport bytes ≡ Err fault
     → IsWithin most_bytes fault

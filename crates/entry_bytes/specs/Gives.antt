@@ -4,25 +4,25 @@ use Rattle.entry_bytes.specs.declared.faults.EntryFault.{EntryFault}
 use Rattle.entry_bytes.specs.declared.faults.ReadFault.{ReadFault}
 use Rattle.entry_bytes.specs.declared.faults.ReadFault.TheVariants.{BadKind, BadField, TrailingBytes, Memory}
 use Rattle.entry_bytes.specs.declared.faults.EntryFault.TheVariants as entry
-use Rattle.entry_bytes.specs.Readings.{Left}
+use Rattle.entry_bytes.specs.Readings.{RestOfEntry}
 
 -- the fault is that of the reading, unless memory ran out
-abbrev pub Fails : {A : Type 0} → ReadFault → Result A EntryFault → Type 0
-Fails BadKind read = read ≡ Err entry.BadKind
-Fails (BadField at) read = read ≡ Err (entry.BadField at)
-Fails (TrailingBytes at) read = read ≡ Err (entry.TrailingBytes at)
-Fails Memory read = Unit {0}
+abbrev pub FailsReading : {A : Type 0} → ReadFault → Result A EntryFault → Type 0
+FailsReading BadKind read = read ≡ Err entry.BadKind
+FailsReading (BadField at) read = read ≡ Err (entry.BadField at)
+FailsReading (TrailingBytes at) read = read ≡ Err (entry.TrailingBytes at)
+FailsReading Memory read = Unit {0}
 
 -- the result is that of the reading, unless memory ran out
-abbrev pub Answers : {A : Type 0} → Result A ReadFault → Result A EntryFault → Type 0
-Answers (Ok value) read = read ≡ Ok value
-Answers (Err fault) read = Fails fault read
+abbrev pub ReadsEntry : {A : Type 0} → Result A ReadFault → Result A EntryFault → Type 0
+ReadsEntry (Ok value) read = read ≡ Ok value
+ReadsEntry (Err fault) read = FailsReading fault read
 
 -- the result, in this view, and what is left are those of the reading
-abbrev pub GivesAs : {X A : Type 0} → (X → A) → Result X ReadFault → Left → Result (A × Left) EntryFault → Type 0
+abbrev pub GivesAs : {X A : Type 0} → (X → A) → Result X ReadFault → RestOfEntry → Result (A × RestOfEntry) EntryFault → Type 0
 GivesAs view (Ok value) left read = read ≡ Ok (view value, left)
-GivesAs view (Err fault) left read = Fails fault read
+GivesAs view (Err fault) left read = FailsReading fault read
 
 -- the result and what is left are those of the reading
-abbrev pub Gives : {A : Type 0} → Result A ReadFault → Left → Result (A × Left) EntryFault → Type 0
-Gives result left read = GivesAs (λ value. value) result left read
+abbrev pub GivesReading : {A : Type 0} → Result A ReadFault → RestOfEntry → Result (A × RestOfEntry) EntryFault → Type 0
+GivesReading result left read = GivesAs (λ value. value) result left read

@@ -5,7 +5,7 @@ use Rattle.mvt_grammar.specs.Reading.{read_mvt_of}
 use Rattle.mvt_grammar.specs.declared.message.Mvt.{Mvt}
 use Rattle.mvt_grammar.specs.declared.message.MvtFault.{MvtFault}
 use Rattle.entry_bytes.specs.Keys.{sized_text}
-use Rattle.entry_bytes.specs.Readings.{Reading, telling, text}
+use Rattle.entry_bytes.specs.Readings.{Reading, meaning_of_field, text}
 
 -- the canonical text of the message
 abbrev pub message_text : Mvt → List ℕ
@@ -17,9 +17,9 @@ if_canonical bytes (Ok message) = if bytes_eq bytes (canonical message) then Som
 if_canonical bytes (Err fault) = None
 
 -- the message of a canonical text
-abbrev pub message_of : List ℕ → Option Mvt
-message_of bytes = if_canonical bytes (read_mvt_of bytes)
+abbrev pub canonical_message : List ℕ → Option Mvt
+canonical_message bytes = if_canonical bytes (read_mvt_of bytes)
 
 -- a message by its canonical text
-unfoldable pub message_at : Reading Mvt
-message_at = telling message_of text
+unfoldable pub parse_message : Reading Mvt
+parse_message = meaning_of_field canonical_message text

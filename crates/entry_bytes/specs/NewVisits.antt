@@ -7,7 +7,7 @@ use Rattle.apron_rules.specs.Rules.{least_of}
 use Rattle.visit_book.specs.declared.visits.NewVisit.{NewVisit}
 use Rattle.visit_book.specs.WellFormed.{greatest_class, plan_end}
 use Rattle.entry_bytes.specs.Readings.{Reading, ◌>>=◌, byte, give, name, number, such_that}
-use Rattle.entry_bytes.specs.Keys.{optional_key_at, optional_key_text, sized_text}
+use Rattle.entry_bytes.specs.Keys.{optional_key_text, parse_optional_key, sized_text}
 
 -- all that a visit is added with, in this order
 abbrev pub new_visit_text : NewVisit → List ℕ
@@ -21,13 +21,13 @@ abbrev pub is_off_of : AirportParts → ℕ → ℕ → ℕ → Bool
 is_off_of airport kind on off = nat_le off (plan_end airport) && nat_le (on + least_of airport (record { 0 = kind })) off
 
 -- a visit that can be added at the airport
-unfoldable pub new_visit_at : AirportParts → Reading NewVisit
-new_visit_at airport = do
+unfoldable pub parse_new_visit : AirportParts → Reading NewVisit
+parse_new_visit airport = do
   name ← name
   kind ← such_that (λ kind. nat_lt kind (length airport.types)) (number w16)
   class ← such_that (λ class. nat_le class greatest_class) byte
   on ← such_that (λ on. nat_lt on (plan_end airport)) (number w32)
   off ← such_that (is_off_of airport kind on) (number w32)
-  arr ← optional_key_at airport
-  dep ← optional_key_at airport
+  arr ← parse_optional_key airport
+  dep ← parse_optional_key airport
   give (record { name = name; kind = record { 0 = kind }; class = class; on = on; off = off; arr = arr; dep = dep })

@@ -8,7 +8,7 @@ use Rattle.visit_book.specs.declared.reports.Event.TheVariants.{On, Off}
 use Rattle.desk_words.specs.declared.asks.Command.{Command}
 use Rattle.desk_words.specs.declared.asks.Command.TheVariants.{Report, Cancel}
 use Rattle.entry_bytes.specs.declared.faults.EntryFault.TheVariants.{BadField}
-use Rattle.entry_bytes.specs.Readings.{Reading, ◌>>=◌, byte, give, number, such_that, tagged}
+use Rattle.entry_bytes.specs.Readings.{Reading, ◌>>=◌, byte, give, number, such_that, by_tag}
 
 -- a tag; then the part, the stand and the minute on block, or the minute off block
 abbrev pub event_text : Event → List ℕ
@@ -20,39 +20,39 @@ abbrev pub report_text : VisitNo → Event → List ℕ
 report_text visit event = to_le_bytes w32 visit.0 ++ event_text event
 
 -- what comes after the tag of a part that came on block, on a stand of the airport
-unfoldable pub on_at : AirportParts → Reading Event
-on_at airport = do
+unfoldable pub parse_on : AirportParts → Reading Event
+parse_on airport = do
   part ← byte
   stand ← such_that (λ stand. nat_lt stand (length airport.stands)) (number w16)
   minute ← number w32
   give (On part (record { 0 = stand }) minute)
 
 -- what comes after the tag of a visit that went off block
-unfoldable pub off_at : Reading Event
-off_at = do
+unfoldable pub parse_off : Reading Event
+parse_off = do
   minute ← number w32
   give (Off minute)
 
 -- the event of a tag
 abbrev pub event_of : AirportParts → ℕ → Option (Reading Event)
 event_of airport tag =
-    if tag == 1 then Some (on_at airport)
-    else (if tag == 2 then Some off_at
+    if tag == 1 then Some (parse_on airport)
+    else (if tag == 2 then Some parse_off
     else None)
 
 -- an event at the airport
-unfoldable pub event_at : AirportParts → Reading Event
-event_at airport = tagged BadField (event_of airport)
+unfoldable pub parse_event : AirportParts → Reading Event
+parse_event airport = by_tag BadField (event_of airport)
 
 -- a report of this desk at the airport
-unfoldable pub report_at : AirportParts → List ℕ → Reading Command
-report_at airport desk = do
+unfoldable pub parse_report : AirportParts → List ℕ → Reading Command
+parse_report airport desk = do
   visit ← number w32
-  event ← event_at airport
+  event ← parse_event airport
   give (Report desk (record { 0 = visit }) event)
 
 -- a cancel, of any visit
-unfoldable pub cancel_at : Reading Command
-cancel_at = do
+unfoldable pub parse_cancel : Reading Command
+parse_cancel = do
   visit ← number w32
   give (Cancel (record { 0 = visit }))

@@ -41,15 +41,15 @@ EventFits (Off minute) = minute < 2 ^ 32
 
 -- the numbers and names of a command are of their types; a definition has to say so, since here
 -- numbers and texts range over all of them
-abbrev pub Fits : Command → Type 0
-Fits (AddVisit new) = VisitFits new
-Fits (Commit desk draft base edits) = CommitFits desk draft base edits
-Fits (Message desk message) = IsName desk
-Fits (Report desk visit event) = IsName desk × (visit.0 < 2 ^ 32) × EventFits event
-Fits (Cancel visit) = visit.0 < 2 ^ 32
+abbrev pub FitsWidths : Command → Type 0
+FitsWidths (AddVisit new) = VisitFits new
+FitsWidths (Commit desk draft base edits) = CommitFits desk draft base edits
+FitsWidths (Message desk message) = IsName desk
+FitsWidths (Report desk visit event) = IsName desk × (visit.0 < 2 ^ 32) × EventFits event
+FitsWidths (Cancel visit) = visit.0 < 2 ^ 32
 
 -- an entry that has bytes, and can be read at the airport
 pub record IsEntryOf (airport : AirportParts) (entry : Entry) : Type 0 where
   pub call : entry.call < CALL_END
-  pub fits : Fits entry.command
+  pub fits : FitsWidths entry.command
   pub command : IsCommandOf airport entry.command

@@ -4,9 +4,9 @@ ghost use Rattle.std.specs.List.{flat_map};
 ghost use Rattle.apron_base.specs.Name.{IsName};
 ghost use Rattle.visit_book.specs.Edits.{most_edits};
 ghost use Rattle.entry_bytes.specs.Widths.{CommitFits, EditFits};
-ghost use Rattle.entry_bytes.specs.Gives.{Gives};
-ghost use Rattle.entry_bytes.specs.Commits.{commit_at, commit_text, cut_at, edit_at, edit_text, edits_at, join_at, lift_at, part_text, put_at};
-ghost use Rattle.entry_bytes.specs.Readings.{repeated};
+ghost use Rattle.entry_bytes.specs.Gives.{GivesReading};
+ghost use Rattle.entry_bytes.specs.Commits.{commit_text, edit_text, parse_commit, parse_cut, parse_edit, parse_edits, parse_join, parse_lift, parse_put, part_bytes};
+ghost use Rattle.entry_bytes.specs.Readings.{parse_many};
 ghost use Rattle.desk_words.specs.declared.asks.Command.TheVariants.{Commit};
 
 use crate::faults::ReadFault;
@@ -21,8 +21,8 @@ use visit_book::Edit;
 // The most edits of a commit.
 const MOST_EDITS: u8 = 64;
 
-fn push_part(out: &mut Vec<u8>, tag: u8, visit: VisitNo, part: u8) -> Result<(), Memory>
-    ensures text { OnOk result (out.new.items ≡ out.old.items ++ (tag ∷ part_text visit part)) }
+fn push_part_of_edit(out: &mut Vec<u8>, tag: u8, visit: VisitNo, part: u8) -> Result<(), Memory>
+    ensures text { OnOk result (out.new.items ≡ out.old.items ++ (tag ∷ part_bytes visit part)) }
     ensures fits { OnOk result (visit.0 < 2 ^ 32) }
 {
     out.push(tag)?;
@@ -37,15 +37,15 @@ fn push_edit(out: &mut Vec<u8>, edit: &Edit) -> Result<(), Memory>
 {
     match *edit {
         Edit::Put { visit, part, stand } => {
-            push_part(out, 1, visit, part)?;
+            push_part_of_edit(out, 1, visit, part)?;
             push_u16(out, stand.0)
         }
-        Edit::Lift { visit, part } => push_part(out, 2, visit, part),
+        Edit::Lift { visit, part } => push_part_of_edit(out, 2, visit, part),
         Edit::Cut { visit, part, at } => {
-            push_part(out, 3, visit, part)?;
+            push_part_of_edit(out, 3, visit, part)?;
             push_u32(out, at)
         }
-        Edit::Join { visit, part } => push_part(out, 4, visit, part),
+        Edit::Join { visit, part } => push_part_of_edit(out, 4, visit, part),
     }
 }
 
@@ -77,9 +77,9 @@ pub(crate) fn push_commit(
     push_edits(out, edits)
 }
 
-#[tactic(auto, unfolding(crate::specs::Commits::put_at))]
-fn put_at(reader: &mut Reader<'_>, airport: &Airport) -> Result<Edit, ReadFault>
-    ensures is { Gives result reader.new (put_at airport.now reader.old) }
+#[tactic(auto, unfolding(crate::specs::Commits::parse_put))]
+fn parse_put(reader: &mut Reader<'_>, airport: &Airport) -> Result<Edit, ReadFault>
+    ensures is { GivesReading result reader.new (parse_put airport.now reader.old) }
 {
     let visit = VisitNo(reader.u32()?);
     let part = reader.byte()?;
@@ -90,18 +90,18 @@ fn put_at(reader: &mut Reader<'_>, airport: &Airport) -> Result<Edit, ReadFault>
     Ok(Edit::Put { visit, part, stand })
 }
 
-#[tactic(auto, unfolding(crate::specs::Commits::lift_at))]
-fn lift_at(reader: &mut Reader<'_>) -> Result<Edit, ReadFault>
-    ensures is { Gives result reader.new (lift_at reader.old) }
+#[tactic(auto, unfolding(crate::specs::Commits::parse_lift))]
+fn parse_lift(reader: &mut Reader<'_>) -> Result<Edit, ReadFault>
+    ensures is { GivesReading result reader.new (parse_lift reader.old) }
 {
     let visit = VisitNo(reader.u32()?);
     let part = reader.byte()?;
     Ok(Edit::Lift { visit, part })
 }
 
-#[tactic(auto, unfolding(crate::specs::Commits::cut_at))]
-fn cut_at(reader: &mut Reader<'_>) -> Result<Edit, ReadFault>
-    ensures is { Gives result reader.new (cut_at reader.old) }
+#[tactic(auto, unfolding(crate::specs::Commits::parse_cut))]
+fn parse_cut(reader: &mut Reader<'_>) -> Result<Edit, ReadFault>
+    ensures is { GivesReading result reader.new (parse_cut reader.old) }
 {
     let visit = VisitNo(reader.u32()?);
     let part = reader.byte()?;
@@ -109,72 +109,72 @@ fn cut_at(reader: &mut Reader<'_>) -> Result<Edit, ReadFault>
     Ok(Edit::Cut { visit, part, at })
 }
 
-#[tactic(auto, unfolding(crate::specs::Commits::join_at))]
-fn join_at(reader: &mut Reader<'_>) -> Result<Edit, ReadFault>
-    ensures is { Gives result reader.new (join_at reader.old) }
+#[tactic(auto, unfolding(crate::specs::Commits::parse_join))]
+fn parse_join(reader: &mut Reader<'_>) -> Result<Edit, ReadFault>
+    ensures is { GivesReading result reader.new (parse_join reader.old) }
 {
     let visit = VisitNo(reader.u32()?);
     let part = reader.byte()?;
     Ok(Edit::Join { visit, part })
 }
 
-#[tactic(auto, unfolding(crate::specs::Commits::edit_at))]
-fn edit_at(reader: &mut Reader<'_>, airport: &Airport) -> Result<Edit, ReadFault>
-    ensures is { Gives result reader.new (edit_at airport.now reader.old) }
+#[tactic(auto, unfolding(crate::specs::Commits::parse_edit))]
+fn parse_edit(reader: &mut Reader<'_>, airport: &Airport) -> Result<Edit, ReadFault>
+    ensures is { GivesReading result reader.new (parse_edit airport.now reader.old) }
 {
     let at = reader.at();
     match reader.byte()? {
-        1 => put_at(reader, airport),
-        2 => lift_at(reader),
-        3 => cut_at(reader),
-        4 => join_at(reader),
+        1 => parse_put(reader, airport),
+        2 => parse_lift(reader),
+        3 => parse_cut(reader),
+        4 => parse_join(reader),
         _ => Err(ReadFault::BadField(at)),
     }
 }
 
 // Reads this many edits.
-fn repeated(
+fn parse_edits_of_count(
     alloc: Global,
     count: u8,
     reader: &mut Reader<'_>,
     airport: &Airport,
 ) -> Result<Listed<Edit>, ReadFault>
-    ensures is { Gives result reader.new (repeated count (edit_at airport.now) reader.old) }
+    ensures is { GivesReading result reader.new (parse_many count (parse_edit airport.now) reader.old) }
 {
     let mut edits = Listed::new(alloc);
     for _taken in 0..count {
-        let edit = edit_at(reader, airport)?;
+        let edit = parse_edit(reader, airport)?;
         edits.push(edit)?;
     }
     Ok(edits)
 }
 
-#[tactic(auto, unfolding(crate::specs::Commits::edits_at))]
-fn edits_at(
+#[tactic(auto, unfolding(crate::specs::Commits::parse_edits))]
+fn parse_edits(
     alloc: Global,
     reader: &mut Reader<'_>,
     airport: &Airport,
 ) -> Result<Listed<Edit>, ReadFault>
-    ensures is { Gives result reader.new (edits_at airport.now reader.old) }
+    ensures is { GivesReading result reader.new (parse_edits airport.now reader.old) }
 {
     let at = reader.at();
     let count = reader.byte()?;
     in_form(at, 1 <= count && count <= MOST_EDITS)?;
-    repeated(alloc, count, reader, airport)
+    parse_edits_of_count(alloc, count, reader, airport)
 }
 
-#[tactic(auto, unfolding(crate::specs::Commits::commit_at))]
-pub(crate) fn commit_at(
+#[tactic(auto, unfolding(crate::specs::Commits::parse_commit))]
+pub(crate) fn parse_commit(
     alloc: Global,
     reader: &mut Reader<'_>,
     airport: &Airport,
 ) -> Result<Command, ReadFault>
-    ensures is { Gives result reader.new (commit_at airport.now reader.old) }
+    ensures is { GivesReading result reader.new (parse_commit airport.now reader.old) }
 {
     let desk = reader.name()?;
     let draft = reader.u32()?;
     let base = reader.u32()?;
-    let edits = edits_at(alloc, reader, airport)?;
+    let edits = parse_edits(alloc, reader, airport)?;
     Ok(Command::Commit {
         desk,
         draft,

@@ -3,18 +3,18 @@ ghost use Rattle.std.specs.Prelude.{◌≡◌, ◌≢◌, ◌≤◌, ◌<◌, �
 ghost use Rattle.apron_base.specs.declared.machine.TheConstants.{CALL_END};
 ghost use Rattle.apron_rules.specs.declared.parts.AirportParts.{AirportParts};
 ghost use Rattle.desk_words.specs.Commands.{IsCommand, IsCommandOf};
-ghost use Rattle.entry_bytes.specs.Widths.{Fits, IsEntryOf};
-ghost use Rattle.entry_bytes.specs.Entries.{command_at, command_text, call_at, decoded, desk_message_at, desk_report_at, entry_at, entry_text, fields_of, with_none_left};
-ghost use Rattle.entry_bytes.specs.Gives.{Answers, Fails, Gives};
-ghost use Rattle.entry_bytes.specs.Faults.{IsWithin, fault_of};
+ghost use Rattle.entry_bytes.specs.Widths.{FitsWidths, IsEntryOf};
+ghost use Rattle.entry_bytes.specs.Entries.{parse_command, command_text, parse_call, decode_entry, parse_desk_message, parse_desk_report, parse_entry, entry_text, fields_of, with_none_left};
+ghost use Rattle.entry_bytes.specs.Gives.{FailsReading, GivesReading, ReadsEntry};
+ghost use Rattle.entry_bytes.specs.Faults.{IsWithin, entry_fault};
 ghost use Rattle.entry_bytes.specs.Laws.{most_bytes};
 
-use crate::commits::{commit_at, push_commit};
+use crate::commits::{parse_commit, push_commit};
 use crate::faults::{EntryFault, ReadFault};
-use crate::messages::{message_at, push_message};
-use crate::new_visits::{new_visit_at, push_new_visit};
+use crate::messages::{parse_message, push_message};
+use crate::new_visits::{parse_new_visit, push_new_visit};
 use crate::reader::{Reader, in_form};
-use crate::reports::{cancel_at, push_cancel, push_report, report_at};
+use crate::reports::{parse_cancel, parse_report, push_cancel, push_report};
 use crate::writing::push_name;
 use apron_base::{CALL_END, Listed, Memory};
 use apron_rules::Airport;
@@ -24,7 +24,7 @@ use std::alloc::Global;
 fn push_command(alloc: Global, out: &mut Vec<u8>, command: &Command) -> Result<(), Memory>
     requires command { IsCommand command.now }
     ensures text { OnOk result (out.new.items ≡ out.old.items ++ command_text command.now) }
-    ensures fits { OnOk result (Fits command.now) }
+    ensures fits { OnOk result (FitsWidths command.now) }
 {
     match command {
         Command::AddVisit(new) => {
@@ -65,7 +65,7 @@ pub fn encode_entry(alloc: Global, entry: &Entry) -> Result<Listed<u8>, Memory>
     ensures text { IfOk result (λ bytes. bytes ≡ entry_text entry.now) }
     ensures some { IfOk result (λ bytes. 1 ≤ length bytes) }
     ensures most { IfOk result (λ bytes. length bytes ≤ most_bytes) }
-    ensures read_back { IfOk result (λ bytes. (airport : AirportParts) → IsCommandOf airport entry.now.command → decoded airport bytes ≡ Ok entry.now) }
+    ensures read_back { IfOk result (λ bytes. (airport : AirportParts) → IsCommandOf airport entry.now.command → decode_entry airport bytes ≡ Ok entry.now) }
 {
     let mut out = Vec::new(alloc);
     out.extend_from_slice(&entry.call.to_le_bytes())?;
@@ -73,43 +73,43 @@ pub fn encode_entry(alloc: Global, entry: &Entry) -> Result<Listed<u8>, Memory>
     Ok(Listed::from_vec(out))
 }
 
-#[tactic(auto, unfolding(crate::specs::Entries::desk_message_at))]
-fn desk_message_at(alloc: Global, reader: &mut Reader<'_>) -> Result<Command, ReadFault>
-    ensures is { Gives result reader.new (desk_message_at reader.old) }
+#[tactic(auto, unfolding(crate::specs::Entries::parse_desk_message))]
+fn parse_desk_message(alloc: Global, reader: &mut Reader<'_>) -> Result<Command, ReadFault>
+    ensures is { GivesReading result reader.new (parse_desk_message reader.old) }
 {
     let desk = reader.name()?;
-    let message = message_at(alloc, reader)?;
+    let message = parse_message(alloc, reader)?;
     Ok(Command::Message { desk, message })
 }
 
-#[tactic(auto, unfolding(crate::specs::Entries::desk_report_at))]
-fn desk_report_at(reader: &mut Reader<'_>, airport: &Airport) -> Result<Command, ReadFault>
-    ensures is { Gives result reader.new (desk_report_at airport.now reader.old) }
+#[tactic(auto, unfolding(crate::specs::Entries::parse_desk_report))]
+fn parse_desk_report(reader: &mut Reader<'_>, airport: &Airport) -> Result<Command, ReadFault>
+    ensures is { GivesReading result reader.new (parse_desk_report airport.now reader.old) }
 {
     let desk = reader.name()?;
-    report_at(reader, airport, desk)
+    parse_report(reader, airport, desk)
 }
 
-#[tactic(auto, unfolding(crate::specs::Entries::command_at))]
-fn command_at(
+#[tactic(auto, unfolding(crate::specs::Entries::parse_command))]
+fn parse_command(
     alloc: Global,
     reader: &mut Reader<'_>,
     airport: &Airport,
 ) -> Result<Command, ReadFault>
-    ensures is { Gives result reader.new (command_at (fields_of airport.now) reader.old) }
+    ensures is { GivesReading result reader.new (parse_command (fields_of airport.now) reader.old) }
 {
     match reader.byte()? {
-        1 => Ok(Command::AddVisit(new_visit_at(reader, airport)?)),
-        2 => commit_at(alloc, reader, airport),
-        5 => cancel_at(reader),
-        6 => desk_message_at(alloc, reader),
-        7 => desk_report_at(reader, airport),
+        1 => Ok(Command::AddVisit(parse_new_visit(reader, airport)?)),
+        2 => parse_commit(alloc, reader, airport),
+        5 => parse_cancel(reader),
+        6 => parse_desk_message(alloc, reader),
+        7 => parse_desk_report(reader, airport),
         _ => Err(ReadFault::BadKind),
     }
 }
 
-pub(crate) fn call_at(reader: &mut Reader<'_>) -> Result<u64, ReadFault>
-    ensures is { Gives result reader.new (call_at reader.old) }
+pub(crate) fn parse_call(reader: &mut Reader<'_>) -> Result<u64, ReadFault>
+    ensures is { GivesReading result reader.new (parse_call reader.old) }
 {
     let at = reader.at();
     let call = reader.u64()?;
@@ -118,7 +118,7 @@ pub(crate) fn call_at(reader: &mut Reader<'_>) -> Result<u64, ReadFault>
 }
 
 pub(crate) fn with_none_left(reader: &Reader<'_>, entry: Entry) -> Result<Entry, ReadFault>
-    ensures is { Answers result (with_none_left (Ok (entry, reader.now))) }
+    ensures is { ReadsEntry result (with_none_left (Ok (entry, reader.now))) }
 {
     if !reader.is_empty() {
         return Err(ReadFault::TrailingBytes(reader.at()));
@@ -126,19 +126,19 @@ pub(crate) fn with_none_left(reader: &Reader<'_>, entry: Entry) -> Result<Entry,
     Ok(entry)
 }
 
-#[tactic(auto, unfolding(crate::specs::Entries::decoded, crate::specs::Entries::entry_at))]
+#[tactic(auto, unfolding(crate::specs::Entries::decode_entry, crate::specs::Entries::parse_entry))]
 fn read_entry(alloc: Global, airport: &Airport, bytes: &[u8]) -> Result<Entry, ReadFault>
-    ensures is { Answers result (decoded airport.now bytes.now) }
+    ensures is { ReadsEntry result (decode_entry airport.now bytes.now) }
 {
     let mut reader = Reader::new(bytes);
-    let call = call_at(&mut reader)?;
-    let command = command_at(alloc, &mut reader, airport)?;
+    let call = parse_call(&mut reader)?;
+    let command = parse_command(alloc, &mut reader, airport)?;
     with_none_left(&reader, Entry { call, command })
 }
 
-pub(crate) fn fault_of(fault: ReadFault) -> EntryFault
-    requires near { IsWithin most_bytes (fault_of fault) }
-    ensures is { result ≡ fault_of fault }
+pub(crate) fn entry_fault(fault: ReadFault) -> EntryFault
+    requires near { IsWithin most_bytes (entry_fault fault) }
+    ensures is { result ≡ entry_fault fault }
 {
     match fault {
         ReadFault::BadKind => EntryFault::BadKind,
@@ -151,12 +151,12 @@ pub(crate) fn fault_of(fault: ReadFault) -> EntryFault
 /// The entry that all of the bytes together spell for an airport. `Err` gives the first fault from
 /// left to right if they spell none, or says that there is no memory.
 pub fn decode_entry(alloc: Global, airport: &Airport, bytes: &[u8]) -> Result<Entry, EntryFault>
-    ensures is { result ≢ Err EntryFault.Memory → result ≡ decoded airport.now bytes.now }
+    ensures is { result ≢ Err EntryFault.Memory → result ≡ decode_entry airport.now bytes.now }
     ensures spelt { IfOk result (λ entry. bytes.now ≡ entry_text entry) }
     ensures entry { IfOk result (IsEntryOf airport.now) }
 {
     match read_entry(alloc, airport, bytes) {
         Ok(entry) => Ok(entry),
-        Err(fault) => Err(fault_of(fault)),
+        Err(fault) => Err(entry_fault(fault)),
     }
 }

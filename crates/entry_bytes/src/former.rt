@@ -2,18 +2,18 @@
 // they are spelt now.
 ghost use Rattle.std.specs.Prelude.{◌≡◌, ◌≢◌, ◌≤◌, IfOk, length, Err, Ok};
 ghost use Rattle.std.specs.Result.{result_map_both};
-ghost use Rattle.entry_bytes.specs.Entries.{command_at, decoded, entry_text, read_with};
-ghost use Rattle.entry_bytes.specs.Former.{FormerEntryIsReadBack, FormerEntryIsSpelt, FormerFaultIsNear, former_decoded, former_fields_of, lifted, no_desk};
-ghost use Rattle.entry_bytes.specs.Gives.{Answers, Gives};
+ghost use Rattle.entry_bytes.specs.Entries.{decode_entry, entry_text, parse_command, read_with};
+ghost use Rattle.entry_bytes.specs.Former.{FormerEntryIsReadBack, FormerEntryIsSpelt, FormerFaultIsNear, decode_former_entry, former_fields_of, lift_entry, no_desk};
+ghost use Rattle.entry_bytes.specs.Gives.{GivesReading, ReadsEntry};
 ghost use Rattle.entry_bytes.specs.Laws.{most_bytes};
 
-use crate::commits::commit_at;
-use crate::entries::{call_at, encode_entry, fault_of, with_none_left};
+use crate::commits::parse_commit;
+use crate::entries::{encode_entry, entry_fault, parse_call, with_none_left};
 use crate::faults::{EntryFault, ReadFault};
-use crate::messages::message_at;
-use crate::new_visits::new_visit_at;
+use crate::messages::parse_message;
+use crate::new_visits::parse_new_visit;
 use crate::reader::Reader;
-use crate::reports::{cancel_at, report_at};
+use crate::reports::{parse_cancel, parse_report};
 use apron_base::{Listed, Name};
 use apron_rules::Airport;
 use desk_words::asks::{Command, Entry};
@@ -26,33 +26,33 @@ fn no_desk() -> Name
     Name::literal(b"-")
 }
 
-#[tactic(auto, unfolding(crate::specs::Entries::command_at))]
+#[tactic(auto, unfolding(crate::specs::Entries::parse_command))]
 fn former_command_at(
     alloc: Global,
     reader: &mut Reader<'_>,
     airport: &Airport,
 ) -> Result<Command, ReadFault>
-    ensures is { Gives result reader.new (command_at (former_fields_of airport.now) reader.old) }
+    ensures is { GivesReading result reader.new (parse_command (former_fields_of airport.now) reader.old) }
 {
     match reader.byte()? {
-        1 => Ok(Command::AddVisit(new_visit_at(reader, airport)?)),
-        2 => commit_at(alloc, reader, airport),
+        1 => Ok(Command::AddVisit(parse_new_visit(reader, airport)?)),
+        2 => parse_commit(alloc, reader, airport),
         3 => Ok(Command::Message {
             desk: no_desk(),
-            message: message_at(alloc, reader)?,
+            message: parse_message(alloc, reader)?,
         }),
-        4 => report_at(reader, airport, no_desk()),
-        5 => cancel_at(reader),
+        4 => parse_report(reader, airport, no_desk()),
+        5 => parse_cancel(reader),
         _ => Err(ReadFault::BadKind),
     }
 }
 
-#[tactic(auto, unfolding(crate::specs::Former::former_decoded, crate::specs::Entries::entry_at))]
+#[tactic(auto, unfolding(crate::specs::Former::decode_former_entry, crate::specs::Entries::parse_entry))]
 fn read_former(alloc: Global, airport: &Airport, bytes: &[u8]) -> Result<Entry, ReadFault>
-    ensures is { Answers result (former_decoded airport.now bytes.now) }
+    ensures is { ReadsEntry result (decode_former_entry airport.now bytes.now) }
 {
     let mut reader = Reader::new(bytes);
-    let call = call_at(&mut reader)?;
+    let call = parse_call(&mut reader)?;
     let command = former_command_at(alloc, &mut reader, airport)?;
     with_none_left(&reader, Entry { call, command })
 }
@@ -62,17 +62,17 @@ fn read_former(alloc: Global, airport: &Airport, bytes: &[u8]) -> Result<Entry, 
 /// or report in them is `-`. `Err` gives the first fault from left to right if the bytes spelt no
 /// entry for the airport, or says that there is no memory.
 pub fn lift_entry(alloc: Global, airport: &Airport, bytes: &[u8]) -> Result<Listed<u8>, EntryFault>
-    ensures is { result ≢ Err EntryFault.Memory → result ≡ lifted airport.now bytes.now }
+    ensures is { result ≢ Err EntryFault.Memory → result ≡ lift_entry airport.now bytes.now }
     ensures some { IfOk result (λ new. 1 ≤ length new) }
     ensures most { IfOk result (λ new. length new ≤ most_bytes) }
-    ensures same { IfOk result (λ new. decoded airport.now new ≡ former_decoded airport.now bytes.now) }
+    ensures same { IfOk result (λ new. decode_entry airport.now new ≡ decode_former_entry airport.now bytes.now) }
 {
     match read_former(alloc, airport, bytes) {
         Ok(entry) => match encode_entry(alloc, &entry) {
             Ok(new) => Ok(new),
             Err(_) => Err(EntryFault::Memory),
         },
-        Err(fault) => Err(fault_of(fault)),
+        Err(fault) => Err(entry_fault(fault)),
     }
 }
 

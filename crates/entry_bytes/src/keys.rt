@@ -2,8 +2,8 @@
 ghost use Rattle.std.specs.Prelude.{◌≡◌, ◌++◌, IfSome, OnOk, IsTrue, ◌↔◌};
 ghost use Rattle.mvt_grammar.specs.Bytes.{is_capital};
 ghost use Rattle.mvt_grammar.specs.Flights.{is_airline};
-ghost use Rattle.entry_bytes.specs.Gives.{Gives};
-ghost use Rattle.entry_bytes.specs.Keys.{is_suffix_byte, key_at, key_text, optional_key_at, optional_key_text, suffix_byte, suffix_of};
+ghost use Rattle.entry_bytes.specs.Gives.{GivesReading};
+ghost use Rattle.entry_bytes.specs.Keys.{is_suffix_byte, key_bytes, optional_key_text, parse_key, parse_optional_key, suffix_byte, suffix_of};
 ghost use Rattle.entry_bytes.specs.Readings.{byte, such_that, text};
 
 use crate::faults::ReadFault;
@@ -15,7 +15,7 @@ use mvt_grammar::{Flight, is_flight};
 use visit_book::Key;
 
 fn push_key(out: &mut Vec<u8>, key: &Key) -> Result<(), Memory>
-    ensures text { OnOk result (out.new.items ≡ out.old.items ++ key_text key.now) }
+    ensures text { OnOk result (out.new.items ≡ out.old.items ++ key_bytes key.now) }
 {
     push_name(out, &key.flight.airline)?;
     push_u16(out, key.flight.number)?;
@@ -58,7 +58,7 @@ fn is_airline(airline: Name) -> bool
 }
 
 fn airline_at(reader: &mut Reader<'_>) -> Result<Name, ReadFault>
-    ensures is { Gives result reader.new (such_that is_airline text reader.old) }
+    ensures is { GivesReading result reader.new (such_that is_airline text reader.old) }
 {
     let at = reader.at();
     let text = reader.text()?;
@@ -69,7 +69,7 @@ fn airline_at(reader: &mut Reader<'_>) -> Result<Name, ReadFault>
 }
 
 fn suffix_at(reader: &mut Reader<'_>) -> Result<u8, ReadFault>
-    ensures is { Gives result reader.new (such_that is_suffix_byte byte reader.old) }
+    ensures is { GivesReading result reader.new (such_that is_suffix_byte byte reader.old) }
 {
     let at = reader.at();
     let suffix = reader.byte()?;
@@ -77,9 +77,9 @@ fn suffix_at(reader: &mut Reader<'_>) -> Result<u8, ReadFault>
     Ok(suffix)
 }
 
-#[tactic(auto, unfolding(crate::specs::Keys::key_at))]
-fn key_at(reader: &mut Reader<'_>, airport: &Airport) -> Result<Key, ReadFault>
-    ensures is { Gives result reader.new (key_at airport.now reader.old) }
+#[tactic(auto, unfolding(crate::specs::Keys::parse_key))]
+fn parse_key(reader: &mut Reader<'_>, airport: &Airport) -> Result<Key, ReadFault>
+    ensures is { GivesReading result reader.new (parse_key airport.now reader.old) }
 {
     let airline = airline_at(reader)?;
     let at = reader.at();
@@ -103,17 +103,17 @@ fn suffix_of(byte: u8) -> Option<u8>
     if byte == 0 { None } else { Some(byte) }
 }
 
-#[tactic(auto, unfolding(crate::specs::Keys::optional_key_at))]
-pub(crate) fn optional_key_at(
+#[tactic(auto, unfolding(crate::specs::Keys::parse_optional_key))]
+pub(crate) fn parse_optional_key(
     reader: &mut Reader<'_>,
     airport: &Airport,
 ) -> Result<Option<Key>, ReadFault>
-    ensures is { Gives result reader.new (optional_key_at airport.now reader.old) }
+    ensures is { GivesReading result reader.new (parse_optional_key airport.now reader.old) }
 {
     let at = reader.at();
     match reader.byte()? {
         0 => Ok(None),
-        1 => Ok(Some(key_at(reader, airport)?)),
+        1 => Ok(Some(parse_key(reader, airport)?)),
         _ => Err(ReadFault::BadField(at)),
     }
 }

@@ -1,8 +1,8 @@
 // Messages as bytes: their canonical texts.
 ghost use Rattle.std.specs.Prelude.{◌≡◌, ◌++◌, IfOk, OnOk};
 ghost use Rattle.mvt_grammar.specs.Readable.{IsReadable};
-ghost use Rattle.entry_bytes.specs.Gives.{Gives};
-ghost use Rattle.entry_bytes.specs.Messages.{message_at, message_of, message_text};
+ghost use Rattle.entry_bytes.specs.Gives.{GivesReading};
+ghost use Rattle.entry_bytes.specs.Messages.{canonical_message, message_text, parse_message};
 
 use crate::faults::ReadFault;
 use crate::reader::Reader;
@@ -20,9 +20,9 @@ pub(crate) fn push_message(alloc: Global, out: &mut Vec<u8>, message: &Mvt) -> R
     Ok(())
 }
 
-#[tactic(auto, unfolding(crate::specs::Messages::message_at))]
-pub(crate) fn message_at(alloc: Global, reader: &mut Reader<'_>) -> Result<Mvt, ReadFault>
-    ensures is { Gives result reader.new (message_at reader.old) }
+#[tactic(auto, unfolding(crate::specs::Messages::parse_message))]
+pub(crate) fn parse_message(alloc: Global, reader: &mut Reader<'_>) -> Result<Mvt, ReadFault>
+    ensures is { GivesReading result reader.new (parse_message reader.old) }
 {
     let at = reader.at();
     let text = reader.text()?;
@@ -34,7 +34,7 @@ pub(crate) fn message_at(alloc: Global, reader: &mut Reader<'_>) -> Result<Mvt, 
 
 // The message that the text is read as, if the text is its canonical one.
 fn message_of(alloc: Global, text: &[u8]) -> Result<Option<Mvt>, Memory>
-    ensures is { IfOk result (λ message. message ≡ message_of text.now) }
+    ensures is { IfOk result (λ message. message ≡ canonical_message text.now) }
 {
     match read_mvt(text) {
         Ok(message) => {

@@ -2,13 +2,13 @@
 ghost use Rattle.std.specs.Prelude.{◌≡◌, ◌++◌, ◌<◌, length, IfSome, OnOk};
 ghost use Rattle.apron_rules.specs.Rules.{least_of};
 ghost use Rattle.entry_bytes.specs.Widths.{VisitFits};
-ghost use Rattle.entry_bytes.specs.Gives.{Gives};
-ghost use Rattle.entry_bytes.specs.NewVisits.{is_off_of, new_visit_at, new_visit_text};
+ghost use Rattle.entry_bytes.specs.Gives.{GivesReading};
+ghost use Rattle.entry_bytes.specs.NewVisits.{is_off_of, new_visit_text, parse_new_visit};
 ghost use Rattle.entry_bytes.specs.Readings.{number, such_that};
 ghost use Rattle.std.specs.Int.{w32};
 
 use crate::faults::ReadFault;
-use crate::keys::{optional_key_at, push_optional_key};
+use crate::keys::{parse_optional_key, push_optional_key};
 use crate::reader::{Reader, in_form};
 use crate::writing::{push_name, push_u16, push_u32};
 use apron_base::{Memory, Minute, TypeNo};
@@ -47,12 +47,12 @@ fn is_off_of(airport: &Airport, kind: TypeNo, on: Minute, off: Minute) -> bool
     off <= airport.minutes() && on <= off && off - on >= least_of(airport, kind)
 }
 
-#[tactic(auto, unfolding(crate::specs::NewVisits::new_visit_at))]
-pub(crate) fn new_visit_at(
+#[tactic(auto, unfolding(crate::specs::NewVisits::parse_new_visit))]
+pub(crate) fn parse_new_visit(
     reader: &mut Reader<'_>,
     airport: &Airport,
 ) -> Result<NewVisit, ReadFault>
-    ensures is { Gives result reader.new (new_visit_at airport.now reader.old) }
+    ensures is { GivesReading result reader.new (parse_new_visit airport.now reader.old) }
 {
     let name = reader.name()?;
     let at = reader.at();
@@ -68,8 +68,8 @@ pub(crate) fn new_visit_at(
     let off = reader.u32()?;
     let kind = TypeNo(kind);
     in_form(at, is_off_of(airport, kind, on, off))?;
-    let arr = optional_key_at(reader, airport)?;
-    let dep = optional_key_at(reader, airport)?;
+    let arr = parse_optional_key(reader, airport)?;
+    let dep = parse_optional_key(reader, airport)?;
     Ok(NewVisit {
         name,
         kind,

@@ -1,8 +1,8 @@
 // Bytes that are read from left to right, a field at a time.
 ghost use Rattle.std.specs.Prelude.{◌≡◌, ◌+◌, ◌==◌, length, IfOk, Ok, Err, if◌then◌else◌};
 ghost use Rattle.std.specs.Int.{w16, w32, w64};
-ghost use Rattle.entry_bytes.specs.Gives.{Fails, Gives, GivesAs};
-ghost use Rattle.entry_bytes.specs.Readings.{byte, bytes_of, name, number, text};
+ghost use Rattle.entry_bytes.specs.Gives.{FailsReading, GivesAs, GivesReading};
+ghost use Rattle.entry_bytes.specs.Readings.{byte, field_bytes, name, number, text};
 
 use crate::faults::ReadFault;
 use apron_base::Name;
@@ -17,9 +17,9 @@ pub(crate) struct Reader<'a> {
 
 impl<'a> Model for Reader<'a> {
     ghost use Rattle.std.specs.Prelude.{◌+◌, ◌<◌, ◌^◌, length};
-    ghost use Rattle.entry_bytes.specs.Readings.{Left};
+    ghost use Rattle.entry_bytes.specs.Readings.{RestOfEntry};
 
-    ghost Value = { Left };
+    ghost Value = { RestOfEntry };
 
     ghost view = { λ r. record { at = r.at; bytes = r.bytes.now } };
 
@@ -47,9 +47,9 @@ impl<'a> Reader<'a> {
     }
 
     // This many bytes of the field that begins at this place.
-    #[tactic(auto, unfolding(crate::specs::Readings::bytes_of))]
+    #[tactic(auto, unfolding(crate::specs::Readings::field_bytes))]
     fn bytes_of(&mut self, at: usize, count: usize) -> Result<&'a [u8], ReadFault>
-        ensures is { GivesAs (λ bytes. bytes.now) result self.new (bytes_of at count self.old) }
+        ensures is { GivesAs (λ bytes. bytes.now) result self.new (field_bytes at count self.old) }
         ensures count { IfOk result (λ bytes. length bytes.now ≡ count) }
     {
         if self.bytes.len() < count {
@@ -63,7 +63,7 @@ impl<'a> Reader<'a> {
 
     #[tactic(auto, unfolding(crate::specs::Readings::byte))]
     pub fn byte(&mut self) -> Result<u8, ReadFault>
-        ensures is { Gives result self.new (byte self.old) }
+        ensures is { GivesReading result self.new (byte self.old) }
     {
         match self.bytes {
             [] => Err(ReadFault::BadField(self.at)),
@@ -77,7 +77,7 @@ impl<'a> Reader<'a> {
 
     #[tactic(auto, unfolding(crate::specs::Readings::number))]
     pub fn u16(&mut self) -> Result<u16, ReadFault>
-        ensures is { Gives result self.new (number w16 self.old) }
+        ensures is { GivesReading result self.new (number w16 self.old) }
     {
         let bytes = self.bytes_of(self.at, 2)?;
         Ok(u16::from_le_bytes([bytes[0], bytes[1]]))
@@ -85,7 +85,7 @@ impl<'a> Reader<'a> {
 
     #[tactic(auto, unfolding(crate::specs::Readings::number))]
     pub fn u32(&mut self) -> Result<u32, ReadFault>
-        ensures is { Gives result self.new (number w32 self.old) }
+        ensures is { GivesReading result self.new (number w32 self.old) }
     {
         let bytes = self.bytes_of(self.at, 4)?;
         Ok(u32::from_le_bytes([bytes[0], bytes[1], bytes[2], bytes[3]]))
@@ -93,7 +93,7 @@ impl<'a> Reader<'a> {
 
     #[tactic(auto, unfolding(crate::specs::Readings::number))]
     pub fn u64(&mut self) -> Result<u64, ReadFault>
-        ensures is { Gives result self.new (number w64 self.old) }
+        ensures is { GivesReading result self.new (number w64 self.old) }
     {
         let bytes = self.bytes_of(self.at, 8)?;
         Ok(u64::from_le_bytes([
@@ -112,7 +112,7 @@ impl<'a> Reader<'a> {
     }
 
     pub fn name(&mut self) -> Result<Name, ReadFault>
-        ensures is { Gives result self.new (name self.old) }
+        ensures is { GivesReading result self.new (name self.old) }
     {
         let at = self.at;
         let text = self.text()?;

@@ -1,8 +1,8 @@
 // Reports and cancels as bytes.
 ghost use Rattle.std.specs.Prelude.{◌≡◌, ◌++◌, ◌<◌, ◌^◌, OnOk};
 ghost use Rattle.std.specs.Int.{w32, to_le_bytes};
-ghost use Rattle.entry_bytes.specs.Gives.{Gives};
-ghost use Rattle.entry_bytes.specs.Reports.{cancel_at, event_at, event_text, off_at, on_at, report_at, report_text};
+ghost use Rattle.entry_bytes.specs.Gives.{GivesReading};
+ghost use Rattle.entry_bytes.specs.Reports.{event_text, parse_cancel, parse_event, parse_off, parse_on, parse_report, report_text};
 ghost use Rattle.entry_bytes.specs.Widths.{EventFits};
 
 use crate::faults::ReadFault;
@@ -51,9 +51,9 @@ fn push_event(out: &mut Vec<u8>, event: &Event) -> Result<(), Memory>
     }
 }
 
-#[tactic(auto, unfolding(crate::specs::Reports::on_at))]
-fn on_at(reader: &mut Reader<'_>, airport: &Airport) -> Result<Event, ReadFault>
-    ensures is { Gives result reader.new (on_at airport.now reader.old) }
+#[tactic(auto, unfolding(crate::specs::Reports::parse_on))]
+fn parse_on(reader: &mut Reader<'_>, airport: &Airport) -> Result<Event, ReadFault>
+    ensures is { GivesReading result reader.new (parse_on airport.now reader.old) }
 {
     let part = reader.byte()?;
     let at = reader.at();
@@ -68,42 +68,42 @@ fn on_at(reader: &mut Reader<'_>, airport: &Airport) -> Result<Event, ReadFault>
     })
 }
 
-#[tactic(auto, unfolding(crate::specs::Reports::off_at))]
-fn off_at(reader: &mut Reader<'_>) -> Result<Event, ReadFault>
-    ensures is { Gives result reader.new (off_at reader.old) }
+#[tactic(auto, unfolding(crate::specs::Reports::parse_off))]
+fn parse_off(reader: &mut Reader<'_>) -> Result<Event, ReadFault>
+    ensures is { GivesReading result reader.new (parse_off reader.old) }
 {
     let minute = reader.u32()?;
     Ok(Event::Off { minute })
 }
 
-#[tactic(auto, unfolding(crate::specs::Reports::event_at))]
-fn event_at(reader: &mut Reader<'_>, airport: &Airport) -> Result<Event, ReadFault>
-    ensures is { Gives result reader.new (event_at airport.now reader.old) }
+#[tactic(auto, unfolding(crate::specs::Reports::parse_event))]
+fn parse_event(reader: &mut Reader<'_>, airport: &Airport) -> Result<Event, ReadFault>
+    ensures is { GivesReading result reader.new (parse_event airport.now reader.old) }
 {
     let at = reader.at();
     match reader.byte()? {
-        1 => on_at(reader, airport),
-        2 => off_at(reader),
+        1 => parse_on(reader, airport),
+        2 => parse_off(reader),
         _ => Err(ReadFault::BadField(at)),
     }
 }
 
-#[tactic(auto, unfolding(crate::specs::Reports::report_at))]
-pub(crate) fn report_at(
+#[tactic(auto, unfolding(crate::specs::Reports::parse_report))]
+pub(crate) fn parse_report(
     reader: &mut Reader<'_>,
     airport: &Airport,
     desk: Name,
 ) -> Result<Command, ReadFault>
-    ensures is { Gives result reader.new (report_at airport.now desk reader.old) }
+    ensures is { GivesReading result reader.new (parse_report airport.now desk reader.old) }
 {
     let visit = VisitNo(reader.u32()?);
-    let event = event_at(reader, airport)?;
+    let event = parse_event(reader, airport)?;
     Ok(Command::Report { desk, visit, event })
 }
 
-#[tactic(auto, unfolding(crate::specs::Reports::cancel_at))]
-pub(crate) fn cancel_at(reader: &mut Reader<'_>) -> Result<Command, ReadFault>
-    ensures is { Gives result reader.new (cancel_at reader.old) }
+#[tactic(auto, unfolding(crate::specs::Reports::parse_cancel))]
+pub(crate) fn parse_cancel(reader: &mut Reader<'_>) -> Result<Command, ReadFault>
+    ensures is { GivesReading result reader.new (parse_cancel reader.old) }
 {
     let visit = VisitNo(reader.u32()?);
     Ok(Command::Cancel { visit })

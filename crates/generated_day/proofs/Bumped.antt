@@ -8,9 +8,9 @@ use Rattle.bump_core.specs.Bumped.{bumped_by}
 use Rattle.desk_words.specs.declared.asks.Command.TheVariants.{Message}
 use Rattle.desk_words.specs.declared.asks.Entry.{Entry}
 use Rattle.desk_words.specs.declared.replies.Reply.{Reply}
-use Rattle.history_core.specs.Answer.{Replies, added, changes}
+use Rattle.history_core.specs.Answer.{Replies, added_entries, changes}
 use Rattle.history_core.specs.History.{replay}
-use Rattle.history_core.specs.Steps.{Stepped, Steps, accepted, ahead, denied, edit, full, name, refused, repeated, stepped_reply}
+use Rattle.history_core.specs.Steps.{Stepped, TakenAs, accepted, ahead, denied, edit, full, name, refused, repeated, stepped_reply}
 use Rattle.history_core.proofs.Replay.{after-push, command_version}
 use Rattle.plan_core.specs.PlanState.{empty_plan}
 use Rattle.generated_day.specs.Days.{Day, IsAsked, count_bumped, is_accepted, plan_of}
@@ -31,8 +31,8 @@ has_grown before after entry same none =
 
 -- the same for a message that a plan replies to in this way
 module _ (before after : List Entry) (call : ℕ) (desk : List ℕ) (message : Mvt) (reply : Reply) where
-  accepted_by : (stepped : Stepped) → Steps (replay day_airport before) (length before) (Message desk message) stepped → reply ≡ stepped_reply (replay day_airport before) (Message desk message) stepped
-      → after ≡ before ++ added call (Message desk message) stepped → nat_lt (length before) (length after) ≡ true
+  accepted_by : (stepped : Stepped) → TakenAs (replay day_airport before) (length before) (Message desk message) stepped → reply ≡ stepped_reply (replay day_airport before) (Message desk message) stepped
+      → after ≡ before ++ added_entries call (Message desk message) stepped → nat_lt (length before) (length after) ≡ true
       → count_bumped reply.told ≡ length (bumped_by (replay day_airport after).version (replay day_airport after).visits)
   accepted_by ahead s r e grown = absurd s
   accepted_by (repeated entry) s r e grown = absurd s
@@ -43,8 +43,8 @@ module _ (before after : List Entry) (call : ℕ) (desk : List ℕ) (message : M
   accepted_by accepted s r e grown =
       rw (r, e, after-push (empty_plan day_airport) before (record { call = call; command = Message desk message }), command_version (replay day_airport before) (Message desk message) tt) refl
 
-  refused_by : (stepped : Stepped) → Steps (replay day_airport before) (length before) (Message desk message) stepped → reply ≡ stepped_reply (replay day_airport before) (Message desk message) stepped
-      → after ≡ before ++ added call (Message desk message) stepped → nat_lt (length before) (length after) ≡ false → count_bumped reply.told ≡ 0
+  refused_by : (stepped : Stepped) → TakenAs (replay day_airport before) (length before) (Message desk message) stepped → reply ≡ stepped_reply (replay day_airport before) (Message desk message) stepped
+      → after ≡ before ++ added_entries call (Message desk message) stepped → nat_lt (length before) (length after) ≡ false → count_bumped reply.told ≡ 0
   refused_by ahead s r e none = absurd s
   refused_by (repeated entry) s r e none = absurd s
   refused_by (refused (name number)) s r e none = absurd s

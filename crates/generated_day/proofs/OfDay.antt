@@ -7,7 +7,7 @@ use Rattle.std.proofs.lemmas.List.FromFn.{length-map-range_with_len}
 use Rattle.apron_base.specs.declared.numbers.TypeNo.{TypeNo}
 use Rattle.apron_dates.specs.Dates.{IsFirstDay}
 use Rattle.apron_rules.specs.Names.{is_station, repeated_after}
-use Rattle.apron_rules.specs.Refusals.{fault_of, later_fault_of}
+use Rattle.apron_rules.specs.Refusals.{airport_fault, later_fault_of}
 use Rattle.apron_rules.specs.Rules.{least_of}
 use Rattle.apron_rules.specs.declared.parts.AirportParts.{AirportParts}
 use Rattle.apron_rules.specs.declared.refusals.AirportFault.{AirportFault}
@@ -72,11 +72,11 @@ pub first_of_day : (parts : AirportParts) → parts ≡ day_airport → IsFirstD
 first_of_day parts same = rw same first_is
 
 -- the airport of the day has no fault
-faultless : fault_of day_airport ≡ None
-unfolding day_airport fault_of later_fault_of repeated_after
+faultless : airport_fault day_airport ≡ None
+unfolding day_airport airport_fault later_fault_of repeated_after
 faultless = refl
 
 -- so only a lack of memory can make it fail
-pub only_memory : (parts : AirportParts) (fault : AirportFault) → parts ≡ day_airport → (fault ≡ refused.Memory) ⊎ (fault_of parts ≡ Some fault) → fault ≡ refused.Memory
+pub only_memory : (parts : AirportParts) (fault : AirportFault) → parts ≡ day_airport → (fault ≡ refused.Memory) ⊎ (airport_fault parts ≡ Some fault) → fault ≡ refused.Memory
 only_memory parts fault same (inl memory) = memory
 only_memory parts fault same (inr why) = let never : ◌≡◌ {A = Option AirportFault} None (Some fault) = sym faultless ∙ (rw same at why) in absurd (cc)

@@ -6,8 +6,8 @@ use Rattle.desk_words.specs.declared.asks.Command.{Command}
 use Rattle.desk_words.specs.declared.asks.Command.TheVariants.{AddVisit, Message}
 use Rattle.desk_words.specs.declared.replies.Reply.{Reply}
 use Rattle.generated_day.specs.Asked.{drawn_visit, estimate, put_first, scheduled_on}
-use Rattle.generated_day.specs.Days.{Day, IsAdded, IsAsked, IsDayOf, IsDelayed, IsMade, IsPlaced, IsPut, IsTried, MakesDay, count_bumped, is_accepted, plan_of, summary_of, with_refusal}
-use Rattle.generated_day.specs.Draws.{drawn, seed_after}
+use Rattle.generated_day.specs.Days.{Day, IsAsked, IsDayOf, IsDelayed, IsPlaced, IsPutTried, IsTried, IsVisitAdded, IsVisitMade, MakesDay, count_bumped, is_accepted, plan_of, summary_of, with_refusal}
+use Rattle.generated_day.specs.Draws.{draw_below, seed_after}
 use Rattle.generated_day.specs.declared.airport.TheConstants.{STANDS}
 use Rattle.generated_day.specs.declared.summary.Summary.{Summary}
 use Rattle.apron_base.specs.declared.listed.Memory.{Memory}
@@ -22,16 +22,16 @@ pub bumped_kept : (command : Command) (day asked : Day) (reply : Reply) → IsAs
 bumped_kept command day asked reply h = ap (λ (d : Day). d.bumped) h.1
 
 pub added-by : (number seed : ℕ) (day asked : Day) (new : NewVisit) (reply : Reply) → new ≡ drawn_visit number day.seed → IsAsked (AddVisit new) day reply asked → seed ≡ seed_after 4 asked.seed
-    → IsAdded number day (record asked { seed = seed })
-added-by number seed day asked new reply same h drawn = record {
+    → IsVisitAdded number day (record asked { seed = seed })
+added-by number seed day asked new reply same h draw_below = record {
   asked = asked;
   reply = reply;
   is = rw same at h;
-  after_is = rw (drawn, seed_kept (AddVisit new) day asked reply h) refl;
+  after_is = rw (draw_below, seed_kept (AddVisit new) day asked reply h) refl;
 }
 
 pub put-by : (number stand draft : ℕ) (day asked : Day) (command : Command) (reply : Reply) → command ≡ put_first day.draft (plan_of day).version number stand → IsAsked command day reply asked → draft ≡ asked.draft + 1
-    → IsPut number stand day (record asked { draft = draft })
+    → IsPutTried number stand day (record asked { draft = draft })
 put-by number stand draft day asked command reply same h next = record {
   asked = asked;
   reply = reply;
@@ -40,20 +40,20 @@ put-by number stand draft day asked command reply same h next = record {
 }
 
 pub delayed-by : (number seed bumped : ℕ) (day asked : Day) (message : Mvt) (reply : Reply)
-    → message ≡ estimate number (scheduled_on (plan_of day).visits number) (20 + drawn 60 (seed_after 1 day.seed)) → IsAsked (Message (codes "MAKE") message) day reply asked
+    → message ≡ estimate number (scheduled_on (plan_of day).visits number) (20 + draw_below 60 (seed_after 1 day.seed)) → IsAsked (Message (codes "MAKE") message) day reply asked
     → seed ≡ seed_after 1 day.seed → bumped ≡ asked.bumped + count_bumped reply.told → IsDelayed number day (record asked { seed = seed; bumped = bumped })
-delayed-by number seed bumped day asked message reply same h drawn more = record {
+delayed-by number seed bumped day asked message reply same h draw_below more = record {
   asked = asked;
   reply = reply;
   is = rw same at h;
-  after_is = rw (drawn, more, bumped_kept (Message (codes "MAKE") message) day asked reply h) refl;
+  after_is = rw (draw_below, more, bumped_kept (Message (codes "MAKE") message) day asked reply h) refl;
 }
 
 -- tries of a stand
-pub tried-last : (turns more number first t : ℕ) (day put : Day) → turns ≡ more + 1 → IsPut number ((first + t) % STANDS) day put → is_accepted day put ≡ true → IsTried turns number first t day put
+pub tried-last : (turns more number first t : ℕ) (day put : Day) → turns ≡ more + 1 → IsPutTried number ((first + t) % STANDS) day put → is_accepted day put ≡ true → IsTried turns number first t day put
 tried-last turns more number first t day put one h accepted = rw (one, add-one) (put, h, rw accepted refl)
 
-pub tried-next : (turns more number first t : ℕ) (day put after : Day) → turns ≡ more + 1 → IsPut number ((first + t) % STANDS) day put → is_accepted day put ≡ false
+pub tried-next : (turns more number first t : ℕ) (day put after : Day) → turns ≡ more + 1 → IsPutTried number ((first + t) % STANDS) day put → is_accepted day put ≡ false
     → IsTried more number first (t + 1) (with_refusal put) after → IsTried turns number first t day after
 tried-next turns more number first t day put after one h refused rest = rw (one, add-one) (put, h, rw refused rest)
 
@@ -61,14 +61,14 @@ pub tried-none : (turns number first t : ℕ) (day : Day) → turns ≡ 0 → Is
 tried-none turns number first t day none = rw none refl
 
 -- the stand that was drawn comes first
-pub placed-by : (number first seed : ℕ) (day after : Day) → first ≡ drawn STANDS seed → seed ≡ seed_after 1 day.seed → IsTried 8 number first 0 (record day { seed = seed }) after → IsPlaced number day after
+pub placed-by : (number first seed : ℕ) (day after : Day) → first ≡ draw_below STANDS seed → seed ≡ seed_after 1 day.seed → IsTried 8 number first 0 (record day { seed = seed }) after → IsPlaced number day after
 placed-by number first seed day after f s h =
-    let At : ℕ → Type 0 = λ x. IsTried 8 number (drawn STANDS x) 0 (record day { seed = x }) after in
+    let At : ℕ → Type 0 = λ x. IsTried 8 number (draw_below STANDS x) 0 (record day { seed = x }) after in
     let From : ℕ → Type 0 = λ x. IsTried 8 number x 0 (record day { seed = seed }) after in
     subst At s (subst From f h)
 
 -- one more visit
-pub day-next : (visits : ℕ) (day after : Day) → IsDayOf visits day → IsMade (visits + 1) day after → IsDayOf (visits + 1) after
+pub day-next : (visits : ℕ) (day after : Day) → IsDayOf visits day → IsVisitMade (visits + 1) day after → IsDayOf (visits + 1) after
 day-next visits day after before made = rw (add-one visits) (day, before, made)
 
 pub makes-by : (result : Result Summary Memory) (visits made : ℕ) (day : Day) → made ≡ visits → IsDayOf made day → IfOk result (λ summary. summary ≡ summary_of day) → IfOk result (MakesDay visits)

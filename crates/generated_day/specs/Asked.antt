@@ -9,7 +9,7 @@ use Rattle.visit_book.specs.declared.visits.NewVisit.{NewVisit}
 use Rattle.visit_book.specs.declared.visits.Visit.{Visit}
 use Rattle.desk_words.specs.declared.asks.Command.{Command}
 use Rattle.desk_words.specs.declared.asks.Command.TheVariants.{Commit}
-use Rattle.generated_day.specs.Draws.{drawn, seed_after}
+use Rattle.generated_day.specs.Draws.{draw_below, seed_after}
 
 -- the flight that the visit of this number comes by
 abbrev pub day_flight : ℕ → Flight
@@ -17,17 +17,17 @@ day_flight number = record { airline = codes "MK"; number = number; suffix = Non
 
 -- the scheduled minute on block of the visit whose draws begin with this number of the generator
 abbrev pub drawn_on : ℕ → ℕ
-drawn_on seed = 30 + drawn 1300 (seed_after 3 seed)
+drawn_on seed = 30 + draw_below 1300 (seed_after 3 seed)
 
 -- the visit of this number, by four draws: of its type, its class, its minute on block, and how
 -- long it stays beyond 90 minutes
 unfoldable pub drawn_visit : ℕ → ℕ → NewVisit
 drawn_visit number seed = record {
   name = 77 ∷ decimal number;
-  kind = record { 0 = drawn 5 (seed_after 1 seed) };
-  class = drawn 10 (seed_after 2 seed);
+  kind = record { 0 = draw_below 5 (seed_after 1 seed) };
+  class = draw_below 10 (seed_after 2 seed);
   on = drawn_on seed;
-  off = drawn_on seed + 90 + drawn 60 (seed_after 4 seed);
+  off = drawn_on seed + 90 + draw_below 60 (seed_after 4 seed);
   arr = Some (record { flight = day_flight number; day = 1 });
   dep = None;
 }

@@ -10,15 +10,15 @@ use Rattle.desk_words.specs.declared.asks.Command.TheVariants.{AddVisit, Message
 use Rattle.desk_words.specs.declared.asks.Entry.{Entry}
 use Rattle.desk_words.specs.declared.asks.What.TheVariants.{Change}
 use Rattle.desk_words.specs.declared.replies.Reply.{Reply}
-use Rattle.desk_words.specs.declared.replies.Told.{Told}
-use Rattle.desk_words.specs.declared.replies.Told.TheVariants.{Message as MessageTaken}
+use Rattle.desk_words.specs.declared.replies.ReplyBody.{ReplyBody}
+use Rattle.desk_words.specs.declared.replies.ReplyBody.TheVariants.{Message as MessageTaken}
 use Rattle.std.specs.Option.{is_some}
-use Rattle.history_core.specs.Answer.{Gives, replied}
+use Rattle.history_core.specs.Answer.{GivesAnswer, replied}
 use Rattle.history_core.specs.History.{replay}
 use Rattle.plan_core.specs.PlanState.{PlanState}
 use Rattle.generated_day.specs.Asked.{drawn_visit, estimate, put_first, scheduled_on}
 use Rattle.generated_day.specs.DayAirport.{day_airport}
-use Rattle.generated_day.specs.Draws.{drawn, seed_after}
+use Rattle.generated_day.specs.Draws.{draw_below, seed_after}
 use Rattle.generated_day.specs.declared.airport.TheConstants.{STANDS}
 use Rattle.generated_day.specs.declared.summary.Summary.{Summary}
 
@@ -44,7 +44,7 @@ plan_of day = replay day_airport day.history
 -- this was asked with the next call number, and this is the plan's reply to it
 abbrev pub IsAsked : Command → Day → Reply → Day → Type 0
 IsAsked command day reply after =
-    Gives day_airport day.history day.next (record { seen = 0; what = Change command }) (replied reply) after.history
+    GivesAnswer day_airport day.history day.next (record { seen = 0; what = Change command }) (replied reply) after.history
     × (after ≡ record day { history = after.history; next = day.next + 1 })
 
 -- the entry of what was asked was added
@@ -52,14 +52,14 @@ abbrev pub is_accepted : Day → Day → Bool
 is_accepted day after = nat_lt (length day.history) (length after.history)
 
 -- the visit of this number was drawn, and asked to be added
-pub record IsAdded (number : ℕ) (day after : Day) : Type 0 where
+pub record IsVisitAdded (number : ℕ) (day after : Day) : Type 0 where
   pub asked : Day
   pub reply : Reply
   pub is : IsAsked (AddVisit (drawn_visit number day.seed)) day reply asked
   pub after_is : after ≡ record asked { seed = seed_after 4 day.seed }
 
 -- the next draft asked to put the visit on the stand
-pub record IsPut (number stand : ℕ) (day after : Day) : Type 0 where
+pub record IsPutTried (number stand : ℕ) (day after : Day) : Type 0 where
   pub asked : Day
   pub reply : Reply
   pub is : IsAsked (put_first day.draft (plan_of day).version number stand) day reply asked
@@ -74,15 +74,15 @@ with_refusal day = record day { refused = day.refused + 1 }
 abbrev pub IsTried : ℕ → ℕ → ℕ → ℕ → Day → Day → Type 0
 IsTried zero number first t day after = after ≡ day
 IsTried (suc turns) number first t day after =
-    (put : Day) × IsPut number ((first + t) % STANDS) day put
+    (put : Day) × IsPutTried number ((first + t) % STANDS) day put
     × MatchBool (is_accepted day put) (after ≡ put) (IsTried turns number first (t + 1) (with_refusal put) after)
 
 -- a stand was drawn, and it and the seven after it were tried
 abbrev pub IsPlaced : ℕ → Day → Day → Type 0
-IsPlaced number day after = IsTried 8 number (drawn STANDS (seed_after 1 day.seed)) 0 (record day { seed = seed_after 1 day.seed }) after
+IsPlaced number day after = IsTried 8 number (draw_below STANDS (seed_after 1 day.seed)) 0 (record day { seed = seed_after 1 day.seed }) after
 
 -- how many parts a message's reply names as bumped
-abbrev pub count_bumped : Told → ℕ
+abbrev pub count_bumped : ReplyBody → ℕ
 count_bumped (MessageTaken parts visit) = length parts
 count_bumped told = 0
 
@@ -91,22 +91,22 @@ count_bumped told = 0
 pub record IsDelayed (number : ℕ) (day after : Day) : Type 0 where
   pub asked : Day
   pub reply : Reply
-  pub is : IsAsked (Message (codes "MAKE") (estimate number (scheduled_on (plan_of day).visits number) (20 + drawn 60 (seed_after 1 day.seed)))) day reply asked
+  pub is : IsAsked (Message (codes "MAKE") (estimate number (scheduled_on (plan_of day).visits number) (20 + draw_below 60 (seed_after 1 day.seed)))) day reply asked
   pub after_is : after ≡ record asked { seed = seed_after 1 day.seed; bumped = day.bumped + count_bumped reply.told }
 
 -- what is made with the visit of this number: it is added and placed, and with each fourth visit
 -- the visit of half its number is delayed
-pub record IsMade (number : ℕ) (day after : Day) : Type 0 where
+pub record IsVisitMade (number : ℕ) (day after : Day) : Type 0 where
   pub added : Day
   pub placed : Day
-  pub adds : IsAdded number day added
+  pub adds : IsVisitAdded number day added
   pub places : IsPlaced number added placed
   pub delays : MatchBool (number % 4 == 0) (IsDelayed (number / 2) placed after) (after ≡ placed)
 
 -- the day of this many visits
 abbrev pub IsDayOf : ℕ → Day → Type 0
 IsDayOf zero after = after ≡ first_day
-IsDayOf (suc visits) after = (day : Day) × IsDayOf visits day × IsMade (visits + 1) day after
+IsDayOf (suc visits) after = (day : Day) × IsDayOf visits day × IsVisitMade (visits + 1) day after
 
 -- the parts of the visits
 abbrev pub parts_of : List Visit → List Part

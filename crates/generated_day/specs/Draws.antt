@@ -11,5 +11,5 @@ seed_after zero seed = seed
 seed_after (suc draws) seed = next_seed (seed_after draws seed)
 
 -- what a draw below k gives if the generator's number after it is this one
-abbrev pub drawn : ℕ → ℕ → ℕ
-drawn k seed = (seed / 65536) % k
+abbrev pub draw_below : ℕ → ℕ → ℕ
+draw_below k seed = (seed / 65536) % k

@@ -8,7 +8,7 @@ ghost use Rattle.generated_day.specs.DayAirport.{day_airport};
 ghost use Rattle.generated_day.specs.Days.{most_made};
 
 use crate::airport::STANDS;
-use crate::draws::{drawn, next_seed};
+use crate::draws::{draw_below, next_seed};
 use apron_base::{Listed, Memory, Name, StandNo, TypeNo, VisitNo};
 use desk_words::asks::Command;
 use mvt_grammar::{Clock, Flight, Mvt};
@@ -48,13 +48,13 @@ pub(crate) fn drawn_visit(alloc: Global, number: u32, seed: u32) -> Result<NewVi
     let first = next_seed(seed);
     let second = next_seed(first);
     let third = next_seed(second);
-    let on = 30 + drawn(1_300, third);
+    let on = 30 + draw_below(1_300, third);
     Ok(NewVisit {
         name: day_name(alloc, number)?,
-        kind: TypeNo(drawn(5, first) as u16),
-        class: drawn(10, second) as u8,
+        kind: TypeNo(draw_below(5, first) as u16),
+        class: draw_below(10, second) as u8,
         on,
-        off: on + 90 + drawn(60, next_seed(third)),
+        off: on + 90 + draw_below(60, next_seed(third)),
         arr: Some(Key {
             flight: day_flight(number),
             day: 1,

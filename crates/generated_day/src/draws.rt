@@ -1,6 +1,6 @@
 // The generator: a number that changes with each draw.
 ghost use Rattle.std.specs.Prelude.{◌≡◌, ◌<◌, ◌^◌};
-ghost use Rattle.generated_day.specs.Draws.{drawn, next_seed};
+ghost use Rattle.generated_day.specs.Draws.{draw_below, next_seed};
 
 const MODULUS: u64 = 1 << 31;
 
@@ -12,9 +12,9 @@ pub(crate) fn next_seed(seed: u32) -> u32
 }
 
 /// What a draw below `k` gives if the generator's number after it is this one.
-pub(crate) fn drawn(k: u32, seed: u32) -> u32
+pub(crate) fn draw_below(k: u32, seed: u32) -> u32
     requires some { 0 < k }
-    ensures value { result ≡ drawn k seed }
+    ensures value { result ≡ draw_below k seed }
     ensures small { result < k }
 {
     (seed / 65536) % k

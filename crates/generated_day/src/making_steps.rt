@@ -4,13 +4,13 @@ ghost use Rattle.desk_words.specs.Commands.{IsCommandOf};
 ghost use Rattle.desk_words.specs.declared.replies.Reply.{Reply};
 ghost use Rattle.generated_day.specs.Asked.{scheduled_on};
 ghost use Rattle.generated_day.specs.DayAirport.{day_airport};
-ghost use Rattle.generated_day.specs.Days.{IsAdded, IsAsked, IsDelayed, IsPut, first_day, is_accepted, most_made, plan_of};
-ghost use Rattle.generated_day.specs.Makings.{day_of};
+ghost use Rattle.generated_day.specs.Days.{IsAsked, IsDelayed, IsPutTried, IsVisitAdded, first_day, is_accepted, most_made, plan_of};
+ghost use Rattle.generated_day.specs.Makings.{day_so_far};
 
 use crate::airport::STANDS;
 use crate::asks::{drawn_visit, estimate, put_first};
 use crate::counts::more;
-use crate::draws::{drawn, next_seed};
+use crate::draws::{draw_below, next_seed};
 use crate::making::Making;
 use apron_base::{Acted, CALL_END, Memory, Name, SteadyKeeper, VisitNo};
 use apron_rules::Airport;
@@ -23,7 +23,7 @@ impl<'a> Making<'a> {
     /// A day for which nothing was made yet.
     pub(crate) fn new(alloc: Global, airport: &'a Airport) -> Result<Making<'a>, Memory>
         requires airport { airport.now ≡ day_airport }
-        ensures first { IfOk result (λ making. day_of making ≡ first_day) }
+        ensures first { IfOk result (λ making. day_so_far making ≡ first_day) }
     {
         let keeper = SteadyKeeper::new(alloc, Vec::new(alloc));
         match Board::open(alloc, airport, keeper, Vec::new(alloc)) {
@@ -41,7 +41,7 @@ impl<'a> Making<'a> {
     // Asks this with the next call number.
     fn ask(&mut self, alloc: Global, command: Command) -> Result<(), Memory>
         requires valid { IsCommandOf day_airport command }
-        ensures asked { OnOk result ((reply : Reply) × IsAsked command (day_of self.old) reply (day_of self.new)) }
+        ensures asked { OnOk result ((reply : Reply) × IsAsked command (day_so_far self.old) reply (day_so_far self.new)) }
     {
         let call = self.board.next_call();
         // No day makes this many calls. The test spares a proof that counts them.
@@ -62,7 +62,7 @@ impl<'a> Making<'a> {
     /// Draws the visit of this number and asks to add it.
     pub(crate) fn add(&mut self, alloc: Global, number: u32) -> Result<(), Memory>
         requires few { number ≤ most_made }
-        ensures added { OnOk result (IsAdded number (day_of self.old) (day_of self.new)) }
+        ensures added { OnOk result (IsVisitAdded number (day_so_far self.old) (day_so_far self.new)) }
     {
         let new = drawn_visit(alloc, number, self.seed)?;
         self.ask(alloc, Command::AddVisit(new))?;
@@ -73,8 +73,8 @@ impl<'a> Making<'a> {
     /// Asks to put the visit on the stand with the next draft, and says whether that was accepted.
     pub(crate) fn put(&mut self, alloc: Global, number: u32, stand: u32) -> Result<bool, Memory>
         requires stand { stand < STANDS }
-        ensures put { IfOk result (λ accepted. IsPut number stand (day_of self.old) (day_of self.new)) }
-        ensures accepted { IfOk result (λ accepted. accepted ≡ is_accepted (day_of self.old) (day_of self.new)) }
+        ensures put { IfOk result (λ accepted. IsPutTried number stand (day_so_far self.old) (day_so_far self.new)) }
+        ensures accepted { IfOk result (λ accepted. accepted ≡ is_accepted (day_so_far self.old) (day_so_far self.new)) }
     {
         let version = self.board.plan().version();
         let before = self.board.history().len();
@@ -88,11 +88,11 @@ impl<'a> Making<'a> {
     /// 20 minutes.
     pub(crate) fn delay(&mut self, alloc: Global, number: u32) -> Result<(), Memory>
         requires few { number ≤ most_made }
-        ensures delayed { OnOk result (IsDelayed number (day_of self.old) (day_of self.new)) }
+        ensures delayed { OnOk result (IsDelayed number (day_so_far self.old) (day_so_far self.new)) }
     {
         let seed = next_seed(self.seed);
         let on = self.scheduled_on(number);
-        let message = estimate(number, on, 20 + drawn(60, seed));
+        let message = estimate(number, on, 20 + draw_below(60, seed));
         let before = self.board.history().len();
         self.ask(
             alloc,
@@ -112,7 +112,7 @@ impl<'a> Making<'a> {
 
     // The scheduled minute on block of the visit of this number.
     fn scheduled_on(&self, number: u32) -> u32
-        ensures is { result ≡ scheduled_on (plan_of (day_of self.now)).visits number }
+        ensures is { result ≡ scheduled_on (plan_of (day_so_far self.now)).visits number }
     {
         match self.board.plan().visit(VisitNo(number)) {
             Some(visit) => visit.on,

@@ -1,13 +1,13 @@
 // The day of a number of visits, and its summary.
 ghost use Rattle.std.specs.Prelude.{◌≡◌, ◌≤◌, ◌<◌, ◌%◌, ◌+◌, IfOk, OnOk, count_by};
-ghost use Rattle.generated_day.specs.Days.{IsMade, IsPlaced, MakesDay, is_placed, is_unplaced, most_made, parts_of, summary_of};
+ghost use Rattle.generated_day.specs.Days.{IsPlaced, IsVisitMade, MakesDay, is_placed, is_unplaced, most_made, parts_of, summary_of};
 ghost use Rattle.generated_day.specs.DayAirport.{day_airport};
-ghost use Rattle.generated_day.specs.Makings.{day_of};
+ghost use Rattle.generated_day.specs.Makings.{day_so_far};
 
 use crate::Summary;
 use crate::airport::{STANDS, day_airport};
 use crate::counts::more;
-use crate::draws::{drawn, next_seed};
+use crate::draws::{draw_below, next_seed};
 use crate::making::Making;
 use apron_base::Memory;
 use std::alloc::Global;
@@ -28,18 +28,18 @@ pub fn make_day(alloc: Global, visits: u32) -> Result<Summary, Memory>
     let airport = day_airport(alloc)?;
     let mut making = Making::new(alloc, &airport)?;
     for made in 0..visits {
-        make(alloc, &mut making, made + 1)?;
+        make_visit(alloc, &mut making, made + 1)?;
     }
     summary(&making)
 }
 
 // Makes everything that comes with the visit of this number.
-fn make(alloc: Global, making: &mut Making, number: u32) -> Result<(), Memory>
+fn make_visit(alloc: Global, making: &mut Making, number: u32) -> Result<(), Memory>
     requires few { number ≤ most_made }
-    ensures made { OnOk result (IsMade number (day_of making.old) (day_of making.new)) }
+    ensures made { OnOk result (IsVisitMade number (day_so_far making.old) (day_so_far making.new)) }
 {
     making.add(alloc, number)?;
-    place(alloc, making, number)?;
+    place_visit(alloc, making, number)?;
     if number % 4 == 0 {
         making.delay(alloc, number / 2)?;
     }
@@ -47,11 +47,11 @@ fn make(alloc: Global, making: &mut Making, number: u32) -> Result<(), Memory>
 }
 
 // Draws a stand, and tries it and those after it.
-fn place(alloc: Global, making: &mut Making, number: u32) -> Result<(), Memory>
-    ensures placed { OnOk result (IsPlaced number (day_of making.old) (day_of making.new)) }
+fn place_visit(alloc: Global, making: &mut Making, number: u32) -> Result<(), Memory>
+    ensures placed { OnOk result (IsPlaced number (day_so_far making.old) (day_so_far making.new)) }
 {
     making.seed = next_seed(making.seed);
-    let first = drawn(STANDS, making.seed);
+    let first = draw_below(STANDS, making.seed);
     for t in 0..TRIES {
         if making.put(alloc, number, (first + t) % STANDS)? {
             return Ok(());
@@ -62,7 +62,7 @@ fn place(alloc: Global, making: &mut Making, number: u32) -> Result<(), Memory>
 }
 
 fn summary(making: &Making) -> Result<Summary, Memory>
-    ensures is { IfOk result (λ summary. summary ≡ summary_of (day_of making.now)) }
+    ensures is { IfOk result (λ summary. summary ≡ summary_of (day_so_far making.now)) }
 {
     let plan = making.board.plan();
     let visits = plan.visits();

@@ -14,7 +14,7 @@ use Rattle.plan_core.specs.Adding.{next_visit}
 use Rattle.plan_core.specs.Edits.{is_edited}
 use Rattle.plan_core.specs.Names.{has_name, visit_named}
 use Rattle.plan_core.specs.PlanState.{IsSameVisit, PlanState, empty_plan}
-use Rattle.plan_core.specs.Rebase.{edited_last, stamp, stamped}
+use Rattle.plan_core.specs.Rebase.{edited_last, stamp, visits_after_commit}
 use Rattle.plan_core.proofs.Changed.{Follows, edits_follow}
 use Rattle.desk_words.specs.Commands.{IsCommandOf}
 use Rattle.desk_words.specs.declared.asks.Command.{Command}
@@ -37,7 +37,7 @@ module _ (whole : List Entry) where
   stamped_one version visit true is = is
   stamped_one version visit false is = is
 
-  stamped_added : (version : ℕ) (edits : List Edit) (visits : List Visit) → Every IsAdded visits → Every IsAdded (stamped version edits visits)
+  stamped_added : (version : ℕ) (edits : List Edit) (visits : List Visit) → Every IsAdded visits → Every IsAdded (visits_after_commit version edits visits)
   stamped_added version edits [] all = tt
   stamped_added version edits (visit ∷ visits) all =
       (stamped_one version visit (is_edited edits visit.number.0) all.0, stamped_added version edits visits all.1)
@@ -157,10 +157,10 @@ module _ (version : ℕ) (added : NewVisit) where
   stamped_same made visit true = record { new = refl; added = refl }
   stamped_same made visit false = record { new = refl; added = refl }
 
-  stamped_finds : (made : ℕ) (edits : List Edit) (visits : List Visit) → Finds visits → Finds (stamped made edits visits)
+  stamped_finds : (made : ℕ) (edits : List Edit) (visits : List Visit) → Finds visits → Finds (visits_after_commit made edits visits)
   stamped_finds made edits [] finds = finds
   stamped_finds made edits (visit ∷ visits) finds =
-      same_finds visit (stamp made edits visit) visits (stamped made edits visits) (stamped_same made visit (is_edited edits visit.number.0))
+      same_finds visit (stamp made edits visit) visits (visits_after_commit made edits visits) (stamped_same made visit (is_edited edits visit.number.0))
       (stamped_finds made edits visits) finds
 
   command_finds : (plan : PlanState) (command : Command) → IsTaken plan command → IsNumbered plan.visits → Finds plan.visits → Finds (after_command plan command).visits

@@ -9,11 +9,11 @@ use Rattle.visit_book.specs.Numbers.{IsNumbered}
 use Rattle.plan_core.specs.PlanState.{PlanState, empty_plan}
 use Rattle.desk_words.specs.Commands.{IsCommandOf}
 use Rattle.desk_words.specs.declared.asks.Entry.{Entry}
-use Rattle.entry_bytes.specs.Entries.{decoded, entry_text}
+use Rattle.entry_bytes.specs.Entries.{decode_entry, entry_text}
 use Rattle.history_core.specs.Board.{BoardHeld, IsBoard}
 use Rattle.history_core.specs.Bumped.{last_bumped}
 use Rattle.history_core.specs.History.{IsLegal, call_limit, call_of, replay}
-use Rattle.history_core.specs.Steps.{Steps, accepted, after_command}
+use Rattle.history_core.specs.Steps.{TakenAs, accepted, after_command}
 use Rattle.history_core.proofs.Keepers.{kept_added, kept_failed, kept_ready}
 use Rattle.history_core.proofs.Legal.{legal_counted}
 use Rattle.history_core.proofs.Replay.{after-push, replay-airport, taken_numbered, taken_push}
@@ -34,11 +34,11 @@ module _ (airport : AirportParts) (history : List Entry) (plan : PlanState) (is 
 -- a legal history with one more entry, whose command is accepted and whose call comes after the
 -- others
 pub legal_pushed : (airport : AirportParts) (history : List Entry) (next : ℕ) (entry : Entry) → IsLegal airport history → Rises call_of 1 next history
-    → IsCommandOf airport entry.command → Steps (replay airport history) (length history) entry.command accepted → next ≤ entry.call → entry.call < call_limit
+    → IsCommandOf airport entry.command → TakenAs (replay airport history) (length history) entry.command accepted → next ≤ entry.call → entry.call < call_limit
     → IsLegal airport (history ++ entry ∷ [])
 legal_pushed airport history next entry legal numbers valid steps up last = record {
   taken = taken_push (empty_plan airport) 0 history entry legal.taken valid
-      (subst (λ (n : ℕ). Steps (replay airport history) n entry.command accepted) (omega arith) steps);
+      (subst (λ (n : ℕ). TakenAs (replay airport history) n entry.command accepted) (omega arith) steps);
   numbers = rises_push call_of 1 next call_limit history entry numbers up last;
 }
 
@@ -57,14 +57,14 @@ board_called plan bumped keeper board later h up few = record {
 -- an entry that the board can have next
 pub record IsNext {K : Type 0} (board : BoardHeld K) (entry : Entry) : Type 0 where
   pub valid : IsCommandOf board.airport entry.command
-  pub steps : Steps (replay board.airport board.history) (length board.history) entry.command accepted
+  pub steps : TakenAs (replay board.airport board.history) (length board.history) entry.command accepted
   pub up : board.next ≤ entry.call
   pub last : entry.call < call_limit
 
 -- a board after one more entry, by this call, which its keeper has
 pub board_pushed : {K : Type 0} (plan new : PlanState) (bumped lost : List PartId) (first before after : KeeperState) (board : BoardHeld K) (keeper : K)
     (history : List Entry) (entry : Entry)
-    → IsBoard plan bumped first board → IsNext board entry → decoded board.airport (entry_text entry) ≡ Ok entry → before ≡ record first { room = before.room }
+    → IsBoard plan bumped first board → IsNext board entry → decode_entry board.airport (entry_text entry) ≡ Ok entry → before ≡ record first { room = before.room }
     → AddsEntry before after (entry_text entry)
     → history ≡ board.history ++ entry ∷ [] → new ≡ after_command (replay board.airport board.history) entry.command
     → lost ≡ last_bumped new
@@ -84,7 +84,7 @@ board_pushed plan new bumped lost first before after board keeper history entry 
 -- a board after an ask whose append failed
 pub board_failed : {K : Type 0} (plan same : PlanState) (bumped : List PartId) (first before after : KeeperState) (board : BoardHeld K) (keeper : K)
     (history : List Entry) (entry : Entry)
-    → IsBoard plan bumped first board → IsNext board entry → decoded board.airport (entry_text entry) ≡ Ok entry → before ≡ record first { room = before.room }
+    → IsBoard plan bumped first board → IsNext board entry → decode_entry board.airport (entry_text entry) ≡ Ok entry → before ≡ record first { room = before.room }
     → FailsToAdd before after (entry_text entry) → history ≡ board.history → same ≡ plan
     → IsBoard same bumped after (record { keeper = keeper; airport = board.airport; history = history; next = board.next })
 board_failed plan same bumped first before after board keeper history entry h next read ready fails history_is plan_is =

@@ -18,15 +18,15 @@ use Rattle.visit_book.specs.Numbers.{IsNumbered, has_number, visit_at}
 use Rattle.visit_book.specs.declared.edits.Edit.{Edit}
 use Rattle.plan_core.specs.Adding.{next_visit}
 use Rattle.plan_core.specs.Edits.{edit_visit, is_edited}
-use Rattle.plan_core.specs.Moving.{cancelled, lifted}
+use Rattle.plan_core.specs.Moving.{cancelled_visit, lifted_part}
 use Rattle.plan_core.specs.PlanState.{HasBump, PlanState, empty_plan}
-use Rattle.plan_core.specs.Rebase.{edited_last, stamped}
+use Rattle.plan_core.specs.Rebase.{edited_last, visits_after_commit}
 use Rattle.plan_core.proofs.EditKept.{visit_bumps}
 use Rattle.bump_core.specs.Bumped.{bumped_by, bumped_from, is_bumped_by}
 use Rattle.bump_core.specs.Ranks.{all_parts_on, kept_of}
 use Rattle.bump_core.specs.Settle.{place_after, settled_parts, settled_place, settled_visit}
 use Rattle.bump_core.specs.Settled.{with_changed, with_settled}
-use Rattle.bump_core.specs.declared.ranks.Blocking.{Blocking}
+use Rattle.bump_core.specs.declared.ranks.Conflict.{Conflict}
 use Rattle.bump_core.specs.declared.ranks.Ranked.{Ranked}
 use Rattle.desk_words.specs.declared.asks.Command.{Command}
 use Rattle.desk_words.specs.declared.asks.Command.TheVariants.{AddVisit, Commit, Message, Report, Cancel}
@@ -34,7 +34,7 @@ use Rattle.desk_words.specs.declared.asks.Entry.{Entry}
 use Rattle.desk_words.specs.declared.replies.Denial.{Denial}
 use Rattle.history_core.specs.History.{AreTakenFrom, IsLegal, after_entries, replay}
 use Rattle.history_core.specs.Bumped.{bumped_in, last_bumped}
-use Rattle.history_core.specs.Steps.{IsTaken, after_command, cancellable, cancelled_if, changed_by, made_told, reported}
+use Rattle.history_core.specs.Steps.{IsTaken, after_command, cancellable, cancelled_if, made_told, visit_after_message, visit_after_report}
 use Rattle.history_core.proofs.Happenings.{MayChange, message_changes, report_changes}
 use Rattle.history_core.proofs.Kept.{all_last, edits_keep, found_has, put_one_has, with_has}
 use Rattle.history_core.proofs.Replay.{command_numbered, command_version, commits}
@@ -83,7 +83,7 @@ of_each version (part ∷ parts) of = (
 )
 
 -- what settling makes of a place: a record of its own entry, or what was there
-after_of : (entry : ℕ) (stand : StandNo) (found : Option Blocking) → 1 ≤ entry → PlaceIsOf entry (place_after entry stand found)
+after_of : (entry : ℕ) (stand : StandNo) (found : Option Conflict) → 1 ≤ entry → PlaceIsOf entry (place_after entry stand found)
 after_of entry stand None some = tt
 after_of entry stand (Some found) some = (some, omega arith)
 
@@ -119,12 +119,12 @@ settled_of airport version kept (visit ∷ visits) all =
     (settled_visit_of airport version kept visit all.0, settled_of airport version kept visits all.1)
 
 -- parts that were lifted, and a part that was on no stand yet, have no record
-lifted_all : (version : ℕ) (parts : List Part) → AllByRecursion (PartIsOf version) (map lifted parts)
+lifted_all : (version : ℕ) (parts : List Part) → AllByRecursion (PartIsOf version) (map lifted_part parts)
 lifted_all version [] = tt
 lifted_all version (part ∷ parts) = (tt, lifted_all version parts)
 
-lifted_of : (version : ℕ) (parts : List Part) → AreOf version (map lifted parts)
-lifted_of version parts = each_of version (map lifted parts) (lifted_all version parts)
+lifted_of : (version : ℕ) (parts : List Part) → AreOf version (map lifted_part parts)
+lifted_of version parts = each_of version (map lifted_part parts) (lifted_all version parts)
 
 unplaced_of : (version from to : ℕ) → AreOf version (record { from = from; to = to; place = Unplaced None } ∷ [])
 unplaced_of version from to = each_of version (record { from = from; to = to; place = Unplaced None } ∷ []) (tt, tt)
@@ -141,7 +141,7 @@ stamped_one : (version made : ℕ) (visit : Visit) (here : Bool) → VisitIsOf v
 stamped_one version made visit true of = of
 stamped_one version made visit false of = of
 
-stamped_of : (version made : ℕ) (edits : List Edit) (visits : List Visit) → Every (VisitIsOf version) visits → Every (VisitIsOf version) (stamped made edits visits)
+stamped_of : (version made : ℕ) (edits : List Edit) (visits : List Visit) → Every (VisitIsOf version) visits → Every (VisitIsOf version) (visits_after_commit made edits visits)
 stamped_of version made edits [] all = tt
 stamped_of version made edits (visit ∷ visits) all =
     (stamped_one version made visit (is_edited edits visit.number.0) all.0, stamped_of version made edits visits all.1)
@@ -182,7 +182,7 @@ quiet_commit plan desk draft base edits taken all =
 
 quiet_cancel : (plan : PlanState) (found : Result Visit Denial) → Every (VisitIsOf plan.version) plan.visits
     → Every (VisitIsOf plan.version) (cancelled_if plan found).visits
-quiet_cancel plan (Ok visit) all = put_one_has (VisitIsOf plan.version) plan.visits (cancelled visit) (lifted_of plan.version visit.parts) all
+quiet_cancel plan (Ok visit) all = put_one_has (VisitIsOf plan.version) plan.visits (cancelled_visit visit) (lifted_of plan.version visit.parts) all
 quiet_cancel plan (Err why) all = all
 
 -- the records after a command that is taken
@@ -191,8 +191,8 @@ command_of : (plan : PlanState) (command : Command) → IsTaken plan command →
 command_of plan (AddVisit new) taken numbered all = all_later plan.version (after_command plan (AddVisit new)).visits (quiet_visit plan new all)
 command_of plan (Commit desk draft base edits) taken numbered all =
     all_later plan.version (after_command plan (Commit desk draft base edits)).visits (quiet_commit plan desk draft base edits taken all)
-command_of plan (Message desk message) taken numbered all = happened_of plan (changed_by plan message) (message_changes plan message numbered) all
-command_of plan (Report desk number event) taken numbered all = happened_of plan (result_ok (reported plan number event)) (report_changes plan number event) all
+command_of plan (Message desk message) taken numbered all = happened_of plan (visit_after_message plan message) (message_changes plan message numbered) all
+command_of plan (Report desk number event) taken numbered all = happened_of plan (result_ok (visit_after_report plan number event)) (report_changes plan number event) all
 command_of plan (Cancel number) taken numbered all =
     all_later plan.version (after_command plan (Cancel number)).visits (quiet_cancel plan (cancellable plan number) all)
 

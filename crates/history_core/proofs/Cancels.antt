@@ -7,12 +7,12 @@ use Rattle.apron_rules.specs.declared.parts.AirportParts.{AirportParts}
 use Rattle.visit_book.specs.declared.visits.Part.{Part}
 use Rattle.visit_book.specs.declared.visits.Visit.{Visit}
 use Rattle.visit_book.specs.Slots.{slots_from, slots_of, slots_of_visit}
-use Rattle.plan_core.specs.Moving.{cancelled, lifted, with_cancelled}
+use Rattle.plan_core.specs.Moving.{cancelled_visit, lifted_part, with_cancelled}
 use Rattle.plan_core.specs.PlanState.{PlanState, put_one}
 use Rattle.plan_core.proofs.SlotLists.{slots_of-push}
 use Rattle.history_core.specs.History.{IsSoundPlan}
 
-no_slots : (airport : AirportParts) (visit : Visit) (number : ℕ) (parts : List Part) → slots_from airport visit number (map lifted parts) ≡ []
+no_slots : (airport : AirportParts) (visit : Visit) (number : ℕ) (parts : List Part) → slots_from airport visit number (map lifted_part parts) ≡ []
 no_slots airport visit number [] = refl
 no_slots airport visit number (part ∷ parts) = no_slots airport visit (number + 1) parts
 
@@ -45,6 +45,6 @@ module _ (airport : AirportParts) (new : Visit) (none : slots_of_visit airport n
 
 pub cancelled_sound : (plan : PlanState) (visit : Visit) → IsSoundPlan plan → IsSoundPlan (with_cancelled plan visit)
 cancelled_sound plan visit sound slot other minute rule here there clash =
-    let new = cancelled visit in
+    let new = cancelled_visit visit in
     let none : slots_of_visit plan.airport new ≡ [] = no_slots plan.airport new 1 visit.parts in
     sound slot other minute rule (put_has plan.airport new none slot plan.visits here) (put_has plan.airport new none other plan.visits there) clash

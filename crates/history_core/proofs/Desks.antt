@@ -9,7 +9,7 @@ use Rattle.desk_words.specs.declared.asks.Command.TheVariants.{AddVisit, Commit,
 use Rattle.desk_words.specs.declared.asks.Entry.{Entry}
 use Rattle.history_core.specs.History.{AreTakenFrom, IsLegal, after_entries, call_limit, call_of, replay}
 use Rattle.history_core.specs.Laws.{without_desk, without_desks}
-use Rattle.history_core.specs.Steps.{Steps, accepted, after_command}
+use Rattle.history_core.specs.Steps.{TakenAs, accepted, after_command}
 
 -- a command does the same without a desk
 same_after : (plan : PlanState) (command : Command) → after_command plan (without_desk command) ≡ after_command plan command
@@ -30,7 +30,7 @@ replay_without airport history = after_without (empty_plan airport) history
 
 -- the command is of the plan's airport, and is accepted after this many entries
 abbrev IsNextAt : PlanState → ℕ → Command → Type 0
-IsNextAt plan count command = IsCommandOf plan.airport command × Steps plan count command accepted
+IsNextAt plan count command = IsCommandOf plan.airport command × TakenAs plan count command accepted
 
 -- a command is accepted with a desk exactly if it is accepted without one
 next_without : (plan : PlanState) (count : ℕ) (command : Command) → IsNextAt plan count command → IsNextAt plan count (without_desk command)

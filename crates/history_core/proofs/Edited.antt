@@ -13,7 +13,7 @@ use Rattle.visit_book.specs.Numbers.{IsNumbered, IsNumberedAbove, has_number, vi
 use Rattle.plan_core.specs.Adding.{next_visit}
 use Rattle.plan_core.specs.Edits.{after_edit, after_edits, is_edited, is_of_visit}
 use Rattle.plan_core.specs.PlanState.{PlanState, empty_plan}
-use Rattle.plan_core.specs.Rebase.{edited_last, stamped}
+use Rattle.plan_core.specs.Rebase.{edited_last, visits_after_commit}
 use Rattle.plan_core.proofs.EditKept.{EditsVisit, edits_visit}
 use Rattle.plan_core.proofs.Results.{then_ok}
 use Rattle.desk_words.specs.declared.asks.Command.{Command}
@@ -82,7 +82,7 @@ module _ (last : ℕ → ℕ) where
 
   -- after a commit the edited visits have its version
   stamped_edited : (version : ℕ) (edits : List Edit) (visits : List Visit) → Every IsEditedBy visits
-      → Every (λ (visit : Visit). visit.edited ≡ (if is_edited edits visit.number.0 then version else last visit.number.0)) (stamped version edits visits)
+      → Every (λ (visit : Visit). visit.edited ≡ (if is_edited edits visit.number.0 then version else last visit.number.0)) (visits_after_commit version edits visits)
   stamped_edited version edits [] all = tt
   stamped_edited version edits (visit ∷ visits) all =
       let here = is_edited edits visit.number.0 in (
@@ -122,7 +122,7 @@ command_edited last plan (Commit desk draft base edits) taken numbered all =
     let follows = edits_follow plan.airport base 1 edits plan.visits made.new numbered made.apply in
     let left = edits_leave (IsEditedBy last) (λ visit parts is. is) plan.airport base 1 edits plan.visits made.new made.apply all.edited in
     let within = edited_up_to plan.airport base 1 edits plan.visits made.new (length plan.visits) in
-    let size : length (stamped (plan.version + 1) edits made.new) ≡ length plan.visits =
+    let size : length (visits_after_commit (plan.version + 1) edits made.new) ≡ length plan.visits =
     length-map made.new _ ∙ follows_length (is_edited edits) 0 plan.visits made.new follows in
     subst (λ (p : PlanState). AreEditedBy (last_after last (plan.version + 1) (Commit desk draft base edits)) p.visits) (sym made.makes)
     (record {

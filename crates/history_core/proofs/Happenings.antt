@@ -25,7 +25,7 @@ use Rattle.visit_effects.specs.Effects.{effect_of, live_of, movement_meant}
 use Rattle.visit_effects.specs.Happenings.{IsBumpOf, IsOneOf, IsOneVisit}
 use Rattle.visit_effects.proofs.Happenings.{effect_is_one, report_is_one}
 use Rattle.visit_effects.proofs.OneVisit.{effect_of_one}
-use Rattle.plan_core.specs.Moving.{IsCancellable, cancelled}
+use Rattle.plan_core.specs.Moving.{IsCancellable, cancelled_visit}
 use Rattle.plan_core.specs.PlanState.{HasBump, IsPlan, IsVisitAt, PlanState}
 use Rattle.plan_core.proofs.ByNumber.{found_number, number_is}
 use Rattle.plan_core.proofs.EditKept.{found_has}
@@ -38,7 +38,7 @@ use Rattle.desk_words.specs.declared.asks.Command.{Command}
 use Rattle.desk_words.specs.declared.asks.Command.TheVariants.{AddVisit, Commit, Message, Report, Cancel}
 use Rattle.desk_words.specs.declared.replies.Denial.{Denial}
 use Rattle.desk_words.specs.declared.replies.Denial.TheVariants as denial
-use Rattle.history_core.specs.Steps.{IsTaken, after_command, cancellable, cancelled_if, changed_by, denial_of, reported}
+use Rattle.history_core.specs.Steps.{IsTaken, after_command, cancellable, cancelled_if, denial_of, visit_after_message, visit_after_report}
 use Rattle.history_core.proofs.KeptVisits.{AreKept, IsKept, all_themselves, all_twice, kept_put, kept_with}
 
 -- settling keeps each visit
@@ -80,18 +80,18 @@ one_bumps before new one bump has =
 
 -- a message acts on the first live visit of its flight
 some_effect : (plan : PlanState) (message : Mvt) (movement : Movement) (visit : Visit) → movement_meant plan.airport message ≡ Some movement
-    → live_of plan.visits movement ≡ Some visit → changed_by plan message ≡ effect_of plan.airport (visit ∷ []) message
+    → live_of plan.visits movement ≡ Some visit → visit_after_message plan message ≡ effect_of plan.airport (visit ∷ []) message
 some_effect plan message movement visit is found = effect_of_one plan.airport plan.visits message ∙ rw (is, found) refl
 
 pub effect_is : (plan : PlanState) (message : Mvt) (airport : AirportParts) (movement : Movement) (visit : Visit) (found : Option Visit) → airport ≡ plan.airport
     → movement_meant airport message ≡ Some movement → live_of plan.visits movement ≡ Some visit → found ≡ effect_of airport (visit ∷ []) message
-    → found ≡ changed_by plan message
+    → found ≡ visit_after_message plan message
 effect_is plan message airport movement visit found same meant live is =
     subst (λ (a : AirportParts). found ≡ effect_of a (visit ∷ []) message) same is
     ∙ sym (some_effect plan message movement visit (subst (λ (a : AirportParts). movement_meant a message ≡ Some movement) same meant) live)
 
 pub no_effect : (plan : PlanState) (message : Mvt) (movement : Movement) → movement_meant plan.airport message ≡ Some movement
-    → live_of plan.visits movement ≡ None → changed_by plan message ≡ None
+    → live_of plan.visits movement ≡ None → visit_after_message plan message ≡ None
 no_effect plan message movement is none = effect_of_one plan.airport plan.visits message ∙ rw (is, none) refl
 
 -- what holds of each visit holds of that one
@@ -118,7 +118,7 @@ live_formed plan movement visit plan_is found =
     at.well_formed
 
 -- a message changes one of the visits
-pub message_changes : (plan : PlanState) (message : Mvt) → IsNumbered plan.visits → MayChange plan.visits (changed_by plan message)
+pub message_changes : (plan : PlanState) (message : Mvt) → IsNumbered plan.visits → MayChange plan.visits (visit_after_message plan message)
 message_changes plan message numbered new is =
     let of : IsOneOf plan.visits new = effect_is_one plan.airport plan.visits message new numbered is in
     record { before = of.before; at = of.found; kept = one_kept of.before new of.one; bumps = one_bumps of.before new of.one }
@@ -139,10 +139,10 @@ report_one plan number event before new at is =
     let same : new.number ≡ number = one.number ∙ number_is before.number number (found_number plan.visits number before at) in
     record { before = before; at = ap (visit_at plan.visits) same ∙ at; kept = one_kept before new one; bumps = one_bumps before new one }
 
-pub report_changes : (plan : PlanState) (number : VisitNo) (event : Event) → MayChange plan.visits (result_ok (reported plan number event))
+pub report_changes : (plan : PlanState) (number : VisitNo) (event : Event) → MayChange plan.visits (result_ok (visit_after_report plan number event))
 report_changes plan number event new some =
     let found = then_ok (ok_or (visit_at plan.visits number) denial.Unknown)
-    (λ visit. result_map_both (λ visit. visit) denial_of (report_of plan.airport event visit)) new (ok_some (reported plan number event) new some) in
+    (λ visit. result_map_both (λ visit. visit) denial_of (report_of plan.airport event visit)) new (ok_some (visit_after_report plan number event) new some) in
     let at : visit_at plan.visits number ≡ Some found.0 = found_ok (visit_at plan.visits number) denial.Unknown found.0 found.1 in
     report_one plan number event found.0 new at (told_ok (report_of plan.airport event found.0) new found.2)
 
@@ -174,15 +174,15 @@ cancelled_kept : (plan : PlanState) (found : Result Visit Denial) → ((visit : 
     → AreKept plan.visits (cancelled_if plan found).visits
 cancelled_kept plan (Ok visit) is numbered =
     let can : IsCancellable plan visit = is visit refl in
-    kept_put plan.visits visit (cancelled visit) numbered can.at (record { number = refl; same = record { new = refl; added = refl }; edited = refl })
+    kept_put plan.visits visit (cancelled_visit visit) numbered can.at (record { number = refl; same = record { new = refl; added = refl }; edited = refl })
 cancelled_kept plan (Err why) is numbered = all_themselves plan.visits
 
 -- each of these three keeps each visit
-pub message_keeps : (plan : PlanState) (message : Mvt) → IsNumbered plan.visits → AreKept plan.visits (with_settled plan (changed_by plan message)).visits
-message_keeps plan message numbered = happened_kept plan (changed_by plan message) (message_changes plan message numbered)
+pub message_keeps : (plan : PlanState) (message : Mvt) → IsNumbered plan.visits → AreKept plan.visits (with_settled plan (visit_after_message plan message)).visits
+message_keeps plan message numbered = happened_kept plan (visit_after_message plan message) (message_changes plan message numbered)
 
-pub report_keeps : (plan : PlanState) (number : VisitNo) (event : Event) → AreKept plan.visits (with_settled plan (result_ok (reported plan number event))).visits
-report_keeps plan number event = happened_kept plan (result_ok (reported plan number event)) (report_changes plan number event)
+pub report_keeps : (plan : PlanState) (number : VisitNo) (event : Event) → AreKept plan.visits (with_settled plan (result_ok (visit_after_report plan number event))).visits
+report_keeps plan number event = happened_kept plan (result_ok (visit_after_report plan number event)) (report_changes plan number event)
 
 pub cancel_keeps : (plan : PlanState) (number : VisitNo) → IsNumbered plan.visits → AreKept plan.visits (after_command plan (Cancel number)).visits
 cancel_keeps plan number numbered = cancelled_kept plan (cancellable plan number) (cancellable_is plan number) numbered
@@ -208,6 +208,6 @@ changed_is plan new plan_is formed of =
     }
 
 pub changed_if : (plan : PlanState) (message : Mvt) (found : Option Visit) → IsPlan plan → IsNumbered plan.visits → IfSome found (IsWellFormed plan.airport)
-    → found ≡ changed_by plan message → IfSome found (IsChanged plan)
+    → found ≡ visit_after_message plan message → IfSome found (IsChanged plan)
 changed_if plan message None plan_is numbered formed is = tt
 changed_if plan message (Some new) plan_is numbered formed is = changed_is plan new plan_is formed (message_changes plan message numbered new (sym is))

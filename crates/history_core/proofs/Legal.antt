@@ -18,7 +18,7 @@ use Rattle.desk_words.specs.declared.asks.Command.{Command}
 use Rattle.desk_words.specs.declared.asks.Command.TheVariants.{AddVisit, Commit, Message, Report, Cancel}
 use Rattle.desk_words.specs.declared.asks.Entry.{Entry}
 use Rattle.desk_words.specs.declared.replies.Denial.{Denial}
-use Rattle.history_core.specs.Steps.{IsTaken, after_command, cancellable, cancelled_if, changed_by, committed_if, reported}
+use Rattle.history_core.specs.Steps.{IsTaken, after_command, cancellable, cancelled_if, committed_if, visit_after_message, visit_after_report}
 use Rattle.history_core.specs.History.{AreTakenFrom, IsLegal, IsSoundPlan, after_entries, call_limit, call_of, replay}
 use Rattle.history_core.specs.Laws.{HasEntry}
 use Rattle.history_core.proofs.Cancels.{cancelled_sound}
@@ -36,9 +36,9 @@ command_sound plan (AddVisit new) taken sound =
 command_sound plan (Commit desk draft base edits) (new, (visits, rebases)) sound =
     subst (λ (r : Result (List Visit) EditFault). IsSoundPlan (committed_if plan (draft_of desk draft base edits) r)) (sym rebases.apply)
     (subst (λ slots. IsSound plan.airport slots) (sym (stamped_slots plan.airport (plan.version + 1) edits visits)) rebases.sound)
-command_sound plan (Message desk message) taken sound = settled_sound plan.airport (plan.version + 1) (with_changed plan.visits (changed_by plan message))
+command_sound plan (Message desk message) taken sound = settled_sound plan.airport (plan.version + 1) (with_changed plan.visits (visit_after_message plan message))
 command_sound plan (Report desk number event) taken sound =
-    settled_sound plan.airport (plan.version + 1) (with_changed plan.visits (result_ok (reported plan number event)))
+    settled_sound plan.airport (plan.version + 1) (with_changed plan.visits (result_ok (visit_after_report plan number event)))
 command_sound plan (Cancel number) taken sound = cancelled_if_sound plan (cancellable plan number) sound
 
 taken_sound : (plan : PlanState) (count : ℕ) (history : List Entry) → IsSoundPlan plan → AreTakenFrom plan count history → IsSoundPlan (after_entries plan history)

@@ -13,12 +13,12 @@ use Rattle.entry_bytes.specs.declared.faults.EntryFault.{EntryFault}
 use Rattle.entry_bytes.specs.declared.faults.EntryFault.TheVariants as unread
 use Rattle.history_core.specs.declared.opening.OpenFault.{OpenFault}
 use Rattle.history_core.specs.declared.opening.OpenFault.TheVariants.{BadEntry, WrongEntry, Memory}
-use Rattle.entry_bytes.specs.Entries.{decoded, entry_text}
+use Rattle.entry_bytes.specs.Entries.{decode_entry, entry_text}
 use Rattle.history_core.specs.Board.{BoardHeld, IsBoard, Spells, entry_texts}
 use Rattle.history_core.specs.Bumped.{bumped_in, last_bumped}
 use Rattle.history_core.specs.History.{AreTakenFrom, IsLegal, after_entries, call_limit, call_of, replay}
-use Rattle.history_core.specs.Opening.{CannotOpen, IsNotNext, IsOpening, IsPast, OpeningHeld, next_from, not_read}
-use Rattle.history_core.specs.Steps.{IsTaken, Steps, accepted, after_command, made_told}
+use Rattle.history_core.specs.Opening.{CannotOpen, IsNotNext, IsOpening, IsReplayed, OpeningHeld, next_from, not_read}
+use Rattle.history_core.specs.Steps.{IsTaken, TakenAs, accepted, after_command, made_told}
 use Rattle.history_core.specs.Taking.{IsAnswered}
 use Rattle.history_core.proofs.Boards.{legal_pushed, plan_numbered, plan_version}
 use Rattle.history_core.proofs.Bumps.{told_bumped}
@@ -45,12 +45,12 @@ next_above low high [] entry rises = rises.0
 next_above low high (e ∷ history) entry rises = next_above (e.call + 1) high history entry rises.1
 
 last_taken : (plan : PlanState) (count : ℕ) (history : List Entry) (entry : Entry) → AreTakenFrom plan count (history ++ entry ∷ [])
-    → Steps (after_entries plan history) (count + length history) entry.command accepted
+    → TakenAs (after_entries plan history) (count + length history) entry.command accepted
 last_taken plan count [] entry taken =
-    let same : count ≡ count + length {A = Entry} [] = omega arith in subst (λ (n : ℕ). Steps plan n entry.command accepted) same taken.1
+    let same : count ≡ count + length {A = Entry} [] = omega arith in subst (λ (n : ℕ). TakenAs plan n entry.command accepted) same taken.1
 last_taken plan count (e ∷ history) entry taken =
     let counted : count + 1 + length history ≡ count + length (e ∷ history) = omega arith in
-    subst (λ (n : ℕ). Steps (after_entries plan (e ∷ history)) n entry.command accepted) counted
+    subst (λ (n : ℕ). TakenAs (after_entries plan (e ∷ history)) n entry.command accepted) counted
     (last_taken (after_command plan e.command) (count + 1) history entry taken.2)
 
 -- a call that does not come after those of the history
@@ -60,24 +60,24 @@ called_too_early airport history entry early legal =
 
 -- a command that is not accepted is not the next of the history
 pub answered_is_not_next : (airport : AirportParts) (plan : PlanState) (history : List Entry) (next : ℕ) (entry : Entry) (reply : Reply)
-    → IsPast airport plan history next → IsAnswered plan (length history) entry.command reply → ¬ (IsLegal airport (with_last entry history))
+    → IsReplayed airport plan history next → IsAnswered plan (length history) entry.command reply → ¬ (IsLegal airport (with_last entry history))
 answered_is_not_next airport plan history next entry reply past answered legal =
-    let taken : Steps (replay airport history) (0 + length history) entry.command accepted = last_taken (empty_plan airport) 0 history entry legal.taken in
+    let taken : TakenAs (replay airport history) (0 + length history) entry.command accepted = last_taken (empty_plan airport) 0 history entry legal.taken in
     let counted : 0 + length history ≡ length history = omega arith in
-    let steps : Steps (replay airport history) (length history) entry.command accepted =
-    subst (λ (n : ℕ). Steps (replay airport history) n entry.command accepted) counted taken in
-    let at_plan : Steps plan (length history) entry.command accepted =
-    subst (λ (p : PlanState). Steps p (length history) entry.command accepted) (sym past.plan_is) steps in
+    let steps : TakenAs (replay airport history) (length history) entry.command accepted =
+    subst (λ (n : ℕ). TakenAs (replay airport history) n entry.command accepted) counted taken in
+    let at_plan : TakenAs plan (length history) entry.command accepted =
+    subst (λ (p : PlanState). TakenAs p (length history) entry.command accepted) (sym past.plan_is) steps in
     answered.other
     (one_step plan (length history) entry.command answered.stepped accepted (plan_numbered airport history plan past.plan_is past.legal) answered.steps at_plan)
 
 -- a history that was read on by one entry
-pub past_pushed : (airport : AirportParts) (plan new : PlanState) (history : List Entry) (next : ℕ) (entry : Entry) → IsPast airport plan history next
-    → IsCommandOf airport entry.command → Steps plan (length history) entry.command accepted → next ≤ entry.call → entry.call < call_limit
-    → new ≡ after_command plan entry.command → IsPast airport new (with_last entry history) (entry.call + 1)
+pub past_pushed : (airport : AirportParts) (plan new : PlanState) (history : List Entry) (next : ℕ) (entry : Entry) → IsReplayed airport plan history next
+    → IsCommandOf airport entry.command → TakenAs plan (length history) entry.command accepted → next ≤ entry.call → entry.call < call_limit
+    → new ≡ after_command plan entry.command → IsReplayed airport new (with_last entry history) (entry.call + 1)
 past_pushed airport plan new history next entry past valid steps up last is = record {
   legal = legal_pushed airport history (next_from 1 history) entry past.legal (next_rises 1 call_limit history (let legal : IsLegal airport history = past.legal in legal.numbers))
-      valid (subst (λ (p : PlanState). Steps p (length history) entry.command accepted) past.plan_is steps)
+      valid (subst (λ (p : PlanState). TakenAs p (length history) entry.command accepted) past.plan_is steps)
       (subst (λ (n : ℕ). n ≤ entry.call) past.next_is up) last;
   plan_is = is ∙ (ap (λ (p : PlanState). after_command p entry.command) past.plan_is ∙ sym (after-push (empty_plan airport) history entry));
   next_is = sym (next_push 1 history entry);
@@ -94,33 +94,33 @@ opening_begun airport plan is = record {
 
 -- one more entry was read
 pub opening_pushed : (opening : OpeningHeld) (plan new : PlanState) (bumped lost : List PartId) (next : ℕ) (entry : Entry) (bytes : List ℕ) (history : List Entry)
-    → IsOpening plan bumped next opening → IsCommandOf opening.airport entry.command → Steps plan (length opening.history) entry.command accepted
+    → IsOpening plan bumped next opening → IsCommandOf opening.airport entry.command → TakenAs plan (length opening.history) entry.command accepted
     → next ≤ entry.call → entry.call < call_limit → new ≡ after_command plan entry.command → history ≡ with_last entry opening.history
-    → decoded opening.airport bytes ≡ Ok entry → bytes ≡ entry_text entry
+    → decode_entry opening.airport bytes ≡ Ok entry → bytes ≡ entry_text entry
     → lost ≡ bumped_in (made_told plan (plan.version + 1) entry.command)
     → IsOpening new lost (entry.call + 1) (record { airport = opening.airport; history = history })
 opening_pushed opening plan new bumped lost next entry bytes history h valid steps up last is history_is read text lost_is =
     let airport = opening.airport in
     let before = opening.history in
-    let past : IsPast airport plan before next = h.past in
+    let past : IsReplayed airport plan before next = h.past in
     let made = told_bumped airport before entry.command past.legal
     (subst (λ (p : PlanState). IsTaken p entry.command) past.plan_is steps.0) in
     let at_plan : bumped_in (made_told plan (plan.version + 1) entry.command) ≡ last_bumped (after_command plan entry.command) =
     subst (λ (p : PlanState). bumped_in (made_told p (p.version + 1) entry.command) ≡ last_bumped (after_command p entry.command)) (sym past.plan_is) made in
     subst (λ (es : List Entry). IsOpening new lost (entry.call + 1) (record { airport = airport; history = es })) (sym history_is) (record {
       past = past_pushed airport plan new before next entry past valid steps up last is;
-      spells = spells_with airport before entry h.spells (subst (λ (b : List ℕ). decoded airport b ≡ Ok entry) text read);
+      spells = spells_with airport before entry h.spells (subst (λ (b : List ℕ). decode_entry airport b ≡ Ok entry) text read);
       bumped_is = lost_is ∙ (at_plan ∙ ap last_bumped (sym is));
     })
 
 -- the number that the next entry would have
-pub past_counted : (airport : AirportParts) (plan : PlanState) (history : List Entry) (next version : ℕ) → IsPast airport plan history next → version ≡ plan.version
+pub past_counted : (airport : AirportParts) (plan : PlanState) (history : List Entry) (next version : ℕ) → IsReplayed airport plan history next → version ≡ plan.version
     → version + 1 ≡ length history + 1
 past_counted airport plan history next version past is = ap (λ n. n + 1) (is ∙ plan_version airport history plan past.plan_is past.legal)
 
 -- bytes that are not read are not the next entry
 pub not_read_is_not_next : (airport : AirportParts) (before : List Entry) (bytes : List ℕ) (number : ℕ) (fault : EntryFault) (read : Result Entry EntryFault)
-    → number ≡ length before + 1 → read ≡ Err fault → (read ≢ Err unread.Memory → read ≡ decoded airport bytes) → IsNotNext airport before bytes (not_read number fault)
+    → number ≡ length before + 1 → read ≡ Err fault → (read ≢ Err unread.Memory → read ≡ decode_entry airport bytes) → IsNotNext airport before bytes (not_read number fault)
 not_read_is_not_next airport before bytes number unread.Memory read counted is gives = tt
 not_read_is_not_next airport before bytes number unread.BadKind read counted is gives =
     (counted, (unread.BadKind, sym (gives (λ memory. absurd (cc))) ∙ is))
@@ -144,7 +144,7 @@ pub stops_there : (opening : OpeningHeld) (plan : PlanState) (bumped : List Part
     → IsOpening plan bumped next opening → IsNotNext opening.airport opening.history bytes fault → (back : List (List ℕ))
     → CannotOpen opening.airport (entry_texts opening.history ++ bytes ∷ back) fault
 stops_there opening plan bumped next bytes fault h why back =
-    let past : IsPast opening.airport plan opening.history next = h.past in
+    let past : IsReplayed opening.airport plan opening.history next = h.past in
     stops_at opening.airport (entry_texts opening.history ++ bytes ∷ back) (entry_texts opening.history) bytes back opening.history fault refl
     h.spells past.legal why
 
@@ -171,7 +171,7 @@ pub board_opened : {K : Type 0} (plan : PlanState) (bumped : List PartId) (keepe
     → IfSome keeper.entries (λ es. es ≡ entry_texts board.history) → keeper.number ≡ length (entry_texts board.history) → keeper.at_risk ≡ None
     → IsBoard plan bumped keeper board
 board_opened plan bumped keeper board h entries number none =
-    let past : IsPast board.airport plan board.history board.next = h.past in
+    let past : IsReplayed board.airport plan board.history board.next = h.past in
     let legal : IsLegal board.airport board.history = past.legal in
     let numbers = next_rises 1 call_limit board.history legal.numbers in
     let within = next_within 1 call_limit board.history legal.numbers in

@@ -11,7 +11,7 @@ use Rattle.plan_core.specs.Adding.{next_visit}
 use Rattle.plan_core.specs.Drafts.{Draft, draft_of, draft_version}
 use Rattle.plan_core.specs.Edits.{after_all_edits, is_edited}
 use Rattle.plan_core.specs.PlanState.{PlanState, empty_plan}
-use Rattle.plan_core.specs.Rebase.{committed, edited_last, stamped}
+use Rattle.plan_core.specs.Rebase.{edited_last, plan_after_commit, visits_after_commit}
 use Rattle.plan_core.proofs.Changed.{edits_follow, follows_numbered}
 use Rattle.plan_core.proofs.Puts.{last_numbered}
 use Rattle.desk_words.specs.Commands.{IsCommandOf}
@@ -19,7 +19,7 @@ use Rattle.desk_words.specs.declared.asks.Command.{Command}
 use Rattle.desk_words.specs.declared.asks.Command.TheVariants.{AddVisit, Commit, Message, Report, Cancel}
 use Rattle.desk_words.specs.declared.asks.Entry.{Entry}
 use Rattle.desk_words.specs.declared.replies.Denial.{Denial}
-use Rattle.history_core.specs.Steps.{IsTaken, Steps, accepted, after_command, cancellable, cancelled_if, committed_if}
+use Rattle.history_core.specs.Steps.{IsTaken, TakenAs, accepted, after_command, cancellable, cancelled_if, committed_if}
 use Rattle.history_core.specs.History.{AreTakenFrom, after_entries, replay}
 use Rattle.history_core.proofs.Happenings.{cancel_keeps, message_keeps, report_keeps}
 use Rattle.history_core.proofs.KeptVisits.{kept_numbered}
@@ -55,13 +55,13 @@ replay-airport airport history = after-airport (empty_plan airport) history
 
 -- one more command that is taken
 pub taken_push : (plan : PlanState) (count : ℕ) (history : List Entry) (entry : Entry) → AreTakenFrom plan count history → IsCommandOf plan.airport entry.command
-    → Steps (after_entries plan history) (count + length history) entry.command accepted → AreTakenFrom plan count (history ++ entry ∷ [])
+    → TakenAs (after_entries plan history) (count + length history) entry.command accepted → AreTakenFrom plan count (history ++ entry ∷ [])
 taken_push plan count [] entry h valid steps =
-    let same : count + length {A = Entry} [] ≡ count = omega arith in (valid, subst (λ (n : ℕ). Steps plan n entry.command accepted) same steps, tt)
+    let same : count + length {A = Entry} [] ≡ count = omega arith in (valid, subst (λ (n : ℕ). TakenAs plan n entry.command accepted) same steps, tt)
 taken_push plan count (e ∷ history) entry h valid steps =
     let same : (after_command plan e.command).airport ≡ plan.airport = command_airport plan e.command in
     let counted : count + length (e ∷ history) ≡ count + 1 + length history = omega arith in
-    let later = subst (λ (n : ℕ). Steps (after_entries plan (e ∷ history)) n entry.command accepted) counted steps in
+    let later = subst (λ (n : ℕ). TakenAs (after_entries plan (e ∷ history)) n entry.command accepted) counted steps in
     (h.0, h.1, taken_push (after_command plan e.command) (count + 1) history entry h.2 (subst (λ (a : AirportParts). IsCommandOf a entry.command) (sym same) valid) later)
 
 -- a command of legal entries is of the airport
@@ -77,7 +77,7 @@ pub record Commits (plan : PlanState) (draft : Draft) : Type 0 where
   pub new : List Visit
   pub apply : after_all_edits plan.airport draft.base draft.edits plan.visits ≡ Ok new
   pub unused : draft_version plan.drafts draft.desk draft.number ≡ None
-  pub makes : after_command plan (Commit draft.desk draft.number draft.base draft.edits) ≡ committed plan draft new
+  pub makes : after_command plan (Commit draft.desk draft.number draft.base draft.edits) ≡ plan_after_commit plan draft new
 
 pub commits : (plan : PlanState) (desk : List ℕ) (draft base : ℕ) (edits : List Edit) → IsTaken plan (Commit desk draft base edits)
     → Commits plan (draft_of desk draft base edits)
@@ -113,7 +113,7 @@ stamp_number : (version : ℕ) (visit : Visit) (b : Bool) → (if b then edited_
 stamp_number version visit true = refl
 stamp_number version visit false = refl
 
-stamped_numbered : (number version : ℕ) (edits : List Edit) (visits : List Visit) → IsNumberedAbove number visits → IsNumberedAbove number (stamped version edits visits)
+stamped_numbered : (number version : ℕ) (edits : List Edit) (visits : List Visit) → IsNumberedAbove number visits → IsNumberedAbove number (visits_after_commit version edits visits)
 stamped_numbered number version edits [] h = tt
 stamped_numbered number version edits (visit ∷ visits) h =
     (ap (λ (n : VisitNo). n.0) (stamp_number version visit (is_edited edits visit.number.0)) ∙ h.0, stamped_numbered (number + 1) version edits visits h.1)

@@ -10,36 +10,36 @@ use Rattle.desk_words.specs.declared.asks.Command.{Command}
 use Rattle.desk_words.specs.declared.asks.Entry.{Entry}
 use Rattle.desk_words.specs.declared.asks.What.{What}
 use Rattle.desk_words.specs.declared.asks.What.TheVariants.{Change}
-use Rattle.entry_bytes.specs.Entries.{decoded, entry_text}
+use Rattle.entry_bytes.specs.Entries.{decode_entry, entry_text}
 use Rattle.history_core.specs.Answer.{is_keeper_fault}
-use Rattle.history_core.specs.declared.unanswered.Unanswered.{Unanswered}
-use Rattle.history_core.specs.declared.unanswered.Unanswered.TheVariants as unanswered
-use Rattle.history_core.specs.AtRisk.{LeavesAtRisk, entry_at_risk}
+use Rattle.history_core.specs.declared.ask_fault.AskFault.{AskFault}
+use Rattle.history_core.specs.declared.ask_fault.AskFault.TheVariants as unanswered
+use Rattle.history_core.specs.AtRisk.{LeavesAtRisk, read_entry_at_risk}
 
 -- an entry is read back from the bytes of its copy
 pub read_as : (airport : AirportParts) (call : ℕ) (command copied : Command) (bytes : List ℕ) → copied ≡ command
     → bytes ≡ entry_text (record { call = call; command = copied })
-    → ((other : AirportParts) → IsCommandOf other copied → decoded other bytes ≡ Ok (record { call = call; command = copied })) → IsCommandOf airport command
-    → decoded airport (entry_text (record { call = call; command = command })) ≡ Ok (record { call = call; command = command })
+    → ((other : AirportParts) → IsCommandOf other copied → decode_entry other bytes ≡ Ok (record { call = call; command = copied })) → IsCommandOf airport command
+    → decode_entry airport (entry_text (record { call = call; command = command })) ≡ Ok (record { call = call; command = command })
 read_as airport call command copied bytes same text back valid =
     let entry : Entry = record { call = call; command = command } in
     let is : bytes ≡ entry_text entry = text ∙ ap (λ (c : Command). entry_text (record { call = call; command = c })) same in
-    subst (λ (b : List ℕ). decoded airport b ≡ Ok entry) is
-    (subst (λ (c : Command). IsCommandOf airport c → decoded airport bytes ≡ Ok (record { call = call; command = c })) same (back airport) valid)
+    subst (λ (b : List ℕ). decode_entry airport b ≡ Ok entry) is
+    (subst (λ (c : Command). IsCommandOf airport c → decode_entry airport bytes ≡ Ok (record { call = call; command = c })) same (back airport) valid)
 
 -- an append that failed is a fault of the keeper
-pub fault_told : (result : Result (List ℕ) Unanswered) → IsErrAnd result (λ why. why ≡ unanswered.Fault) → is_keeper_fault result ≡ true
+pub fault_told : (result : Result (List ℕ) AskFault) → IsErrAnd result (λ why. why ≡ unanswered.Fault) → is_keeper_fault result ≡ true
 fault_told (Ok bytes) is = absurd is
-fault_told (Err why) is = ap (λ (w : Unanswered). is_keeper_fault (Err w)) is
+fault_told (Err why) is = ap (λ (w : AskFault). is_keeper_fault (Err w)) is
 
 module _ (airport : AirportParts) where
   -- the entry that these bytes at risk are read as
   abbrev entry_read : Option (List ℕ) → Option Entry
-  entry_read risk = option_and_then (λ bytes. result_ok (decoded airport bytes)) risk
+  entry_read risk = option_and_then (λ bytes. result_ok (decode_entry airport bytes)) risk
 
   -- a history and the entry at risk over a keeper
   abbrev over : KeeperState → List Entry → Standing Entry
-  over keeper history = record { entries = history; at_risk = entry_at_risk airport keeper }
+  over keeper history = record { entries = history; at_risk = read_entry_at_risk airport keeper }
 
   -- the keeper made room, or had none
   pub readied_at_risk : (first before : KeeperState) (old new : List Entry) (call : ℕ) (what : What) (failed : Bool) → before ≡ record first { room = before.room }
@@ -53,7 +53,7 @@ module _ (airport : AirportParts) where
 
   -- an append failed
   pub failed_at_risk : (first before after : KeeperState) (old new : List Entry) (entry : Entry) (failed : Bool) → failed ≡ true → before ≡ record first { room = before.room }
-      → decoded airport (entry_text entry) ≡ Ok entry → FailsToAdd before after (entry_text entry) → new ≡ old
+      → decode_entry airport (entry_text entry) ≡ Ok entry → FailsToAdd before after (entry_text entry) → new ≡ old
       → LeavesAtRisk (over first old) entry.call (Change entry.command) failed (over after new)
   failed_at_risk first before after old new entry failed told ready read fails same = ⊎_elim
       (λ (none : after.at_risk ≡ None). inl (ap entry_read none))

@@ -15,18 +15,18 @@ use Rattle.visit_book.specs.Numbers.{IsNumbered}
 use Rattle.plan_core.specs.Drafts.{Draft, draft_of, draft_version}
 use Rattle.plan_core.specs.Names.{visit_named}
 use Rattle.plan_core.specs.PlanState.{ChangeState, IsInstallable, PlanState, most_visits, version_limit}
-use Rattle.plan_core.specs.Rebase.{IsRebased, Rebases, Refuses}
+use Rattle.plan_core.specs.Rebase.{IsRebased, Rebases, RefusesDraft}
 use Rattle.plan_core.proofs.AnswerExists.{answer}
 use Rattle.plan_core.proofs.Kept.{rebase_commits}
 use Rattle.plan_core.proofs.OneRefusal.{rebased_or_refused, refusals_are_one}
 use Rattle.desk_words.specs.declared.asks.Command.{Command}
 use Rattle.desk_words.specs.declared.asks.Command.TheVariants.{AddVisit, Commit, Message, Report, Cancel}
 use Rattle.desk_words.specs.declared.replies.Denial.{Denial}
-use Rattle.desk_words.specs.declared.replies.Told.{Told}
-use Rattle.desk_words.specs.declared.replies.Told.TheVariants.{Added, Committed, Denied, Full, OtherName, Edit as Refused}
-use Rattle.history_core.specs.Steps.{HasPlace, IsNew, IsTaken, Stepped, Steps, TakesEntry, accepted, ahead, committed_if, cancellable, denied, edit, full, most_entries, name, refused, repeated, reply_at, reported}
+use Rattle.desk_words.specs.declared.replies.ReplyBody.{ReplyBody}
+use Rattle.desk_words.specs.declared.replies.ReplyBody.TheVariants.{Added, Committed, Denied, Full, OtherName, Edit as Refused}
+use Rattle.history_core.specs.Steps.{HasPlace, IsNew, IsTaken, Stepped, TakenAs, TakesEntry, accepted, ahead, committed_if, cancellable, denied, edit, full, most_entries, name, refused, repeated, reply_at, visit_after_report}
 use Rattle.history_core.specs.declared.taking.Taken.TheVariants.{Accepted}
-use Rattle.history_core.specs.Taking.{Finds, IsAnswered, IsChangeOf}
+use Rattle.history_core.specs.Taking.{ComesTo, IsAnswered, IsChangeOf}
 use Rattle.history_core.proofs.NewVisits.{AreDecided, new_decided}
 
 -- a commit that is rebased is taken
@@ -64,62 +64,62 @@ placed plan entries (Cancel number) = entry_placed entries
 
 -- a taken command is accepted if there is a place for it, and full if there is none
 abbrev placed_step : (plan : PlanState) (entries : ℕ) (command : Command) → IsTaken plan command → IsPlaced plan entries command
-    → (stepped : Stepped) × Steps plan entries command stepped
+    → (stepped : Stepped) × TakenAs plan entries command stepped
 placed_step plan entries command taken (inl has) = (accepted, (taken, has))
 placed_step plan entries command taken (inr none) = (full, (taken, none))
 
 -- a visit has a new name, or a visit has it already
 abbrev named_step : (plan : PlanState) (entries : ℕ) (new : NewVisit) (visit : Visit) → visit_named plan.visits new.name ≡ Some visit
-    → AreDecided (new_of visit) new → (stepped : Stepped) × Steps plan entries (AddVisit new) stepped
+    → AreDecided (new_of visit) new → (stepped : Stepped) × TakenAs plan entries (AddVisit new) stepped
 named_step plan entries new visit is (inl same) = (repeated visit.added, (visit, (is, same), refl))
 named_step plan entries new visit is (inr other) = (refused (name visit.number), (visit, (is, other), refl))
 
 abbrev visit_step : (plan : PlanState) (entries : ℕ) (new : NewVisit) (found : Option Visit) → visit_named plan.visits new.name ≡ found
-    → (stepped : Stepped) × Steps plan entries (AddVisit new) stepped
+    → (stepped : Stepped) × TakenAs plan entries (AddVisit new) stepped
 visit_step plan entries new None is = placed_step plan entries (AddVisit new) is (placed plan entries (AddVisit new))
 visit_step plan entries new (Some visit) is = named_step plan entries new visit is (new_decided (new_of visit) new)
 
 -- the edits of a draft apply, or they are refused
 abbrev HasAnswer : PlanState → Draft → Type 0
-HasAnswer plan draft = ((new : List Visit) × Rebases plan draft new) ⊎ ((fault : EditFault) × (fault ≢ Memory) × Refuses plan draft fault)
+HasAnswer plan draft = ((new : List Visit) × Rebases plan draft new) ⊎ ((fault : EditFault) × (fault ≢ Memory) × RefusesDraft plan draft fault)
 
 abbrev new_step : (plan : PlanState) (entries : ℕ) (desk : List ℕ) (draft base : ℕ) (edits : List Edit) → IsNew plan (draft_of desk draft base edits)
-    → HasAnswer plan (draft_of desk draft base edits) → (stepped : Stepped) × Steps plan entries (Commit desk draft base edits) stepped
+    → HasAnswer plan (draft_of desk draft base edits) → (stepped : Stepped) × TakenAs plan entries (Commit desk draft base edits) stepped
 new_step plan entries desk draft base edits new (inl rebases) =
     placed_step plan entries (Commit desk draft base edits) (new, rebases) (placed plan entries (Commit desk draft base edits))
 new_step plan entries desk draft base edits new (inr (fault, some, refuses)) = (refused (edit fault), (new, refuses, some))
 
 abbrev drafted_step : (plan : PlanState) (entries : ℕ) (desk : List ℕ) (draft base : ℕ) (edits : List Edit) (made : Option ℕ) → draft_version plan.drafts desk draft ≡ made
-    → base ≤ plan.version → (stepped : Stepped) × Steps plan entries (Commit desk draft base edits) stepped
+    → base ≤ plan.version → (stepped : Stepped) × TakenAs plan entries (Commit desk draft base edits) stepped
 drafted_step plan entries desk draft base edits (Some entry) is over = (repeated entry, (over, is))
 drafted_step plan entries desk draft base edits None is over =
     new_step plan entries desk draft base edits (record { made_over = over; unused = is }) (answer plan (draft_of desk draft base edits))
 
 abbrev based_step : (plan : PlanState) (entries : ℕ) (desk : List ℕ) (draft base : ℕ) (edits : List Edit) → (plan.version < base) ⊎ (base ≤ plan.version)
-    → (stepped : Stepped) × Steps plan entries (Commit desk draft base edits) stepped
+    → (stepped : Stepped) × TakenAs plan entries (Commit desk draft base edits) stepped
 based_step plan entries desk draft base edits (inl later) = (ahead, later)
 based_step plan entries desk draft base edits (inr over) =
     drafted_step plan entries desk draft base edits (draft_version plan.drafts desk draft) refl over
 
 -- a report can have happened, or it is refused
-abbrev report_step : (plan : PlanState) (entries : ℕ) (desk : List ℕ) (number : VisitNo) (event : Event) (found : Result Visit Denial) → reported plan number event ≡ found
-    → (stepped : Stepped) × Steps plan entries (Report desk number event) stepped
+abbrev report_step : (plan : PlanState) (entries : ℕ) (desk : List ℕ) (number : VisitNo) (event : Event) (found : Result Visit Denial) → visit_after_report plan number event ≡ found
+    → (stepped : Stepped) × TakenAs plan entries (Report desk number event) stepped
 report_step plan entries desk number event (Ok visit) is =
     placed_step plan entries (Report desk number event) (ap is_ok is) (placed plan entries (Report desk number event))
 report_step plan entries desk number event (Err why) is = (refused (denied why), is)
 
 -- a visit can be cancelled, or that is refused
 abbrev cancel_step : (plan : PlanState) (entries : ℕ) (number : VisitNo) (found : Result Visit Denial) → cancellable plan number ≡ found
-    → (stepped : Stepped) × Steps plan entries (Cancel number) stepped
+    → (stepped : Stepped) × TakenAs plan entries (Cancel number) stepped
 cancel_step plan entries number (Ok visit) is = placed_step plan entries (Cancel number) (ap is_ok is) (placed plan entries (Cancel number))
 cancel_step plan entries number (Err why) is = (refused (denied why), is)
 
 -- each command has a step
-abbrev pub some_step : (plan : PlanState) (entries : ℕ) (command : Command) → (stepped : Stepped) × Steps plan entries command stepped
+abbrev pub some_step : (plan : PlanState) (entries : ℕ) (command : Command) → (stepped : Stepped) × TakenAs plan entries command stepped
 some_step plan entries (AddVisit new) = visit_step plan entries new (visit_named plan.visits new.name) refl
 some_step plan entries (Commit desk draft base edits) = based_step plan entries desk draft base edits (cases_lt plan.version base)
 some_step plan entries (Message desk message) = placed_step plan entries (Message desk message) tt (placed plan entries (Message desk message))
-some_step plan entries (Report desk number event) = report_step plan entries desk number event (reported plan number event) refl
+some_step plan entries (Report desk number event) = report_step plan entries desk number event (visit_after_report plan number event) refl
 some_step plan entries (Cancel number) = cancel_step plan entries number (cancellable plan number) refl
 
 -- and only one
@@ -140,7 +140,7 @@ module _ (plan : PlanState) (entries : ℕ) (new : NewVisit) where
   one_visit : (visit other : Visit) → visit_named plan.visits new.name ≡ Some visit → visit_named plan.visits new.name ≡ Some other → other ≡ visit
   one_visit visit other is also = cc
 
-  only_unnamed : (stepped : Stepped) (is : visit_named plan.visits new.name ≡ None) → Steps plan entries (AddVisit new) stepped
+  only_unnamed : (stepped : Stepped) (is : visit_named plan.visits new.name ≡ None) → TakenAs plan entries (AddVisit new) stepped
       → stepped ≡ (placed_step plan entries (AddVisit new) is (placed plan entries (AddVisit new))).0
   only_unnamed ahead is steps = absurd steps
   only_unnamed (repeated entry) is steps = one_name steps.0 steps.1.0 is
@@ -151,7 +151,7 @@ module _ (plan : PlanState) (entries : ℕ) (new : NewVisit) where
   only_unnamed accepted is steps = only_accepted plan entries (AddVisit new) is (placed plan entries (AddVisit new)) steps.1
 
   only_named : (stepped : Stepped) (visit : Visit) (is : visit_named plan.visits new.name ≡ Some visit) (same : AreDecided (new_of visit) new)
-      → Steps plan entries (AddVisit new) stepped → stepped ≡ (named_step plan entries new visit is same).0
+      → TakenAs plan entries (AddVisit new) stepped → stepped ≡ (named_step plan entries new visit is same).0
   only_named ahead visit is same steps = absurd steps
   only_named (repeated entry) visit is (inl same) steps =
       let one = one_visit visit steps.0 is steps.1.0 in ap repeated (steps.2 ∙ ap (λ (v : Visit). v.added) one)
@@ -166,7 +166,7 @@ module _ (plan : PlanState) (entries : ℕ) (new : NewVisit) where
   only_named full visit is same steps = one_name visit is steps.0
   only_named accepted visit is same steps = one_name visit is steps.0
 
-  only_visit : (stepped : Stepped) (found : Option Visit) (is : visit_named plan.visits new.name ≡ found) → Steps plan entries (AddVisit new) stepped
+  only_visit : (stepped : Stepped) (found : Option Visit) (is : visit_named plan.visits new.name ≡ found) → TakenAs plan entries (AddVisit new) stepped
       → stepped ≡ (visit_step plan entries new found is).0
   only_visit stepped None is steps = only_unnamed stepped is steps
   only_visit stepped (Some visit) is steps = only_named stepped visit is (new_decided (new_of visit) new) steps
@@ -175,7 +175,7 @@ module _ (plan : PlanState) (entries : ℕ) (desk : List ℕ) (draft base : ℕ)
   not_over : {A : Type 0} → base ≤ plan.version → plan.version < base → A
   not_over over later = absurd (omega arith)
 
-  only_ahead : (stepped : Stepped) → Steps plan entries (Commit desk draft base edits) stepped → plan.version < base → stepped ≡ ahead
+  only_ahead : (stepped : Stepped) → TakenAs plan entries (Commit desk draft base edits) stepped → plan.version < base → stepped ≡ ahead
   only_ahead ahead steps later = refl
   only_ahead (repeated entry) steps later = not_over steps.0 later
   only_ahead (refused (name number)) steps later = absurd steps
@@ -190,7 +190,7 @@ module _ (plan : PlanState) (entries : ℕ) (desk : List ℕ) (draft base : ℕ)
   same_entry : (entry other : ℕ) → draft_version plan.drafts desk draft ≡ Some entry → draft_version plan.drafts desk draft ≡ Some other → other ≡ entry
   same_entry entry other is also = cc
 
-  only_repeated : (stepped : Stepped) (entry : ℕ) → Steps plan entries (Commit desk draft base edits) stepped → base ≤ plan.version
+  only_repeated : (stepped : Stepped) (entry : ℕ) → TakenAs plan entries (Commit desk draft base edits) stepped → base ≤ plan.version
       → draft_version plan.drafts desk draft ≡ Some entry → stepped ≡ repeated entry
   only_repeated ahead entry steps over is = not_over over steps
   only_repeated (repeated other) entry steps over is = ap repeated (same_entry entry other is steps.1)
@@ -201,7 +201,7 @@ module _ (plan : PlanState) (entries : ℕ) (desk : List ℕ) (draft base : ℕ)
   only_repeated accepted entry steps over is = not_new entry is steps.0.0
 
   only_new : (stepped : Stepped) (new : IsNew plan (draft_of desk draft base edits)) (answered : HasAnswer plan (draft_of desk draft base edits))
-      → IsNumbered plan.visits → Steps plan entries (Commit desk draft base edits) stepped → stepped ≡ (new_step plan entries desk draft base edits new answered).0
+      → IsNumbered plan.visits → TakenAs plan entries (Commit desk draft base edits) stepped → stepped ≡ (new_step plan entries desk draft base edits new answered).0
   only_new ahead new answered numbered steps = not_over new.made_over steps
   only_new (repeated entry) new answered numbered steps = not_new entry steps.1 new
   only_new (refused (name number)) new answered numbered steps = absurd steps
@@ -218,18 +218,18 @@ module _ (plan : PlanState) (entries : ℕ) (desk : List ℕ) (draft base : ℕ)
       let rebases = steps.0.1 in absurd (rebased_or_refused plan (draft_of desk draft base edits) rebases.0 fault some rebases.1 refuses)
 
   only_drafted : (stepped : Stepped) (made : Option ℕ) (is : draft_version plan.drafts desk draft ≡ made) (over : base ≤ plan.version) → IsNumbered plan.visits
-      → Steps plan entries (Commit desk draft base edits) stepped → stepped ≡ (drafted_step plan entries desk draft base edits made is over).0
+      → TakenAs plan entries (Commit desk draft base edits) stepped → stepped ≡ (drafted_step plan entries desk draft base edits made is over).0
   only_drafted stepped (Some entry) is over numbered steps = only_repeated stepped entry steps over is
   only_drafted stepped None is over numbered steps =
       only_new stepped (record { made_over = over; unused = is }) (answer plan (draft_of desk draft base edits)) numbered steps
 
   only_based : (stepped : Stepped) (based : (plan.version < base) ⊎ (base ≤ plan.version)) → IsNumbered plan.visits
-      → Steps plan entries (Commit desk draft base edits) stepped → stepped ≡ (based_step plan entries desk draft base edits based).0
+      → TakenAs plan entries (Commit desk draft base edits) stepped → stepped ≡ (based_step plan entries desk draft base edits based).0
   only_based stepped (inl later) numbered steps = only_ahead stepped steps later
   only_based stepped (inr over) numbered steps = only_drafted stepped (draft_version plan.drafts desk draft) refl over numbered steps
 
 -- a message is accepted, or there is no place for it
-only_message : (plan : PlanState) (entries : ℕ) (desk : List ℕ) (message : Mvt) (stepped : Stepped) → Steps plan entries (Message desk message) stepped
+only_message : (plan : PlanState) (entries : ℕ) (desk : List ℕ) (message : Mvt) (stepped : Stepped) → TakenAs plan entries (Message desk message) stepped
     → stepped ≡ (some_step plan entries (Message desk message)).0
 only_message plan entries desk message ahead steps = absurd steps
 only_message plan entries desk message (repeated entry) steps = absurd steps
@@ -252,9 +252,9 @@ module _ (found : Result Visit Denial) where
 
 module _ (plan : PlanState) (entries : ℕ) (desk : List ℕ) (number : VisitNo) (event : Event) where
   abbrev at_number : Result Visit Denial
-  at_number = reported plan number event
+  at_number = visit_after_report plan number event
 
-  only_report : (stepped : Stepped) (found : Result Visit Denial) (is : at_number ≡ found) → Steps plan entries (Report desk number event) stepped
+  only_report : (stepped : Stepped) (found : Result Visit Denial) (is : at_number ≡ found) → TakenAs plan entries (Report desk number event) stepped
       → stepped ≡ (report_step plan entries desk number event found is).0
   only_report ahead found is steps = absurd steps
   only_report (repeated entry) found is steps = absurd steps
@@ -270,7 +270,7 @@ module _ (plan : PlanState) (entries : ℕ) (desk : List ℕ) (number : VisitNo)
   only_report accepted (Err why) is steps = not_taken at_number why is steps.0
 
 module _ (plan : PlanState) (entries : ℕ) (number : VisitNo) where
-  only_cancel : (stepped : Stepped) (found : Result Visit Denial) (is : cancellable plan number ≡ found) → Steps plan entries (Cancel number) stepped
+  only_cancel : (stepped : Stepped) (found : Result Visit Denial) (is : cancellable plan number ≡ found) → TakenAs plan entries (Cancel number) stepped
       → stepped ≡ (cancel_step plan entries number found is).0
   only_cancel ahead found is steps = absurd steps
   only_cancel (repeated entry) found is steps = absurd steps
@@ -284,19 +284,19 @@ module _ (plan : PlanState) (entries : ℕ) (number : VisitNo) where
   only_cancel accepted (Ok visit) is steps = only_accepted plan entries (Cancel number) (ap is_ok is) (placed plan entries (Cancel number)) steps.1
   only_cancel accepted (Err why) is steps = not_taken (cancellable plan number) why is steps.0
 
-the_step : (plan : PlanState) (entries : ℕ) (command : Command) (stepped : Stepped) → IsNumbered plan.visits → Steps plan entries command stepped
+the_step : (plan : PlanState) (entries : ℕ) (command : Command) (stepped : Stepped) → IsNumbered plan.visits → TakenAs plan entries command stepped
     → stepped ≡ (some_step plan entries command).0
 the_step plan entries (AddVisit new) stepped numbered steps = only_visit plan entries new stepped (visit_named plan.visits new.name) refl steps
 the_step plan entries (Commit desk draft base edits) stepped numbered steps =
     only_based plan entries desk draft base edits stepped (cases_lt plan.version base) numbered steps
 the_step plan entries (Message desk message) stepped numbered steps = only_message plan entries desk message stepped steps
 the_step plan entries (Report desk number event) stepped numbered steps =
-    only_report plan entries desk number event stepped (reported plan number event) refl steps
+    only_report plan entries desk number event stepped (visit_after_report plan number event) refl steps
 the_step plan entries (Cancel number) stepped numbered steps = only_cancel plan entries number stepped (cancellable plan number) refl steps
 
 -- each command has at most one step
 pub one_step : (plan : PlanState) (entries : ℕ) (command : Command) (stepped other : Stepped) → IsNumbered plan.visits
-    → Steps plan entries command stepped → Steps plan entries command other → stepped ≡ other
+    → TakenAs plan entries command stepped → TakenAs plan entries command other → stepped ≡ other
 one_step plan entries command stepped other numbered steps also =
     the_step plan entries command stepped numbered steps ∙ sym (the_step plan entries command other numbered also)
 
@@ -312,7 +312,7 @@ repeated_answered plan entries desk draft base edits entry version over made is 
 }
 
 pub refused_answered : (plan : PlanState) (entries : ℕ) (desk : List ℕ) (draft base : ℕ) (edits : List Edit) (fault : EditFault) (version : ℕ) → base ≤ plan.version
-    → draft_version plan.drafts desk draft ≡ None → Refuses plan (draft_of desk draft base edits) fault → fault ≢ Memory → version ≡ plan.version
+    → draft_version plan.drafts desk draft ≡ None → RefusesDraft plan (draft_of desk draft base edits) fault → fault ≢ Memory → version ≡ plan.version
     → IsAnswered plan entries (Commit desk draft base edits) (record { version = version; told = Refused fault })
 refused_answered plan entries desk draft base edits fault version over unused refuses some is = record {
   stepped = refused (edit fault);
@@ -322,7 +322,7 @@ refused_answered plan entries desk draft base edits fault version over unused re
 }
 
 -- a report and a cancel that are refused, and a report for which there is no place
-pub report_denied : (plan : PlanState) (entries : ℕ) (desk : List ℕ) (number : VisitNo) (event : Event) (why : Denial) → reported plan number event ≡ Err why
+pub report_denied : (plan : PlanState) (entries : ℕ) (desk : List ℕ) (number : VisitNo) (event : Event) (why : Denial) → visit_after_report plan number event ≡ Err why
     → IsAnswered plan entries (Report desk number event) (reply_at plan.version (Denied why))
 report_denied plan entries desk number event why is = record { stepped = refused (denied why); steps = is; other = λ same. absurd (cc); is = refl }
 
@@ -330,7 +330,7 @@ pub cancel_denied : (plan : PlanState) (entries : ℕ) (number : VisitNo) (why :
     → IsAnswered plan entries (Cancel number) (reply_at plan.version (Denied why))
 cancel_denied plan entries number why is = record { stepped = refused (denied why); steps = is; other = λ same. absurd (cc); is = refl }
 
-pub report_full : (plan : PlanState) (entries : ℕ) (desk : List ℕ) (number : VisitNo) (event : Event) (visit : Visit) → reported plan number event ≡ Ok visit
+pub report_full : (plan : PlanState) (entries : ℕ) (desk : List ℕ) (number : VisitNo) (event : Event) (visit : Visit) → visit_after_report plan number event ≡ Ok visit
     → ¬ (TakesEntry entries) → IsAnswered plan entries (Report desk number event) (reply_at plan.version Full)
 report_full plan entries desk number event visit is none = record { stepped = full; steps = (ap is_ok is, none); other = λ same. absurd (cc); is = refl }
 
@@ -353,17 +353,17 @@ other_answered plan entries new visit version named other is = record {
   is = ap (λ (v : ℕ). record { version = v; told = OtherName visit.number }) is;
 }
 
-decided_answered : (plan : PlanState) (entries : ℕ) (new : NewVisit) (visit : Visit) (version : ℕ) (told : Told) → AreDecided (new_of visit) new
+decided_answered : (plan : PlanState) (entries : ℕ) (new : NewVisit) (visit : Visit) (version : ℕ) (told : ReplyBody) → AreDecided (new_of visit) new
     → visit_named plan.visits new.name ≡ Some visit → version ≡ plan.version → (new_of visit ≡ new → told ≡ Added visit.added visit.number)
     → (new_of visit ≢ new → told ≡ OtherName visit.number) → IsAnswered plan entries (AddVisit new) (record { version = version; told = told })
 decided_answered plan entries new visit version told (inl same) named is told_same told_other =
-    subst (λ (t : Told). IsAnswered plan entries (AddVisit new) (record { version = version; told = t })) (sym (told_same same))
+    subst (λ (t : ReplyBody). IsAnswered plan entries (AddVisit new) (record { version = version; told = t })) (sym (told_same same))
     (same_answered plan entries new visit version named same is)
 decided_answered plan entries new visit version told (inr other) named is told_same told_other =
-    subst (λ (t : Told). IsAnswered plan entries (AddVisit new) (record { version = version; told = t })) (sym (told_other other))
+    subst (λ (t : ReplyBody). IsAnswered plan entries (AddVisit new) (record { version = version; told = t })) (sym (told_other other))
     (other_answered plan entries new visit version named other is)
 
-pub named_answered : (plan : PlanState) (entries : ℕ) (new : NewVisit) (visit : Visit) (version : ℕ) (told : Told)
+pub named_answered : (plan : PlanState) (entries : ℕ) (new : NewVisit) (visit : Visit) (version : ℕ) (told : ReplyBody)
     → visit_named plan.visits new.name ≡ Some visit → version ≡ plan.version → (new_of visit ≡ new → told ≡ Added visit.added visit.number)
     → (new_of visit ≢ new → told ≡ OtherName visit.number) → IsAnswered plan entries (AddVisit new) (record { version = version; told = told })
 named_answered plan entries new visit version told = decided_answered plan entries new visit version told (new_decided (new_of visit) new)
@@ -372,7 +372,7 @@ named_answered plan entries new visit version told = decided_answered plan entri
 pub committed_finds : (plan : PlanState) (entries : ℕ) (desk : List ℕ) (draft base : ℕ) (edits : List Edit) (change : ChangeState) → IsNumbered plan.visits
     → plan.version ≡ entries → base ≤ plan.version → draft_version plan.drafts desk draft ≡ None → TakesEntry entries
     → IsRebased plan (draft_of desk draft base edits) change → (plan.version + 1 < version_limit → IsInstallable plan change)
-    → Finds plan entries (Commit desk draft base edits) (Accepted change (record { version = change.version; told = Committed change.version }))
+    → ComesTo plan entries (Commit desk draft base edits) (Accepted change (record { version = change.version; told = Committed change.version }))
 committed_finds plan entries desk draft base edits change numbered counted over unused place rebased fits =
     let last : plan.version + 1 < version_limit = omega (arith, counted, place) in (
       ((record { made_over = over; unused = unused }, rebased_taken plan (draft_of desk draft base edits) change rebased), place),

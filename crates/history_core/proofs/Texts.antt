@@ -12,25 +12,25 @@ use Rattle.desk_words.specs.declared.asks.Ask.{Ask}
 use Rattle.desk_words.specs.declared.asks.Command.{Command}
 use Rattle.desk_words.specs.declared.asks.Entry.{Entry}
 use Rattle.desk_words.specs.declared.replies.Reply.{Reply}
-use Rattle.desk_words.specs.declared.replies.Told.{Told}
+use Rattle.desk_words.specs.declared.replies.ReplyBody.{ReplyBody}
 use Rattle.desk_words.specs.Replies.{IsTellable, reply_text}
-use Rattle.history_core.specs.Answer.{ActsAs, GivesText, Sought, TextOf, acted_of, added, changes, keeper_fault, no_memory, replied, sought, told, visit_told}
+use Rattle.history_core.specs.Answer.{ActsAs, GivesText, Sought, TextOf, acted_of, added_entries, ask_outcome, changes, keeper_fault, no_memory, replied, told, visit_told}
 use Rattle.history_core.specs.History.{IsLegal, replay}
-use Rattle.history_core.specs.declared.unanswered.Unanswered.{Unanswered}
-use Rattle.history_core.specs.declared.unanswered.Unanswered.TheVariants as unanswered
-use Rattle.history_core.specs.Steps.{Stepped, Steps, accepted, ahead, full, refused, repeated, reply_at, stepped_reply}
+use Rattle.history_core.specs.declared.ask_fault.AskFault.{AskFault}
+use Rattle.history_core.specs.declared.ask_fault.AskFault.TheVariants as unanswered
+use Rattle.history_core.specs.Steps.{Stepped, TakenAs, accepted, ahead, full, refused, repeated, reply_at, stepped_reply}
 use Rattle.history_core.specs.Taking.{IsAnswered}
 use Rattle.history_core.proofs.Added.{added_new}
 use Rattle.history_core.proofs.Legal.{front_legal}
 use Rattle.history_core.proofs.Replay.{replay-airport}
 
 -- texts at one airport and version, with the same news
-same_text : (airport other : AirportParts) (version later : ℕ) (news : Told) → airport ≡ other → version ≡ later
+same_text : (airport other : AirportParts) (version later : ℕ) (news : ReplyBody) → airport ≡ other → version ≡ later
     → reply_text airport (record { version = version; told = news }) ≡ reply_text other (reply_at later news)
 same_text airport other version later news e f = rw (e, f) refl
 
 -- what a reply says of a plan as it is
-pub told_text : (airport : AirportParts) (history : List Entry) (plan : PlanState) (version : ℕ) (news : Told) → plan ≡ replay airport history
+pub told_text : (airport : AirportParts) (history : List Entry) (plan : PlanState) (version : ℕ) (news : ReplyBody) → plan ≡ replay airport history
     → version ≡ plan.version → reply_text airport (record { version = version; told = news })
     ≡ reply_text (replay airport history).airport (reply_at (replay airport history).version news)
 told_text airport history plan version news plan_is is =
@@ -55,7 +55,7 @@ pub replayed_text : (airport : AirportParts) (history : List Entry) (reply : Rep
 replayed_text airport history reply bytes text = text ∙ ap (λ (a : AirportParts). reply_text a reply) (sym (replay-airport airport history))
 
 -- a step that is not accepted adds nothing
-added_none : (call : ℕ) (command : Command) (stepped : Stepped) → stepped ≢ accepted → added call command stepped ≡ []
+added_none : (call : ℕ) (command : Command) (stepped : Stepped) → stepped ≢ accepted → added_entries call command stepped ≡ []
 added_none call command ahead other = refl
 added_none call command (repeated entry) other = refl
 added_none call command (refused why) other = refl
@@ -63,7 +63,7 @@ added_none call command full other = refl
 added_none call command accepted other = absurd (other refl)
 
 -- the bytes of what a reply says of the plan as it is
-pub told_gives : (airport : AirportParts) (history : List Entry) (plan : PlanState) (version call : ℕ) (news : Told) (bytes : List ℕ)
+pub told_gives : (airport : AirportParts) (history : List Entry) (plan : PlanState) (version call : ℕ) (news : ReplyBody) (bytes : List ℕ)
     → plan ≡ replay airport history → version ≡ plan.version → bytes ≡ reply_text airport (record { version = version; told = news })
     → TextOf (replay airport history) history call (told news) bytes history
 told_gives airport history plan version call news bytes plan_is is text =
@@ -76,30 +76,30 @@ pub answered_text : (airport : AirportParts) (history : List Entry) (plan : Plan
 answered_text airport history plan call command reply bytes plan_is answered text =
     let at_replay : IsAnswered (replay airport history) (length history) command reply =
     subst (λ (p : PlanState). IsAnswered p (length history) command reply) plan_is answered in
-    let none : added call command at_replay.stepped ≡ [] = added_none call command at_replay.stepped at_replay.other in
-    let same : history ≡ history ++ added call command at_replay.stepped = sym (ap (λ (es : List Entry). history ++ es) none ∙ append-nil history) in
+    let none : added_entries call command at_replay.stepped ≡ [] = added_none call command at_replay.stepped at_replay.other in
+    let same : history ≡ history ++ added_entries call command at_replay.stepped = sym (ap (λ (es : List Entry). history ++ es) none ∙ append-nil history) in
     (reply, replayed_text airport history reply bytes text, (at_replay.stepped, at_replay.steps, at_replay.is, same))
 
 -- the bytes of the reply to an accepted command, which is then the last entry
 pub accepted_text : (airport : AirportParts) (history after : List Entry) (call : ℕ) (command : Command) (reply : Reply) (bytes : List ℕ)
-    → Steps (replay airport history) (length history) command accepted → reply ≡ stepped_reply (replay airport history) command accepted
-    → bytes ≡ reply_text airport reply → after ≡ history ++ added call command accepted
+    → TakenAs (replay airport history) (length history) command accepted → reply ≡ stepped_reply (replay airport history) command accepted
+    → bytes ≡ reply_text airport reply → after ≡ history ++ added_entries call command accepted
     → TextOf (replay airport history) history call (changes command) bytes after
 accepted_text airport history after call command reply bytes steps is text last =
     (reply, replayed_text airport history reply bytes text, (accepted, steps, is, last))
 
 -- a history that grew into a legal one was legal
-pub found_legal : (airport : AirportParts) (plan : PlanState) (before : List Entry) (call : ℕ) (asked : Sought) (result : Result (List ℕ) Unanswered) (after : List Entry)
+pub found_legal : (airport : AirportParts) (plan : PlanState) (before : List Entry) (call : ℕ) (asked : Sought) (result : Result (List ℕ) AskFault) (after : List Entry)
     → GivesText plan before call asked result after → IsLegal airport after → IsLegal airport before
 found_legal airport plan before call (told news) (Ok bytes) after (reply, text, (is, same)) legal = subst (IsLegal airport) same legal
 found_legal airport plan before call (changes command) (Ok bytes) after (reply, text, (stepped, steps, is, grown)) legal =
-    front_legal airport before (added call command stepped) (subst (IsLegal airport) grown legal)
+    front_legal airport before (added_entries call command stepped) (subst (IsLegal airport) grown legal)
 found_legal airport plan before call asked (Err unanswered.Memory) after same legal = subst (IsLegal airport) same legal
 found_legal airport plan before call asked (Err unanswered.Fault) after (accepts, same) legal = subst (IsLegal airport) same legal
 
 -- an act shows what is given
-pub text_acts : (airport : AirportParts) (before : List Entry) (call : ℕ) (ask : Ask) (result : Result (List ℕ) Unanswered) (after : List Entry)
-    → GivesText (replay airport before) before call (sought (replay airport before) before ask) result after → ActsAs airport before call ask (acted_of result) after
+pub text_acts : (airport : AirportParts) (before : List Entry) (call : ℕ) (ask : Ask) (result : Result (List ℕ) AskFault) (after : List Entry)
+    → GivesText (replay airport before) before call (ask_outcome (replay airport before) before ask) result after → ActsAs airport before call ask (acted_of result) after
 text_acts airport before call ask (Ok bytes) after (reply, text, replies) =
     (replied reply, ap Replied (text ∙ ap (λ (a : AirportParts). reply_text a reply) (replay-airport airport before)), replies)
 text_acts airport before call ask (Err unanswered.Memory) after same = (no_memory, refl, same)

@@ -13,32 +13,32 @@ use Rattle.desk_words.specs.declared.asks.What.{What}
 use Rattle.desk_words.specs.declared.asks.What.TheVariants.{Change, Version as AskVersion, Visit as AskVisit, Plan as AskPlan, Unplaced as AskUnplaced, Chart as AskChart, Entry as AskEntry, Airport as AskAirport, Day as AskDay}
 use Rattle.desk_words.specs.declared.asks.Ask.{Ask}
 use Rattle.desk_words.specs.declared.replies.Reply.{Reply}
-use Rattle.desk_words.specs.declared.replies.Told.{Told}
-use Rattle.desk_words.specs.declared.replies.Told.TheVariants.{Version as ToldVersion, Visit as ToldVisit, Plan as ToldPlan, Unplaced as ToldUnplaced, Chart as ToldChart, Entry as ToldEntry, Airport as ToldAirport, Day as ToldDay, NoVisit, NoEntry, Ahead}
+use Rattle.desk_words.specs.declared.replies.ReplyBody.{ReplyBody}
+use Rattle.desk_words.specs.declared.replies.ReplyBody.TheVariants.{Version as ToldVersion, Visit as ToldVisit, Plan as ToldPlan, Unplaced as ToldUnplaced, Chart as ToldChart, Entry as ToldEntry, Airport as ToldAirport, Day as ToldDay, NoVisit, NoEntry, Ahead}
 use Rattle.desk_words.specs.Fixed.{no_memory_text, keeper_fault_text}
 use Rattle.desk_words.specs.Replies.{reply_text}
 use Rattle.plan_lists.specs.Held.{held_on}
 use Rattle.plan_lists.specs.OfDay.{visits_on}
-use Rattle.plan_lists.specs.Unplaced.{unplaced}
+use Rattle.plan_lists.specs.Unplaced.{unplaced_parts}
 use Rattle.wall_chart.specs.Chart.{chart_text}
-use Rattle.history_core.specs.declared.unanswered.Unanswered.{Unanswered}
-use Rattle.history_core.specs.declared.unanswered.Unanswered.TheVariants as unanswered
-use Rattle.history_core.specs.Steps.{Stepped, Steps, accepted, reply_at, stepped_reply}
+use Rattle.history_core.specs.declared.ask_fault.AskFault.{AskFault}
+use Rattle.history_core.specs.declared.ask_fault.AskFault.TheVariants as unanswered
+use Rattle.history_core.specs.Steps.{Stepped, TakenAs, accepted, reply_at, stepped_reply}
 use Rattle.history_core.specs.History.{IsLegal, entry_at, replay}
 
 -- what an ask comes to at a plan: a command that may change it, or what a reply says of the plan as
 -- it is
 pub data Sought : Type 0 where
   changes : Command → Sought
-  told : Told → Sought
+  told : ReplyBody → Sought
 
 -- the visit, or that there is none
-abbrev pub visit_told : Option Visit → Told
+abbrev pub visit_told : Option Visit → ReplyBody
 visit_told None = NoVisit
 visit_told (Some visit) = ToldVisit visit
 
 -- the entry of this number, or that there is none
-abbrev pub entry_told : ℕ → Option Entry → Told
+abbrev pub entry_told : ℕ → Option Entry → ReplyBody
 entry_told number None = NoEntry
 entry_told number (Some entry) = ToldEntry number entry.call (desk_of entry.command) (kind_of entry.command)
 
@@ -48,7 +48,7 @@ sought_of plan history (Change command) = changes command
 sought_of plan history AskVersion = told ToldVersion
 sought_of plan history (AskVisit number) = told (visit_told (visit_at plan.visits (record { 0 = number })))
 sought_of plan history (AskPlan day) = told (ToldPlan (held_on plan day))
-sought_of plan history AskUnplaced = told (ToldUnplaced (unplaced plan))
+sought_of plan history AskUnplaced = told (ToldUnplaced (unplaced_parts plan))
 sought_of plan history (AskChart day) = told (ToldChart (chart_text plan.airport plan day))
 sought_of plan history (AskEntry number) = told (entry_told number (entry_at history number))
 sought_of plan history AskAirport = told ToldAirport
@@ -56,25 +56,25 @@ sought_of plan history (AskDay day) = told (ToldDay (visits_on plan day))
 
 -- what an ask comes to: one that has seen a version later than the plan's is ahead, whatever it
 -- asks
-abbrev pub sought : PlanState → List Entry → Ask → Sought
-sought plan history ask = if nat_lt plan.version ask.seen then told Ahead else sought_of plan history ask.what
+abbrev pub ask_outcome : PlanState → List Entry → Ask → Sought
+ask_outcome plan history ask = if nat_lt plan.version ask.seen then told Ahead else sought_of plan history ask.what
 
 -- the entries that a command adds: one if it is accepted
-abbrev pub added : ℕ → Command → Stepped → List Entry
-added call command accepted = record { call = call; command = command } ∷ []
-added call command _ = []
+abbrev pub added_entries : ℕ → Command → Stepped → List Entry
+added_entries call command accepted = record { call = call; command = command } ∷ []
+added_entries call command _ = []
 
 -- the reply of a plan to what is sought with this call number, and the history before and after it:
 -- a question changes nothing
 abbrev pub Replies : PlanState → List Entry → ℕ → Sought → Reply → List Entry → Type 0
 Replies plan before call (told what) reply after = (reply ≡ reply_at plan.version what) × (after ≡ before)
 Replies plan before call (changes command) reply after =
-    (stepped : Stepped) × Steps plan (length before) command stepped × (reply ≡ stepped_reply plan command stepped)
-    × (after ≡ before ++ added call command stepped)
+    (stepped : Stepped) × TakenAs plan (length before) command stepped × (reply ≡ stepped_reply plan command stepped)
+    × (after ≡ before ++ added_entries call command stepped)
 
 -- a command is sought that the plan accepts, if its history has this many entries
 abbrev pub IsAccepted : PlanState → ℕ → Sought → Type 0
-IsAccepted plan entries (changes command) = Steps plan entries command accepted
+IsAccepted plan entries (changes command) = TakenAs plan entries command accepted
 IsAccepted plan entries _ = ⊥
 
 -- what an ask is given: the plan's reply, or one of two answers outside the history: that there is
@@ -98,18 +98,18 @@ GivesAt plan before call asked no_memory after = after ≡ before
 GivesAt plan before call asked keeper_fault after = IsAccepted plan (length before) asked × (after ≡ before)
 
 -- what an ask with this call number is given at the history before it, and the history after it
-abbrev pub Gives : AirportParts → List Entry → ℕ → Ask → Given → List Entry → Type 0
-Gives airport before call ask given after = GivesAt (replay airport before) before call (sought (replay airport before) before ask) given after
+abbrev pub GivesAnswer : AirportParts → List Entry → ℕ → Ask → Given → List Entry → Type 0
+GivesAnswer airport before call ask given after = GivesAt (replay airport before) before call (ask_outcome (replay airport before) before ask) given after
 
 -- how an act shows what is given
-abbrev pub shown : AirportParts → Given → Acted
-shown airport (replied reply) = Replied (reply_text airport reply)
-shown airport no_memory = NoMemory
-shown airport keeper_fault = Fault
+abbrev pub acted_from : AirportParts → Given → Acted
+acted_from airport (replied reply) = Replied (reply_text airport reply)
+acted_from airport no_memory = NoMemory
+acted_from airport keeper_fault = Fault
 
 -- an act that got its turn shows what the ask is given
 abbrev pub ActsAs : AirportParts → List Entry → ℕ → Ask → Acted → List Entry → Type 0
-ActsAs airport before call ask acted after = (given : Given) × (acted ≡ shown airport given) × Gives airport before call ask given after
+ActsAs airport before call ask acted after = (given : Given) × (acted ≡ acted_from airport given) × GivesAnswer airport before call ask given after
 
 -- the same for an act that found a legal history and left one
 pub record ActsLegally (airport : AirportParts) (before : List Entry) (call : ℕ) (ask : Ask) (acted : Acted) (after : List Entry) : Type 0 where
@@ -125,18 +125,18 @@ TextOf plan before call asked bytes after = (reply : Reply) × (bytes ≡ reply_
 -- what comes of what is sought with this call number, with the history before and after it: the
 -- bytes of the plan's reply, or none if there is no memory or the append of an accepted command
 -- failed
-abbrev pub GivesText : PlanState → List Entry → ℕ → Sought → Result (List ℕ) Unanswered → List Entry → Type 0
+abbrev pub GivesText : PlanState → List Entry → ℕ → Sought → Result (List ℕ) AskFault → List Entry → Type 0
 GivesText plan before call asked (Ok bytes) after = TextOf plan before call asked bytes after
 GivesText plan before call asked (Err unanswered.Memory) after = after ≡ before
 GivesText plan before call asked (Err unanswered.Fault) after = IsAccepted plan (length before) asked × (after ≡ before)
 
 -- an append failed
-abbrev pub is_keeper_fault : Result (List ℕ) Unanswered → Bool
+abbrev pub is_keeper_fault : Result (List ℕ) AskFault → Bool
 is_keeper_fault (Err unanswered.Fault) = true
 is_keeper_fault _ = false
 
 -- how an act shows what came of it
-abbrev pub acted_of : Result (List ℕ) Unanswered → Acted
+abbrev pub acted_of : Result (List ℕ) AskFault → Acted
 acted_of (Ok bytes) = Replied bytes
 acted_of (Err unanswered.Memory) = NoMemory
 acted_of (Err unanswered.Fault) = Fault

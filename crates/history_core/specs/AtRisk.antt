@@ -8,11 +8,11 @@ use Rattle.apron_rules.specs.declared.parts.AirportParts.{AirportParts}
 use Rattle.desk_words.specs.declared.asks.Entry.{Entry}
 use Rattle.desk_words.specs.declared.asks.What.{What}
 use Rattle.desk_words.specs.declared.asks.What.TheVariants.{Change}
-use Rattle.entry_bytes.specs.Entries.{decoded}
+use Rattle.entry_bytes.specs.Entries.{decode_entry}
 
 -- the entry at risk after those of a keeper: what its bytes are read as
-abbrev pub entry_at_risk : AirportParts → KeeperState → Option Entry
-entry_at_risk airport keeper = option_and_then (λ bytes. result_ok (decoded airport bytes)) keeper.at_risk
+abbrev pub read_entry_at_risk : AirportParts → KeeperState → Option Entry
+read_entry_at_risk airport keeper = option_and_then (λ bytes. result_ok (decode_entry airport bytes)) keeper.at_risk
 
 -- what is asked with this call number is a command, and its entry is this one
 abbrev pub IsAskedFor : ℕ → What → Entry → Type 0

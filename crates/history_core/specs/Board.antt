@@ -7,8 +7,8 @@ use Rattle.apron_base.specs.Machine.{MachineState}
 use Rattle.apron_rules.specs.declared.parts.AirportParts.{AirportParts}
 use Rattle.plan_core.specs.PlanState.{PlanState}
 use Rattle.desk_words.specs.declared.asks.Entry.{Entry}
-use Rattle.entry_bytes.specs.Entries.{decoded, entry_text}
-use Rattle.history_core.specs.AtRisk.{entry_at_risk}
+use Rattle.entry_bytes.specs.Entries.{decode_entry, entry_text}
+use Rattle.history_core.specs.AtRisk.{read_entry_at_risk}
 use Rattle.history_core.specs.Bumped.{last_bumped}
 use Rattle.history_core.specs.History.{IsLegal, call_limit, call_of, replay}
 
@@ -25,19 +25,19 @@ entry_texts history = map entry_text history
 
 -- these bytes are read as this history, entry for entry
 abbrev pub Spells : AirportParts → List (List ℕ) → List Entry → Type 0
-Spells airport entries history = map (decoded airport) entries ≡ map Ok history
+Spells airport entries history = map (decode_entry airport) entries ≡ map Ok history
 
 -- the bytes of an entry with which the history is still legal, and which is read back from them
 pub record IsNextText (airport : AirportParts) (history : List Entry) (bytes : List ℕ) : Type 0 where
   pub entry : Entry
   pub is : bytes ≡ entry_text entry
-  pub read : decoded airport bytes ≡ Ok entry
+  pub read : decode_entry airport bytes ≡ Ok entry
   pub legal : IsLegal airport (with_last entry history)
 
 -- a keeper of the history: its entries, if it exposes them, are the bytes of the history's entries,
 -- which are read as it; it counts as many; an entry at risk can come next; and there is none at
 -- risk as long as no call has failed
-pub record IsKept (airport : AirportParts) (history : List Entry) (keeper : KeeperState) : Type 0 where
+pub record IsKeeperOf (airport : AirportParts) (history : List Entry) (keeper : KeeperState) : Type 0 where
   pub entries : IfSome keeper.entries (λ entries. entries ≡ entry_texts history)
   pub spells : Spells airport (entry_texts history) history
   pub number : keeper.number ≡ length history
@@ -53,7 +53,7 @@ pub record IsBoard {K : Type 0} (plan : PlanState) (bumped : List PartId) (keepe
   pub bumped_is : bumped ≡ last_bumped plan
   pub numbers : Rises call_of 1 board.next board.history
   pub calls : board.next ≤ call_limit
-  pub kept : IsKept board.airport board.history keeper
+  pub kept : IsKeeperOf board.airport board.history keeper
 
 -- a board as a machine, by what its keeper exposes: no call changes its airport, the entry at risk
 -- is the keeper's, and it fails if the keeper does
@@ -61,7 +61,7 @@ abbrev pub machine_state : {K : Type 0} → (K → KeeperState) → BoardHeld K 
 machine_state tells board = record {
   fixed = board.airport;
   history = board.history;
-  at_risk = entry_at_risk board.airport (tells board.keeper);
+  at_risk = read_entry_at_risk board.airport (tells board.keeper);
   next = board.next;
   faults = (tells board.keeper).faults;
 }

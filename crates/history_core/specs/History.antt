@@ -11,7 +11,7 @@ use Rattle.desk_words.specs.declared.asks.Entry.{Entry}
 use Rattle.desk_words.specs.declared.asks.What.{What}
 use Rattle.desk_words.specs.declared.asks.What.TheVariants.{Change, Plan as AskPlan, Chart as AskChart, Day as AskDay}
 use Rattle.desk_words.specs.declared.asks.Ask.{Ask}
-use Rattle.history_core.specs.Steps.{Steps, accepted, after_command}
+use Rattle.history_core.specs.Steps.{TakenAs, accepted, after_command}
 
 -- the number of the call that added the entry
 abbrev pub call_of : Entry → ℕ
@@ -49,7 +49,7 @@ replay airport history = after_entries (empty_plan airport) history
 abbrev pub AreTakenFrom : PlanState → ℕ → List Entry → Type 0
 AreTakenFrom plan count [] = Unit {0}
 AreTakenFrom plan count (entry ∷ entries) =
-    IsCommandOf plan.airport entry.command × Steps plan count entry.command accepted × AreTakenFrom (after_command plan entry.command) (count + 1) entries
+    IsCommandOf plan.airport entry.command × TakenAs plan count entry.command accepted × AreTakenFrom (after_command plan entry.command) (count + 1) entries
 
 -- each command of a history is taken at the entries before it
 abbrev pub AreTaken : AirportParts → List Entry → Type 0

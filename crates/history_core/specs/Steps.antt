@@ -23,7 +23,7 @@ use Rattle.plan_core.specs.Edits.{after_all_edits}
 use Rattle.plan_core.specs.Moving.{with_cancelled}
 use Rattle.plan_core.specs.Names.{visit_named}
 use Rattle.plan_core.specs.PlanState.{PlanState, most_visits}
-use Rattle.plan_core.specs.Rebase.{Rebases, Refuses, committed}
+use Rattle.plan_core.specs.Rebase.{Rebases, RefusesDraft, plan_after_commit}
 use Rattle.bump_core.specs.Bumped.{bumped_by}
 use Rattle.bump_core.specs.Settled.{with_settled}
 use Rattle.desk_words.specs.declared.asks.Command.{Command}
@@ -31,8 +31,8 @@ use Rattle.desk_words.specs.declared.asks.Command.TheVariants.{AddVisit, Commit,
 use Rattle.desk_words.specs.declared.replies.Denial.{Denial}
 use Rattle.desk_words.specs.declared.replies.Denial.TheVariants as denial
 use Rattle.desk_words.specs.declared.replies.Reply.{Reply}
-use Rattle.desk_words.specs.declared.replies.Told.{Told}
-use Rattle.desk_words.specs.declared.replies.Told.TheVariants.{Added, Committed, Message as MessageTaken, Reported, Cancelled, Ahead, Full, OtherName, Edit as Refused, Denied}
+use Rattle.desk_words.specs.declared.replies.ReplyBody.{ReplyBody}
+use Rattle.desk_words.specs.declared.replies.ReplyBody.TheVariants.{Added, Committed, Message as MessageTaken, Reported, Cancelled, Ahead, Full, OtherName, Edit as Refused, Denied}
 
 -- the most entries of a history
 abbrev pub most_entries : ℕ
@@ -61,12 +61,12 @@ denial_of report.NoSuchPart = denial.NoSuchPart
 denial_of report.Time = denial.Time
 
 -- the plan's visit as the message changes it, or none if it does nothing
-abbrev pub changed_by : PlanState → Mvt → Option Visit
-changed_by plan message = effect_of plan.airport plan.visits message
+abbrev pub visit_after_message : PlanState → Mvt → Option Visit
+visit_after_message plan message = effect_of plan.airport plan.visits message
 
 -- what an event makes of the plan's visit of this number, or why its report is refused
-abbrev pub reported : PlanState → VisitNo → Event → Result Visit Denial
-reported plan number event = do
+abbrev pub visit_after_report : PlanState → VisitNo → Event → Result Visit Denial
+visit_after_report plan number event = do
   visit ← ok_or (visit_at plan.visits number) denial.Unknown
   result_map_both (λ visit. visit) denial_of (report_of plan.airport event visit)
 
@@ -115,8 +115,8 @@ IsRepeated plan command entry = ⊥
 abbrev pub IsRefused : PlanState → Command → Refusal → Type 0
 IsRefused plan (AddVisit new) (name number) = (visit : Visit) × IsOtherName plan new visit × (number ≡ visit.number)
 IsRefused plan (Commit desk draft base edits) (edit fault) =
-    IsNew plan (draft_of desk draft base edits) × Refuses plan (draft_of desk draft base edits) fault × (fault ≢ Memory)
-IsRefused plan (Report desk visit event) (denied why) = reported plan visit event ≡ Err why
+    IsNew plan (draft_of desk draft base edits) × RefusesDraft plan (draft_of desk draft base edits) fault × (fault ≢ Memory)
+IsRefused plan (Report desk visit event) (denied why) = visit_after_report plan visit event ≡ Err why
 IsRefused plan (Cancel visit) (denied why) = cancellable plan visit ≡ Err why
 IsRefused plan command why = ⊥
 
@@ -128,19 +128,19 @@ IsTaken plan (AddVisit new) = visit_named plan.visits new.name ≡ None
 IsTaken plan (Commit desk draft base edits) =
     IsNew plan (draft_of desk draft base edits) × ((new : List Visit) × Rebases plan (draft_of desk draft base edits) new)
 IsTaken plan (Message desk message) = Unit {0}
-IsTaken plan (Report desk visit event) = IsOk (reported plan visit event)
+IsTaken plan (Report desk visit event) = IsOk (visit_after_report plan visit event)
 IsTaken plan (Cancel visit) = IsOk (cancellable plan visit)
 
 -- how a plan, whose history has this many entries, takes a command: a line for each cause, in order
-abbrev pub Steps : PlanState → ℕ → Command → Stepped → Type 0
-Steps plan entries command ahead = IsAhead plan command
-Steps plan entries command (repeated entry) = IsRepeated plan command entry
-Steps plan entries command (refused why) = IsRefused plan command why
-Steps plan entries command full = IsTaken plan command × ¬ (HasPlace plan entries command)
-Steps plan entries command accepted = IsTaken plan command × HasPlace plan entries command
+abbrev pub TakenAs : PlanState → ℕ → Command → Stepped → Type 0
+TakenAs plan entries command ahead = IsAhead plan command
+TakenAs plan entries command (repeated entry) = IsRepeated plan command entry
+TakenAs plan entries command (refused why) = IsRefused plan command why
+TakenAs plan entries command full = IsTaken plan command × ¬ (HasPlace plan entries command)
+TakenAs plan entries command accepted = IsTaken plan command × HasPlace plan entries command
 
 -- the reply with this news, at a version of the plan
-abbrev pub reply_at : ℕ → Told → Reply
+abbrev pub reply_at : ℕ → ReplyBody → Reply
 reply_at version told = record { version = version; told = told }
 
 -- the number of the visit of this name, or the next number if there is none
@@ -149,16 +149,16 @@ number_for visits text = unwrap_or (option_map (λ visit. visit.number) (visit_n
 
 -- what the reply says of a command whose entry made this version, now or before, by the plan before
 -- it is taken
-abbrev pub made_told : PlanState → ℕ → Command → Told
+abbrev pub made_told : PlanState → ℕ → Command → ReplyBody
 made_told plan entry (AddVisit new) = Added entry (number_for plan.visits new.name)
 made_told plan entry (Commit desk draft base edits) = Committed entry
 made_told plan entry (Message desk message) =
-    MessageTaken (bumped_by entry (with_settled plan (changed_by plan message)).visits) (option_map (λ visit. visit.number) (changed_by plan message))
-made_told plan entry (Report desk visit event) = Reported (bumped_by entry (with_settled plan (result_ok (reported plan visit event))).visits)
+    MessageTaken (bumped_by entry (with_settled plan (visit_after_message plan message)).visits) (option_map (λ visit. visit.number) (visit_after_message plan message))
+made_told plan entry (Report desk visit event) = Reported (bumped_by entry (with_settled plan (result_ok (visit_after_report plan visit event))).visits)
 made_told plan entry (Cancel visit) = Cancelled
 
 -- what the reply says of a refusal
-abbrev pub refusal_told : Refusal → Told
+abbrev pub refusal_told : Refusal → ReplyBody
 refusal_told (name number) = OtherName number
 refusal_told (edit fault) = Refused fault
 refusal_told (denied why) = Denied why
@@ -174,7 +174,7 @@ stepped_reply plan command accepted = reply_at (plan.version + 1) (made_told pla
 
 -- the plan after a commit of the draft, if its edits apply
 abbrev pub committed_if : PlanState → Draft → Result (List Visit) EditFault → PlanState
-committed_if plan draft (Ok new) = committed plan draft new
+committed_if plan draft (Ok new) = plan_after_commit plan draft new
 committed_if plan draft (Err fault) = plan
 
 -- the plan after an entry that cancels the visit, if it can be cancelled
@@ -186,6 +186,6 @@ cancelled_if plan (Err why) = plan
 abbrev pub after_command : PlanState → Command → PlanState
 after_command plan (AddVisit new) = with_added plan new
 after_command plan (Commit desk draft base edits) = committed_if plan (draft_of desk draft base edits) (after_all_edits plan.airport base edits plan.visits)
-after_command plan (Message desk message) = with_settled plan (changed_by plan message)
-after_command plan (Report desk visit event) = with_settled plan (result_ok (reported plan visit event))
+after_command plan (Message desk message) = with_settled plan (visit_after_message plan message)
+after_command plan (Report desk visit event) = with_settled plan (result_ok (visit_after_report plan visit event))
 after_command plan (Cancel visit) = cancelled_if plan (cancellable plan visit)

@@ -3,28 +3,28 @@ ghost use Rattle.std.specs.Prelude.{◌≡◌, ◌≤◌, ◌<◌, ◌+◌, IfEr
 ghost use Rattle.std.specs.Option.{option_copied};
 ghost use Rattle.apron_base.specs.Counts.{Counts};
 ghost use Rattle.apron_base.specs.Histories.{Rises};
-ghost use Rattle.apron_base.specs.Machine.{is_fault, standing};
+ghost use Rattle.apron_base.specs.Machine.{history_at_risk_of, is_fault};
 ghost use Rattle.desk_words.specs.Commands.{IsCommandOf};
 ghost use Rattle.desk_words.specs.Replies.{IsTellable};
-ghost use Rattle.history_core.specs.Steps.{Steps, accepted, stepped_reply};
+ghost use Rattle.history_core.specs.Steps.{TakenAs, accepted, stepped_reply};
 ghost use Rattle.history_core.specs.History.{IsAskOf, IsLegal, call_limit, call_of, replay};
 ghost use Rattle.history_core.specs.Bumped.{last_bumped};
-ghost use Rattle.history_core.specs.Answer.{ActsAs, GivesText, acted_of, changes, is_keeper_fault, sought, told, visit_told};
+ghost use Rattle.history_core.specs.Answer.{ActsAs, GivesText, acted_of, ask_outcome, changes, is_keeper_fault, told, visit_told};
 ghost use Rattle.history_core.specs.AtRisk.{LeavesAtRisk};
-ghost use Rattle.history_core.specs.Board.{IsKept, entry_texts, machine_state};
-ghost use Rattle.history_core.specs.Opening.{CannotOpen, Opens};
+ghost use Rattle.history_core.specs.Board.{IsKeeperOf, entry_texts, machine_state};
+ghost use Rattle.history_core.specs.Opening.{CannotOpen, OpensBoard};
 ghost use Rattle.history_core.specs.Taking.{IsChangeOf};
 
+use crate::ask_fault::AskFault;
 use crate::bumped::bumped_in;
 use crate::opening::{OpenFault, Opening, opening_of};
 use crate::questions::{chart_told, day_told, entry_told, plan_told, unplaced_told};
 use crate::room::make_room;
-use crate::taking::{Taken, take};
-use crate::unanswered::Unanswered;
+use crate::taking::{Taken, take_command};
 use apron_base::{Acted, Keeper, Listed, Memory, PartId, VisitNo};
 use apron_rules::Airport;
 use desk_words::asks::{Ask, Command, Entry, What};
-use desk_words::replies::{Reply, Told, reply_bytes};
+use desk_words::replies::{Reply, ReplyBody, reply_bytes};
 use entry_bytes::encode_entry;
 use plan_core::{Change, Plan};
 use std::alloc::Global;
@@ -71,7 +71,7 @@ impl<'a, K: Keeper> Board<'a, K> {
         requires entries { IfSome (K.state keeper).entries (λ kept. kept ≡ entries.items) }
         requires number { (K.state keeper).number ≡ length entries.items }
         requires at_risk { (K.state keeper).at_risk ≡ None }
-        ensures opened { IfOk result (Opens airport.entry.now keeper entries.items) }
+        ensures opened { IfOk result (OpensBoard airport.entry.now keeper entries.items) }
         ensures refused { IfErr result (λ refusal. CannotOpen airport.entry.now entries.items refusal.0) }
         ensures back { IfErr result (λ refusal. refusal.1 ≡ keeper) }
     {
@@ -84,7 +84,7 @@ impl<'a, K: Keeper> Board<'a, K> {
     /// The keeper as it is, which keeps the board's history.
     pub fn into_keeper(self) -> K
         ensures keeper { result ≡ self.entry.keeper }
-        ensures kept { IsKept self.entry.airport self.entry.history (K.state result) }
+        ensures kept { IsKeeperOf self.entry.airport self.entry.history (K.state result) }
         ensures legal { IsLegal self.entry.airport self.entry.history }
     {
         self.keeper
@@ -144,7 +144,7 @@ impl<'a, K: Keeper> Board<'a, K> {
         ensures found { IsLegal self.old.airport self.old.history }
         ensures legal { IsLegal self.new.airport self.new.history }
         ensures faults { Counts (is_fault result) (K.state self.old.keeper).faults (K.state self.new.keeper).faults }
-        ensures at_risk { LeavesAtRisk (standing (machine_state K.state self.old)) call ask.now.what (is_fault result) (standing (machine_state K.state self.new)) }
+        ensures at_risk { LeavesAtRisk (history_at_risk_of (machine_state K.state self.old)) call ask.now.what (is_fault result) (history_at_risk_of (machine_state K.state self.new)) }
     {
         let answered = self.answer(alloc, call, ask);
         self.next = call + 1;
@@ -152,37 +152,49 @@ impl<'a, K: Keeper> Board<'a, K> {
     }
 
     // The bytes of the reply to an ask. At `Err` the history and the plan are as before.
-    fn answer(&mut self, alloc: Global, call: u64, ask: &Ask) -> Result<Listed<u8>, Unanswered>
+    fn answer(&mut self, alloc: Global, call: u64, ask: &Ask) -> Result<Listed<u8>, AskFault>
         requires valid { IsAskOf self.old.airport ask.now }
         requires next { self.old.next ≤ call }
         requires last { call < call_limit }
         ensures airport { self.new.airport ≡ self.old.airport }
         ensures next { self.new.next ≤ call + 1 }
         ensures gives { let plan = replay self.old.airport self.old.history in
-            GivesText plan self.old.history call (sought plan self.old.history ask.now) result self.new.history }
+            GivesText plan self.old.history call (ask_outcome plan self.old.history ask.now) result self.new.history }
         ensures faults { Counts (is_keeper_fault result) (K.state self.old.keeper).faults (K.state self.new.keeper).faults }
-        ensures at_risk { LeavesAtRisk (standing (machine_state K.state self.old)) call ask.now.what (is_keeper_fault result) (standing (machine_state K.state self.new)) }
+        ensures at_risk { LeavesAtRisk (history_at_risk_of (machine_state K.state self.old)) call ask.now.what (is_keeper_fault result) (history_at_risk_of (machine_state K.state self.new)) }
     {
         if ask.seen > self.plan.version() {
-            return self.tell(alloc, Told::Ahead);
+            return self.reply_with(alloc, ReplyBody::Ahead);
         }
         match &ask.what {
             What::Change(command) => self.change(alloc, call, command),
-            What::Version => self.tell(alloc, Told::Version),
-            What::Visit(number) => self.tell(alloc, visit_told(self.plan.visit(VisitNo(*number)))),
-            What::Plan(day) => self.tell(alloc, plan_told(alloc, self.airport, &self.plan, *day)?),
-            What::Unplaced => self.tell(alloc, unplaced_told(alloc, &self.plan)?),
+            What::Version => self.reply_with(alloc, ReplyBody::Version),
+            What::Visit(number) => self.reply_with(
+                alloc,
+                visit_told(self.plan.visit(VisitNo(*number))),
+            ),
+            What::Plan(day) => self.reply_with(
+                alloc,
+                plan_told(alloc, self.airport, &self.plan, *day)?,
+            ),
+            What::Unplaced => self.reply_with(alloc, unplaced_told(alloc, &self.plan)?),
             What::Chart(day) => {
-                self.tell(alloc, chart_told(alloc, self.airport, &self.plan, *day)?)
+                self.reply_with(alloc, chart_told(alloc, self.airport, &self.plan, *day)?)
             }
-            What::Entry(number) => self.tell(alloc, entry_told(self.history.as_slice(), *number)),
-            What::Airport => self.tell(alloc, Told::Airport),
-            What::Day(day) => self.tell(alloc, day_told(alloc, self.airport, &self.plan, *day)?),
+            What::Entry(number) => self.reply_with(
+                alloc,
+                entry_told(self.history.as_slice(), *number),
+            ),
+            What::Airport => self.reply_with(alloc, ReplyBody::Airport),
+            What::Day(day) => self.reply_with(
+                alloc,
+                day_told(alloc, self.airport, &self.plan, *day)?,
+            ),
         }
     }
 
     // A reply with this news, at the plan as it is.
-    fn tell(&self, alloc: Global, news: Told) -> Result<Listed<u8>, Unanswered>
+    fn reply_with(&self, alloc: Global, news: ReplyBody) -> Result<Listed<u8>, AskFault>
         requires tellable { IsTellable news }
         ensures gives { (call : ℕ) → let plan = replay self.now.airport self.now.history in
             GivesText plan self.now.history call (told news) result self.now.history }
@@ -200,7 +212,7 @@ impl<'a, K: Keeper> Board<'a, K> {
         alloc: Global,
         call: u64,
         command: &Command,
-    ) -> Result<Listed<u8>, Unanswered>
+    ) -> Result<Listed<u8>, AskFault>
         requires valid { IsCommandOf self.old.airport command.now }
         requires next { self.old.next ≤ call }
         requires last { call < call_limit }
@@ -209,10 +221,10 @@ impl<'a, K: Keeper> Board<'a, K> {
         ensures gives { let plan = replay self.old.airport self.old.history in
             GivesText plan self.old.history call (changes command.now) result self.new.history }
         ensures faults { Counts (is_keeper_fault result) (K.state self.old.keeper).faults (K.state self.new.keeper).faults }
-        ensures at_risk { LeavesAtRisk (standing (machine_state K.state self.old)) call (What.Change command.now) (is_keeper_fault result) (standing (machine_state K.state self.new)) }
+        ensures at_risk { LeavesAtRisk (history_at_risk_of (machine_state K.state self.old)) call (What.Change command.now) (is_keeper_fault result) (history_at_risk_of (machine_state K.state self.new)) }
     {
         let entries = self.history.as_slice().len();
-        match take(alloc, self.airport, &self.plan, entries, command)? {
+        match take_command(alloc, self.airport, &self.plan, entries, command)? {
             Taken::Accepted(change, reply) => self.accept(alloc, call, command, change, reply),
             Taken::Answered(reply) => Ok(reply_bytes(alloc, self.airport, &reply)?),
         }
@@ -227,9 +239,9 @@ impl<'a, K: Keeper> Board<'a, K> {
         command: &Command,
         change: Change,
         reply: Reply,
-    ) -> Result<Listed<u8>, Unanswered>
+    ) -> Result<Listed<u8>, AskFault>
         requires valid { IsCommandOf self.old.airport command.now }
-        requires taken { Steps (replay self.old.airport self.old.history) (length self.old.history) command.now accepted }
+        requires taken { TakenAs (replay self.old.airport self.old.history) (length self.old.history) command.now accepted }
         requires change { IsChangeOf (replay self.old.airport self.old.history) command.now change }
         requires reply { reply ≡ stepped_reply (replay self.old.airport self.old.history) command.now accepted }
         requires next { self.old.next ≤ call }
@@ -239,7 +251,7 @@ impl<'a, K: Keeper> Board<'a, K> {
         ensures gives { let plan = replay self.old.airport self.old.history in
             GivesText plan self.old.history call (changes command.now) result self.new.history }
         ensures faults { Counts (is_keeper_fault result) (K.state self.old.keeper).faults (K.state self.new.keeper).faults }
-        ensures at_risk { LeavesAtRisk (standing (machine_state K.state self.old)) call (What.Change command.now) (is_keeper_fault result) (standing (machine_state K.state self.new)) }
+        ensures at_risk { LeavesAtRisk (history_at_risk_of (machine_state K.state self.old)) call (What.Change command.now) (is_keeper_fault result) (history_at_risk_of (machine_state K.state self.new)) }
     {
         let entry = Entry {
             call,
@@ -265,7 +277,7 @@ impl<'a> Opening<'a> {
         requires entries { IfSome (K.state keeper).entries (λ kept. kept ≡ entry_texts self.history) }
         requires number { (K.state keeper).number ≡ length (entry_texts self.history) }
         requires at_risk { (K.state keeper).at_risk ≡ None }
-        ensures opened { Opens self.entry.airport keeper (entry_texts self.entry.history) result }
+        ensures opened { OpensBoard self.entry.airport keeper (entry_texts self.entry.history) result }
         ensures history { result.history ≡ self.entry.history }
     {
         Board {
@@ -279,22 +291,22 @@ impl<'a> Opening<'a> {
     }
 }
 
-fn acted_of(answered: Result<Listed<u8>, Unanswered>) -> Acted
+fn acted_of(answered: Result<Listed<u8>, AskFault>) -> Acted
     ensures is { result ≡ acted_of answered }
     ensures fault { is_fault result ≡ is_keeper_fault answered }
 {
     match answered {
         Ok(bytes) => Acted::Reply(bytes),
-        Err(Unanswered::Memory) => Acted::Memory,
-        Err(Unanswered::Fault) => Acted::Fault,
+        Err(AskFault::Memory) => Acted::Memory,
+        Err(AskFault::Fault) => Acted::Fault,
     }
 }
 
-fn visit_told(visit: Option<&Visit>) -> Told
+fn visit_told(visit: Option<&Visit>) -> ReplyBody
     ensures is { result ≡ visit_told (option_copied visit.entry) }
 {
     match visit {
-        Some(visit) => Told::Visit(*visit),
-        None => Told::NoVisit,
+        Some(visit) => ReplyBody::Visit(*visit),
+        None => ReplyBody::NoVisit,
     }
 }

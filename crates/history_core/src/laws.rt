@@ -9,15 +9,15 @@ ghost use Rattle.plan_core.specs.Drafts.{draft_version};
 ghost use Rattle.plan_core.specs.PlanState.{HasBump, PlanState};
 ghost use Rattle.desk_words.specs.declared.asks.Command.{Command};
 ghost use Rattle.desk_words.specs.declared.asks.Entry.{Entry};
-ghost use Rattle.history_core.specs.Steps.{Stepped, Steps};
+ghost use Rattle.history_core.specs.Steps.{Stepped, TakenAs};
 ghost use Rattle.history_core.specs.History.{IsLegal, IsSoundPlan, replay};
 ghost use Rattle.history_core.specs.Laws.{HasAdded, HasCommit, HasEntry, HasVisit, last_edit, without_desks};
 
 /// Apart from a lack of memory, each command has exactly one step at a plan.
 pub fn commands_have_one_step()
-    ensures some { (plan : PlanState) (entries : ℕ) (command : Command) → (stepped : Stepped) × Steps plan entries command stepped }
+    ensures some { (plan : PlanState) (entries : ℕ) (command : Command) → (stepped : Stepped) × TakenAs plan entries command stepped }
     ensures one { (plan : PlanState) (entries : ℕ) (command : Command) (stepped other : Stepped)
-        → IsNumbered plan.visits → Steps plan entries command stepped → Steps plan entries command other → stepped ≡ other }
+        → IsNumbered plan.visits → TakenAs plan entries command stepped → TakenAs plan entries command other → stepped ≡ other }
 {}
 
 /// The plan of a legal history is sound.

@@ -2,6 +2,7 @@
 //! requests, sessions and other desks.
 #![tactic(auto)]
 
+mod ask_fault;
 mod board;
 mod bumped;
 mod laws;
@@ -10,7 +11,6 @@ mod opening;
 mod questions;
 mod room;
 mod taking;
-mod unanswered;
 
 pub use board::Board;
 pub use laws::{

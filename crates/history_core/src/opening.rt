@@ -7,7 +7,7 @@ ghost use Rattle.history_core.specs.Opening.{CannotOpen, IsReadOn, not_read};
 
 use crate::bumped::bumped_in;
 use crate::room::make_room;
-use crate::taking::{Taken, take};
+use crate::taking::{Taken, take_command};
 use apron_base::{Listed, Memory, PartId};
 use apron_rules::Airport;
 use desk_words::asks::Entry;
@@ -98,7 +98,7 @@ impl<'a> Opening<'a> {
             return Err(OpenFault::WrongEntry(number));
         }
         let entries = self.history.as_slice().len();
-        match take(alloc, self.airport, &self.plan, entries, &entry.command)? {
+        match take_command(alloc, self.airport, &self.plan, entries, &entry.command)? {
             Taken::Accepted(change, reply) => {
                 make_room(&mut self.plan, &mut self.history, &change)?;
                 self.next = entry.call + 1;

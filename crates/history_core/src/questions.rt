@@ -3,7 +3,7 @@ ghost use Rattle.std.specs.Prelude.{◌≡◌, ◌≤◌, IfOk};
 ghost use Rattle.desk_words.specs.Replies.{IsTellable};
 ghost use Rattle.plan_lists.specs.Held.{held_on};
 ghost use Rattle.plan_lists.specs.OfDay.{visits_on};
-ghost use Rattle.plan_lists.specs.Unplaced.{unplaced};
+ghost use Rattle.plan_lists.specs.Unplaced.{unplaced_parts};
 ghost use Rattle.wall_chart.specs.Chart.{chart_text};
 ghost use Rattle.history_core.specs.Answer.{entry_told};
 ghost use Rattle.history_core.specs.History.{entry_at};
@@ -11,9 +11,9 @@ ghost use Rattle.history_core.specs.History.{entry_at};
 use apron_base::Memory;
 use apron_rules::Airport;
 use desk_words::asks::Entry;
-use desk_words::replies::Told;
+use desk_words::replies::ReplyBody;
 use plan_core::Plan;
-use plan_lists::{held_on, unplaced, visits_on};
+use plan_lists::{held_on, unplaced_parts, visits_on};
 use std::alloc::Global;
 use wall_chart::chart;
 
@@ -23,23 +23,23 @@ pub(crate) fn plan_told(
     airport: &Airport,
     plan: &Plan,
     day: u32,
-) -> Result<Told, Memory>
+) -> Result<ReplyBody, Memory>
     requires airport { airport.now ≡ plan.now.plan.airport }
     requires first { 1 ≤ day }
-    ensures told { IfOk result (λ news. news ≡ Told.Plan (held_on plan.now.plan day)) }
+    ensures told { IfOk result (λ news. news ≡ ReplyBody.Plan (held_on plan.now.plan day)) }
     ensures tellable { IfOk result IsTellable }
 {
     let parts = held_on(alloc, airport, plan, day)?;
-    Ok(Told::Plan { parts })
+    Ok(ReplyBody::Plan { parts })
 }
 
 /// The parts that wait for a stand. The only error is a lack of memory.
-pub(crate) fn unplaced_told(alloc: Global, plan: &Plan) -> Result<Told, Memory>
-    ensures told { IfOk result (λ news. news ≡ Told.Unplaced (unplaced plan.now.plan)) }
+pub(crate) fn unplaced_told(alloc: Global, plan: &Plan) -> Result<ReplyBody, Memory>
+    ensures told { IfOk result (λ news. news ≡ ReplyBody.Unplaced (unplaced_parts plan.now.plan)) }
     ensures tellable { IfOk result IsTellable }
 {
-    let parts = unplaced(alloc, plan)?;
-    Ok(Told::Unplaced { parts })
+    let parts = unplaced_parts(alloc, plan)?;
+    Ok(ReplyBody::Unplaced { parts })
 }
 
 /// The wall chart of a day, counted from 1. The only error is a lack of memory.
@@ -48,15 +48,15 @@ pub(crate) fn chart_told(
     airport: &Airport,
     plan: &Plan,
     day: u32,
-) -> Result<Told, Memory>
+) -> Result<ReplyBody, Memory>
     requires airport { airport.now ≡ plan.now.plan.airport }
     requires first { 1 ≤ day }
     requires last { day ≤ airport.now.days }
-    ensures told { IfOk result (λ news. news ≡ Told.Chart (chart_text plan.now.plan.airport plan.now.plan day)) }
+    ensures told { IfOk result (λ news. news ≡ ReplyBody.Chart (chart_text plan.now.plan.airport plan.now.plan day)) }
     ensures tellable { IfOk result IsTellable }
 {
     let text = chart(alloc, airport, plan, day)?;
-    Ok(Told::Chart { text })
+    Ok(ReplyBody::Chart { text })
 }
 
 /// The visits that hold a stand on a day, counted from 1, or wait for one. The only error is a lack
@@ -66,31 +66,31 @@ pub(crate) fn day_told(
     airport: &Airport,
     plan: &Plan,
     day: u32,
-) -> Result<Told, Memory>
+) -> Result<ReplyBody, Memory>
     requires airport { airport.now ≡ plan.now.plan.airport }
     requires first { 1 ≤ day }
-    ensures told { IfOk result (λ news. news ≡ Told.Day (visits_on plan.now.plan day)) }
+    ensures told { IfOk result (λ news. news ≡ ReplyBody.Day (visits_on plan.now.plan day)) }
     ensures tellable { IfOk result IsTellable }
 {
     let visits = visits_on(alloc, airport, plan, day)?;
-    Ok(Told::Day { visits })
+    Ok(ReplyBody::Day { visits })
 }
 
 /// The entry of this number, counted from 1, or that there is none.
-pub(crate) fn entry_told(history: &[Entry], number: u32) -> Told
+pub(crate) fn entry_told(history: &[Entry], number: u32) -> ReplyBody
     ensures is { result ≡ entry_told number (entry_at history.now number) }
     ensures tellable { IsTellable result }
 {
     if number == 0 {
-        return Told::NoEntry;
+        return ReplyBody::NoEntry;
     }
     match history.get(number as usize - 1) {
-        Some(entry) => Told::Entry {
+        Some(entry) => ReplyBody::Entry {
             entry: number,
             call: entry.call,
             desk: entry.command.desk(),
             kind: entry.command.kind(),
         },
-        None => Told::NoEntry,
+        None => ReplyBody::NoEntry,
     }
 }

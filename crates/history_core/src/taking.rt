@@ -4,7 +4,7 @@ ghost use Rattle.std.specs.Prelude.{◌≡◌, ◌↔◌, IfOk, IsTrue};
 ghost use Rattle.visit_book.specs.Numbers.{IsNumbered};
 ghost use Rattle.desk_words.specs.Commands.{IsCommandOf};
 ghost use Rattle.history_core.specs.Steps.{TakesEntry};
-ghost use Rattle.history_core.specs.Taking.{Finds};
+ghost use Rattle.history_core.specs.Taking.{ComesTo};
 
 mod cancel;
 mod commit;
@@ -16,9 +16,9 @@ mod visit;
 use apron_base::{MAX_ENTRIES, Memory};
 use apron_rules::Airport;
 use cancel::take_cancel;
-use commit::{Draft, take_commit};
+use commit::{SentDraft, take_commit};
 use desk_words::asks::Command;
-use desk_words::replies::{Reply, Told};
+use desk_words::replies::{Reply, ReplyBody};
 use message::take_message;
 use plan_core::{Change, Plan};
 use report::take_report;
@@ -35,7 +35,7 @@ pub(crate) enum Taken {
 }
 
 /// What a command comes to at a plan whose history has this many entries. The plan stays as it is.
-pub(crate) fn take(
+pub(crate) fn take_command(
     alloc: Global,
     airport: &Airport,
     plan: &Plan,
@@ -46,7 +46,7 @@ pub(crate) fn take(
     requires valid { IsCommandOf airport.now command.now }
     requires numbered { IsNumbered plan.now.plan.visits }
     requires entries { plan.now.plan.version ≡ entries }
-    ensures finds { IfOk result (Finds plan.now.plan entries command.now) }
+    ensures finds { IfOk result (ComesTo plan.now.plan entries command.now) }
 {
     match command {
         Command::AddVisit(new) => take_visit(alloc, airport, plan, entries, new),
@@ -56,7 +56,7 @@ pub(crate) fn take(
             base,
             edits,
         } => {
-            let draft = Draft {
+            let draft = SentDraft {
                 desk,
                 number: *draft,
                 base: *base,
@@ -73,7 +73,7 @@ pub(crate) fn take(
 }
 
 // An accepted command's change, with what the reply says once that is done.
-fn told_of(change: Change, told: Told) -> Taken
+fn taken_with_body(change: Change, told: ReplyBody) -> Taken
     ensures is { result ≡ Taken.Accepted change (record { version = change.version; told = told }) }
 {
     let version = change.version();
@@ -81,7 +81,7 @@ fn told_of(change: Change, told: Told) -> Taken
 }
 
 // The answer to a command that changes nothing.
-fn answered(plan: &Plan, told: Told) -> Taken
+fn answer_unchanged(plan: &Plan, told: ReplyBody) -> Taken
     ensures is { result ≡ Taken.Answered (record { version = plan.now.plan.version; told = told }) }
 {
     let version = plan.version();

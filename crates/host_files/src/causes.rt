@@ -4,7 +4,7 @@ use std::io;
 
 /// Says why a call failed, in a line of its own: `apron: NAME: CAUSE`, the cause in the system's
 /// words.
-pub fn tell<R: Eprint>(rt: &R, name: &str, cause: &io::Error) {
+pub fn report_cause<R: Eprint>(rt: &R, name: &str, cause: &io::Error) {
     // If standard error fails too, there is no other place to say it.
     let _ = eprintln!(rt; "apron: {name}: {cause}");
 }
@@ -26,8 +26,8 @@ impl LastCause {
             Ok(_) => self.said = None,
             Err(cause) if cause.kind() == io::ErrorKind::Interrupted => {}
             Err(cause) => {
-                if self.is_news(number_of(cause)) {
-                    tell(rt, name, cause);
+                if self.is_news(os_error_number(cause)) {
+                    report_cause(rt, name, cause);
                 }
             }
         }
@@ -43,6 +43,6 @@ impl LastCause {
 }
 
 // The system's number of a cause; 0 if it is not the system's.
-fn number_of(cause: &io::Error) -> i32 {
+fn os_error_number(cause: &io::Error) -> i32 {
     cause.raw_os_error().unwrap_or(0)
 }

@@ -99,7 +99,7 @@ impl<'a, R: Files<File = File> + Eprint> FileDisk<'a, R> {
 }
 
 impl<'a, R: Eprint> FileDisk<'a, R> {
-    fn opened(&self) -> io::Result<&File> {
+    fn open_file(&self) -> io::Result<&File> {
         match &self.file {
             Ok(file) => Ok(file),
             Err(cause) => Err(*cause),
@@ -107,28 +107,28 @@ impl<'a, R: Eprint> FileDisk<'a, R> {
     }
 
     fn length_now(&self) -> io::Result<u32> {
-        let length = self.opened()?.metadata()?.len();
+        let length = self.open_file()?.metadata()?.len();
         u32::try_from(length).map_err(|_| io::Error::from(ErrorKind::FileTooLarge))
     }
 
     fn read_now(&self, at: u32, into: &mut [u8]) -> io::Result<()> {
-        self.opened()?.read_exact_at(into, u64::from(at))
+        self.open_file()?.read_exact_at(into, u64::from(at))
     }
 
     fn write_now(&self, at: u32, piece: &[u8]) -> io::Result<()> {
-        self.opened()?.write_all_at(piece, u64::from(at))
+        self.open_file()?.write_all_at(piece, u64::from(at))
     }
 
     // If nothing can be written there is nothing to sync, and such file systems may have no syncs.
     fn sync_now(&self) -> io::Result<()> {
-        match self.opened()?.sync_data() {
+        match self.open_file()?.sync_data() {
             Err(cause) if self.access == Access::Reads && has_no_syncs(&cause) => Ok(()),
             synced => synced,
         }
     }
 
     // Counts an error.
-    fn counted<T>(&mut self, answer: io::Result<T>) -> Result<T, Failed>
+    fn count_error<T>(&mut self, answer: io::Result<T>) -> Result<T, Failed>
         ensures counts { Counts (is_err result) self.old self.new }
     {
         match answer {
@@ -154,7 +154,7 @@ fn open_to_write<R: Files<File = File>>(rt: &R, path: &str, makes: bool) -> io::
         .open(rt, path)?;
     match file.try_lock() {
         Ok(()) => Ok(file),
-        Err(TryLockError::WouldBlock) => Err(taken()),
+        Err(TryLockError::WouldBlock) => Err(already_locked()),
         Err(TryLockError::Error(cause)) => Err(cause),
     }
 }
@@ -163,13 +163,13 @@ fn open_to_write<R: Files<File = File>>(rt: &R, path: &str, makes: bool) -> io::
 fn open_to_read<R: Files<File = File>>(rt: &R, path: &str) -> io::Result<File> {
     let file = File::open(rt, path)?;
     match file.try_lock_shared() {
-        Err(TryLockError::WouldBlock) => Err(taken()),
+        Err(TryLockError::WouldBlock) => Err(already_locked()),
         // If the file system has no locks, no writer has one either.
         Ok(()) | Err(TryLockError::Error(_)) => Ok(file),
     }
 }
 
-fn taken() -> io::Error {
+fn already_locked() -> io::Error {
     io::Error::new(ErrorKind::WouldBlock, TAKEN)
 }
 
@@ -198,25 +198,25 @@ impl<'a, R: Eprint> Disk for FileDisk<'a, R> {
     fn length(&mut self) -> Result<u32, Failed> {
         let answer = self.length_now();
         self.lengths.hear(self.rt, self.path, &answer);
-        self.counted(answer)
+        self.count_error(answer)
     }
 
     fn read(&mut self, at: u32, into: &mut [u8]) -> Result<(), Failed> {
         let answer = self.read_now(at, into);
         self.reads.hear(self.rt, self.path, &answer);
-        self.counted(answer)
+        self.count_error(answer)
     }
 
     fn write_at(&mut self, at: u32, piece: &[u8]) -> Result<(), Failed> {
         let answer = self.write_now(at, piece);
         self.writes.hear(self.rt, self.path, &answer);
-        self.counted(answer)
+        self.count_error(answer)
     }
 
     /// Syncs the bytes and the length.
     fn sync(&mut self) -> Result<(), Failed> {
         let answer = self.sync_now();
         self.syncs.hear(self.rt, self.path, &answer);
-        self.counted(answer)
+        self.count_error(answer)
     }
 }

@@ -1,7 +1,7 @@
 // The files of the system as a shelf.
 ghost use Rattle.std.specs.Prelude.{◌≡◌, ◌+◌, IfOk, IfSome, None, take};
 
-use crate::causes::tell;
+use crate::causes::report_cause;
 use apron_base::{Shelf, ShelfFault};
 use std::alloc::Global;
 use std::io::Read;
@@ -54,7 +54,7 @@ impl<'a, R: Files + Eprint> Shelf for FileShelf<'a, R> {
             }
             Err(e) if e.kind() == io::ErrorKind::OutOfMemory => Err(ShelfFault::Memory),
             Err(cause) => {
-                tell(self.rt, name, &cause);
+                report_cause(self.rt, name, &cause);
                 self.faults = self.faults.saturating_add(1);
                 Err(ShelfFault::Failed)
             }
@@ -65,11 +65,11 @@ impl<'a, R: Files + Eprint> Shelf for FileShelf<'a, R> {
 // The bytes of the file of this name, up to one more than the limit.
 fn read_up_to<R: Files>(rt: &R, alloc: Global, name: &str, limit: u32) -> io::Result<Vec<u8>> {
     let file = fs::open(rt, name)?;
-    front_of(file, alloc, limit)
+    read_front(file, alloc, limit)
 }
 
 // The bytes that a reader gives, up to one more than the limit.
-fn front_of<F: Read + Drop>(file: F, alloc: Global, limit: u32) -> io::Result<Vec<u8>>
+fn read_front<F: Read + Drop>(file: F, alloc: Global, limit: u32) -> io::Result<Vec<u8>>
     ensures bytes { IfOk result (λ v. IfSome (F.remaining file) (λ left. v.items ≡ take (limit + 1) left)) }
 {
     let mut bytes = Vec::new(alloc);

@@ -3,8 +3,8 @@ use Rattle.std.proofs.Common.{◌≡◌, ℕ, ◌≤◌, Bool, true, false, List
 use Rattle.std.proofs.lemmas.Grind.{common_steps}
 use Rattle.apron_base.specs.Digits.{number_of}
 use Rattle.apron_base.specs.declared.digits.TheConstants.{MAX_DIGITS}
-use Rattle.http_framing.specs.Bodies.{framed, by_number, by_fields, by_length, max_body}
-use Rattle.http_framing.specs.Fields.{Pair, TextSaid, absent, twice, written, text_field}
+use Rattle.http_framing.specs.Bodies.{length_by_fields, by_number, by_fields, by_length, max_body}
+use Rattle.http_framing.specs.Fields.{HeaderField, TextSaid, absent, twice, written, text_field}
 
 by_number_bound : (number : Option ℕ) (n : ℕ) → by_number number ≡ Ok n → n ≤ max_body
 by_number_bound None n e = absurd (cc)
@@ -22,6 +22,6 @@ by_fields_bound post (written value) length n e = absurd (cc)
 by_fields_bound post twice length n e = absurd (cc)
 
 -- no body is longer than the limit
-pub framed_bound : (method : List ℕ) (fields : List Pair) (n : ℕ) → framed method fields ≡ Ok n → n ≤ max_body
+pub framed_bound : (method : List ℕ) (fields : List HeaderField) (n : ℕ) → length_by_fields method fields ≡ Ok n → n ≤ max_body
 framed_bound method fields n e =
     by_fields_bound (bytes_eq method (codes "POST")) (text_field (codes "transfer-encoding") fields) (text_field (codes "content-length") fields) n e

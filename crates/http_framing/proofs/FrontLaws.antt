@@ -5,26 +5,26 @@ use Rattle.httparse.specs.Grammar.{RequestHead}
 use Rattle.httparse.specs.Spans.{IsRequestAt, IsRequestWithin}
 use Rattle.httparse.specs.declared.spans.HeaderSpan.{HeaderSpan}
 use Rattle.httparse.specs.declared.spans.RequestSpans.{RequestSpans}
-use Rattle.http_framing.specs.Bodies.{framed}
+use Rattle.http_framing.specs.Bodies.{length_by_fields}
 use Rattle.http_framing.specs.Fields.{pairs}
 use Rattle.http_framing.specs.Fronts.{ArePartsOf, IsFront, IsHeadFront}
 use Rattle.http_framing.specs.Heads.{HasHead, max_head}
 use Rattle.http_framing.specs.Requests.{IsPartial, IsMalformed}
-use Rattle.http_framing.specs.declared.bodies.Refusal.{Refusal}
+use Rattle.http_framing.specs.declared.bodies.RequestRefusal.{RequestRefusal}
 use Rattle.http_framing.specs.declared.front.Front.TheVariants.{Whole}
 use Rattle.http_framing.specs.declared.front.RequestParts.{RequestParts}
 use Rattle.http_framing.specs.declared.heads.HeadFront as head
 use Rattle.http_framing.proofs.HeadLaws.{HasHead-window}
 
 -- a head at the front of a buffer, at spans of its window, and what its fields say of the body
-pub record IsHeadAt (bytes window : List ℕ) (fields : List HeaderSpan) (spans : RequestSpans) (says : Result ℕ Refusal) (h : RequestHead) : Type 0 where
+pub record IsHeadAt (bytes window : List ℕ) (fields : List HeaderSpan) (spans : RequestSpans) (says : Result ℕ RequestRefusal) (h : RequestHead) : Type 0 where
   pub head : HasHead bytes h (drop spans.len bytes)
   pub at : IsRequestAt window fields spans h
-  pub framed_as : framed h.method (pairs h) ≡ says
+  pub framed_as : length_by_fields h.method (pairs h) ≡ says
 
-pub IsHeadAt-window : (bytes window : List ℕ) (fields : List HeaderSpan) (spans : RequestSpans) (says : Result ℕ Refusal) → window ≡ take max_head bytes
+pub IsHeadAt-window : (bytes window : List ℕ) (fields : List HeaderSpan) (spans : RequestSpans) (says : Result ℕ RequestRefusal) → window ≡ take max_head bytes
     → IsHeadFront window fields (head.TheVariants.Whole spans)
-    → ((h : RequestHead) → IsRequestAt window fields spans h → says ≡ framed h.method (pairs h))
+    → ((h : RequestHead) → IsRequestAt window fields spans h → says ≡ length_by_fields h.method (pairs h))
     → (h : RequestHead) × IsHeadAt bytes window fields spans says h
 IsHeadAt-window bytes window fields spans says e front says_framed =
     let fits : spans.len ≤ length (take max_head bytes) = subst (λ w. spans.len ≤ length w) e front.0.section.len_fits in
@@ -49,7 +49,7 @@ part_behind bytes at = take_all (length bytes - at) (drop at bytes) (omega (arit
 pub IsFront-whole : (bytes window behind : List ℕ) (fields : List HeaderSpan) (spans : RequestSpans) (body : ℕ) (parts : RequestParts)
     → window ≡ take max_head bytes → behind ≡ drop spans.len bytes
     → IsHeadFront window fields (head.TheVariants.Whole spans)
-    → ((h : RequestHead) → IsRequestAt window fields spans h → Ok body ≡ framed h.method (pairs h))
+    → ((h : RequestHead) → IsRequestAt window fields spans h → Ok body ≡ length_by_fields h.method (pairs h))
     → body ≤ length behind
     → ((h : RequestHead) → IsRequestAt window fields spans h → ArePartsOf (record { head = h; body = take body behind }) parts)
     → IsFront bytes (Whole parts)
@@ -78,7 +78,7 @@ IsFront-whole bytes window behind fields spans body parts e b front says fits ar
 pub IsPartial-body : (bytes window behind : List ℕ) (fields : List HeaderSpan) (spans : RequestSpans) (body : ℕ)
     → window ≡ take max_head bytes → behind ≡ drop spans.len bytes
     → IsHeadFront window fields (head.TheVariants.Whole spans)
-    → ((h : RequestHead) → IsRequestAt window fields spans h → Ok body ≡ framed h.method (pairs h))
+    → ((h : RequestHead) → IsRequestAt window fields spans h → Ok body ≡ length_by_fields h.method (pairs h))
     → length behind < body
     → IsPartial bytes
 IsPartial-body bytes window behind fields spans body e b front says over =
@@ -86,9 +86,9 @@ IsPartial-body bytes window behind fields spans body e b front says over =
     inr (found.0, behind, body, record { head = subst (HasHead bytes found.0) (sym b) found.1.head; framed_as = found.1.framed_as; cut = over })
 
 -- the fields are refused
-pub IsMalformed-fields : (bytes window : List ℕ) (fields : List HeaderSpan) (spans : RequestSpans) (why : Refusal) → window ≡ take max_head bytes
+pub IsMalformed-fields : (bytes window : List ℕ) (fields : List HeaderSpan) (spans : RequestSpans) (why : RequestRefusal) → window ≡ take max_head bytes
     → IsHeadFront window fields (head.TheVariants.Whole spans)
-    → ((h : RequestHead) → IsRequestAt window fields spans h → Err why ≡ framed h.method (pairs h))
+    → ((h : RequestHead) → IsRequestAt window fields spans h → Err why ≡ length_by_fields h.method (pairs h))
     → IsMalformed bytes why
 IsMalformed-fields bytes window fields spans why e front says =
     let found = IsHeadAt-window bytes window fields spans (Err why) e front says in

@@ -4,7 +4,7 @@ use Rattle.std.proofs.lemmas.Bool.{cases_lt}
 use Rattle.std.proofs.lemmas.List.{take-append-drop, take-append-le, take_at, length-take-le, drop-append-le, take_all}
 use Rattle.httparse.specs.Grammar.{RequestHead, print_request, ReadsRequest}
 use Rattle.httparse.proofs.GrammarLemmas.{request_unique, ReadsRequest-append}
-use Rattle.http_framing.specs.Heads.{HasHead, IsHopeless, IsTooLong, IsBadHead, IsUnfinished, max_head}
+use Rattle.http_framing.specs.Heads.{HasHead, IsHopeless, IsHeadTooLong, IsBadHead, IsUnfinished, max_head}
 
 -- if two ways to split a text meet, the shorter front begins the longer one
 pub front_within : (a more p rest : List ℕ) → a ++ more ≡ p ++ rest → length p ≤ length a → a ≡ p ++ drop (length p) a
@@ -26,7 +26,7 @@ pub IsHopeless-append : (bytes more : List ℕ) → IsHopeless bytes → IsHopel
 IsHopeless-append bytes more x = λ later h rest reads. x (more ++ later) h rest (subst (λ t. ReadsRequest t h rest) (append_assoc bytes more later) reads)
 
 -- so does one that is too long
-pub IsTooLong-append : (bytes more : List ℕ) → IsTooLong bytes → IsTooLong (bytes ++ more)
+pub IsTooLong-append : (bytes more : List ℕ) → IsHeadTooLong bytes → IsHeadTooLong (bytes ++ more)
 IsTooLong-append bytes more x = record {
   long = let l = x.long in omega (arith, length-append bytes more);
   none = λ h rest reads. elim (cases_lt max_head (length (print_request h))) [

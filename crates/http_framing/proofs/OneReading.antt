@@ -4,21 +4,21 @@ use Rattle.std.proofs.lemmas.List.{take_at, drop_at}
 use Rattle.httparse.specs.Grammar.{RequestHead}
 use Rattle.http_framing.specs.Fields.{pairs}
 use Rattle.http_framing.specs.Heads.{HasHead, IsHopeless, IsUnfinished}
-use Rattle.http_framing.specs.Bodies.{framed}
+use Rattle.http_framing.specs.Bodies.{length_by_fields}
 use Rattle.http_framing.specs.Closing.{is_closing}
 use Rattle.http_framing.specs.Laws.{EndsInHopelessHead, IsChoice, HaveOneReading, IsHeadRefusal}
 use Rattle.http_framing.specs.Requests.{Request, HasRequest, IsPartial, IsMalformed}
-use Rattle.http_framing.specs.Streams.{Ends, Ending, ended, cut, closed, malformed, Requests}
-use Rattle.http_framing.specs.declared.bodies.Refusal.{Refusal}
+use Rattle.http_framing.specs.Streams.{EndsStream, Ending, ended, cut, closed, malformed, Requests}
+use Rattle.http_framing.specs.declared.bodies.RequestRefusal.{RequestRefusal}
 use Rattle.http_framing.proofs.HeadLaws.{HasHead-unique, HasHead-good, HasHead-finished}
 use Rattle.http_framing.proofs.BlankLaws.{HasHead-not_blank, is_blank-hopeful}
 
-same_framing : (bytes : List ℕ) (h k : RequestHead) (r q : List ℕ) (a b : Result ℕ Refusal) → HasHead bytes h r → HasHead bytes k q
-    → framed h.method (pairs h) ≡ a → framed k.method (pairs k) ≡ b → a ≡ b
+same_framing : (bytes : List ℕ) (h k : RequestHead) (r q : List ℕ) (a b : Result ℕ RequestRefusal) → HasHead bytes h r → HasHead bytes k q
+    → length_by_fields h.method (pairs h) ≡ a → length_by_fields k.method (pairs k) ≡ b → a ≡ b
 same_framing bytes h k r q a b x y e f =
-    let same = HasHead-unique bytes h k r q x y in sym e ∙ (ap (λ h. framed h.method (pairs h)) same.0 ∙ f)
+    let same = HasHead-unique bytes h k r q x y in sym e ∙ (ap (λ h. length_by_fields h.method (pairs h)) same.0 ∙ f)
 
-body_length : (a b : ℕ) → (let x : Result ℕ Refusal = Ok a in x ≡ Ok b) → a ≡ b
+body_length : (a b : ℕ) → (let x : Result ℕ RequestRefusal = Ok a in x ≡ Ok b) → a ≡ b
 body_length a b e = cc
 
 -- one request, one rest
@@ -30,19 +30,19 @@ HasRequest-unique bytes r q s t x y =
     let rest : s ≡ t = sym (drop_at r.body s (length r.body) refl) ∙ (ap (drop (length r.body)) same.1 ∙ drop_at q.body t (length r.body) (sym long)) in
     (λ i. record { head = same.0 i; body = body i }, rest)
 
-blank_malformed : (bytes : List ℕ) (why : Refusal) → Ends bytes ended → IsMalformed bytes why → ⊥
+blank_malformed : (bytes : List ℕ) (why : RequestRefusal) → EndsStream bytes ended → IsMalformed bytes why → ⊥
 blank_malformed bytes why x (inl (e, inl hopeless)) = is_blank-hopeful bytes x.0 hopeless
 blank_malformed bytes why x (inl (e, inr long)) = let a = x.1 in let b = long.long in absurd (omega arith)
 blank_malformed bytes why x (inr (h, after, y)) = true≢false (sym x.0 ∙ HasHead-not_blank bytes h after y.head)
 
-partial_malformed : (bytes : List ℕ) (why : Refusal) → IsPartial bytes → IsMalformed bytes why → IsHeadRefusal why
+partial_malformed : (bytes : List ℕ) (why : RequestRefusal) → IsPartial bytes → IsMalformed bytes why → IsHeadRefusal why
 partial_malformed bytes why (inl x) (inl (e, bad)) = subst IsHeadRefusal (sym e) tt
 partial_malformed bytes why (inl x) (inr (h, after, y)) = absurd (HasHead-finished bytes h after y.head x)
 partial_malformed bytes why (inr (h, after, wanted, x)) (inl (e, bad)) = absurd (HasHead-good bytes h after x.head bad)
 partial_malformed bytes why (inr (h, after, wanted, x)) (inr (k, rest, y)) =
     let e = same_framing bytes h k after rest _ _ x.head y.head x.framed_as y.framed_as in absurd (cc)
 
-malformed_malformed : (bytes : List ℕ) (why other : Refusal) → IsMalformed bytes why → IsMalformed bytes other → why ≡ other
+malformed_malformed : (bytes : List ℕ) (why other : RequestRefusal) → IsMalformed bytes why → IsMalformed bytes other → why ≡ other
 malformed_malformed bytes why other (inl (e, bad)) (inl (f, worse)) = e ∙ sym f
 malformed_malformed bytes why other (inl (e, bad)) (inr (h, after, y)) = absurd (HasHead-good bytes h after y.head bad)
 malformed_malformed bytes why other (inr (h, after, x)) (inl (f, bad)) = absurd (HasHead-good bytes h after x.head bad)
@@ -50,7 +50,7 @@ malformed_malformed bytes why other (inr (h, after, x)) (inr (k, rest, y)) =
     let e = same_framing bytes h k after rest _ _ x.head y.head x.framed_as y.framed_as in cc
 
 -- one ending, except for the choice
-Ends-unique : (bytes : List ℕ) (e f : Ending) → Ends bytes e → Ends bytes f → (e ≡ f) ⊎ IsChoice e f
+Ends-unique : (bytes : List ℕ) (e f : Ending) → EndsStream bytes e → EndsStream bytes f → (e ≡ f) ⊎ IsChoice e f
 Ends-unique bytes ended ended x y = inl refl
 Ends-unique bytes ended cut x y = absurd (true≢false (sym x.0 ∙ y.1))
 Ends-unique bytes ended closed x y = absurd y
@@ -66,7 +66,7 @@ Ends-unique bytes (malformed why) closed x y = absurd y
 Ends-unique bytes (malformed why) (malformed other) x y = inl (ap malformed (malformed_malformed bytes why other x y))
 
 -- a stream that ends holds no request
-pub request_ends : (bytes : List ℕ) (r : Request) (rest : List ℕ) (e : Ending) → HasRequest bytes r rest → Ends bytes e → ⊥
+pub request_ends : (bytes : List ℕ) (r : Request) (rest : List ℕ) (e : Ending) → HasRequest bytes r rest → EndsStream bytes e → ⊥
 request_ends bytes r rest ended x y = true≢false (sym y.0 ∙ HasHead-not_blank bytes r.head _ x.head)
 request_ends bytes r rest cut x y = on_partial y.0
   where
@@ -106,7 +106,7 @@ one_reading bytes (r ∷ rs) (q ∷ qs) e f x y =
     ] refl
 
 -- a head that is partial and malformed is unfinished and hopeless
-hopeless_head : (bytes : List ℕ) (why : Refusal) → IsHeadRefusal why → IsPartial bytes → IsMalformed bytes why → IsUnfinished bytes × IsHopeless bytes
+hopeless_head : (bytes : List ℕ) (why : RequestRefusal) → IsHeadRefusal why → IsPartial bytes → IsMalformed bytes why → IsUnfinished bytes × IsHopeless bytes
 hopeless_head bytes why refusal (inl x) (inl (e, inl hopeless)) = (x, hopeless)
 hopeless_head bytes why refusal (inl x) (inl (e, inr long)) = let a = x.short in let b = long.long in absurd (omega arith)
 hopeless_head bytes why refusal (inl x) (inr (h, after, y)) = absurd (HasHead-finished bytes h after y.head x)
@@ -115,7 +115,7 @@ hopeless_head bytes why refusal (inr (h, after, wanted, x)) (inr (k, rest, y)) =
     let e = same_framing bytes h k after rest _ _ x.head y.head x.framed_as y.framed_as in absurd (cc)
 
 -- bytes with both endings of the choice are an unfinished and hopeless head
-chosen_ends : (bytes : List ℕ) (e f : Ending) → Ends bytes e → Ends bytes f → IsChoice e f → IsUnfinished bytes × IsHopeless bytes
+chosen_ends : (bytes : List ℕ) (e f : Ending) → EndsStream bytes e → EndsStream bytes f → IsChoice e f → IsUnfinished bytes × IsHopeless bytes
 chosen_ends bytes cut (malformed why) x y choice = hopeless_head bytes why choice x.0 y
 chosen_ends bytes (malformed why) cut x y choice = hopeless_head bytes why choice y.0 x
 chosen_ends bytes e f x y choice = absurd choice

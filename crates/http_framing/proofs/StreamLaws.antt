@@ -7,9 +7,9 @@ use Rattle.http_framing.specs.Closing.{is_closing}
 use Rattle.http_framing.specs.Fields.{pairs}
 use Rattle.http_framing.specs.Heads.{HasHead}
 use Rattle.http_framing.specs.Requests.{Request, HasRequest, IsPartial, IsMalformed}
-use Rattle.http_framing.specs.declared.bodies.Refusal.{Refusal}
+use Rattle.http_framing.specs.declared.bodies.RequestRefusal.{RequestRefusal}
 use Rattle.http_framing.specs.Rooms.{max_request}
-use Rattle.http_framing.specs.Streams.{Ending, ended, cut, closed, Ends, IsOpen, Requests, Splits}
+use Rattle.http_framing.specs.Streams.{Ending, ended, cut, closed, EndsStream, IsOpen, Requests, Splits}
 use Rattle.http_framing.proofs.BlankLaws.{HasHead-not_blank}
 use Rattle.http_framing.proofs.BodyLaws.{framed_bound}
 use Rattle.http_framing.proofs.HeadLaws.{HasHead-append, IsBadHead-append}
@@ -27,7 +27,7 @@ splits_more bytes more rest [] x = ap (λ t. t ++ more) x
 splits_more bytes more rest (r ∷ rs) x = (x.0 ++ more, whole_more bytes more r x.0 x.1, splits_more x.0 more rest rs x.2)
 
 -- and a refusal
-pub malformed_more : (bytes more : List ℕ) (why : Refusal) → IsMalformed bytes why → IsMalformed (bytes ++ more) why
+pub malformed_more : (bytes more : List ℕ) (why : RequestRefusal) → IsMalformed bytes why → IsMalformed (bytes ++ more) why
 malformed_more bytes more why (inl (e, bad)) = inl (e, IsBadHead-append bytes more bad)
 malformed_more bytes more why (inr (h, after, x)) = inr (h, after ++ more, record { head = HasHead-append bytes more h after x.head; framed_as = x.framed_as })
 
@@ -48,18 +48,18 @@ partial_short bytes (inr (h, after, wanted, x)) =
     omega (arith, length-append (print_request h) after)
 
 -- a stream that ends there has ended between requests if the bytes are empty lines
-pub partial_ended : (bytes : List ℕ) → IsPartial bytes → is_blank bytes ≡ true → Ends bytes ended
+pub partial_ended : (bytes : List ℕ) → IsPartial bytes → is_blank bytes ≡ true → EndsStream bytes ended
 partial_ended bytes (inl x) blank = (blank, x.short)
 partial_ended bytes (inr (h, after, wanted, x)) blank = absurd (true≢false (sym blank ∙ HasHead-not_blank bytes h after x.head))
 
 -- and is cut if they are not
-pub partial_cut : (bytes : List ℕ) → IsPartial bytes → is_blank bytes ≡ false → Ends bytes cut
+pub partial_cut : (bytes : List ℕ) → IsPartial bytes → is_blank bytes ≡ false → EndsStream bytes cut
 partial_cut bytes x other = (x, other)
 
 -- the requests so far, if each leaves the session open, and how the rest ends
-pub requests_of : (bytes rest : List ℕ) (requests : List Request) (ending : Ending) → Splits bytes requests rest → All IsOpen requests → Ends rest ending
+pub requests_of : (bytes rest : List ℕ) (requests : List Request) (ending : Ending) → Splits bytes requests rest → All IsOpen requests → EndsStream rest ending
     → Requests bytes requests ending
-requests_of bytes rest [] ending x open_all ends = subst (λ t. Ends t ending) (sym x) ends
+requests_of bytes rest [] ending x open_all ends = subst (λ t. EndsStream t ending) (sym x) ends
 requests_of bytes rest (r ∷ rs) ending x open_all ends =
     let first = All-head IsOpen r rs open_all in (
       x.0,

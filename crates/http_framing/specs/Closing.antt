@@ -2,7 +2,7 @@
 use Rattle.std.specs.Prelude.{◌==◌, ◌||◌, ℕ, List, [], ◌∷◌, Bool, codes, reverse, if◌then◌else◌}
 use Rattle.std.specs.List.{list_any, slice_split}
 use Rattle.httparse.specs.Grammar.{RequestHead}
-use Rattle.http_framing.specs.Fields.{Pair, pairs, values_of, is_same_name}
+use Rattle.http_framing.specs.Fields.{HeaderField, pairs, values_of, is_same_name}
 
 -- the byte of a space
 abbrev pub space : ℕ
@@ -30,7 +30,7 @@ abbrev pub has_close : List ℕ → Bool
 has_close value = list_any is_close (slice_split (λ byte. byte == comma) value)
 
 -- a Connection field has `close` among its parts
-abbrev pub asks_close : List Pair → Bool
+abbrev pub asks_close : List HeaderField → Bool
 asks_close fields = list_any has_close (values_of (codes "connection") fields)
 
 -- the session ends after a request with this head

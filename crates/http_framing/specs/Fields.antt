@@ -15,16 +15,16 @@ unfoldable pub is_same_name : List ℕ → List ℕ → Bool
 is_same_name text name = bytes_eq (map to_ascii_lowercase text) (map to_ascii_lowercase name)
 
 -- a field's name, and its value without the white space around it
-abbrev pub Pair : Type 0
-Pair = List ℕ × List ℕ
+abbrev pub HeaderField : Type 0
+HeaderField = List ℕ × List ℕ
 
 -- the values of the fields of that name, in order
-abbrev pub values_of : List ℕ → List Pair → List (List ℕ)
+abbrev pub values_of : List ℕ → List HeaderField → List (List ℕ)
 values_of name [] = []
 values_of name (field ∷ fields) = if is_same_name field.0 name then field.1 ∷ values_of name fields else values_of name fields
 
 -- the fields of a head as pairs
-abbrev pub pairs : RequestHead → List Pair
+abbrev pub pairs : RequestHead → List HeaderField
 pairs head = map name_and_value head.fields
 
 -- what the fields of one name say: there is none, the only one has this value, or there are two or
@@ -41,7 +41,7 @@ text_among (value ∷ []) = written value
 text_among (first ∷ second ∷ values) = twice
 
 -- what the fields of this name say
-abbrev pub text_field : List ℕ → List Pair → TextSaid
+abbrev pub text_field : List ℕ → List HeaderField → TextSaid
 text_field name fields = text_among (values_of name fields)
 
 -- what is found of the fields of one name
@@ -62,5 +62,5 @@ number_said (written value) = number_written (number_of value MAX_DIGITS)
 number_said twice = Wrong
 
 -- the number that the only field of this name writes
-abbrev pub number_field : List ℕ → List Pair → FieldNumber
+abbrev pub number_field : List ℕ → List HeaderField → FieldNumber
 number_field name fields = number_said (text_field name fields)

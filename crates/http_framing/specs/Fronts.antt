@@ -7,13 +7,13 @@ use Rattle.http_framing.specs.Closing.{is_closing}
 use Rattle.http_framing.specs.Fields.{number_field, pairs, text_field, text_shown}
 use Rattle.http_framing.specs.Heads.{HasHead, IsBadHead, IsUnfinished}
 use Rattle.http_framing.specs.Requests.{Request, HasRequest, IsPartial, IsMalformed}
-use Rattle.http_framing.specs.Streams.{Ends, ended, cut}
+use Rattle.http_framing.specs.Streams.{EndsStream, ended, cut}
 use Rattle.http_framing.specs.declared.front.Front.{Front}
 use Rattle.http_framing.specs.declared.front.Front.TheVariants.{Whole, Partial, Malformed}
 use Rattle.http_framing.specs.declared.front.RequestParts.{RequestParts}
 use Rattle.http_framing.specs.declared.heads.HeadFront as head
-use Rattle.http_framing.specs.declared.incoming.End.{End}
-use Rattle.http_framing.specs.declared.incoming.End.TheVariants.{Ended, Cut}
+use Rattle.http_framing.specs.declared.incoming.StreamEnd.{StreamEnd}
+use Rattle.http_framing.specs.declared.incoming.StreamEnd.TheVariants.{Ended, Cut}
 
 -- the parts are those of the request
 pub record ArePartsOf (request : Request) (parts : RequestParts) : Type 0 where
@@ -38,9 +38,9 @@ IsFront bytes Partial = IsPartial bytes
 IsFront bytes (Malformed why) = IsMalformed bytes why
 
 -- how a stream ends with these bytes, which hold no whole request
-abbrev pub IsEnd : List ℕ → End → Type 0
-IsEnd bytes Ended = Ends bytes ended
-IsEnd bytes Cut = Ends bytes cut
+abbrev pub IsEnd : List ℕ → StreamEnd → Type 0
+IsEnd bytes Ended = EndsStream bytes ended
+IsEnd bytes Cut = EndsStream bytes cut
 
 -- what the head at the front of a window is
 abbrev pub IsHeadFront : List ℕ → List HeaderSpan → head.HeadFront → Type 0

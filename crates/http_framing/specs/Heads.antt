@@ -22,13 +22,13 @@ abbrev pub IsHopeless : List ℕ → Type 0
 IsHopeless bytes = RequestOverflows max_fields bytes
 
 -- the longest head is there, and no head ends within it
-pub record IsTooLong (bytes : List ℕ) : Type 0 where
+pub record IsHeadTooLong (bytes : List ℕ) : Type 0 where
   pub long : max_head ≤ length bytes
   pub none : (head : RequestHead) (rest : List ℕ) → ReadsRequest bytes head rest → max_head < length (print_request head)
 
 -- no head within the limits can come
 abbrev pub IsBadHead : List ℕ → Type 0
-IsBadHead bytes = IsHopeless bytes ⊎ IsTooLong bytes
+IsBadHead bytes = IsHopeless bytes ⊎ IsHeadTooLong bytes
 
 -- there is no head, but one may still come (inside a target `httparse` does not say), and there is
 -- room for more bytes of it

@@ -3,11 +3,11 @@ use Rattle.std.specs.Prelude.{◌≡◌, ℕ, ◌⊎◌, List, ◌++◌, ⊤}
 use Rattle.http_framing.specs.Requests.{Request, IsMalformed}
 use Rattle.http_framing.specs.Heads.{IsHopeless, IsUnfinished}
 use Rattle.http_framing.specs.Streams.{Requests, Splits, Ending, cut, malformed}
-use Rattle.http_framing.specs.declared.bodies.Refusal.{Refusal}
-use Rattle.http_framing.specs.declared.bodies.Refusal.TheVariants.{Head}
+use Rattle.http_framing.specs.declared.bodies.RequestRefusal.{RequestRefusal}
+use Rattle.http_framing.specs.declared.bodies.RequestRefusal.TheVariants.{Head}
 
 -- the head itself is refused
-abbrev pub IsHeadRefusal : Refusal → Type 0
+abbrev pub IsHeadRefusal : RequestRefusal → Type 0
 IsHeadRefusal Head = ⊤
 IsHeadRefusal why = ⊥
 
@@ -37,4 +37,4 @@ StayWithMore =
 
 -- so does a refusal
 abbrev pub RefusalsStay : Type 0
-RefusalsStay = (bytes more : List ℕ) (why : Refusal) → IsMalformed bytes why → IsMalformed (bytes ++ more) why
+RefusalsStay = (bytes more : List ℕ) (why : RequestRefusal) → IsMalformed bytes why → IsMalformed (bytes ++ more) why

@@ -4,7 +4,7 @@ ghost use Rattle.httparse.specs.Grammar.{RequestHead};
 ghost use Rattle.httparse.specs.Spans.{IsRequestAt, IsRequestWithin};
 ghost use Rattle.http_framing.specs.Fronts.{ArePartsOf, IsFront};
 
-use crate::bodies::{Refusal, body_length};
+use crate::bodies::{RequestRefusal, body_length};
 use crate::closing::asks_close;
 use crate::fields::{FieldNumber, FieldText, field_number, field_text};
 use crate::heads::{HeadFront, MAX_FIELDS, head_front, window_of};
@@ -19,7 +19,7 @@ pub enum Front<'b> {
     /// A request that is not whole yet, or nothing but empty lines.
     Partial,
     /// It can't become a request, whatever bytes follow.
-    Malformed(Refusal),
+    Malformed(RequestRefusal),
 }
 
 /// The parts of a whole request.
@@ -48,13 +48,13 @@ pub(crate) fn front_of(bytes: &[u8]) -> Front<'_>
     let mut fields = [EMPTY_HEADER_SPAN; MAX_FIELDS];
     match head_front(window, &mut fields) {
         HeadFront::Partial => Front::Partial,
-        HeadFront::Bad => Front::Malformed(Refusal::Head),
+        HeadFront::Bad => Front::Malformed(RequestRefusal::Head),
         HeadFront::Whole(spans) => match body_length(window, &fields, &spans) {
             Err(why) => Front::Malformed(why),
             Ok(length) => {
                 let behind = &bytes[spans.len..];
                 if length <= behind.len() {
-                    Front::Whole(parts_of(window, &fields, &spans, &behind[..length]))
+                    Front::Whole(request_parts(window, &fields, &spans, &behind[..length]))
                 } else {
                     Front::Partial
                 }
@@ -64,7 +64,7 @@ pub(crate) fn front_of(bytes: &[u8]) -> Front<'_>
 }
 
 /// The parts of the request with this body, whose head has these spans of a window.
-fn parts_of<'b>(
+fn request_parts<'b>(
     window: &'b [u8],
     fields: &[HeaderSpan],
     spans: &RequestSpans,

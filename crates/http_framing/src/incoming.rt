@@ -37,7 +37,7 @@ impl Model for Incoming {
 
 /// How a stream ends if its last bytes hold no whole request.
 #[derive(Clone, Copy, Debug, PartialEq, Eq)]
-pub enum End {
+pub enum StreamEnd {
     /// Between requests.
     Ended,
     /// Inside a request.
@@ -73,7 +73,7 @@ impl Incoming {
     }
 
     /// Passes over this many bytes at the front.
-    pub fn pass_over(&mut self, count: usize)
+    pub fn consume(&mut self, count: usize)
         requires most { count ≤ length self.old }
         ensures rest { self.new ≡ drop count self.old }
     {
@@ -82,14 +82,14 @@ impl Incoming {
     }
 
     /// How the stream ends, if it ends here.
-    pub fn end(&self) -> End
+    pub fn end(&self) -> StreamEnd
         requires partial { IsPartial self.now }
         ensures is { IsEnd self.now result }
     {
         if are_blank(self.bytes.as_slice()) {
-            End::Ended
+            StreamEnd::Ended
         } else {
-            End::Cut
+            StreamEnd::Cut
         }
     }
 }

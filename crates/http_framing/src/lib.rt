@@ -15,9 +15,9 @@ mod heads;
 mod incoming;
 mod laws;
 
-pub use bodies::{MAX_BODY, Refusal};
+pub use bodies::{MAX_BODY, RequestRefusal};
 pub use fields::{FieldNumber, FieldText};
 pub use front::{Front, RequestParts};
 pub use heads::{MAX_FIELDS, MAX_HEAD};
-pub use incoming::{End, Incoming, MAX_PIECE};
+pub use incoming::{Incoming, MAX_PIECE, StreamEnd};
 pub use laws::{more_bytes_change_no_request, requests_have_one_reading};

@@ -5,9 +5,9 @@ use Rattle.std.specs.Prelude.{Option, Some, None}
 use Rattle.std.specs.Option.{option_map}
 use Rattle.std.proofs.lemmas.List.{length_push}
 use Rattle.apron_base.specs.Keeper.{IsRiskOf, with_last}
-use Rattle.journal_disk.specs.Disk.{Continues, DiskState, EachImage, EachImageSince, Told, TellsAlike}
-use Rattle.journal_disk.specs.Entries.{records, sized, IsEntry}
-use Rattle.journal_disk.specs.Extent.{AppendsSafely, Extent, IsCrashSafe, IsKept, IsSettled, StandsFor, entries_within, entry_at_risk, entry_if}
+use Rattle.journal_disk.specs.Disk.{Continues, DiskState, EachImage, EachImageSince, IfExposed, TellsAlike}
+use Rattle.journal_disk.specs.Entries.{records, with_length, IsEntry}
+use Rattle.journal_disk.specs.Extent.{AppendsSafely, Extent, IsCrashSafe, IsExtentOf, IsSettled, StandsFor, entries_within, entry_at_risk, entry_if}
 use Rattle.journal_disk.specs.Gates.{FromClosed, FromGate, FromWhole, GateIs, IsClosed, IsRecord, IsWhole}
 use Rattle.journal_disk.specs.Limits.{most_entries}
 use Rattle.journal_disk.proofs.Moments.{at_last, since_map, since_then}
@@ -16,11 +16,11 @@ use Rattle.journal_disk.proofs.Tells.{between_any, told_after, told_before, mapp
 
 -- what a disk now reads as is one of the images that a crash may leave
 abbrev pub Reads : DiskState → Type 0
-Reads disk = Told disk (disk.images disk.moment)
+Reads disk = IfExposed disk (disk.images disk.moment)
 
 -- how a call ends that failed: the entries are kept, and it is known what may be found after them
 pub record HasFailed (extent other : Extent) (before now : DiskState) (entry : List ℕ) : Type 0 where
-  pub kept : IsKept other now
+  pub kept : IsExtentOf other now
   pub entries : option_map (entries_within other) now.contents ≡ option_map (entries_within extent) before.contents
   pub at_risk : IsRiskOf (entry_at_risk other now.contents) (entry_at_risk extent before.contents) entry
   pub crash : AppendsSafely extent before now entry
@@ -28,7 +28,7 @@ pub record HasFailed (extent other : Extent) (before now : DiskState) (entry : L
 
 -- how a call ends that succeeded: the entry is last
 pub record HasAdded (extent other : Extent) (before now : DiskState) (entry : List ℕ) : Type 0 where
-  pub kept : IsKept other now
+  pub kept : IsExtentOf other now
   pub entries : option_map (entries_within other) now.contents ≡ option_map (with_last entry) (option_map (entries_within extent) before.contents)
   pub crash : AppendsSafely extent before now entry
   pub afterwards : IsCrashSafe other now
@@ -48,7 +48,7 @@ gate_inside : (front : List ℕ) (place : ℕ) → length front ≡ place → (b
 gate_inside front place long bytes closed = omega (arith, long, ap length closed.text, length-append front (closed.gate ∷ closed.rest))
 
 whole_inside : (entry front : List ℕ) (place : ℕ) → length front ≡ place → (bytes : List ℕ) → IsWhole entry front bytes → place ≤ length bytes
-whole_inside entry front place long bytes whole = omega (arith, long, ap length whole.1.text, length-append front (whole.0 ∷ (sized entry ++ whole.1.next ∷ whole.1.rest)))
+whole_inside entry front place long bytes whole = omega (arith, long, ap length whole.1.text, length-append front (whole.0 ∷ (with_length entry ++ whole.1.next ∷ whole.1.rest)))
 
 -- the same front, with something else after it
 abbrev resettled : (extent : Extent) (unclean : Bool) (before now : DiskState) (s : IsSettled extent before) (risk : List ℕ)
@@ -67,7 +67,7 @@ resettled extent unclean before now s risk fits gate = record {
 }
 
 -- a journal on a disk before an append of this entry
-module _ (extent : Extent) (before : DiskState) (kept : IsKept extent before) (reads : Reads before) where
+module _ (extent : Extent) (before : DiskState) (kept : IsExtentOf extent before) (reads : Reads before) where
   abbrev front : (bytes : List ℕ) → before.contents ≡ Some bytes → List ℕ
   front bytes is = (kept.settled bytes is).front ++ records (kept.settled bytes is).entries
 
@@ -75,7 +75,7 @@ module _ (extent : Extent) (before : DiskState) (kept : IsKept extent before) (r
   risk bytes is = (kept.settled bytes is).risk
 
   -- the bytes reach past the gate place
-  pub inside : Told before (λ bytes. extent.place ≤ length bytes)
+  pub inside : IfExposed before (λ bytes. extent.place ≤ length bytes)
   inside bytes is = place_inside extent before kept.few (kept.settled bytes is) bytes (reads bytes is)
 
   -- what the images of a later state have after the front
@@ -86,7 +86,7 @@ module _ (extent : Extent) (before : DiskState) (kept : IsKept extent before) (r
   still_kept : (unclean : Bool) (now : DiskState) (other : (bytes : List ℕ) → before.contents ≡ Some bytes → List ℕ) → TellsAlike before now
       → ((bytes : List ℕ) (is : before.contents ≡ Some bytes) → unclean ≡ true → IsEntry (other bytes is) × (extent.number < most_entries))
       → ((bytes : List ℕ) (is : before.contents ≡ Some bytes) → EachImage now (GateIs unclean (other bytes is) (front bytes is)))
-      → IsKept (with_gate extent unclean) now
+      → IsExtentOf (with_gate extent unclean) now
   still_kept unclean now other tells fits gate = record {
     first = kept.first;
     few = kept.few;
@@ -165,12 +165,12 @@ module _ (extent : Extent) (before : DiskState) (kept : IsKept extent before) (r
             afterwards = kept_safe extent mended still reads_mended;
           }
 
-      module _ (mend : FromGate extent.place extent.unclean before (λ other f. Told before (λ _. EachImage mended (IsClosed f)))) where
+      module _ (mend : FromGate extent.place extent.unclean before (λ other f. IfExposed before (λ _. EachImage mended (IsClosed f)))) where
         closed : Behind mended IsClosed
         closed bytes is = mend (risk bytes is) (front bytes is) (kept.settled bytes is).at (kept.settled bytes is).gate bytes is
 
         -- the record goes inside the disk
-        pub stage_inside : Told mended (λ bytes. extent.place + 1 ≤ length bytes)
+        pub stage_inside : IfExposed mended (λ bytes. extent.place + 1 ≤ length bytes)
         stage_inside bytes is =
             let was = told_before Any before.contents mended.contents bytes goes.tells is in
             gate_inside (front was.0 was.1) extent.place (kept.settled was.0 was.1).at bytes (closed was.0 was.1 bytes (reads_mended bytes is))
@@ -199,14 +199,14 @@ module _ (extent : Extent) (before : DiskState) (kept : IsKept extent before) (r
                 afterwards = kept_safe (with_gate extent false) staged still reads_staged;
               }
 
-          module _ (stage : FromClosed extent.place mended (λ f. Told mended (λ _. EachImage staged (IsWhole entry f)))) where
+          module _ (stage : FromClosed extent.place mended (λ f. IfExposed mended (λ _. EachImage staged (IsWhole entry f)))) where
             whole : Behind staged (IsWhole entry)
             whole bytes is =
                 let after = told_after Any before.contents mended.contents bytes goes.tells is in
                 stage (front bytes is) (kept.settled bytes is).at (closed bytes is) after.0 after.1
 
             -- the gate is inside the disk
-            pub set_inside : Told staged (λ bytes. extent.place ≤ length bytes)
+            pub set_inside : IfExposed staged (λ bytes. extent.place ≤ length bytes)
             set_inside bytes is =
                 let was = told_before Any before.contents staged.contents bytes told_staged is in
                 whole_inside entry (front was.0 was.1) extent.place (kept.settled was.0 was.1).at bytes (whole was.0 was.1 bytes (reads_staged bytes is))
@@ -241,7 +241,7 @@ module _ (extent : Extent) (before : DiskState) (kept : IsKept extent before) (r
                   one_of None is_risk = inl refl
                   one_of (Some bytes) is_risk = inr (inr (is_risk bytes refl))
 
-              module _ (set : FromWhole extent.place staged (λ other f. Told staged (λ _. EachImage now (IsRecord 1 other f)))) where
+              module _ (set : FromWhole extent.place staged (λ other f. IfExposed staged (λ _. EachImage now (IsRecord 1 other f)))) where
                 opened : Behind now (IsRecord 1 entry)
                 opened bytes is =
                     let after = told_after Any before.contents staged.contents bytes told_staged is in
@@ -258,7 +258,7 @@ module _ (extent : Extent) (before : DiskState) (kept : IsKept extent before) (r
                       first = s.first;
                       sizes = every-push s.entries entry s.sizes size;
                       count = omega (arith, s.count, length_push s.entries entry);
-                      at = omega (arith, s.at, ap length (front-push extent.first s.front s.entries s.first s.sizes entry), length-append (s.front ++ records s.entries) (1 ∷ sized entry));
+                      at = omega (arith, s.at, ap length (front-push extent.first s.front s.entries s.first s.sizes entry), length-append (s.front ++ records s.entries) (1 ∷ with_length entry));
                       fits = not_unclean;
                       gate = λ image left. open_record extent.first s.front s.entries s.first s.sizes entry image (opened bytes is image left);
                     }
@@ -266,7 +266,7 @@ module _ (extent : Extent) (before : DiskState) (kept : IsKept extent before) (r
                 -- the entry was added
                 pub has_added : HasAdded extent (with_entry extent entry) before now entry
                 has_added =
-                    let added : IsKept (with_entry extent entry) now = record {
+                    let added : IsExtentOf (with_entry extent entry) now = record {
                       first = kept.first;
                       few = omega (arith, room);
                       within = omega (arith, kept.within, size.1);

@@ -8,7 +8,7 @@ use Rattle.std.proofs.lemmas.List.{take-take, drop-take, drop_at, take_at, get_o
 use Rattle.journal_disk.specs.Entries.{entries_from, entries_of, part_length, records}
 use Rattle.journal_disk.specs.Header.{as_old, behind_part, digests_in, entries_past, has_magic, header_fault, is_new, line_end, magic, new_entries, old_entries, old_opening_of, opening_of, or_bad_record, unless}
 use Rattle.journal_disk.specs.Limits.{first_gate, most_entries}
-use Rattle.journal_disk.specs.Parts.{IsFront}
+use Rattle.journal_disk.specs.Parts.{IsHeaderAndOldPart}
 use Rattle.journal_disk.specs.declared.fault.JournalFault.{JournalFault}
 use Rattle.journal_disk.specs.declared.fault.JournalFault.TheVariants.{BadRecord, NotAJournal, OldFormat}
 use Rattle.journal_disk.proofs.RecordTexts.{entries-closed}
@@ -69,7 +69,7 @@ old_opening digests text right old =
     ∙ ap (λ b. cond b (Ok None) (as_old (old_entries text))) old
 
 -- a front, and an image that begins with it
-module _ (new : Bool) (front : List ℕ) (f : IsFront new front) where
+module _ (new : Bool) (front : List ℕ) (f : IsHeaderAndOldPart new front) where
   pub front_length : length front ≡ behind_part (length (records f.old))
   front_length = omega (arith, ap length f.text, f.long, length-append f.header (records f.old ++ f.gate ∷ []), length-append (records f.old) (f.gate ∷ []))
 
@@ -106,14 +106,14 @@ module _ (new : Bool) (front : List ℕ) (f : IsFront new front) where
     behind_front = ap (drop (behind_part (length (records f.old)))) is ∙ drop_at front rest _ front_length
 
 -- what comes after the front of format 2 counts
-pub opens_new : (front : List ℕ) (f : IsFront true front) (image rest digests : List ℕ) (found : List (List ℕ)) → image ≡ front ++ rest → digests ≡ digests_in f.header → entries_from most_entries rest ≡ Ok found → opening_of digests image ≡ Ok found
+pub opens_new : (front : List ℕ) (f : IsHeaderAndOldPart true front) (image rest digests : List ℕ) (found : List (List ℕ)) → image ≡ front ++ rest → digests ≡ digests_in f.header → entries_from most_entries rest ≡ Ok found → opening_of digests image ≡ Ok found
 opens_new front f image rest digests found is same read =
     new_opening digests image (length (records f.old)) (right true front f image rest is digests same) (has_format true front f image rest is) (ap part_length (old_read true front f image rest is))
     ∙ ap (λ l. or_bad_record (entries_from most_entries l)) (behind_front true front f image rest is)
     ∙ ap or_bad_record read
 
 -- in format 1 nothing after the front counts
-pub opens_old : (front : List ℕ) (f : IsFront false front) (image rest digests : List ℕ) → image ≡ front ++ rest → digests ≡ digests_in f.header → old_opening_of digests image ≡ Ok (Some f.old)
+pub opens_old : (front : List ℕ) (f : IsHeaderAndOldPart false front) (image rest digests : List ℕ) → image ≡ front ++ rest → digests ≡ digests_in f.header → old_opening_of digests image ≡ Ok (Some f.old)
 opens_old front f image rest digests is same =
     old_opening digests image (right false front f image rest is digests same) (has_format false front f image rest is)
     ∙ ap (λ r. as_old (or_bad_record r)) (old_read false front f image rest is)

@@ -2,7 +2,7 @@
 use Rattle.std.proofs.Common.{◌≡◌, ℕ, ◌*◌, ◌≤◌, List, [], ◌∷◌, ◌++◌, length, take, drop, Option, Some, Result, Err, ◌∙◌, ap, arith, length-append}
 use Rattle.std.proofs.lemmas.List.{take_all, take_at}
 use Rattle.apron_base.specs.Histories.{Every}
-use Rattle.journal_disk.specs.Entries.{records, sized, IsEntry}
+use Rattle.journal_disk.specs.Entries.{records, with_length, IsEntry}
 use Rattle.journal_disk.specs.Faults.{FailsAs, RecordFails}
 use Rattle.journal_disk.specs.Header.{as_old, or_bad_record, unless}
 use Rattle.journal_disk.specs.Limits.{most_record}
@@ -45,7 +45,7 @@ old_records_fail all read (BadRecord number) is fails = is ∙ ap (λ r. as_old 
 
 pub records_bound : (entries : List (List ℕ)) → Every IsEntry entries → length (records entries) ≤ most_record * length entries
 records_bound [] sizes = omega arith
-records_bound (entry ∷ entries) sizes = omega (arith, records_bound entries sizes.1, length-append (sized entry) (records entries), sizes.0.1)
+records_bound (entry ∷ entries) sizes = omega (arith, records_bound entries sizes.1, length-append (with_length entry) (records entries), sizes.0.1)
 
 -- so is a refusal of an old part that was read
 pub part_bound : (text : List ℕ) (entries : List (List ℕ)) (size : ℕ) → IsOldPart text entries size → size ≤ most_record * length entries

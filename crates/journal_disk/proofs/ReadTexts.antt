@@ -7,8 +7,8 @@ use Rattle.journal_disk.specs.Gates.{IsClosed}
 use Rattle.journal_disk.specs.Header.{behind_part, has_magic, is_new}
 use Rattle.journal_disk.specs.Disk.{DiskState, IsSafe}
 use Rattle.journal_disk.specs.Limits.{first_gate}
-use Rattle.journal_disk.specs.Opening.{IsNewPart, IsOldPart, IsPassed, IsRead}
-use Rattle.journal_disk.specs.Parts.{IsFront}
+use Rattle.journal_disk.specs.Opening.{IsNewPart, IsOldPart, IsPassed, IsReadJournal}
+use Rattle.journal_disk.specs.Parts.{IsHeaderAndOldPart}
 use Rattle.journal_disk.proofs.Appending.{not_unclean}
 use Rattle.journal_disk.proofs.Fronts.{format_kept, magic_kept}
 use Rattle.journal_disk.proofs.OpenedTexts.{records_bound}
@@ -33,7 +33,7 @@ module _ (text : List ℕ) (size : ℕ) (p : IsPassed (drop first_gate text) siz
   pub part_inside : behind_part size ≤ length text
   part_inside = omega (arith, begins_length, ap length goes, length-append begins p.1.closed.rest)
 
-  abbrev pub front_of : (new : Bool) → has_magic text ≡ true → is_new text ≡ new → IsFront new (take (behind_part size) text)
+  abbrev pub front_of : (new : Bool) → has_magic text ≡ true → is_new text ≡ new → IsHeaderAndOldPart new (take (behind_part size) text)
   front_of new magic format = record {
     header = take first_gate text;
     old = p.0;
@@ -49,7 +49,7 @@ module _ (text : List ℕ) (size : ℕ) (p : IsPassed (drop first_gate text) siz
 
 -- the new part of a text of format 2
 pub new_part : (text : List ℕ) (size : ℕ) (entries : List (List ℕ)) (length_is : ℕ) → first_gate ≤ length text → has_magic text ≡ true → is_new text ≡ true → IsPassed (drop first_gate text) size
-    → IsRead (drop (behind_part size) text) entries length_is → IsNewPart text (behind_part size) entries length_is
+    → IsReadJournal (drop (behind_part size) text) entries length_is → IsNewPart text (behind_part size) entries length_is
 new_part text size entries length_is long magic new p read = record {
   front = front_of text size p long true magic new;
   inside = part_inside text size p long;
@@ -58,7 +58,7 @@ new_part text size entries length_is long magic new p read = record {
 }
 
 -- the old part of a text of format 1
-pub old_part : (text : List ℕ) (entries : List (List ℕ)) (size : ℕ) → first_gate ≤ length text → has_magic text ≡ true → is_new text ≡ false → IsRead (drop first_gate text) entries size → IsOldPart text entries size
+pub old_part : (text : List ℕ) (entries : List (List ℕ)) (size : ℕ) → first_gate ≤ length text → has_magic text ≡ true → is_new text ≡ false → IsReadJournal (drop first_gate text) entries size → IsOldPart text entries size
 old_part text entries size long magic old read = record {
   front = front_of text size (entries, read) long false magic old;
   same = refl;
@@ -69,7 +69,7 @@ old_part text entries size long magic old read = record {
 }
 
 -- the front of a text that was read
-read_closed : (bytes : List ℕ) (first : ℕ) (entries : List (List ℕ)) (size : ℕ) → IsRead (drop first bytes) entries size → IsClosed (take first bytes ++ records entries) bytes
+read_closed : (bytes : List ℕ) (first : ℕ) (entries : List (List ℕ)) (size : ℕ) → IsReadJournal (drop first bytes) entries size → IsClosed (take first bytes ++ records entries) bytes
 read_closed bytes first entries size read = record {
   gate = read.closed.gate;
   rest = read.closed.rest;
@@ -77,7 +77,7 @@ read_closed bytes first entries size read = record {
   shut = read.closed.shut;
 }
 
-read_place : (bytes : List ℕ) (first : ℕ) (entries : List (List ℕ)) (size : ℕ) → first ≤ length bytes → IsRead (drop first bytes) entries size → length (take first bytes ++ records entries) ≡ first + size
+read_place : (bytes : List ℕ) (first : ℕ) (entries : List (List ℕ)) (size : ℕ) → first ≤ length bytes → IsReadJournal (drop first bytes) entries size → length (take first bytes ++ records entries) ≡ first + size
 read_place bytes first entries size long read = omega (arith, length-append (take first bytes) (records entries), length-take-le first bytes long, read.size_is)
 
 -- a journal that was read, and is safe, is settled

@@ -6,8 +6,8 @@ use Rattle.std.proofs.lemmas.Bool.Decides.{nat_tests}
 use Rattle.apron_base.specs.Histories.{Every}
 use Rattle.journal_disk.specs.Limits.{most_entries, most_bytes}
 use Rattle.journal_disk.specs.Gates.{IsClosed}
-use Rattle.journal_disk.specs.Opening.{IsRead, NextIs}
-use Rattle.journal_disk.specs.Entries.{behind_gate, closed_gate, open_gate, before_rest, with_record, entries_from, part_length, sized, records, IsEntry}
+use Rattle.journal_disk.specs.Opening.{IsReadJournal, NextIs}
+use Rattle.journal_disk.specs.Entries.{behind_gate, closed_gate, open_gate, before_rest, with_record, entries_from, part_length, with_length, records, IsEntry}
 
 -- these entries and then those of the rest
 abbrev pub after_entries : List (List ℕ) → Result (List (List ℕ)) ℕ → Result (List (List ℕ)) ℕ
@@ -22,7 +22,7 @@ size_of : (n : ℕ) → n % 256 + 256 * (n / 256) ≡ n
 size_of n = omega arith
 
 -- a record that is written is read
-pub behind_gate-sized : (entry : List ℕ) (gate : ℕ) (rest : List ℕ) → IsEntry entry → behind_gate (sized entry ++ gate ∷ rest) ≡ Some (entry, gate ∷ rest)
+pub behind_gate-sized : (entry : List ℕ) (gate : ℕ) (rest : List ℕ) → IsEntry entry → behind_gate (with_length entry ++ gate ∷ rest) ≡ Some (entry, gate ∷ rest)
 behind_gate-sized entry gate rest is =
     let long = length-append entry (gate ∷ rest) in
     rw (size_of (length entry), take_at entry (gate ∷ rest) (length entry) refl, drop_at entry (gate ∷ rest) (length entry) refl) (grind (arith, nat_tests))
@@ -38,11 +38,11 @@ opened left rest = refl
 
 pub records-append : (entries others : List (List ℕ)) → records (entries ++ others) ≡ records entries ++ records others
 records-append [] others = refl
-records-append (entry ∷ entries) others = ap (λ (l : List ℕ). 1 ∷ l) (ap (λ (l : List ℕ). sized entry ++ l) (records-append entries others) ∙ sym (append_assoc (sized entry) (records entries) (records others)))
+records-append (entry ∷ entries) others = ap (λ (l : List ℕ). 1 ∷ l) (ap (λ (l : List ℕ). with_length entry ++ l) (records-append entries others) ∙ sym (append_assoc (with_length entry) (records entries) (records others)))
 
 front_of : (entries : List (List ℕ)) (gate : ℕ) (rest : List ℕ) → (g : ℕ) × (r : List ℕ) × (records entries ++ gate ∷ rest ≡ g ∷ r)
 front_of [] gate rest = (gate, rest, refl)
-front_of (entry ∷ entries) gate rest = (1, (sized entry ++ records entries) ++ gate ∷ rest, refl)
+front_of (entry ∷ entries) gate rest = (1, (with_length entry ++ records entries) ++ gate ∷ rest, refl)
 
 -- records and then a closed gate are read as their entries, whatever comes after
 pub entries-closed : (entries : List (List ℕ)) (left gate : ℕ) (rest : List ℕ) → Every IsEntry entries → length entries ≤ left → gate ≢ 1 → entries_from left (records entries ++ gate ∷ rest) ≡ Ok entries
@@ -50,10 +50,10 @@ entries-closed [] left gate rest sizes few shut = closed left gate rest shut
 entries-closed (entry ∷ entries) zero gate rest sizes few shut = absurd (omega arith)
 entries-closed (entry ∷ entries) (suc left) gate rest sizes few shut =
     let front = front_of entries gate rest in
-    let text : (sized entry ++ records entries) ++ gate ∷ rest ≡ sized entry ++ front.0 ∷ front.1 = append_assoc (sized entry) (records entries) (gate ∷ rest) ∙ ap (λ (l : List ℕ). sized entry ++ l) front.2 in
-    let read : behind_gate ((sized entry ++ records entries) ++ gate ∷ rest) ≡ Some (entry, front.0 ∷ front.1) = ap behind_gate text ∙ behind_gate-sized entry front.0 front.1 sizes.0 in
+    let text : (with_length entry ++ records entries) ++ gate ∷ rest ≡ with_length entry ++ front.0 ∷ front.1 = append_assoc (with_length entry) (records entries) (gate ∷ rest) ∙ ap (λ (l : List ℕ). with_length entry ++ l) front.2 in
+    let read : behind_gate ((with_length entry ++ records entries) ++ gate ∷ rest) ≡ Some (entry, front.0 ∷ front.1) = ap behind_gate text ∙ behind_gate-sized entry front.0 front.1 sizes.0 in
     let others = entries-closed entries left gate rest sizes.1 (omega arith) shut in
-    opened left ((sized entry ++ records entries) ++ gate ∷ rest)
+    opened left ((with_length entry ++ records entries) ++ gate ∷ rest)
     ∙ ap (λ r. with_record (most_entries - left) r (entries_from left)) read
     ∙ ap (λ l. before_rest entry (entries_from left l)) (sym front.2)
     ∙ ap (before_rest entry) others
@@ -132,7 +132,7 @@ one_more entries entry (Err n) = refl
 
 pub records-push : (entries : List (List ℕ)) (entry : List ℕ) → length (records (entries ++ entry ∷ [])) ≡ length (records entries) + 3 + length entry
 records-push entries entry =
-    omega (arith, ap length (records-append entries (entry ∷ [])), length-append (records entries) (records (entry ∷ [])), length-append (sized entry) [])
+    omega (arith, ap length (records-append entries (entry ∷ [])), length-append (records entries) (records (entry ∷ [])), length-append (with_length entry) [])
 
 -- a turn of the loop
 pub turn : (text rest after entry : List ℕ) (entries pushed : List (List ℕ)) (number : ℕ) → pushed ≡ entries ++ entry ∷ [] → number ≡ length entries → NextIs number rest (Some (entry, after))
@@ -152,21 +152,21 @@ AreBytes text = (i : ℕ) → get_or text i 0 < 256
 bytes-drop : (n : ℕ) (text : List ℕ) → AreBytes text → AreBytes (drop n text)
 bytes-drop n text are i = subst (λ x. x < 256) (sym (get_or-drop n text i 0)) (are (n + i))
 
-sized_is : (low high : ℕ) (entry : List ℕ) → low < 256 → low + 256 * high ≡ length entry → sized entry ≡ low ∷ high ∷ entry
+sized_is : (low high : ℕ) (entry : List ℕ) → low < 256 → low + 256 * high ≡ length entry → with_length entry ≡ low ∷ high ∷ entry
 sized_is low high entry small is =
     let l : length entry % 256 ≡ low = omega (arith, small, is) in
     let h : length entry / 256 ≡ high = omega (arith, small, is) in
     ap (λ x. x ∷ length entry / 256 ∷ entry) l ∙ ap (λ x. low ∷ x ∷ entry) h
 
 -- a record that is read was written
-pub gate_read : (bytes entry rest : List ℕ) → AreBytes bytes → behind_gate bytes ≡ Some (entry, rest) → IsEntry entry × (bytes ≡ sized entry ++ rest) × (1 ≤ length rest)
+pub gate_read : (bytes entry rest : List ℕ) → AreBytes bytes → behind_gate bytes ≡ Some (entry, rest) → IsEntry entry × (bytes ≡ with_length entry ++ rest) × (1 ≤ length rest)
 gate_read [] entry rest are is = absurd (cc is)
 gate_read (low ∷ []) entry rest are is = absurd (cc is)
 gate_read (low ∷ high ∷ bytes) entry rest are is =
     by_test (low + 256 * high) (nat_le 1 (low + 256 * high) && nat_le (low + 256 * high) most_bytes && nat_lt (low + 256 * high) (length bytes)) refl refl is
   where
     by_test : (size : ℕ) (b : Bool) → size ≡ low + 256 * high → (nat_le 1 size && nat_le size most_bytes && nat_lt size (length bytes)) ≡ b → cond {A = Option (List ℕ × List ℕ)} b (Some (take size bytes, drop size bytes)) None ≡ Some (entry, rest)
-        → IsEntry entry × (low ∷ high ∷ bytes ≡ sized entry ++ rest) × (1 ≤ length rest)
+        → IsEntry entry × (low ∷ high ∷ bytes ≡ with_length entry ++ rest) × (1 ≤ length rest)
     by_test size false size_is test e = absurd (cc e)
     by_test size true size_is test e =
         let both = some_pair (take size bytes, drop size bytes) (entry, rest) e in
@@ -223,7 +223,7 @@ more_read left rest entries are h others =
       closed = record {
         gate = others.closed.gate;
         rest = others.closed.rest;
-        text = ap (λ (l : List ℕ). 1 ∷ l) (one.1 ∙ ap (λ (l : List ℕ). sized h.entry ++ l) others.closed.text ∙ sym (append_assoc (sized h.entry) (records h.others) (others.closed.gate ∷ others.closed.rest)));
+        text = ap (λ (l : List ℕ). 1 ∷ l) (one.1 ∙ ap (λ (l : List ℕ). with_length h.entry ++ l) others.closed.text ∙ sym (append_assoc (with_length h.entry) (records h.others) (others.closed.gate ∷ others.closed.rest)));
         shut = others.closed.shut;
       };
     })
@@ -234,8 +234,8 @@ bytes_behind gate rest are i = are (suc i)
 bytes_after : (bytes entry rest : List ℕ) → AreBytes bytes → behind_gate bytes ≡ Some (entry, rest) → AreBytes rest
 bytes_after bytes entry rest are found i =
     let one = gate_read bytes entry rest are found in
-    let end : drop (length (sized entry)) bytes ≡ rest = ap (drop (length (sized entry))) one.1 ∙ drop_at (sized entry) rest (length (sized entry)) refl in
-    subst (λ l. get_or l i 0 < 256) end (bytes-drop (length (sized entry)) bytes are i)
+    let end : drop (length (with_length entry)) bytes ≡ rest = ap (drop (length (with_length entry))) one.1 ∙ drop_at (with_length entry) rest (length (with_length entry)) refl in
+    subst (λ l. get_or l i 0 < 256) end (bytes-drop (length (with_length entry)) bytes are i)
 
 pub read_is : (left : ℕ) (text : List ℕ) (entries : List (List ℕ)) → AreBytes text → entries_from left text ≡ Ok entries → IsText left text entries
 read_is zero [] entries are is = absurd (cc (sym (end_is 0), is))
@@ -266,7 +266,7 @@ plus_plus n m (Some k) = ap (λ i. Some i) (omega arith)
 plus_plus n m None = refl
 
 length_before : (entry : List ℕ) (r : Result (List (List ℕ)) ℕ) → part_length (before_rest entry r) ≡ plus_length (3 + length entry) (part_length r)
-length_before entry (Ok entries) = ap (λ i. Some i) (omega (arith, length-append (sized entry) (records entries)))
+length_before entry (Ok entries) = ap (λ i. Some i) (omega (arith, length-append (with_length entry) (records entries)))
 length_before entry (Err number) = refl
 
 -- a turn of the loop
@@ -289,10 +289,10 @@ some_number : (a b : ℕ) → Some a ≡ Some b → a ≡ b
 some_number a b is = cc
 
 -- what was passed over is records and a closed gate
-pub passed_is : (text : List ℕ) (size : ℕ) → AreBytes text → part_length (entries_from most_entries text) ≡ Some size → (old : List (List ℕ)) × IsRead text old size
+pub passed_is : (text : List ℕ) (size : ℕ) → AreBytes text → part_length (entries_from most_entries text) ≡ Some size → (old : List (List ℕ)) × IsReadJournal text old size
 passed_is text size are is = by_read (entries_from most_entries text) refl is
   where
-    by_read : (r : Result (List (List ℕ)) ℕ) → entries_from most_entries text ≡ r → part_length r ≡ Some size → (old : List (List ℕ)) × IsRead text old size
+    by_read : (r : Result (List (List ℕ)) ℕ) → entries_from most_entries text ≡ r → part_length r ≡ Some size → (old : List (List ℕ)) × IsReadJournal text old size
     by_read (Err number) read e = absurd (cc e)
     by_read (Ok old) read e =
         let whole = read_is most_entries text old are read in

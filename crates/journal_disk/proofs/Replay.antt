@@ -3,9 +3,9 @@ use Rattle.std.proofs.Common.{false, Result, Ok, Err, OnOk, ◌≡◌, ℕ, suc,
 use Rattle.std.proofs.lemmas.List.{length-take-le, take-append-le, take_all, drop-append-le, length_push}
 use Rattle.std.specs.Prelude.{Some}
 use Rattle.journal_disk.specs.TornWrites.{some_same}
-use Rattle.journal_disk.specs.Disk.{DiskState, Goes, IsSafe, Told}
-use Rattle.journal_disk.specs.Calls.{Call, Step, failed_call, images_at, after_call, left_after, after_calls, left_by, with_pieces, with_piece, piece_length, pieces_length, size_of, sizes_of}
-use Rattle.journal_disk.specs.Calls.Call.{Idle, Write, Sync}
+use Rattle.journal_disk.specs.Disk.{DiskState, Goes, IfExposed, IsSafe}
+use Rattle.journal_disk.specs.Calls.{DeviceCall, Step, failed_call, images_at, after_call, left_after, after_calls, left_by_crash, with_pieces, with_piece, piece_length, pieces_length, size_of, sizes_of}
+use Rattle.journal_disk.specs.Calls.DeviceCall.{Idle, Write, Sync}
 use Rattle.journal_disk.specs.declared.memory_disk.DiskCall.{DiskCall}
 use Rattle.journal_disk.specs.declared.memory_disk.DiskCall.TheVariants.{Passed, Wrote, Synced}
 
@@ -33,48 +33,48 @@ pub pieces_length-push : (calls : List DiskCall) (call : DiskCall) → pieces_le
 pieces_length-push [] call = omega arith
 pieces_length-push (c ∷ calls) call = omega (arith, pieces_length-push calls call)
 
-pub after_calls-push : (calls : List Call) (call : Call) (bytes : List ℕ) → after_calls (calls ++ call ∷ []) bytes ≡ after_call call (after_calls calls bytes)
+pub after_calls-push : (calls : List DeviceCall) (call : DeviceCall) (bytes : List ℕ) → after_calls (calls ++ call ∷ []) bytes ≡ after_call call (after_calls calls bytes)
 after_calls-push [] call bytes = refl
 after_calls-push (c ∷ calls) call bytes = after_calls-push calls call (after_call c bytes)
 
-pub left_by-last : (calls : List Call) (call : Call) (bytes : List ℕ) (Left : List ℕ → Type 0) (image : List ℕ) → left_by (calls ++ call ∷ []) bytes Left image → left_after call (after_calls calls bytes) (left_by calls bytes Left) image
+pub left_by-last : (calls : List DeviceCall) (call : DeviceCall) (bytes : List ℕ) (Left : List ℕ → Type 0) (image : List ℕ) → left_by_crash (calls ++ call ∷ []) bytes Left image → left_after call (after_calls calls bytes) (left_by_crash calls bytes Left) image
 left_by-last [] call bytes Left image left = left
 left_by-last (c ∷ calls) call bytes Left image left = left_by-last calls call (after_call c bytes) (left_after c bytes Left) image left
 
 -- a call steps from an image to an image
-pub left-step : (call : Call) (bytes : List ℕ) (Left : List ℕ → Type 0) (image : List ℕ) → left_after call bytes Left image → (from : List ℕ) × Left from × Step call from image
+pub left-step : (call : DeviceCall) (bytes : List ℕ) (Left : List ℕ → Type 0) (image : List ℕ) → left_after call bytes Left image → (from : List ℕ) × Left from × Step call from image
 left-step Idle bytes Left image left = (image, left, refl)
 left-step (Write at piece done) bytes Left image left = left
 left-step Sync bytes Left image left = (image, left.0, refl)
 
 -- a disk of these bytes at first after these calls
-abbrev state_of : List ℕ → List Call → ℕ → DiskState
+abbrev state_of : List ℕ → List DeviceCall → ℕ → DiskState
 state_of first calls faults = record { contents = Some (after_calls calls first); moment = length calls; images = images_at first calls; faults = faults }
 
 -- the clock goes on by a call
-pub goes-push : (first : List ℕ) (calls : List Call) (call : Call) (before after : ℕ)
+pub goes-push : (first : List ℕ) (calls : List DeviceCall) (call : DeviceCall) (before after : ℕ)
     → Goes (Step call) (state_of first calls before) (state_of first (calls ++ call ∷ []) after)
 goes-push first calls call before after = record {
   clock = record {
     later = omega (arith, length_push calls call);
-    past = λ m image early left. subst (λ cs. left_by cs first (λ c. c ≡ first) image) (take-append-le m calls (call ∷ []) early) left;
-    kept = λ m image early left. subst (λ cs. left_by cs first (λ c. c ≡ first) image) (sym (take-append-le m calls (call ∷ []) early)) left;
+    past = λ m image early left. subst (λ cs. left_by_crash cs first (λ c. c ≡ first) image) (take-append-le m calls (call ∷ []) early) left;
+    kept = λ m image early left. subst (λ cs. left_by_crash cs first (λ c. c ≡ first) image) (sym (take-append-le m calls (call ∷ []) early)) left;
   };
   since = λ m image late now left.
       let all = take_all m (calls ++ call ∷ []) (omega (arith, length_push calls call)) in
-      let last = left_by-last calls call first (λ c. c ≡ first) image (subst (λ cs. left_by cs first (λ c. c ≡ first) image) all left) in
-      let step = left-step call (after_calls calls first) (left_by calls first (λ c. c ≡ first)) image last in
-      (step.0, subst (λ cs. left_by cs first (λ c. c ≡ first) step.0) (sym (take_all (length calls) calls (omega arith))) step.1, step.2);
+      let last = left_by-last calls call first (λ c. c ≡ first) image (subst (λ cs. left_by_crash cs first (λ c. c ≡ first) image) all left) in
+      let step = left-step call (after_calls calls first) (left_by_crash calls first (λ c. c ≡ first)) image last in
+      (step.0, subst (λ cs. left_by_crash cs first (λ c. c ≡ first) step.0) (sym (take_all (length calls) calls (omega arith))) step.1, step.2);
 }
 
 -- after a sync a crash leaves what a disk reads as
-pub synced-safe : (first : List ℕ) (calls : List Call) (faults : ℕ) → IsSafe (after_calls calls first) (state_of first (calls ++ Sync ∷ []) faults)
+pub synced-safe : (first : List ℕ) (calls : List DeviceCall) (faults : ℕ) → IsSafe (after_calls calls first) (state_of first (calls ++ Sync ∷ []) faults)
 synced-safe first calls faults image left =
     let all = take_all (length (calls ++ Sync ∷ [])) (calls ++ Sync ∷ []) (omega arith) in
-    (left_by-last calls Sync first (λ c. c ≡ first) image (subst (λ cs. left_by cs first (λ c. c ≡ first) image) all left)).1
+    (left_by-last calls Sync first (λ c. c ≡ first) image (subst (λ cs. left_by_crash cs first (λ c. c ≡ first) image) all left)).1
 
 -- a call that fails steps as the call does, and changes nothing
-pub failed-goes : (first : List ℕ) (calls : List Call) (call : DiskCall) (piece : List ℕ) (before after : ℕ)
+pub failed-goes : (first : List ℕ) (calls : List DeviceCall) (call : DiskCall) (piece : List ℕ) (before after : ℕ)
     → Goes (Step (with_piece call piece)) (state_of first calls before) (state_of first (calls ++ with_piece (failed_call call) piece ∷ []) after)
 failed-goes first calls Passed piece before after = goes-push first calls Idle before after
 failed-goes first calls (Wrote at size done) piece before after = goes-push first calls (Write at piece false) before after
@@ -91,8 +91,8 @@ failed-length (Wrote at size done) = refl
 failed-length Synced = refl
 
 -- after a sync that was done a crash leaves what the disk reads as
-pub ok-safe : {T E : Type 0} (r : Result T E) (first now : List ℕ) (calls after : List Call) (faults counted : ℕ) → now ≡ first → OnOk r (after ≡ calls ++ Sync ∷ [])
-    → OnOk r (Told (state_of first calls faults) (λ bytes. IsSafe bytes (state_of now after counted)))
+pub ok-safe : {T E : Type 0} (r : Result T E) (first now : List ℕ) (calls after : List DeviceCall) (faults counted : ℕ) → now ≡ first → OnOk r (after ≡ calls ++ Sync ∷ [])
+    → OnOk r (IfExposed (state_of first calls faults) (λ bytes. IsSafe bytes (state_of now after counted)))
 ok-safe (Ok x) first now calls after faults counted same ok = λ bytes is. rw (same, ok, ← some_same is) (synced-safe first calls counted)
 ok-safe (Err e) first now calls after faults counted same ok = tt
 

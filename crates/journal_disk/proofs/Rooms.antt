@@ -2,7 +2,7 @@
 use Rattle.std.proofs.Common.{◌≡◌, ℕ, ◌+◌, ◌≤◌, ◌<◌, List, length, max, true, false, ◌&&◌, nat_le, nat_lt, refl, sym, ◌∙◌, arith}
 use Rattle.std.proofs.lemmas.Bool.Decides.{nat_tests}
 use Rattle.journal_disk.specs.Calls.{MemoryHeld, after_call, after_calls, failed_call, has_room, piece_length, sizes_of, with_piece}
-use Rattle.journal_disk.specs.MemoryFields.{held, IsReplay}
+use Rattle.journal_disk.specs.MemoryFields.{memory_held, IsReplay}
 use Rattle.journal_disk.specs.declared.memory_disk.DiskCall.{DiskCall}
 use Rattle.journal_disk.specs.declared.memory_disk.DiskCall.TheVariants.{Passed, Wrote, Synced}
 use Rattle.journal_disk.specs.declared.memory_disk.MemoryDisk.TheInside.{Inside}
@@ -34,19 +34,19 @@ module _ (d : Inside) (is : IsReplay d) (call : DiskCall) (piece : List ℕ) (fi
   length_after = length (after_call (with_piece call piece) d.bytes.items)
 
   -- the three tests by the fields
-  by_fields : has_room (held d) (with_piece call piece) ≡ (nat_lt (length d.calls.items) d.room.calls && nat_le (length d.pieces.items + length piece) d.room.written && nat_le length_after (max d.room.bytes (length d.bytes.items)))
+  by_fields : has_room (memory_held d) (with_piece call piece) ≡ (nat_lt (length d.calls.items) d.room.calls && nat_le (length d.pieces.items + length piece) d.room.written && nat_le length_after (max d.room.bytes (length d.bytes.items)))
   by_fields = rw (length-with_pieces d.calls.items d.pieces.items, sizes_of-with_pieces d.calls.items d.pieces.items is.pieces, size_of-with_piece call piece fits, ← is.reads) refl
 
-  pub calls_used : d.room.calls ≤ length d.calls.items → false ≡ has_room (held d) (with_piece call piece)
+  pub calls_used : d.room.calls ≤ length d.calls.items → false ≡ has_room (memory_held d) (with_piece call piece)
   calls_used more = no_calls _ _ _ _ _ _ more ∙ sym by_fields
 
-  pub pieces_used : d.room.written < length d.pieces.items + length piece → false ≡ has_room (held d) (with_piece call piece)
+  pub pieces_used : d.room.written < length d.pieces.items + length piece → false ≡ has_room (memory_held d) (with_piece call piece)
   pieces_used more = no_pieces _ _ _ _ _ _ more ∙ sym by_fields
 
-  pub bytes_tested : length d.calls.items < d.room.calls → length d.pieces.items + length piece ≤ d.room.written → nat_le length_after (max d.room.bytes (length d.bytes.items)) ≡ has_room (held d) (with_piece call piece)
+  pub bytes_tested : length d.calls.items < d.room.calls → length d.pieces.items + length piece ≤ d.room.written → nat_le length_after (max d.room.bytes (length d.bytes.items)) ≡ has_room (memory_held d) (with_piece call piece)
   bytes_tested less room = last_test _ _ _ _ _ _ less room ∙ sym by_fields
 
-  pub room_found : has_room (held d) (with_piece call piece) ≡ true → HasRoom (length d.calls.items) d.room.calls (length d.pieces.items + length piece) d.room.written length_after (max d.room.bytes (length d.bytes.items))
+  pub room_found : has_room (memory_held d) (with_piece call piece) ≡ true → HasRoom (length d.calls.items) d.room.calls (length d.pieces.items + length piece) d.room.written length_after (max d.room.bytes (length d.bytes.items))
   room_found has = all_tests _ _ _ _ _ _ (sym by_fields ∙ has)
 
 -- a call that fails needs no more room

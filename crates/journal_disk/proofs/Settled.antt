@@ -6,9 +6,9 @@ use Rattle.std.specs.Result.{result_unwrap_or}
 use Rattle.std.proofs.lemmas.Bool.{cases_eq}
 use Rattle.std.proofs.lemmas.List.{take_at, drop_at, append-nil, length_push}
 use Rattle.apron_base.specs.Histories.{Every}
-use Rattle.journal_disk.specs.Disk.{DiskState, Told}
-use Rattle.journal_disk.specs.Entries.{behind_gate, entries_from, entries_of, records, sized, IsEntry}
-use Rattle.journal_disk.specs.Extent.{Extent, entries_within, entry_at, entry_at_risk, entry_if, IsCrashSafe, IsKept, IsSettled, StandsFor}
+use Rattle.journal_disk.specs.Disk.{DiskState, IfExposed}
+use Rattle.journal_disk.specs.Entries.{behind_gate, entries_from, entries_of, records, with_length, IsEntry}
+use Rattle.journal_disk.specs.Extent.{Extent, entries_within, record_entry, entry_at_risk, entry_if, IsCrashSafe, IsExtentOf, IsSettled, StandsFor}
 use Rattle.journal_disk.specs.Gates.{IsClosed, IsRecord, IsWhole, GateIs}
 use Rattle.journal_disk.specs.Header.{digests_in, opening_of}
 use Rattle.journal_disk.specs.Limits.{most_entries}
@@ -21,21 +21,21 @@ every-push (e ∷ entries) entry sizes is = (sizes.0, every-push entries entry s
 
 -- a record whose gate is not open
 pub shut_record : (front : List ℕ) (gate : ℕ) (entry image : List ℕ) → gate ≢ 1 → IsRecord gate entry front image → IsClosed front image
-shut_record front gate entry image shut is = record { gate = gate; rest = sized entry ++ is.next ∷ is.rest; text = is.text; shut = shut }
+shut_record front gate entry image shut is = record { gate = gate; rest = with_length entry ++ is.next ∷ is.rest; text = is.text; shut = shut }
 
 -- how an image goes on after its front
 pub gate_text : (unclean : Bool) (risk front image : List ℕ) → GateIs unclean risk front image → (rest : List ℕ) × (image ≡ front ++ rest)
 gate_text false risk front image closed = (closed.gate ∷ closed.rest, closed.text)
-gate_text true risk front image whole = (whole.0 ∷ (sized risk ++ whole.1.next ∷ whole.1.rest), whole.1.text)
+gate_text true risk front image whole = (whole.0 ∷ (with_length risk ++ whole.1.next ∷ whole.1.rest), whole.1.text)
 
 module _ (first : ℕ) (header : List ℕ) (entries : List (List ℕ)) (long : length header ≡ first) (sizes : Every IsEntry entries) where
   abbrev front : List ℕ
   front = header ++ records entries
 
-  pub front-push : (entry : List ℕ) → header ++ records (entries ++ entry ∷ []) ≡ front ++ 1 ∷ sized entry
+  pub front-push : (entry : List ℕ) → header ++ records (entries ++ entry ∷ []) ≡ front ++ 1 ∷ with_length entry
   front-push entry =
-      ap (λ (l : List ℕ). header ++ l) (records-append entries (entry ∷ []) ∙ ap (λ (l : List ℕ). records entries ++ 1 ∷ l) (append-nil (sized entry)))
-      ∙ sym (append_assoc header (records entries) (1 ∷ sized entry))
+      ap (λ (l : List ℕ). header ++ l) (records-append entries (entry ∷ []) ∙ ap (λ (l : List ℕ). records entries ++ 1 ∷ l) (append-nil (with_length entry)))
+      ∙ sym (append_assoc header (records entries) (1 ∷ with_length entry))
 
   pub header_of : (rest : List ℕ) → take first (front ++ rest) ≡ header
   header_of rest = ap (take first) (append_assoc header (records entries) rest) ∙ take_at header (records entries ++ rest) first long
@@ -63,15 +63,15 @@ module _ (first : ℕ) (header : List ℕ) (entries : List (List ℕ)) (long : l
   open_record entry image is = record {
     gate = is.next;
     rest = is.rest;
-    text = is.text ∙ sym (append_assoc front (1 ∷ sized entry) (is.next ∷ is.rest)) ∙ ap (λ (l : List ℕ). l ++ is.next ∷ is.rest) (sym (front-push entry));
+    text = is.text ∙ sym (append_assoc front (1 ∷ with_length entry) (is.next ∷ is.rest)) ∙ ap (λ (l : List ℕ). l ++ is.next ∷ is.rest) (sym (front-push entry));
     shut = is.shut;
   }
 
   -- the entry at a gate that may be open
-  pub told_risk : (place : ℕ) (entry bytes : List ℕ) → length front ≡ place → IsEntry entry → IsWhole entry front bytes → entry_at place bytes ≡ Some entry
+  pub told_risk : (place : ℕ) (entry bytes : List ℕ) → length front ≡ place → IsEntry entry → IsWhole entry front bytes → record_entry place bytes ≡ Some entry
   told_risk place entry bytes reach size whole =
       let is = whole.1 in
-      let behind = sized entry ++ is.next ∷ is.rest in
+      let behind = with_length entry ++ is.next ∷ is.rest in
       let text : bytes ≡ (front ++ whole.0 ∷ []) ++ behind = is.text ∙ sym (append_assoc front (whole.0 ∷ []) behind) in
       let end : drop (place + 1) bytes ≡ behind = ap (drop (place + 1)) text ∙ drop_at (front ++ whole.0 ∷ []) behind (place + 1) (omega (arith, reach, length_push front whole.0)) in
       ap (λ (l : List ℕ). option_map (λ found. found.0) (behind_gate l)) end ∙ ap (option_map (λ found. found.0)) (behind_gate-sized entry is.next is.rest size)
@@ -139,7 +139,7 @@ module _ (extent : Extent) (disk : DiskState) (few : extent.number ≤ most_entr
       rw (header_told extent disk few s bytes reads, list_told extent disk few s bytes reads) (has.0, opened)
 
 -- the entry at risk
-if_told : (unclean : Bool) (place : ℕ) (contents : Option (List ℕ)) (bytes risk : List ℕ) → contents ≡ Some bytes → unclean ≡ true → (unclean ≡ true → entry_at place bytes ≡ Some risk) → entry_if unclean place contents ≡ Some risk
+if_told : (unclean : Bool) (place : ℕ) (contents : Option (List ℕ)) (bytes risk : List ℕ) → contents ≡ Some bytes → unclean ≡ true → (unclean ≡ true → record_entry place bytes ≡ Some risk) → entry_if unclean place contents ≡ Some risk
 if_told true place contents bytes risk is u told = rw is (told refl)
 if_told false place contents bytes risk is u told = absurd (cc u)
 
@@ -152,7 +152,7 @@ risk_told extent disk s bytes is reads u =
     if_told extent.unclean extent.place disk.contents bytes s.risk is u (λ v. told_risk extent.first s.front s.entries s.first s.sizes extent.place s.risk bytes s.at (s.fits v).0 (whole_at extent.unclean s.risk (s.front ++ records s.entries) bytes v (s.gate bytes reads)))
 
 -- a journal that is kept is safe from a crash
-pub kept_safe : (extent : Extent) (disk : DiskState) → IsKept extent disk → Told disk (disk.images disk.moment) → IsCrashSafe extent disk
+pub kept_safe : (extent : Extent) (disk : DiskState) → IsExtentOf extent disk → IfExposed disk (disk.images disk.moment) → IsCrashSafe extent disk
 kept_safe extent disk kept reads bytes is image left =
     let s = kept.settled bytes is in
     let here = reads bytes is in

@@ -4,13 +4,13 @@ use Rattle.std.specs.Cmp.Lexicographic.{pointwise}
 use Rattle.std.specs.List.{starts_with}
 use Rattle.std.proofs.lemmas.List.{append-nil, drop-append-le, drop-drop, drop_at, drop_more, get_or_at, length-take-le, take-append-le, take_at}
 use Rattle.apron_base.specs.Histories.{Every}
-use Rattle.journal_disk.specs.Disk.{DiskState, EachImageSince, Goes, IsSafe, Torn, written}
+use Rattle.journal_disk.specs.Disk.{DiskState, EachImageSince, Goes, IsSafe, Torn, with_piece_at}
 use Rattle.journal_disk.specs.Entries.{entries_from, records, IsEntry}
 use Rattle.journal_disk.specs.Header.{behind_part, digests_in, has_magic, is_new, line_end, magic, old_opening_of, opening_of}
 use Rattle.journal_disk.specs.Limits.{most_entries}
 use Rattle.journal_disk.specs.Opening.{IsOldPart}
-use Rattle.journal_disk.specs.Parts.{IsFront}
-use Rattle.journal_disk.specs.Switch.{HasSwitched, IsEither, IsSwitching, KeepsTo, part_of, switched, with_format}
+use Rattle.journal_disk.specs.Parts.{IsHeaderAndOldPart}
+use Rattle.journal_disk.specs.Switch.{HasSwitched, IsEither, IsSwitching, KeepsTo, after_switch, new_part, with_format}
 use Rattle.journal_disk.proofs.Fronts.{digests_are, opens_new, opens_old}
 use Rattle.journal_disk.proofs.Moments.{since_goes, since_now}
 use Rattle.journal_disk.proofs.RecordTexts.{entries-closed, is_shut}
@@ -53,7 +53,7 @@ own_format : (bytes : List ℕ) → 5 < length bytes → with_format (get_or byt
 own_format bytes long = ap (λ (l : List ℕ). take 5 bytes ++ l) (sym (drop_more bytes 5 0 long)) ∙ take-append-drop 5 bytes
 
 -- the front of a journal with another format byte
-abbrev front_as : (format : ℕ) (front : List ℕ) (f : IsFront false front) → IsFront (format == 50) (with_format format front)
+abbrev front_as : (format : ℕ) (front : List ℕ) (f : IsHeaderAndOldPart false front) → IsHeaderAndOldPart (format == 50) (with_format format front)
 front_as format front f =
     let long : 6 ≤ length f.header = omega (arith, f.long) in
     record {
@@ -94,45 +94,45 @@ module _ (size : ℕ) (old : List (List ℕ)) (bytes : List ℕ) (part : IsOldPa
       }
 
   -- the new part is there, with any format byte
-  module _ (new : List (List ℕ)) (sizes : Every IsEntry new) (few : length new ≤ most_entries) (format : ℕ) (more image : List ℕ) (is : image ≡ with_format format (written (behind_part size) (part_of new) bytes) ++ more) where
+  module _ (new : List (List ℕ)) (sizes : Every IsEntry new) (few : length new ≤ most_entries) (format : ℕ) (more image : List ℕ) (is : image ≡ with_format format (with_piece_at (behind_part size) (new_part new) bytes) ++ more) where
     abbrev behind : List ℕ
-    behind = drop (behind_part size + length (part_of new)) bytes
+    behind = drop (behind_part size + length (new_part new)) bytes
 
-    goes : image ≡ with_format format front ++ (part_of new ++ (behind ++ more))
+    goes : image ≡ with_format format front ++ (new_part new ++ (behind ++ more))
     goes =
-        is ∙ ap (λ (l : List ℕ). l ++ more) (format_before format front six (part_of new ++ behind))
-        ∙ append_assoc (with_format format front) (part_of new ++ behind) more
-        ∙ ap (λ (l : List ℕ). with_format format front ++ l) (append_assoc (part_of new) behind more)
+        is ∙ ap (λ (l : List ℕ). l ++ more) (format_before format front six (new_part new ++ behind))
+        ∙ append_assoc (with_format format front) (new_part new ++ behind) more
+        ∙ ap (λ (l : List ℕ). with_format format front ++ l) (append_assoc (new_part new) behind more)
 
-    read : entries_from most_entries (part_of new ++ (behind ++ more)) ≡ Ok new
+    read : entries_from most_entries (new_part new ++ (behind ++ more)) ≡ Ok new
     read = ap (entries_from most_entries) (append_assoc (records new) (0 ∷ []) (behind ++ more)) ∙ entries-closed new most_entries 0 (behind ++ more) sizes few is_shut
 
     -- the format byte decides which entries count
-    by_format : (b : Bool) (f : IsFront b (with_format format front)) → digests_in bytes ≡ digests_in f.header → f.old ≡ old → (old_opening_of (digests_in bytes) image ≡ Ok (Some old)) ⊎ (opening_of (digests_in bytes) image ≡ Ok new)
-    by_format true f digests same = inr (opens_new (with_format format front) f image (part_of new ++ (behind ++ more)) (digests_in bytes) new goes digests read)
-    by_format false f digests same = inl (opens_old (with_format format front) f image (part_of new ++ (behind ++ more)) (digests_in bytes) goes digests ∙ ap (λ o. Ok (Some o)) same)
+    by_format : (b : Bool) (f : IsHeaderAndOldPart b (with_format format front)) → digests_in bytes ≡ digests_in f.header → f.old ≡ old → (old_opening_of (digests_in bytes) image ≡ Ok (Some old)) ⊎ (opening_of (digests_in bytes) image ≡ Ok new)
+    by_format true f digests same = inr (opens_new (with_format format front) f image (new_part new ++ (behind ++ more)) (digests_in bytes) new goes digests read)
+    by_format false f digests same = inl (opens_old (with_format format front) f image (new_part new ++ (behind ++ more)) (digests_in bytes) goes digests ∙ ap (λ o. Ok (Some o)) same)
 
     pub still_digests : digests_in bytes ≡ digests_in (with_format format part.front.header)
     still_digests = digests_same ∙ sym (same_digests format part.front.header (omega (arith, part.front.long)))
 
     pub switched_either : IsEither size old new bytes image
     switched_either = record {
-      keeps = (format, ap (take (behind_part size)) goes ∙ take_at (with_format format front) (part_of new ++ (behind ++ more)) (behind_part size) (same_length format front six ∙ front_long));
+      keeps = (format, ap (take (behind_part size)) goes ∙ take_at (with_format format front) (new_part new ++ (behind ++ more)) (behind_part size) (same_length format front six ∙ front_long));
       opens = by_format (format == 50) (front_as format front part.front) still_digests part.same;
     }
 
     -- that of format 2
-    pub new_opens : (f : IsFront true (with_format format front)) → digests_in bytes ≡ digests_in f.header → opening_of (digests_in bytes) image ≡ Ok new
-    new_opens f digests = opens_new (with_format format front) f image (part_of new ++ (behind ++ more)) (digests_in bytes) new goes digests read
+    pub new_opens : (f : IsHeaderAndOldPart true (with_format format front)) → digests_in bytes ≡ digests_in f.header → opening_of (digests_in bytes) image ≡ Ok new
+    new_opens f digests = opens_new (with_format format front) f image (new_part new ++ (behind ++ more)) (digests_in bytes) new goes digests read
 
   pub either_is : (new : List (List ℕ)) → Every IsEntry new → length new ≤ most_entries → (image : List ℕ) → IsSwitching size new bytes image → IsEither size old new bytes image
   either_is new sizes few image (inl keeps) = kept_either new image keeps
   either_is new sizes few image (inr (format, more, is)) = switched_either new sizes few format more image is
 
-  pub has_switched : (new : List (List ℕ)) → Every IsEntry new → length new ≤ most_entries → (disk : DiskState) → IsSafe (switched size new bytes) disk → HasSwitched size new bytes disk
+  pub has_switched : (new : List (List ℕ)) → Every IsEntry new → length new ≤ most_entries → (disk : DiskState) → IsSafe (after_switch size new bytes) disk → HasSwitched size new bytes disk
   has_switched new sizes few disk safe = record {
     safe = safe;
-    opens = new_opens new sizes few 50 [] (switched size new bytes) (sym (append-nil (switched size new bytes))) (front_as 50 front part.front) (still_digests new sizes few 50 [] (switched size new bytes) (sym (append-nil (switched size new bytes))));
+    opens = new_opens new sizes few 50 [] (after_switch size new bytes) (sym (append-nil (after_switch size new bytes))) (front_as 50 front part.front) (still_digests new sizes few 50 [] (after_switch size new bytes) (sym (append-nil (after_switch size new bytes))));
   }
 
 -- the images of the two writes of a switch
@@ -144,11 +144,11 @@ module _ (size : ℕ) (new : List (List ℕ)) (bytes : List ℕ) (inside : behin
       (since_now before (IsSwitching size new bytes) (λ image left. inl (subst (KeepsTo (behind_part size) bytes) (sym (safe image left)) (keeps_none (behind_part size) bytes))))
       crash (λ from image left keeps. inl (subst (λ b. KeepsTo (behind_part size) b image) (safe from left) keeps))
 
-  module _ (is_written : IsSafe (written (behind_part size) (part_of new) bytes) written_disk) (now : DiskState) (crash_now : Goes (Torn 5 1) written_disk now) where
-    long : 5 < length (written (behind_part size) (part_of new) bytes)
-    long = omega (arith, written_length (behind_part size) (part_of new) bytes inside)
+  module _ (is_written : IsSafe (with_piece_at (behind_part size) (new_part new) bytes) written_disk) (now : DiskState) (crash_now : Goes (Torn 5 1) written_disk now) where
+    long : 5 < length (with_piece_at (behind_part size) (new_part new) bytes)
+    long = omega (arith, written_length (behind_part size) (new_part new) bytes inside)
 
     pub switching : EachImageSince before now (IsSwitching size new bytes)
     switching =
         since_goes before written_disk now (Torn 5 1) (IsSwitching size new bytes) writing crash_now
-        (λ from image left torn. inr (torn_byte 5 (written (behind_part size) (part_of new) bytes) image long (subst (λ b. Torn 5 1 b image) (is_written from left) torn)))
+        (λ from image left torn. inr (torn_byte 5 (with_piece_at (behind_part size) (new_part new) bytes) image long (subst (λ b. Torn 5 1 b image) (is_written from left) torn)))

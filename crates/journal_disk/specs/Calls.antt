@@ -2,45 +2,45 @@
 -- leave.
 use Rattle.std.specs.Prelude.{◌≡◌, ℕ, ◌+◌, ◌==◌, List, [], ◌∷◌, length, take, drop, max, Bool, false, Some, ◌&&◌, nat_le, nat_lt, if◌then◌else◌}
 use Rattle.std.specs.List.{list_any}
-use Rattle.journal_disk.specs.Disk.{DiskState, written, Torn, Same}
+use Rattle.journal_disk.specs.Disk.{DiskState, with_piece_at, Torn, Same}
 use Rattle.journal_disk.specs.declared.memory_disk.Room.{Room}
 use Rattle.journal_disk.specs.declared.memory_disk.DiskCall.{DiskCall}
 use Rattle.journal_disk.specs.declared.memory_disk.DiskCall.TheVariants.{Passed, Wrote, Synced}
 
 -- a call that changed nothing; a write of a piece at a place, which was done or failed; or a sync
 -- that was done
-pub data Call : Type 0 where
-  Idle : Call
-  Write : (at : ℕ) (piece : List ℕ) (done : Bool) → Call
-  Sync : Call
+pub data DeviceCall : Type 0 where
+  Idle : DeviceCall
+  Write : (at : ℕ) (piece : List ℕ) (done : Bool) → DeviceCall
+  Sync : DeviceCall
 
 -- what a disk of these bytes reads as after a call
-abbrev pub after_call : Call → List ℕ → List ℕ
-after_call (Write at piece done) bytes = if done && nat_le at (length bytes) then written at piece bytes else bytes
+abbrev pub after_call : DeviceCall → List ℕ → List ℕ
+after_call (Write at piece done) bytes = if done && nat_le at (length bytes) then with_piece_at at piece bytes else bytes
 after_call _ bytes = bytes
 
 -- what a crash may leave after a call on a disk that reads as these bytes
-abbrev pub left_after : Call → List ℕ → (List ℕ → Type 0) → List ℕ → Type 0
+abbrev pub left_after : DeviceCall → List ℕ → (List ℕ → Type 0) → List ℕ → Type 0
 left_after Idle bytes Left image = Left image
 left_after (Write at piece done) bytes Left image = (from : List ℕ) × Left from × Torn at (length piece) from image
 left_after Sync bytes Left image = Left image × (image ≡ bytes)
 
 -- what a disk of these bytes reads as after many calls
-abbrev pub after_calls : List Call → List ℕ → List ℕ
+abbrev pub after_calls : List DeviceCall → List ℕ → List ℕ
 after_calls [] bytes = bytes
 after_calls (call ∷ calls) bytes = after_calls calls (after_call call bytes)
 
 -- what a crash may leave after many calls on a disk that read as these bytes before them
-abbrev pub left_by : List Call → List ℕ → (List ℕ → Type 0) → List ℕ → Type 0
-left_by [] bytes Left image = Left image
-left_by (call ∷ calls) bytes Left image = left_by calls (after_call call bytes) (left_after call bytes Left) image
+abbrev pub left_by_crash : List DeviceCall → List ℕ → (List ℕ → Type 0) → List ℕ → Type 0
+left_by_crash [] bytes Left image = Left image
+left_by_crash (call ∷ calls) bytes Left image = left_by_crash calls (after_call call bytes) (left_after call bytes Left) image
 
 -- the images of a moment, which is a number of calls, on a disk that had these bytes at first
-abbrev pub images_at : List ℕ → List Call → ℕ → List ℕ → Type 0
-images_at first calls moment image = left_by (take moment calls) first (λ bytes. bytes ≡ first) image
+abbrev pub images_at : List ℕ → List DeviceCall → ℕ → List ℕ → Type 0
+images_at first calls moment image = left_by_crash (take moment calls) first (λ bytes. bytes ≡ first) image
 
 -- what a call may do to an image
-abbrev pub Step : Call → List ℕ → List ℕ → Type 0
+abbrev pub Step : DeviceCall → List ℕ → List ℕ → Type 0
 Step (Write at piece done) = Torn at (length piece)
 Step _ = Same
 
@@ -48,7 +48,7 @@ Step _ = Same
 -- numbers of the calls that are to fail, its room, and how many calls have failed
 pub record MemoryHeld : Type 0 where
   pub first : List ℕ
-  pub calls : List Call
+  pub calls : List DeviceCall
   pub failing : List ℕ
   pub room : Room
   pub faults : ℕ
@@ -67,22 +67,22 @@ disk_of held = record {
 }
 
 -- the next call is among those that are to fail
-abbrev pub is_to_fail : MemoryHeld → Bool
-is_to_fail held = list_any (λ number. number == length held.calls) held.failing
+abbrev pub is_call_to_fail : MemoryHeld → Bool
+is_call_to_fail held = list_any (λ number. number == length held.calls) held.failing
 
 -- how many bytes a call was given to write
-abbrev pub size_of : Call → ℕ
+abbrev pub size_of : DeviceCall → ℕ
 size_of (Write at piece done) = length piece
 size_of _ = 0
 
 -- how many bytes these calls were given to write together
-abbrev pub sizes_of : List Call → ℕ
+abbrev pub sizes_of : List DeviceCall → ℕ
 sizes_of [] = 0
 sizes_of (call ∷ calls) = size_of call + sizes_of calls
 
 -- the next call stays within the room; a call by which the disk doesn't grow needs no room for its
 -- bytes
-abbrev pub has_room : MemoryHeld → Call → Bool
+abbrev pub has_room : MemoryHeld → DeviceCall → Bool
 has_room held call =
     let bytes = bytes_of held in
     nat_lt (length held.calls) held.room.calls
@@ -90,14 +90,14 @@ has_room held call =
     && nat_le (length (after_call call bytes)) (max held.room.bytes (length bytes))
 
 -- the calls with their pieces, which are in the list one after the other
-abbrev pub with_pieces : List DiskCall → List ℕ → List Call
+abbrev pub with_pieces : List DiskCall → List ℕ → List DeviceCall
 with_pieces [] pieces = []
 with_pieces (Passed ∷ calls) pieces = Idle ∷ with_pieces calls pieces
 with_pieces (Wrote at size done ∷ calls) pieces = Write at (take size pieces) done ∷ with_pieces calls (drop size pieces)
 with_pieces (Synced ∷ calls) pieces = Sync ∷ with_pieces calls pieces
 
 -- a call with its piece
-abbrev pub with_piece : DiskCall → List ℕ → Call
+abbrev pub with_piece : DiskCall → List ℕ → DeviceCall
 with_piece Passed piece = Idle
 with_piece (Wrote at size done) piece = Write at piece done
 with_piece Synced piece = Sync

@@ -15,8 +15,8 @@ abbrev pub untold_disk : ℕ → DiskState
 untold_disk faults = record { contents = None; moment = 0; images = λ _ _. Unit {0}; faults = faults }
 
 -- the fact about what the disk reads as, if it exposes that
-abbrev pub Told : DiskState → (List ℕ → Type 0) → Type 0
-Told disk P = (bytes : List ℕ) → disk.contents ≡ Some bytes → P bytes
+abbrev pub IfExposed : DiskState → (List ℕ → Type 0) → Type 0
+IfExposed disk P = (bytes : List ℕ) → disk.contents ≡ Some bytes → P bytes
 
 -- both are exposed and so related, or neither is exposed
 abbrev pub Between : (List ℕ → List ℕ → Type 0) → Option (List ℕ) → Option (List ℕ) → Type 0
@@ -29,8 +29,8 @@ abbrev pub TellsAlike : DiskState → DiskState → Type 0
 TellsAlike before now = Between (λ _ _. Unit {0}) before.contents now.contents
 
 -- the bytes with this piece at this place, over what was there and past the end
-abbrev pub written : ℕ → List ℕ → List ℕ → List ℕ
-written at piece bytes = take at bytes ++ (piece ++ drop (at + length piece) bytes)
+abbrev pub with_piece_at : ℕ → List ℕ → List ℕ → List ℕ
+with_piece_at at piece bytes = take at bytes ++ (piece ++ drop (at + length piece) bytes)
 
 -- after a write of this many bytes that was cut short: any bytes in its range and past the old end,
 -- the same elsewhere
@@ -59,7 +59,7 @@ IsSafe bytes disk = EachImage disk (λ image. image ≡ bytes)
 
 -- a crash now leaves what the disk read as before
 abbrev pub IsDurable : DiskState → DiskState → Type 0
-IsDurable before now = Told before (λ bytes. IsSafe bytes now)
+IsDurable before now = IfExposed before (λ bytes. IsSafe bytes now)
 
 -- time goes on, and what a crash at an earlier moment may have left stays as it was
 pub record Passes (before now : DiskState) : Type 0 where

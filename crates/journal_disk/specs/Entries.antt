@@ -49,13 +49,13 @@ abbrev pub entries_of : ℕ → List ℕ → Result (List (List ℕ)) ℕ
 entries_of first bytes = entries_from most_entries (drop first bytes)
 
 -- an entry with its length before it
-abbrev pub sized : List ℕ → List ℕ
-sized entry = length entry % 256 ∷ length entry / 256 ∷ entry
+abbrev pub with_length : List ℕ → List ℕ
+with_length entry = length entry % 256 ∷ length entry / 256 ∷ entry
 
 -- the records of these entries
 abbrev pub records : List (List ℕ) → List ℕ
 records [] = []
-records (entry ∷ entries) = open_gate ∷ (sized entry ++ records entries)
+records (entry ∷ entries) = open_gate ∷ (with_length entry ++ records entries)
 
 -- how long the records of a part are; none if one of them isn't whole
 abbrev pub part_length : Result (List (List ℕ)) ℕ → Option ℕ

@@ -5,12 +5,12 @@ use Rattle.std.specs.Option.{option_map, option_and_then}
 use Rattle.std.specs.Result.{result_unwrap_or}
 use Rattle.apron_base.specs.Histories.{Every}
 use Rattle.apron_base.specs.Keeper.{KeeperState, with_last}
-use Rattle.journal_disk.specs.Disk.{DiskState, EachImage, EachImageSince, Told}
+use Rattle.journal_disk.specs.Disk.{DiskState, EachImage, EachImageSince, IfExposed}
 use Rattle.journal_disk.specs.Entries.{behind_gate, closed_gate, entries_of, records, IsEntry}
 use Rattle.journal_disk.specs.Gates.{GateIs}
 use Rattle.journal_disk.specs.Header.{digests_in, opening_of}
 use Rattle.journal_disk.specs.Limits.{most_entries, most_bytes, most_first, most_record}
-use Rattle.journal_disk.specs.Parts.{IsFront}
+use Rattle.journal_disk.specs.Parts.{IsHeaderAndOldPart}
 
 -- where the first gate of a journal's new part is, where the gate after its last record is, how
 -- many records are between them, and whether that last gate may have been opened for an entry that
@@ -37,12 +37,12 @@ entries_within extent bytes =
     result_unwrap_or (entries_of extent.first (take extent.place bytes ++ closed_gate ∷ [])) []
 
 -- the entry of the record at a gate, open or not
-abbrev pub entry_at : ℕ → List ℕ → Option (List ℕ)
-entry_at place bytes = option_map (λ found. found.0) (behind_gate (drop (place + 1) bytes))
+abbrev pub record_entry : ℕ → List ℕ → Option (List ℕ)
+record_entry place bytes = option_map (λ found. found.0) (behind_gate (drop (place + 1) bytes))
 
 -- the entry at a gate that may have been opened
 abbrev pub entry_if : Bool → ℕ → Option (List ℕ) → Option (List ℕ)
-entry_if true place contents = option_and_then (entry_at place) contents
+entry_if true place contents = option_and_then (record_entry place) contents
 entry_if false place contents = None
 
 -- the entry that was not acknowledged and may be found after the others
@@ -77,13 +77,13 @@ StandsFor extent bytes AtRisk image =
 -- until the next call a crash leaves the journal's entries, or these and the one at risk
 abbrev pub IsCrashSafe : Extent → DiskState → Type 0
 IsCrashSafe extent disk =
-    Told disk (λ bytes. EachImage disk (StandsFor extent bytes (λ entry. entry_at_risk extent disk.contents ≡ Some entry)))
+    IfExposed disk (λ bytes. EachImage disk (StandsFor extent bytes (λ entry. entry_at_risk extent disk.contents ≡ Some entry)))
 
 -- A crash at any moment of an append leaves the journal's entries from before it, or these and one
 -- more: either the one that is appended, or the one that was at risk.
 abbrev pub AppendsSafely : Extent → DiskState → DiskState → List ℕ → Type 0
 AppendsSafely extent before now appended =
-    Told before (λ bytes. EachImageSince before now (StandsFor extent bytes
+    IfExposed before (λ bytes. EachImageSince before now (StandsFor extent bytes
     (λ entry. (entry ≡ appended) ⊎ (entry_at_risk extent before.contents ≡ Some entry))))
 
 -- Up to the gate place there are the header and the old part of a journal of format 2, and the
@@ -93,7 +93,7 @@ pub record IsSettled (extent : Extent) (disk : DiskState) : Type 0 where
   pub front : List ℕ
   pub entries : List (List ℕ)
   pub risk : List ℕ
-  pub begins : IsFront true front
+  pub begins : IsHeaderAndOldPart true front
   pub first : length front ≡ extent.first
   pub sizes : Every IsEntry entries
   pub count : length entries ≡ extent.number
@@ -103,8 +103,8 @@ pub record IsSettled (extent : Extent) (disk : DiskState) : Type 0 where
 
 -- what a journal keeps in its type: its places and its number are within their limits, and if the
 -- disk exposes what it reads as, each image is settled
-pub record IsKept (extent : Extent) (disk : DiskState) : Type 0 where
+pub record IsExtentOf (extent : Extent) (disk : DiskState) : Type 0 where
   pub first : extent.first ≤ most_first
   pub few : extent.number ≤ most_entries
   pub within : extent.place ≤ extent.first + most_record * extent.number
-  pub settled : Told disk (λ _. IsSettled extent disk)
+  pub settled : IfExposed disk (λ _. IsSettled extent disk)

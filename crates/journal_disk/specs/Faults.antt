@@ -2,7 +2,7 @@
 use Rattle.std.specs.Prelude.{◌≡◌, ℕ, List, length, true, false, Result, Err}
 use Rattle.std.proofs.Common.{◌≢◌}
 use Rattle.apron_base.specs.Counts.{Counts}
-use Rattle.journal_disk.specs.Disk.{DiskState, Stays, Told}
+use Rattle.journal_disk.specs.Disk.{DiskState, IfExposed, Stays}
 use Rattle.journal_disk.specs.Header.{old_opening_of, opening_of}
 use Rattle.journal_disk.specs.declared.fault.JournalFault.{JournalFault}
 use Rattle.journal_disk.specs.declared.fault.JournalFault.TheVariants.{DiskFault, NotEmpty, OldFormat, BadRecord, Memory}
@@ -11,7 +11,7 @@ use Rattle.journal_disk.specs.declared.fault.JournalFault.TheVariants.{DiskFault
 abbrev pub InitFails : DiskState → DiskState → JournalFault → Type 0
 InitFails before now DiskFault = Counts true before.faults now.faults
 InitFails before now NotEmpty =
-    Told before (λ bytes. length bytes ≢ 0) × Stays before now × Counts false before.faults now.faults
+    IfExposed before (λ bytes. length bytes ≢ 0) × Stays before now × Counts false before.faults now.faults
 InitFails before now _ = ⊥
 
 -- why the bytes of a disk aren't read: the disk has failed, or memory has run out
@@ -45,7 +45,7 @@ abbrev pub OpenFails : List ℕ → DiskState → DiskState → JournalFault →
 OpenFails digests before now DiskFault = Counts true before.faults now.faults
 OpenFails digests before now NotEmpty = ⊥
 OpenFails digests before now fault =
-    Counts false before.faults now.faults × Told before (λ text. TextFails digests text fault)
+    Counts false before.faults now.faults × IfExposed before (λ text. TextFails digests text fault)
 
 -- the same for a journal of format 1
 abbrev pub OldOpenFails : List ℕ → DiskState → DiskState → JournalFault → Type 0
@@ -53,4 +53,4 @@ OldOpenFails digests before now DiskFault = Counts true before.faults now.faults
 OldOpenFails digests before now NotEmpty = ⊥
 OldOpenFails digests before now OldFormat = ⊥
 OldOpenFails digests before now fault =
-    Counts false before.faults now.faults × Told before (λ text. OldTextFails digests text fault)
+    Counts false before.faults now.faults × IfExposed before (λ text. OldTextFails digests text fault)

@@ -2,7 +2,7 @@
 use Rattle.std.specs.Prelude.{◌≡◌, ℕ, List, ◌∷◌, ◌++◌, length, Bool, true, false}
 use Rattle.std.proofs.Common.{◌≢◌}
 use Rattle.journal_disk.specs.Disk.{DiskState, EachImage}
-use Rattle.journal_disk.specs.Entries.{open_gate, sized}
+use Rattle.journal_disk.specs.Entries.{open_gate, with_length}
 
 -- a gate that isn't open, and anything after it
 pub record IsClosed (front bytes : List ℕ) : Type 0 where
@@ -15,7 +15,7 @@ pub record IsClosed (front bytes : List ℕ) : Type 0 where
 pub record IsRecord (gate : ℕ) (entry front bytes : List ℕ) : Type 0 where
   pub next : ℕ
   pub rest : List ℕ
-  pub text : bytes ≡ front ++ gate ∷ (sized entry ++ next ∷ rest)
+  pub text : bytes ≡ front ++ gate ∷ (with_length entry ++ next ∷ rest)
   pub shut : next ≢ open_gate
 
 -- the same with any gate, open or not

@@ -4,8 +4,8 @@ use Rattle.journal_disk.specs.Calls.{MemoryHeld, with_pieces, pieces_length, aft
 use Rattle.journal_disk.specs.declared.memory_disk.MemoryDisk.TheInside.{Inside}
 
 -- its bytes at first, its calls with their pieces, and the rest as it is
-abbrev pub held : Inside → MemoryHeld
-held d = record {
+abbrev pub memory_held : Inside → MemoryHeld
+memory_held d = record {
   first = d.first.items;
   calls = with_pieces d.calls.items d.pieces.items;
   failing = d.failing.items;

@@ -5,10 +5,10 @@ use Rattle.journal_disk.specs.Entries.{before_rest, entries_from, records, IsEnt
 use Rattle.journal_disk.specs.Gates.{IsClosed}
 use Rattle.journal_disk.specs.Header.{behind_part}
 use Rattle.journal_disk.specs.Limits.{most_entries, most_first, record_frame}
-use Rattle.journal_disk.specs.Parts.{IsFront}
+use Rattle.journal_disk.specs.Parts.{IsHeaderAndOldPart}
 
 -- a text that was read: the records of these entries, of this length, and then a closed gate
-pub record IsRead (text : List ℕ) (entries : List (List ℕ)) (size : ℕ) : Type 0 where
+pub record IsReadJournal (text : List ℕ) (entries : List (List ℕ)) (size : ℕ) : Type 0 where
   pub sizes : Every IsEntry entries
   pub few : length entries ≤ most_entries
   pub closed : IsClosed (records entries) text
@@ -16,20 +16,20 @@ pub record IsRead (text : List ℕ) (entries : List (List ℕ)) (size : ℕ) : T
 
 -- a part that was passed over: some records, of this length, and then a closed gate
 abbrev pub IsPassed : List ℕ → ℕ → Type 0
-IsPassed text size = (old : List (List ℕ)) × IsRead text old size
+IsPassed text size = (old : List (List ℕ)) × IsReadJournal text old size
 
 -- the new part of a journal of format 2 that was read: the header and the old part come before its
 -- first gate, and it has these entries
 pub record IsNewPart (text : List ℕ) (first : ℕ) (entries : List (List ℕ)) (size : ℕ) : Type 0 where
-  pub front : IsFront true (take first text)
+  pub front : IsHeaderAndOldPart true (take first text)
   pub inside : first ≤ length text
   pub early : first ≤ most_first
-  pub read : IsRead (drop first text) entries size
+  pub read : IsReadJournal (drop first text) entries size
 
 -- the old part of a journal of format 1 that was read: it has these entries, whose records have
 -- this many bytes
 pub record IsOldPart (text : List ℕ) (entries : List (List ℕ)) (size : ℕ) : Type 0 where
-  pub front : IsFront false (take (behind_part size) text)
+  pub front : IsHeaderAndOldPart false (take (behind_part size) text)
   pub same : front.old ≡ entries
   pub inside : behind_part size ≤ length text
   pub few : length entries ≤ most_entries

@@ -9,7 +9,7 @@ use Rattle.journal_disk.specs.Limits.{first_gate, most_entries}
 
 -- the header of a journal, of format 2 or not, the records of the old part and the gate that ends
 -- it
-pub record IsFront (new : Bool) (front : List ℕ) : Type 0 where
+pub record IsHeaderAndOldPart (new : Bool) (front : List ℕ) : Type 0 where
   pub header : List ℕ
   pub old : List (List ℕ)
   pub gate : ℕ

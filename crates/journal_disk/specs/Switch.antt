@@ -1,6 +1,6 @@
 -- What a switch from format 1 to format 2 writes, and what a crash in it leaves.
 use Rattle.std.specs.Prelude.{◌≡◌, ◌⊎◌, ◌≤◌, ◌*◌, ℕ, List, [], ◌∷◌, ◌++◌, length, take, Some, Ok}
-use Rattle.journal_disk.specs.Disk.{DiskState, EachImageSince, IsSafe, Told, written}
+use Rattle.journal_disk.specs.Disk.{DiskState, EachImageSince, IfExposed, IsSafe, with_piece_at}
 use Rattle.journal_disk.specs.Entries.{closed_gate, records}
 use Rattle.journal_disk.specs.Header.{behind_part, digests_in, new_format, old_opening_of, opening_of}
 use Rattle.journal_disk.specs.Limits.{format_place, most_entries, most_record}
@@ -18,8 +18,8 @@ pub record OldHeld (D : Type 0) : Type 0 where
 pub record IsOldKept (entries : List (List ℕ)) (size : ℕ) (disk : DiskState) : Type 0 where
   pub few : length entries ≤ most_entries
   pub within : size ≤ most_record * length entries
-  pub safe : Told disk (λ bytes. IsSafe bytes disk)
-  pub part : Told disk (λ bytes. IsOldPart bytes entries size)
+  pub safe : IfExposed disk (λ bytes. IsSafe bytes disk)
+  pub part : IfExposed disk (λ bytes. IsOldPart bytes entries size)
 
 -- nothing before this place was written
 pub record KeepsTo (at : ℕ) (old new : List ℕ) : Type 0 where
@@ -27,23 +27,23 @@ pub record KeepsTo (at : ℕ) (old new : List ℕ) : Type 0 where
   pub no_shorter : length old ≤ length new
 
 -- a new part of these entries
-abbrev pub part_of : List (List ℕ) → List ℕ
-part_of entries = records entries ++ closed_gate ∷ []
+abbrev pub new_part : List (List ℕ) → List ℕ
+new_part entries = records entries ++ closed_gate ∷ []
 
 -- the bytes with another format byte
 abbrev pub with_format : ℕ → List ℕ → List ℕ
-with_format format bytes = written format_place (format ∷ []) bytes
+with_format format bytes = with_piece_at format_place (format ∷ []) bytes
 
 -- the bytes with a new part of these entries after an old part of this length, in format 2
-abbrev pub switched : ℕ → List (List ℕ) → List ℕ → List ℕ
-switched size entries bytes = with_format new_format (written (behind_part size) (part_of entries) bytes)
+abbrev pub after_switch : ℕ → List (List ℕ) → List ℕ → List ℕ
+after_switch size entries bytes = with_format new_format (with_piece_at (behind_part size) (new_part entries) bytes)
 
 -- either nothing before the new part was written, or the new part is there, and some format byte
 abbrev pub IsSwitching : ℕ → List (List ℕ) → List ℕ → List ℕ → Type 0
 IsSwitching size entries bytes image =
     KeepsTo (behind_part size) bytes image
     ⊎ ((format : ℕ) × (more : List ℕ)
-    × (image ≡ with_format format (written (behind_part size) (part_of entries) bytes) ++ more))
+    × (image ≡ with_format format (with_piece_at (behind_part size) (new_part entries) bytes) ++ more))
 
 -- an image that has the header and the old part of these bytes, except for the format byte, and is
 -- a journal of format 1 with the old entries, or one of format 2 with the new ones
@@ -58,10 +58,10 @@ pub record IsEither (size : ℕ) (old new : List (List ℕ)) (bytes image : List
 abbrev pub SwitchesSafely
     : ℕ → List (List ℕ) → List (List ℕ) → DiskState → DiskState → Type 0
 SwitchesSafely size old new before now =
-    Told before (λ bytes. EachImageSince before now (IsEither size old new bytes))
+    IfExposed before (λ bytes. EachImageSince before now (IsEither size old new bytes))
 
 -- a switch was done: a crash leaves the bytes with the new part, which are a journal of format 2
 -- with its entries
 pub record HasSwitched (size : ℕ) (entries : List (List ℕ)) (bytes : List ℕ) (disk : DiskState) : Type 0 where
-  pub safe : IsSafe (switched size entries bytes) disk
-  pub opens : opening_of (digests_in bytes) (switched size entries bytes) ≡ Ok entries
+  pub safe : IsSafe (after_switch size entries bytes) disk
+  pub opens : opening_of (digests_in bytes) (after_switch size entries bytes) ≡ Ok entries

@@ -2,7 +2,7 @@
 ghost use Rattle.std.specs.Prelude.{◌≡◌, ◌+◌, ◌≤◌, Option, IfOk, OnOk, OnErr, is_err, length, take, drop};
 ghost use Rattle.std.specs.Option.{option_map};
 ghost use Rattle.apron_base.specs.Counts.{Counts};
-ghost use Rattle.journal_disk.specs.Disk.{DiskState, Told, Between, Torn, IsDurable, Goes, Stays, written};
+ghost use Rattle.journal_disk.specs.Disk.{DiskState, IfExposed, Between, Torn, IsDurable, Goes, Stays, with_piece_at};
 
 use apron_base::Failed;
 
@@ -15,14 +15,14 @@ pub trait Disk {
 
     /// How many bytes there are.
     fn length(&mut self) -> Result<u32, Failed>
-        ensures length { IfOk result (λ size. Told (state self.old) (λ bytes. size ≡ length bytes)) }
+        ensures length { IfOk result (λ size. IfExposed (state self.old) (λ bytes. size ≡ length bytes)) }
         ensures stays { Stays (state self.old) (state self.new) }
         ensures counts { Counts (is_err result) (state self.old).faults (state self.new).faults };
 
     /// Fills `into` with the bytes from `at` on. The range is inside the disk.
     fn read(&mut self, at: u32, into: &mut [u8]) -> Result<(), Failed>
-        requires inside { Told (state self.old) (λ bytes. at + length into.old ≤ length bytes) }
-        ensures read { OnOk result (Told (state self.old)
+        requires inside { IfExposed (state self.old) (λ bytes. at + length into.old ≤ length bytes) }
+        ensures read { OnOk result (IfExposed (state self.old)
             (λ bytes. into.new ≡ take (length into.old) (drop at bytes))) }
         ensures stays { Stays (state self.old) (state self.new) }
         ensures counts { Counts (is_err result) (state self.old).faults (state self.new).faults };
@@ -31,9 +31,9 @@ pub trait Disk {
     /// leave any bytes in the piece's range and past the old end. After an `Err` reads may give any
     /// bytes there, too.
     fn write_at(&mut self, at: u32, piece: &[u8]) -> Result<(), Failed>
-        requires inside { Told (state self.old) (λ bytes. at ≤ length bytes) }
+        requires inside { IfExposed (state self.old) (λ bytes. at ≤ length bytes) }
         ensures written { OnOk result ((state self.new).contents
-            ≡ option_map (written at piece.now) (state self.old).contents) }
+            ≡ option_map (with_piece_at at piece.now) (state self.old).contents) }
         ensures torn { OnErr result (Between (Torn at (length piece.now))
             (state self.old).contents (state self.new).contents) }
         ensures crash { Goes (Torn at (length piece.now)) (state self.old) (state self.new) }
@@ -46,5 +46,5 @@ pub trait Disk {
         ensures counts { Counts (is_err result) (state self.old).faults (state self.new).faults };
 
     /// What it reads as is one of the images that a crash now may leave.
-    ghost reads: { (disk : Self) → Told (state disk) ((state disk).images (state disk).moment) };
+    ghost reads: { (disk : Self) → IfExposed (state disk) ((state disk).images (state disk).moment) };
 }

@@ -2,7 +2,7 @@
 ghost use Rattle.std.specs.Prelude.{◌≡◌, ◌<◌, ◌≤◌, None, Some, false, OnOk, IfErr, length};
 ghost use Rattle.std.proofs.Common.{◌≢◌};
 ghost use Rattle.apron_base.specs.Counts.{Counts};
-ghost use Rattle.journal_disk.specs.Disk.{Told, IsSafe, Stays, TellsAlike};
+ghost use Rattle.journal_disk.specs.Disk.{IfExposed, IsSafe, Stays, TellsAlike};
 ghost use Rattle.journal_disk.specs.Header.{digests_in, empty_journal, header_fault};
 ghost use Rattle.journal_disk.specs.Faults.{InitFails};
 ghost use Rattle.journal_disk.specs.Limits.{first_gate};
@@ -35,13 +35,13 @@ pub(crate) const HEADER: usize = 72;
 /// each). It makes three calls of the disk, and takes no memory. A disk that has bytes already
 /// keeps them, however the call ends. `NotEmpty` if it has bytes; `DiskFault` if it failed.
 pub fn init<D: Disk>(disk: &mut D, digests: &[u8; 64]) -> Result<(), JournalFault>
-    ensures empty { OnOk result (Told (D.state disk.old) (λ bytes. length bytes ≡ 0)) }
-    ensures made { OnOk result (Told (D.state disk.old)
+    ensures empty { OnOk result (IfExposed (D.state disk.old) (λ bytes. length bytes ≡ 0)) }
+    ensures made { OnOk result (IfExposed (D.state disk.old)
         (λ _. IsSafe (empty_journal digests.now) (D.state disk.new))) }
     ensures counts { OnOk result (Counts false (D.state disk.old).faults (D.state disk.new).faults) }
     ensures refused { IfErr result (InitFails (D.state disk.old) (D.state disk.new)) }
     ensures tells { TellsAlike (D.state disk.old) (D.state disk.new) }
-    ensures spares { Told (D.state disk.old)
+    ensures spares { IfExposed (D.state disk.old)
         (λ bytes. length bytes ≢ 0 → Stays (D.state disk.old) (D.state disk.new)) }
 {
     if disk.length()? != 0 {

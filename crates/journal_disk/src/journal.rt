@@ -2,7 +2,7 @@
 ghost use Rattle.std.specs.Prelude.{◌≡◌, ◌≤◌, ◌<◌, Ok, false, length, OnOk, OnErr, IfOk, IfErr, MatchResult};
 ghost use Rattle.apron_base.specs.Counts.{Counts};
 ghost use Rattle.apron_base.specs.Keeper.{AddsEntry, FailsToAdd};
-ghost use Rattle.journal_disk.specs.Disk.{Continues, Told, IsDurable, Stays};
+ghost use Rattle.journal_disk.specs.Disk.{Continues, IfExposed, IsDurable, Stays};
 ghost use Rattle.journal_disk.specs.Extent.{AppendsSafely, HasOpened, IsCrashSafe, keeper_of};
 ghost use Rattle.journal_disk.specs.Faults.{OpenFails};
 ghost use Rattle.journal_disk.specs.Header.{opening_of};
@@ -31,13 +31,13 @@ pub struct Journal<D: Disk> {
 }
 
 impl<D: Disk> Model for Journal<D> {
-    ghost use Rattle.journal_disk.specs.Extent.{JournalHeld, IsKept, extent_of};
+    ghost use Rattle.journal_disk.specs.Extent.{JournalHeld, IsExtentOf, extent_of};
 
     ghost Value = { JournalHeld D };
 
     ghost view = { λ j. record { disk = j.disk; extent = extent_of j.first j.place j.number j.unclean } };
 
-    ghost invariant = { λ j. IsKept (extent_of j.first j.place j.number j.unclean) (D.state j.disk) };
+    ghost invariant = { λ j. IsExtentOf (extent_of j.first j.place j.number j.unclean) (D.state j.disk) };
 }
 
 impl<D: Disk> Journal<D> {
@@ -51,7 +51,7 @@ impl<D: Disk> Journal<D> {
         disk: D,
         digests: &[u8; 64],
     ) -> Result<(Journal<D>, Vec<Listed<u8>>), (JournalFault, D)>
-        ensures opened { IfOk result (λ found. Told (D.state disk)
+        ensures opened { IfOk result (λ found. IfExposed (D.state disk)
             (λ bytes. opening_of digests.now bytes ≡ Ok found.1.items)) }
         ensures keeper { IfOk result (λ found.
             HasOpened (keeper_of found.0.extent (D.state found.0.disk)) found.1.items) }

@@ -2,8 +2,8 @@
 // at any moment may leave.
 ghost use Rattle.std.specs.Prelude.{is_err, not, take, drop, ◌≡◌, ◌≤◌, ◌+◌, ◌||◌, ◌++◌, ◌∷◌, [], true, length, IfOk, OnOk, OnErr, vec_capacity};
 ghost use Rattle.apron_base.specs.Counts.{Counts};
-ghost use Rattle.journal_disk.specs.Disk.{written, Goes};
-ghost use Rattle.journal_disk.specs.Calls.{Step, with_piece, failed_call, piece_length, is_to_fail, has_room, after_call, bytes_of, disk_of};
+ghost use Rattle.journal_disk.specs.Disk.{with_piece_at, Goes};
+ghost use Rattle.journal_disk.specs.Calls.{Step, with_piece, failed_call, piece_length, is_call_to_fail, has_room, after_call, bytes_of, disk_of};
 ghost use Rattle.journal_disk.specs.TornWrites.{reads_left};
 
 use crate::Disk;
@@ -66,9 +66,9 @@ impl Model for MemoryDisk {
 
     ghost Value = { MemoryHeld };
 
-    ghost use Rattle.journal_disk.specs.MemoryFields.{held, IsReplay};
+    ghost use Rattle.journal_disk.specs.MemoryFields.{memory_held, IsReplay};
 
-    ghost view = { held };
+    ghost view = { memory_held };
 
     ghost invariant = { IsReplay };
 }
@@ -131,7 +131,7 @@ impl MemoryDisk {
 
     // The next call is among those that are to fail.
     fn is_to_fail(&self) -> bool
-        ensures told { result ≡ is_to_fail self.now }
+        ensures told { result ≡ is_call_to_fail self.now }
     {
         let number = self.calls().len() as u64;
         self.failing.iter().any(|failing| *failing == number)
@@ -165,7 +165,7 @@ impl MemoryDisk {
     fn make(&mut self, call: DiskCall, piece: &[u8]) -> Result<(), Failed>
         requires piece { piece_length call ≡ length piece.now }
         ensures fails { is_err result
-            ≡ (is_to_fail self.old || not (has_room self.old (with_piece call piece.now))) }
+            ≡ (is_call_to_fail self.old || not (has_room self.old (with_piece call piece.now))) }
         ensures kept { self.new ≡ record self.old { calls = self.new.calls; faults = self.new.faults } }
         ensures ok { OnOk result (self.new.calls ≡ self.old.calls ++ with_piece call piece.now ∷ []) }
         ensures reads { OnOk result (bytes_of self.new ≡ after_call (with_piece call piece.now) (bytes_of self.old)) }
@@ -191,7 +191,7 @@ impl MemoryDisk {
         ensures kept { self.new ≡ record self.old { calls = self.old.calls ++ with_piece call piece.now ∷ [] } }
     {
         do_call(&mut self.bytes, call, piece);
-        put_last(&mut self.pieces, piece);
+        append_piece(&mut self.pieces, piece);
         self.calls.push_reserved(call);
     }
 }
@@ -282,17 +282,17 @@ fn do_call(bytes: &mut Vec<u8>, call: DiskCall, piece: &[u8])
 // Writes over what is there, and past the end.
 fn write_over(bytes: &mut Vec<u8>, at: usize, piece: &[u8])
     requires inside { at ≤ length bytes.old.items }
-    requires fits { length (written at piece.now bytes.old.items) ≤ vec_capacity bytes.old }
-    ensures bytes { bytes.new.items ≡ written at piece.now bytes.old.items }
+    requires fits { length (with_piece_at at piece.now bytes.old.items) ≤ vec_capacity bytes.old }
+    ensures bytes { bytes.new.items ≡ with_piece_at at piece.now bytes.old.items }
     ensures capacity { vec_capacity bytes.old ≤ vec_capacity bytes.new }
 {
     let over = piece.len().min(bytes.len() - at);
-    put_last(bytes, &piece[over..]);
+    append_piece(bytes, &piece[over..]);
     bytes[at..at + over].copy_from_slice(&piece[..over]);
 }
 
 // Puts a piece last. There is memory for it.
-fn put_last(bytes: &mut Vec<u8>, piece: &[u8])
+fn append_piece(bytes: &mut Vec<u8>, piece: &[u8])
     requires fits { length bytes.old.items + length piece.now ≤ vec_capacity bytes.old }
     ensures bytes { bytes.new.items ≡ bytes.old.items ++ piece.now }
     ensures capacity { vec_capacity bytes.old ≤ vec_capacity bytes.new }

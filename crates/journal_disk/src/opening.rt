@@ -2,7 +2,7 @@
 ghost use Rattle.std.specs.Prelude.{◌≡◌, ◌≤◌, ◌*◌, Ok, false, length, OnOk, IfOk, IfErr, IfSome};
 ghost use Rattle.std.specs.Option.{option_map};
 ghost use Rattle.apron_base.specs.Counts.{Counts};
-ghost use Rattle.journal_disk.specs.Disk.{Told, IsDurable, Stays};
+ghost use Rattle.journal_disk.specs.Disk.{IfExposed, IsDurable, Stays};
 ghost use Rattle.journal_disk.specs.Header.{old_opening_of, opening_of};
 ghost use Rattle.journal_disk.specs.Faults.{TextFails, OldTextFails, OpenFails, OldOpenFails, ReadFails};
 ghost use Rattle.journal_disk.specs.Limits.{most_entries, most_first, most_record};
@@ -28,9 +28,9 @@ pub(crate) fn read_journal<D: Disk>(
 ) -> Result<NewPart, JournalFault>
     ensures stays { Stays (D.state disk.old) (D.state disk.new) }
     ensures durable { OnOk result (IsDurable (D.state disk.old) (D.state disk.new)) }
-    ensures opened { IfOk result (λ found. Told (D.state disk.old)
+    ensures opened { IfOk result (λ found. IfExposed (D.state disk.old)
         (λ bytes. opening_of digests.now bytes ≡ Ok found.records.entries.items)) }
-    ensures whole { IfOk result (λ found. Told (D.state disk.old)
+    ensures whole { IfOk result (λ found. IfExposed (D.state disk.old)
         (λ bytes. IsNewPart bytes found.first found.records.entries.items found.records.length)) }
     ensures early { IfOk result (λ found. found.first ≤ most_first) }
     ensures few { IfOk result (λ found. length found.records.entries.items ≤ most_entries) }
@@ -53,9 +53,9 @@ pub(crate) fn read_old_journal<D: Disk>(
 ) -> Result<Option<Records>, JournalFault>
     ensures stays { Stays (D.state disk.old) (D.state disk.new) }
     ensures durable { OnOk result (IsDurable (D.state disk.old) (D.state disk.new)) }
-    ensures opened { IfOk result (λ found. Told (D.state disk.old) (λ bytes. old_opening_of digests.now bytes
+    ensures opened { IfOk result (λ found. IfExposed (D.state disk.old) (λ bytes. old_opening_of digests.now bytes
         ≡ Ok (option_map (λ records. records.entries.items) found))) }
-    ensures whole { IfOk result (λ found. IfSome found (λ records. Told (D.state disk.old)
+    ensures whole { IfOk result (λ found. IfSome found (λ records. IfExposed (D.state disk.old)
         (λ bytes. IsOldPart bytes records.entries.items records.length))) }
     ensures few { IfOk result (λ found.
         IfSome found (λ records. length records.entries.items ≤ most_entries)) }
@@ -72,7 +72,7 @@ pub(crate) fn read_old_journal<D: Disk>(
 // Makes what the disk reads as safe from a crash, and gives all its bytes.
 fn read_all<D: Disk>(alloc: Global, disk: &mut D) -> Result<Vec<u8>, JournalFault>
     ensures durable { OnOk result (IsDurable (D.state disk.old) (D.state disk.new)) }
-    ensures bytes { IfOk result (λ read. Told (D.state disk.old) (λ bytes. read.items ≡ bytes)) }
+    ensures bytes { IfOk result (λ read. IfExposed (D.state disk.old) (λ bytes. read.items ≡ bytes)) }
     ensures stays { Stays (D.state disk.old) (D.state disk.new) }
     ensures counts { OnOk result (Counts false (D.state disk.old).faults (D.state disk.new).faults) }
     ensures refused { IfErr result (ReadFails (D.state disk.old).faults (D.state disk.new).faults) }

@@ -5,11 +5,11 @@ ghost use Rattle.std.specs.Prelude.{◌≡◌, ◌+◌, ◌*◌, ◌^◌, ◌≤
 ghost use Rattle.std.specs.Option.{option_map};
 ghost use Rattle.apron_base.specs.Counts.{Counts};
 ghost use Rattle.apron_base.specs.Histories.{Every};
-ghost use Rattle.journal_disk.specs.Disk.{Continues, EachImageSince, Goes, IsSafe, TellsAlike, Told, written};
-ghost use Rattle.journal_disk.specs.Entries.{open_gate, records, sized, IsEntry};
+ghost use Rattle.journal_disk.specs.Disk.{Continues, EachImageSince, Goes, IfExposed, IsSafe, TellsAlike, with_piece_at};
+ghost use Rattle.journal_disk.specs.Entries.{open_gate, records, with_length, IsEntry};
 ghost use Rattle.journal_disk.specs.Header.{behind_part};
 ghost use Rattle.journal_disk.specs.Limits.{most_entries, most_record, record_frame};
-ghost use Rattle.journal_disk.specs.Switch.{IsSwitching, KeepsTo, part_of, switched};
+ghost use Rattle.journal_disk.specs.Switch.{IsSwitching, KeepsTo, after_switch, new_part};
 
 use crate::Disk;
 use crate::gates::{CLOSED, FRAME, OPEN, write_safely};
@@ -29,12 +29,12 @@ pub(crate) fn switch_parts<D: Disk>(
     requires sizes { Every IsEntry entries.now }
     requires few { length entries.now ≤ most_entries }
     requires within { size ≤ most_record * most_entries }
-    requires inside { Told (D.state disk.old) (λ bytes. behind_part size ≤ length bytes) }
+    requires inside { IfExposed (D.state disk.old) (λ bytes. behind_part size ≤ length bytes) }
     ensures continues { Continues (D.state disk.old) (D.state disk.new) }
-    ensures crash { Told (D.state disk.old) (λ bytes. IsSafe bytes (D.state disk.old)
+    ensures crash { IfExposed (D.state disk.old) (λ bytes. IsSafe bytes (D.state disk.old)
         → EachImageSince (D.state disk.old) (D.state disk.new) (IsSwitching size entries.now bytes)) }
-    ensures switched { OnOk result (Told (D.state disk.old)
-        (λ bytes. IsSafe (switched size entries.now bytes) (D.state disk.new))) }
+    ensures switched { OnOk result (IfExposed (D.state disk.old)
+        (λ bytes. IsSafe (after_switch size entries.now bytes) (D.state disk.new))) }
     ensures counts { Counts (is_err result) (D.state disk.old).faults (D.state disk.new).faults }
 {
     write_part(disk, HEADER as u32 + size + 1, entries)?;
@@ -45,11 +45,11 @@ pub(crate) fn switch_parts<D: Disk>(
 fn write_part<D: Disk>(disk: &mut D, at: u32, entries: &[Listed<u8>]) -> Result<(), Failed>
     requires sizes { Every IsEntry entries.now }
     requires fits { at + most_record * length entries.now < 2 ^ 32 }
-    requires inside { Told (D.state disk.old) (λ bytes. at ≤ length bytes) }
+    requires inside { IfExposed (D.state disk.old) (λ bytes. at ≤ length bytes) }
     ensures tells { TellsAlike (D.state disk.old) (D.state disk.new) }
     ensures crash { Goes (KeepsTo at) (D.state disk.old) (D.state disk.new) }
-    ensures safe { OnOk result (Told (D.state disk.old)
-        (λ bytes. IsSafe (written at (part_of entries.now) bytes) (D.state disk.new))) }
+    ensures safe { OnOk result (IfExposed (D.state disk.old)
+        (λ bytes. IsSafe (with_piece_at at (new_part entries.now) bytes) (D.state disk.new))) }
     ensures counts { Counts (is_err result) (D.state disk.old).faults (D.state disk.new).faults }
 {
     let end = put_records(disk, at, entries)?;
@@ -60,11 +60,11 @@ fn write_part<D: Disk>(disk: &mut D, at: u32, entries: &[Listed<u8>]) -> Result<
 fn put_records<D: Disk>(disk: &mut D, at: u32, entries: &[Listed<u8>]) -> Result<u32, Failed>
     requires sizes { Every IsEntry entries.now }
     requires fits { at + most_record * length entries.now < 2 ^ 32 }
-    requires inside { Told (D.state disk.old) (λ bytes. at ≤ length bytes) }
+    requires inside { IfExposed (D.state disk.old) (λ bytes. at ≤ length bytes) }
     ensures tells { TellsAlike (D.state disk.old) (D.state disk.new) }
     ensures crash { Goes (KeepsTo at) (D.state disk.old) (D.state disk.new) }
     ensures put { OnOk result ((D.state disk.new).contents
-        ≡ option_map (written at (records entries.now)) (D.state disk.old).contents) }
+        ≡ option_map (with_piece_at at (records entries.now)) (D.state disk.old).contents) }
     ensures end { IfOk result (λ end. end ≡ at + length (records entries.now)) }
     ensures counts { Counts (is_err result) (D.state disk.old).faults (D.state disk.new).faults }
 {
@@ -79,23 +79,23 @@ fn put_records<D: Disk>(disk: &mut D, at: u32, entries: &[Listed<u8>]) -> Result
 // Writes the record of an entry at the place.
 fn put_record<D: Disk>(disk: &mut D, at: u32, entry: &[u8]) -> Result<(), Failed>
     requires entry { IsEntry entry.now }
-    requires inside { Told (D.state disk.old) (λ bytes. at ≤ length bytes) }
+    requires inside { IfExposed (D.state disk.old) (λ bytes. at ≤ length bytes) }
     ensures tells { TellsAlike (D.state disk.old) (D.state disk.new) }
     ensures crash { Goes (KeepsTo at) (D.state disk.old) (D.state disk.new) }
     ensures put { OnOk result ((D.state disk.new).contents
-        ≡ option_map (written at (open_gate ∷ sized entry.now)) (D.state disk.old).contents) }
+        ≡ option_map (with_piece_at at (open_gate ∷ with_length entry.now)) (D.state disk.old).contents) }
     ensures counts { Counts (is_err result) (D.state disk.old).faults (D.state disk.new).faults }
 {
     let mut piece = [OPEN; MAX_RECORD];
-    let end = put_text(entry, &mut piece);
+    let end = put_record_text(entry, &mut piece);
     disk.write_at(at, &piece[..end])
 }
 
 // Puts the record of an entry at the front of the piece, and gives how long it is.
-fn put_text(entry: &[u8], piece: &mut [u8; MAX_RECORD]) -> usize
+fn put_record_text(entry: &[u8], piece: &mut [u8; MAX_RECORD]) -> usize
     requires entry { IsEntry entry.now }
     ensures length { result ≡ length entry.now + record_frame }
-    ensures text { take result piece.new ≡ open_gate ∷ sized entry.now }
+    ensures text { take result piece.new ≡ open_gate ∷ with_length entry.now }
 {
     let size = entry.len();
     let (frame, behind) = piece.split_at_mut(FRAME);

@@ -4,7 +4,7 @@ ghost use Rattle.std.specs.Option.{option_map};
 ghost use Rattle.journal_disk.specs.Entries.{behind_gate, entries_from, part_length};
 ghost use Rattle.journal_disk.specs.Faults.{RecordFails};
 ghost use Rattle.journal_disk.specs.Limits.{most_entries};
-ghost use Rattle.journal_disk.specs.Opening.{IsPassed, IsRead, NextIs};
+ghost use Rattle.journal_disk.specs.Opening.{IsPassed, IsReadJournal, NextIs};
 
 use crate::JournalFault;
 use crate::gates::OPEN;
@@ -37,7 +37,7 @@ impl From<NotWhole> for JournalFault {
 /// The entries from a gate on.
 pub(crate) fn read_records(alloc: Global, text: &[u8]) -> Result<Records, JournalFault>
     ensures entries { IfOk result (λ found. entries_from most_entries text.now ≡ Ok found.entries.items) }
-    ensures whole { IfOk result (λ found. IsRead text.now found.entries.items found.length) }
+    ensures whole { IfOk result (λ found. IsReadJournal text.now found.entries.items found.length) }
     ensures refused { IfErr result (RecordFails (entries_from most_entries text.now)) }
 {
     let mut entries = Vec::new(alloc);

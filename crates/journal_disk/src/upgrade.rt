@@ -2,7 +2,7 @@
 ghost use Rattle.std.specs.Prelude.{◌≡◌, ◌≤◌, Ok, false, is_err, length, OnOk, IfOk, IfErr, MatchResult};
 ghost use Rattle.apron_base.specs.Counts.{Counts};
 ghost use Rattle.apron_base.specs.Histories.{Every};
-ghost use Rattle.journal_disk.specs.Disk.{Continues, IsDurable, Stays, Told};
+ghost use Rattle.journal_disk.specs.Disk.{Continues, IfExposed, IsDurable, Stays};
 ghost use Rattle.journal_disk.specs.Entries.{IsEntry};
 ghost use Rattle.journal_disk.specs.Faults.{OldOpenFails};
 ghost use Rattle.journal_disk.specs.Found.{disk_found, old_found};
@@ -57,7 +57,7 @@ pub fn open_old<D: Disk>(
     disk: D,
     digests: &[u8; 64],
 ) -> Result<Found<D>, (JournalFault, D)>
-    ensures opened { IfOk result (λ found. Told (D.state disk)
+    ensures opened { IfOk result (λ found. IfExposed (D.state disk)
         (λ bytes. old_opening_of digests.now bytes ≡ Ok (old_found found))) }
     ensures durable { IfOk result (λ found. IsDurable (D.state disk) (D.state (disk_found found))) }
     ensures counts { IfOk result (λ found.
@@ -110,7 +110,7 @@ impl<D: Disk> OldJournal<D> {
             (D.state self.disk) (D.state result.1) }
 
         // After Ok a crash leaves the given entries in format 2, until something is written.
-        ensures switched { OnOk result.0 (Told (D.state self.disk)
+        ensures switched { OnOk result.0 (IfExposed (D.state self.disk)
             (λ bytes. HasSwitched self.size entries.now bytes (D.state result.1))) }
         ensures fault { IfErr result.0 (λ fault. fault ≡ DiskFault) }
         ensures counts { Counts (is_err result.0) (D.state self.disk).faults (D.state result.1).faults }

@@ -5,21 +5,21 @@ use Rattle.std.specs.List.{list_all}
 use Rattle.std.proofs.lemmas.Bool.{and_from, le-leb, lt-ltb}
 use Rattle.std.proofs.lemmas.List.{append-nil}
 use Rattle.mvt_grammar.specs.Bytes.{is_capital, is_digit, two_digits}
-use Rattle.mvt_grammar.specs.Clocks.{day_of, minute_of, clock_of, times_parted, times_of}
+use Rattle.mvt_grammar.specs.Clocks.{read_day, read_minute, clock_of, times_parted, times_of}
 use Rattle.mvt_grammar.specs.Canonical.{two_text, day_text, clock_text, times_text}
 use Rattle.mvt_grammar.specs.Readable.{IsDayOfMonth, IsClock, AreTimes}
 use Rattle.mvt_grammar.specs.declared.message.Clock.{Clock}
 use Rattle.mvt_grammar.proofs.Digits.{digit-not_capital, two_text-digits, two_digits-back}
 use Rattle.mvt_grammar.proofs.Parts.{lacks-kind, list_all-both, parted-at, parted-none}
 
-pub day_of-back : (day : ℕ) → IsDayOfMonth day → day_of (two_text day) ≡ Some day
+pub day_of-back : (day : ℕ) → IsDayOfMonth day → read_day (two_text day) ≡ Some day
 day_of-back day h =
     let low : 1 ≤ day = h.0 in
     let high : day ≤ 31 = h.1 in
     let tests = and_from (nat_le 1 day) (nat_le day 31) (le-leb 1 day low) (le-leb day 31 high) in
     ap (option_and_then (λ n. cond (nat_le 1 n && nat_le n 31) (Some n) None)) (two_digits-back day (omega arith)) ∙ ap (λ t. cond t (Some day) None) tests
 
-minute_of-back : (minute : ℕ) → minute < 1440 → minute_of (two_text (minute / 60) ++ two_text (minute % 60)) ≡ Some minute
+minute_of-back : (minute : ℕ) → minute < 1440 → read_minute (two_text (minute / 60) ++ two_text (minute % 60)) ≡ Some minute
 minute_of-back minute h =
     let hours = minute / 60 in
     let minutes = minute % 60 in
@@ -38,7 +38,7 @@ clock_at day minute = record { day = day; minute = minute }
 clock_at-back : (day : Option ℕ) (minute : ℕ) → IfSome day IsDayOfMonth → minute < 1440 → clock_of (clock_text (clock_at day minute)) ≡ Some (clock_at day minute)
 clock_at-back None minute h k = ap (option_and_then (λ m. Some (clock_at None m))) (minute_of-back minute k)
 clock_at-back (Some day) minute h k =
-    ap (option_and_then (λ d. option_and_then (λ m. Some (clock_at (Some d) m)) (minute_of (two_text (minute / 60) ++ two_text (minute % 60))))) (day_of-back day h)
+    ap (option_and_then (λ d. option_and_then (λ m. Some (clock_at (Some d) m)) (read_minute (two_text (minute / 60) ++ two_text (minute % 60))))) (day_of-back day h)
     ∙ ap (option_and_then (λ m. Some (clock_at (Some day) m))) (minute_of-back minute k)
 
 pub clock_of-back : (clock : Clock) → IsClock clock → clock_of (clock_text clock) ≡ Some clock

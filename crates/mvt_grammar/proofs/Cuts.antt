@@ -6,8 +6,8 @@ use Rattle.std.proofs.lemmas.Bool.{ltb-true, ltb-false, cases_Bool}
 use Rattle.std.proofs.lemmas.Option.{some_pair_parts, cond_some}
 use Rattle.std.proofs.lemmas.List.Splits.{slice_split_first, slice_split_none}
 use Rattle.std.proofs.lemmas.List.Sums.{fails_before_first}
-use Rattle.mvt_grammar.specs.Bytes.{parted, parted_at}
-use Rattle.mvt_grammar.specs.Pieces.{piece, placed, cut_at}
+use Rattle.mvt_grammar.specs.Bytes.{parted_at, split_once}
+use Rattle.mvt_grammar.specs.Pieces.{piece, placed_texts, split_at}
 
 split_some : (byte : ℕ) (text front rest : List ℕ) (o : Option ℕ) → position (λ b. b == byte) text ≡ o → parted_at text o ≡ Some (front, rest) → slice_split (λ b. b == byte) text ≡ front ∷ slice_split (λ b. b == byte) rest
 split_some byte text front rest None e h = cc
@@ -21,8 +21,8 @@ split_some byte text front rest (Some k) e h =
     split ∙ ap (λ x. x ∷ slice_split p (drop (position_or_len p text + 1) text)) fronts ∙ ap (λ x. front ∷ slice_split p x) rests
 
 -- if there is a separator, the first piece ends before it
-pub cut_at-some : (byte at : ℕ) (text front rest : List ℕ) → parted byte text ≡ Some (front, rest) → cut_at byte (piece at text) ≡ piece at front ∷ cut_at byte (piece (at + length front + 1) rest)
-cut_at-some byte at text front rest h = ap (placed at) (split_some byte text front rest (position (λ b. b == byte) text) refl h)
+pub cut_at-some : (byte at : ℕ) (text front rest : List ℕ) → split_once byte text ≡ Some (front, rest) → split_at byte (piece at text) ≡ piece at front ∷ split_at byte (piece (at + length front + 1) rest)
+cut_at-some byte at text front rest h = ap (placed_texts at) (split_some byte text front rest (position (λ b. b == byte) text) refl h)
 
 no_place : (p : ℕ → Bool) (text : List ℕ) → position p text ≡ None → length text ≤ position_or_len p text
 no_place p text e = elim (cases_Bool (ltb (position_or_len p text) (length text))) [
@@ -38,5 +38,5 @@ split_none byte text None e h =
     slice_split_none p text (λ k d l. fails_before_first p text k d (omega arith))
 
 -- if there is none, the whole is the only piece
-pub cut_at-none : (byte at : ℕ) (text : List ℕ) → parted byte text ≡ None → cut_at byte (piece at text) ≡ piece at text ∷ []
-cut_at-none byte at text h = ap (placed at) (split_none byte text (position (λ b. b == byte) text) refl h)
+pub cut_at-none : (byte at : ℕ) (text : List ℕ) → split_once byte text ≡ None → split_at byte (piece at text) ≡ piece at text ∷ []
+cut_at-none byte at text h = ap (placed_texts at) (split_none byte text (position (λ b. b == byte) text) refl h)

@@ -5,7 +5,7 @@ use Rattle.std.proofs.lemmas.Bool.Decides.{nat_tests}
 use Rattle.mvt_grammar.specs.Bytes.{is_station}
 use Rattle.mvt_grammar.specs.Clocks.{clock_of}
 use Rattle.mvt_grammar.specs.Pieces.{Piece}
-use Rattle.mvt_grammar.specs.Words.{begins, begins_element, ends_line, estimate_of, estimated, marks_from, marks_of_words, with_estimate}
+use Rattle.mvt_grammar.specs.Words.{begins, begins_element, ends_line, estimate_of, estimate_time, marks_from, marks_of_words, with_estimate}
 use Rattle.mvt_grammar.specs.declared.message.Clock.{Clock}
 
 other_front : (text : List ℕ) → begins text (codes "EA") ≡ true → begins text (codes "SI") ≡ false
@@ -20,7 +20,7 @@ or_true : (b : Bool) → (b || true) ≡ true
 or_true true = refl
 or_true false = refl
 
-pub lone_estimate : (word next : Piece) (words : List Piece) (clock : Clock) → estimated word.text ≡ Some clock → is_station next.text ≡ false → marks_of_words (word ∷ next ∷ words) ≡ []
+pub lone_estimate : (word next : Piece) (words : List Piece) (clock : Clock) → estimate_time word.text ≡ Some clock → is_station next.text ≡ false → marks_of_words (word ∷ next ∷ words) ≡ []
 lone_estimate word next words clock h k =
     let none : estimate_of word.text next.text ≡ None = rw (h, k) refl in
     let on = goes_on word.text clock (begins word.text (codes "EA")) refl h in

@@ -7,7 +7,7 @@ use Rattle.std.specs.List.{flat_map}
 use Rattle.mvt_grammar.specs.Bytes.{is_station}
 use Rattle.mvt_grammar.specs.Clocks.{clock_of, times_of}
 use Rattle.mvt_grammar.specs.Pieces.{Piece, piece, is_empty, lines_of, words_of}
-use Rattle.mvt_grammar.specs.Words.{begins, begins_element, element_of, ends_line, estimate_of, estimated, mark_of, marks_from, marks_of_words, marks_of_line, with_estimate}
+use Rattle.mvt_grammar.specs.Words.{begins, begins_element, element_of, ends_line, estimate_of, estimate_time, mark_of, marks_from, marks_of_words, marks_of_line, with_estimate}
 use Rattle.mvt_grammar.specs.Reading.{◌>>-◌, heading_of, after_identifier, with_heading, after_heading, has_element, with_element, with_marks, read_lines, read_mvt_of}
 use Rattle.mvt_grammar.specs.Readable.{IsClock, AreTimes, IsEstimate, IsReadable}
 use Rattle.mvt_grammar.specs.declared.message.Clock.{Clock}
@@ -68,7 +68,7 @@ estimated_is text true clock h = clock-range (drop 2 text) clock h
 estimated_is text false clock h = absurd (cc h)
 
 estimate_of_is : (text next : List ℕ) → IfSome (estimate_of text next) IsElement
-estimate_of_is text next = with_station_is (estimated text) next (estimated_is text (begins text (codes "EA")))
+estimate_of_is text next = with_station_is (estimate_time text) next (estimated_is text (begins text (codes "EA")))
 
 mark_of_is : (at : ℕ) (o : Option Element) → IfSome o IsElement → IsMark (mark_of at o)
 mark_of_is at None h = tt

@@ -8,7 +8,7 @@ use Rattle.mvt_grammar.specs.Flights.{is_airline, is_airline_byte}
 use Rattle.mvt_grammar.specs.Reading.{is_registration}
 use Rattle.apron_base.specs.Name.{is_name}
 use Rattle.mvt_grammar.specs.Canonical.{digit, two_text, number_text, flight_text, clock_text, day_text, second_text, times_text, times_words, ea_words, ed_words, heading_text, element_words, canonical}
-use Rattle.mvt_grammar.specs.Led.{led, gap_after}
+use Rattle.mvt_grammar.specs.Led.{words_after, gap_after}
 use Rattle.mvt_grammar.specs.Readable.{IsReadable, IsFlight, IsEstimate}
 use Rattle.mvt_grammar.specs.declared.message.Clock.{Clock}
 use Rattle.mvt_grammar.specs.declared.message.Flight.{Flight}
@@ -51,7 +51,7 @@ length-times t =
     let second = length-second t.1 in
     omega (arith, length-append (clock_text t.0) (second_text t.1))
 
-length-times_words : (gap : ℕ) (pair : List ℕ) (o : Option (Clock × Option Clock)) → length pair ≡ 2 → length (led gap (times_words pair o)) ≤ 16
+length-times_words : (gap : ℕ) (pair : List ℕ) (o : Option (Clock × Option Clock)) → length pair ≡ 2 → length (words_after gap (times_words pair o)) ≤ 16
 length-times_words gap pair None h = omega arith
 length-times_words gap pair (Some t) h =
     let times = length-times t in
@@ -60,14 +60,14 @@ length-times_words gap pair (Some t) h =
 length-station : (text : List ℕ) → IsTrue (is_station text) → length text ≡ 3
 length-station text h = eqb-true (length text) 3 (and_parts (length text == 3) (list_all is_capital text) h).0
 
-length-ea_words : (gap : ℕ) (o : Option (Clock × List ℕ)) → IfSome o IsEstimate → length (led gap (ea_words o)) ≤ 13
+length-ea_words : (gap : ℕ) (o : Option (Clock × List ℕ)) → IfSome o IsEstimate → length (words_after gap (ea_words o)) ≤ 13
 length-ea_words gap None h = omega arith
 length-ea_words gap (Some e) h =
     let clock = length-clock e.0 in
     let station = length-station e.1 h.station in
     omega (arith, length-append (clock_text e.0) (32 ∷ (e.1 ++ [])), length-append e.1 [])
 
-length-ed_words : (gap : ℕ) (o : Option Clock) → length (led gap (ed_words o)) ≤ 9
+length-ed_words : (gap : ℕ) (o : Option Clock) → length (words_after gap (ed_words o)) ≤ 9
 length-ed_words gap None = omega arith
 length-ed_words gap (Some c) =
     let clock = length-clock c in
@@ -97,7 +97,7 @@ length-heading m h =
     let front = flight_text m.flight ++ 47 ∷ two_text m.day in
     omega (arith, length-append (front ++ 46 ∷ m.registration) (46 ∷ m.station), length-append front (46 ∷ m.registration), length-append (flight_text m.flight) (47 ∷ two_text m.day))
 
-length-elements : (m : Mvt) → IsReadable m → length (led 10 (element_words m)) ≤ 54
+length-elements : (m : Mvt) → IsReadable m → length (words_after 10 (element_words m)) ≤ 54
 length-elements m h =
     let ad = times_words (codes "AD") m.ad in
     let aa = times_words (codes "AA") m.aa in
@@ -109,10 +109,10 @@ length-elements m h =
     let b = length-times_words (gap_after 10 ad) (codes "AA") m.aa refl in
     let c = length-ea_words (gap_after (gap_after 10 ad) aa) m.ea h.ea in
     let d = length-ed_words (gap_after (gap_after (gap_after 10 ad) aa) ea) m.ed in
-    let led_ad = led 10 ad in
-    let led_aa = led (gap_after 10 ad) aa in
-    let led_ea = led (gap_after (gap_after 10 ad) aa) ea in
-    let led_ed = led (gap_after (gap_after (gap_after 10 ad) aa) ea) (ed_words m.ed) in
+    let led_ad = words_after 10 ad in
+    let led_aa = words_after (gap_after 10 ad) aa in
+    let led_ea = words_after (gap_after (gap_after 10 ad) aa) ea in
+    let led_ed = words_after (gap_after (gap_after (gap_after 10 ad) aa) ea) (ed_words m.ed) in
     rw (first, second, third) (omega (arith, length-append led_ad (led_aa ++ (led_ea ++ led_ed)), length-append led_aa (led_ea ++ led_ed), length-append led_ea led_ed))
 
 -- the canonical text has at most 85 bytes
@@ -120,6 +120,6 @@ pub length-canonical : (m : Mvt) → IsReadable m → length (canonical m) ≤ 8
 length-canonical m h =
     let heading = length-heading m h in
     let elements = length-elements m h in
-    let led_words = led 10 (element_words m) in
+    let led_words = words_after 10 (element_words m) in
     let written = ap length (canonical-led m) in
     omega (arith, written, length-append (heading_text m) (led_words ++ 10 ∷ []), length-append led_words (10 ∷ []))

@@ -3,7 +3,7 @@ use Rattle.std.proofs.Common.{◌≡◌, ℕ, ◌+◌, cond, eqb, Bool, true, fa
 use Rattle.std.specs.Prelude.{◌==◌, nat_lt, not, map, filter}
 use Rattle.std.specs.List.{list_all, flat_map, slice_split, join_with_byte}
 use Rattle.std.proofs.lemmas.Bool.{and_parts, ne_eqb, ltb-true}
-use Rattle.mvt_grammar.specs.Pieces.{piece, placed, is_empty, without_cr, without_spaces, trimmed, lines_of, words_of}
+use Rattle.mvt_grammar.specs.Pieces.{piece, placed_texts, is_empty, without_cr, without_spaces, trim_line, lines_of, words_of}
 use Rattle.mvt_grammar.proofs.Parts.{lacks, lacks-kind, split-none, split-at, list_all-both}
 
 -- a byte that neither ends a line nor separates words, and that no trimming removes
@@ -49,7 +49,7 @@ spaces_kept (b ∷ []) h = ap (λ t. cond t [] (b ∷ [])) (not_space b h)
 spaces_kept (b ∷ c ∷ bs) h =
     ap (λ t. cond (eqb b 32) (cond (is_empty t) [] (b ∷ t)) (b ∷ t)) (spaces_kept (c ∷ bs) h) ∙ cond_same (eqb b 32) (b ∷ c ∷ bs)
 
-trimmed-kept : (at : ℕ) (text : List ℕ) → ends_visible text ≡ true → trimmed (piece at text) ≡ piece at text
+trimmed-kept : (at : ℕ) (text : List ℕ) → ends_visible text ≡ true → trim_line (piece at text) ≡ piece at text
 trimmed-kept at text h = ap (λ t. piece at (without_spaces t)) (cr_kept text h) ∙ ap (piece at) (spaces_kept text h)
 
 ends-word : (text : List ℕ) → list_all is_visible text ≡ true → is_empty text ≡ false → ends_visible text ≡ true
@@ -82,16 +82,16 @@ split-join word [] h k = split-none 32 word (word-lacks 32 word refl h)
 split-join word (next ∷ words) h k =
     split-at 32 word (join_with_byte 32 (next ∷ words)) (word-lacks 32 word refl h) ∙ ap (λ t. word ∷ t) (split-join next words k.0 k.1)
 
-kept : (at : ℕ) (words : List (List ℕ)) → AreWords words → filter (λ word. not (is_empty word.text)) (placed at words) ≡ placed at words
+kept : (at : ℕ) (words : List (List ℕ)) → AreWords words → filter (λ word. not (is_empty word.text)) (placed_texts at words) ≡ placed_texts at words
 kept at [] h = refl
 kept at (word ∷ words) h =
-    ap (λ t. cond (not t) (piece at word ∷ filter (λ w. not (is_empty w.text)) (placed (at + length word + 1) words)) (filter (λ w. not (is_empty w.text)) (placed (at + length word + 1) words))) h.0.some
+    ap (λ t. cond (not t) (piece at word ∷ filter (λ w. not (is_empty w.text)) (placed_texts (at + length word + 1) words)) (filter (λ w. not (is_empty w.text)) (placed_texts (at + length word + 1) words))) h.0.some
     ∙ ap (λ t. piece at word ∷ t) (kept (at + length word + 1) words h.1)
 
 -- the words of a line are those that were joined
-pub words_of-join : (at : ℕ) (word : List ℕ) (words : List (List ℕ)) → IsWord word → AreWords words → words_of (piece at (join_with_byte 32 (word ∷ words))) ≡ placed at (word ∷ words)
+pub words_of-join : (at : ℕ) (word : List ℕ) (words : List (List ℕ)) → IsWord word → AreWords words → words_of (piece at (join_with_byte 32 (word ∷ words))) ≡ placed_texts at (word ∷ words)
 words_of-join at word words h k =
-    ap (λ t. filter (λ w. not (is_empty w.text)) (placed at t)) (split-join word words h k) ∙ kept at (word ∷ words) (h, k)
+    ap (λ t. filter (λ w. not (is_empty w.text)) (placed_texts at t)) (split-join word words h k) ∙ kept at (word ∷ words) (h, k)
 
 -- a line that is neither cut nor trimmed
 pub record IsLine (text : List ℕ) : Type 0 where
@@ -114,12 +114,12 @@ split-lines (line ∷ lines) h =
     let rest = flat_map (λ l. l ++ 10 ∷ []) lines in
     ap (slice_split (λ b. b == 10)) (append_assoc line (10 ∷ []) rest) ∙ split-at 10 line rest h.0.one ∙ ap (λ t. line ∷ t) (split-lines lines h.1)
 
-trim-lines : (at : ℕ) (lines : List (List ℕ)) → AreLines lines → map trimmed (placed at (lines ++ [] ∷ [])) ≡ placed at (lines ++ [] ∷ [])
+trim-lines : (at : ℕ) (lines : List (List ℕ)) → AreLines lines → map trim_line (placed_texts at (lines ++ [] ∷ [])) ≡ placed_texts at (lines ++ [] ∷ [])
 trim-lines at [] h = refl
 trim-lines at (line ∷ lines) h =
-    ap (λ t. t ∷ map trimmed (placed (at + length line + 1) (lines ++ [] ∷ []))) (trimmed-kept at line h.0.end)
+    ap (λ t. t ∷ map trim_line (placed_texts (at + length line + 1) (lines ++ [] ∷ []))) (trimmed-kept at line h.0.end)
     ∙ ap (λ t. piece at line ∷ t) (trim-lines (at + length line + 1) lines h.1)
 
 -- lines that were each written with a line feed, and the empty rest after the last
-pub lines_of-written : (at : ℕ) (lines : List (List ℕ)) → AreLines lines → lines_of (piece at (flat_map (λ line. line ++ 10 ∷ []) lines)) ≡ placed at (lines ++ [] ∷ [])
-lines_of-written at lines h = ap (λ t. map trimmed (placed at t)) (split-lines lines h) ∙ trim-lines at lines h
+pub lines_of-written : (at : ℕ) (lines : List (List ℕ)) → AreLines lines → lines_of (piece at (flat_map (λ line. line ++ 10 ∷ []) lines)) ≡ placed_texts at (lines ++ [] ∷ [])
+lines_of-written at lines h = ap (λ t. map trim_line (placed_texts at t)) (split-lines lines h) ∙ trim-lines at lines h

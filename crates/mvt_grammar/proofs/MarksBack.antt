@@ -5,8 +5,8 @@ use Rattle.std.specs.Option.{option_map}
 use Rattle.std.proofs.lemmas.List.{append-nil}
 use Rattle.apron_base.specs.OptionChain.{◌>>=◌}
 use Rattle.mvt_grammar.specs.Bytes.{is_capital, is_station}
-use Rattle.mvt_grammar.specs.Pieces.{Piece, piece, placed}
-use Rattle.mvt_grammar.specs.Words.{begins, begins_element, element_of, estimate_of, estimated, marks_from, marks_of_words, with_estimate}
+use Rattle.mvt_grammar.specs.Pieces.{Piece, piece, placed_texts}
+use Rattle.mvt_grammar.specs.Words.{begins, begins_element, element_of, estimate_of, estimate_time, marks_from, marks_of_words, with_estimate}
 use Rattle.mvt_grammar.specs.Reading.{has_element, with_element, with_marks}
 use Rattle.mvt_grammar.specs.Canonical.{clock_text, second_text, times_text, times_words, ea_words, ed_words}
 use Rattle.mvt_grammar.specs.Readable.{IsClock, AreTimes, IsEstimate}
@@ -29,7 +29,7 @@ clock-first clock h = ap (λ t. is_capital (slice_index t 0)) (sym (append-nil (
 record IsElementWord (text : List ℕ) (element : Element) : Type 0 where
   goes_on : begins text (codes "SI") ≡ false
   opens : begins_element text ≡ true
-  alone : estimated text ≡ None
+  alone : estimate_time text ≡ None
   is : element_of text ≡ Some element
 
 ad-word : (times : Clock × Option Clock) → AreTimes times → IsElementWord (codes "AD" ++ times_text times) (Ad times)
@@ -52,7 +52,7 @@ whole-mark word (next ∷ words) element h =
     ap (λ o. with_estimate word.at (o >>= λ clock. cond (is_station next.text) (Some (Ea clock next.text)) None) (marks_of_words words) (marks_from word after)) h.alone
     ∙ from-word word after element h
 
-estimate-mark : (word next : Piece) (words : List Piece) (clock : Clock) → estimated word.text ≡ Some clock → is_station next.text ≡ true → marks_of_words (word ∷ next ∷ words) ≡ Found word.at (Ea clock next.text) ∷ marks_of_words words
+estimate-mark : (word next : Piece) (words : List Piece) (clock : Clock) → estimate_time word.text ≡ Some clock → is_station next.text ≡ true → marks_of_words (word ∷ next ∷ words) ≡ Found word.at (Ea clock next.text) ∷ marks_of_words words
 estimate-mark word next words clock h k =
     let is : estimate_of word.text next.text ≡ Some (Ea clock next.text) = rw (h, k) refl in
     ap (λ o. with_estimate word.at o (marks_of_words words) (marks_from word (marks_of_words (next ∷ words)))) is
@@ -65,37 +65,37 @@ taken message at element marks h = ap (λ t. cond t (Err (Twice at)) (with_marks
 -- with more elements
 pub record Reads (message : Mvt) (at : ℕ) (words : List (List ℕ)) (more : Mvt) (rest : List (List ℕ)) : Type 0 where
   pub place : ℕ
-  pub same : with_marks message (marks_of_words (placed at words)) ≡ with_marks more (marks_of_words (placed place rest))
+  pub same : with_marks message (marks_of_words (placed_texts at words)) ≡ with_marks more (marks_of_words (placed_texts place rest))
 
 pub ad-reads : (message : Mvt) (at : ℕ) (ad : Option (Clock × Option Clock)) (rest : List (List ℕ)) → message.ad ≡ None → IfSome ad AreTimes → Reads message at (times_words (codes "AD") ad ++ rest) (record message { ad = ad }) rest
-ad-reads message at None rest none h = record { place = at; same = ap (λ o. with_marks (record message { ad = o }) (marks_of_words (placed at rest))) none }
+ad-reads message at None rest none h = record { place = at; same = ap (λ o. with_marks (record message { ad = o }) (marks_of_words (placed_texts at rest))) none }
 ad-reads message at (Some times) rest none h =
     let text = codes "AD" ++ times_text times in
     let behind = at + length text + 1 in
     record {
       place = behind;
-      same = ap (with_marks message) (whole-mark (piece at text) (placed behind rest) (Ad times) (ad-word times h)) ∙ taken message at (Ad times) (marks_of_words (placed behind rest)) (ap is_some none);
+      same = ap (with_marks message) (whole-mark (piece at text) (placed_texts behind rest) (Ad times) (ad-word times h)) ∙ taken message at (Ad times) (marks_of_words (placed_texts behind rest)) (ap is_some none);
     }
 
 pub aa-reads : (message : Mvt) (at : ℕ) (aa : Option (Clock × Option Clock)) (rest : List (List ℕ)) → message.aa ≡ None → IfSome aa AreTimes → Reads message at (times_words (codes "AA") aa ++ rest) (record message { aa = aa }) rest
-aa-reads message at None rest none h = record { place = at; same = ap (λ o. with_marks (record message { aa = o }) (marks_of_words (placed at rest))) none }
+aa-reads message at None rest none h = record { place = at; same = ap (λ o. with_marks (record message { aa = o }) (marks_of_words (placed_texts at rest))) none }
 aa-reads message at (Some times) rest none h =
     let text = codes "AA" ++ times_text times in
     let behind = at + length text + 1 in
     record {
       place = behind;
-      same = ap (with_marks message) (whole-mark (piece at text) (placed behind rest) (Aa times) (aa-word times h)) ∙ taken message at (Aa times) (marks_of_words (placed behind rest)) (ap is_some none);
+      same = ap (with_marks message) (whole-mark (piece at text) (placed_texts behind rest) (Aa times) (aa-word times h)) ∙ taken message at (Aa times) (marks_of_words (placed_texts behind rest)) (ap is_some none);
     }
 
 pub ea-reads : (message : Mvt) (at : ℕ) (ea : Option (Clock × List ℕ)) (rest : List (List ℕ)) → message.ea ≡ None → IfSome ea IsEstimate → Reads message at (ea_words ea ++ rest) (record message { ea = ea }) rest
-ea-reads message at None rest none h = record { place = at; same = ap (λ o. with_marks (record message { ea = o }) (marks_of_words (placed at rest))) none }
+ea-reads message at None rest none h = record { place = at; same = ap (λ o. with_marks (record message { ea = o }) (marks_of_words (placed_texts at rest))) none }
 ea-reads message at (Some estimate) rest none h =
     let text = codes "EA" ++ clock_text estimate.0 in
     let next = at + length text + 1 in
     let behind = next + length estimate.1 + 1 in
     record {
       place = behind;
-      same = ap (with_marks message) (estimate-mark (piece at text) (piece next estimate.1) (placed behind rest) estimate.0 (clock_of-back estimate.0 h.clock) h.station) ∙ taken message at (Ea estimate.0 estimate.1) (marks_of_words (placed behind rest)) (ap is_some none);
+      same = ap (with_marks message) (estimate-mark (piece at text) (piece next estimate.1) (placed_texts behind rest) estimate.0 (clock_of-back estimate.0 h.clock) h.station) ∙ taken message at (Ea estimate.0 estimate.1) (marks_of_words (placed_texts behind rest)) (ap is_some none);
     }
 
 pub ed-reads : (message : Mvt) (at : ℕ) (ed : Option Clock) → message.ed ≡ None → IfSome ed IsClock → Reads message at (ed_words ed) (record message { ed = ed }) []

@@ -5,7 +5,7 @@ use Rattle.std.specs.List.{list_all, position_or_len, slice_split}
 use Rattle.std.proofs.lemmas.Bool.{and_parts, not-true, eq-eqb, ne_eqb, lt-ltb, le-ltb, and_from}
 use Rattle.std.proofs.lemmas.List.{take_at}
 use Rattle.std.proofs.lemmas.List.Splits.{slice_split_at, slice_split_none}
-use Rattle.mvt_grammar.specs.Bytes.{parted, parted_at}
+use Rattle.mvt_grammar.specs.Bytes.{parted_at, split_once}
 use Rattle.mvt_grammar.proofs.Names.{list_all-wider}
 
 -- no byte of the text is this one
@@ -44,7 +44,7 @@ place_at byte xs ys h =
     ap (λ n. cond (ltb n (length text)) (Some n) None) at ∙ ap (λ t. cond t (Some (length xs)) None) (lt-ltb (length xs) (length text) inside)
 
 -- the first such byte parts the text
-pub parted-at : (byte : ℕ) (xs ys : List ℕ) → lacks byte xs ≡ true → parted byte (xs ++ byte ∷ ys) ≡ Some (xs, ys)
+pub parted-at : (byte : ℕ) (xs ys : List ℕ) → lacks byte xs ≡ true → split_once byte (xs ++ byte ∷ ys) ≡ Some (xs, ys)
 parted-at byte xs ys h =
     let text = xs ++ byte ∷ ys in
     let front = take_at xs (byte ∷ ys) (length xs) refl in
@@ -52,7 +52,7 @@ parted-at byte xs ys h =
     ap (parted_at text) (place_at byte xs ys h) ∙ ap (λ t. Some (t, drop (length xs + 1) text)) front ∙ ap (λ t. Some (xs, t)) rest
 
 -- if there is none, it is not parted
-pub parted-none : (byte : ℕ) (text : List ℕ) → lacks byte text ≡ true → parted byte text ≡ None
+pub parted-none : (byte : ℕ) (text : List ℕ) → lacks byte text ≡ true → split_once byte text ≡ None
 parted-none byte text h =
     let p : ℕ → Bool = λ b. b == byte in
     let all = prefix_all byte text h in

@@ -5,17 +5,17 @@ use Rattle.std.proofs.lemmas.Bool.{and_parts, leb-true, ltb-true}
 use Rattle.std.proofs.lemmas.Option.{cond_some, option_and_then_some, same_Some}
 use Rattle.apron_base.proofs.SmallNumbers.{digits_small}
 use Rattle.mvt_grammar.specs.declared.flights.TheConstants.{MAX_FLIGHT_DIGITS}
-use Rattle.mvt_grammar.specs.Bytes.{is_capital, is_station, two_digits, parted}
+use Rattle.mvt_grammar.specs.Bytes.{is_capital, is_station, two_digits, split_once}
 use Rattle.std.specs.Str.Parse.{digits_value}
-use Rattle.mvt_grammar.specs.Clocks.{day_of, minute_of, undated, dated, clock_of, times_parted, times_of}
+use Rattle.mvt_grammar.specs.Clocks.{read_day, read_minute, time_without_day, time_with_day, clock_of, times_parted, times_of}
 use Rattle.mvt_grammar.specs.Flights.{is_airline, airline_len, is_number, flight_with, flight_of}
-use Rattle.mvt_grammar.specs.Reading.{is_registration, headed, heading_of}
+use Rattle.mvt_grammar.specs.Reading.{is_registration, message_head, heading_of}
 use Rattle.mvt_grammar.specs.Readable.{IsDayOfMonth, IsClock, IsFlight, AreTimes, IsReadable}
 use Rattle.mvt_grammar.specs.declared.message.Clock.{Clock}
 use Rattle.mvt_grammar.specs.declared.message.Flight.{Flight}
 use Rattle.mvt_grammar.specs.declared.message.Mvt.{Mvt}
 
-day-range : (text : List ℕ) (day : ℕ) → day_of text ≡ Some day → IsDayOfMonth day
+day-range : (text : List ℕ) (day : ℕ) → read_day text ≡ Some day → IsDayOfMonth day
 day-range text day h =
     option_and_then_some (λ n. cond (nat_le 1 n && nat_le n 31) (Some n) None) (two_digits text) day h (λ n e k.
     let kept = cond_some (nat_le 1 n && nat_le n 31) n day k in
@@ -24,7 +24,7 @@ day-range text day h =
     let high = leb-true n 31 tests.1 in
     (omega arith, omega arith))
 
-minute-range : (text : List ℕ) (minute : ℕ) → minute_of text ≡ Some minute → minute < 1440
+minute-range : (text : List ℕ) (minute : ℕ) → read_minute text ≡ Some minute → minute < 1440
 minute-range text minute h =
     option_and_then_some (λ hours. option_and_then (λ minutes. cond (nat_lt hours 24 && nat_lt minutes 60) (Some (60 * hours + minutes)) None) (two_digits (drop 2 text))) (two_digits (take 2 text)) minute h (λ hours e k.
     option_and_then_some (λ minutes. cond (nat_lt hours 24 && nat_lt minutes 60) (Some (60 * hours + minutes)) None) (two_digits (drop 2 text)) minute k (λ minutes e' k'.
@@ -40,18 +40,18 @@ clock_at day minute = record { day = day; minute = minute }
 IsClock-at : (clock : Clock) (day : Option ℕ) (minute : ℕ) → IfSome day IsDayOfMonth → minute < 1440 → clock_at day minute ≡ clock → IsClock clock
 IsClock-at clock day minute h k e = subst IsClock e (record { day = h; minute = k })
 
-undated-range : (text : List ℕ) (clock : Clock) → undated text ≡ Some clock → IsClock clock
+undated-range : (text : List ℕ) (clock : Clock) → time_without_day text ≡ Some clock → IsClock clock
 undated-range text clock h =
-    option_and_then_some (λ minute. Some (clock_at None minute)) (minute_of text) clock h (λ minute e k.
+    option_and_then_some (λ minute. Some (clock_at None minute)) (read_minute text) clock h (λ minute e k.
     IsClock-at clock None minute tt (minute-range text minute e) (same_Some (clock_at None minute) clock k))
 
-dated-range : (text : List ℕ) (clock : Clock) → dated text ≡ Some clock → IsClock clock
+dated-range : (text : List ℕ) (clock : Clock) → time_with_day text ≡ Some clock → IsClock clock
 dated-range text clock h =
-    option_and_then_some (λ day. option_and_then (λ minute. Some (clock_at (Some day) minute)) (minute_of (drop 2 text))) (day_of (take 2 text)) clock h (λ day e k.
-    option_and_then_some (λ minute. Some (clock_at (Some day) minute)) (minute_of (drop 2 text)) clock k (λ minute e' k'.
+    option_and_then_some (λ day. option_and_then (λ minute. Some (clock_at (Some day) minute)) (read_minute (drop 2 text))) (read_day (take 2 text)) clock h (λ day e k.
+    option_and_then_some (λ minute. Some (clock_at (Some day) minute)) (read_minute (drop 2 text)) clock k (λ minute e' k'.
     IsClock-at clock (Some day) minute (day-range (take 2 text) day e) (minute-range (drop 2 text) minute e') (same_Some (clock_at (Some day) minute) clock k')))
 
-either_form : (b : Bool) (text : List ℕ) (clock : Clock) → cond b (dated text) (undated text) ≡ Some clock → IsClock clock
+either_form : (b : Bool) (text : List ℕ) (clock : Clock) → cond b (time_with_day text) (time_without_day text) ≡ Some clock → IsClock clock
 either_form true text clock h = dated-range text clock h
 either_form false text clock h = undated-range text clock h
 
@@ -71,7 +71,7 @@ times_parted-range text (Some parts) times h =
     subst AreTimes (same_Some (first, Some second) times k') (record { first = clock-range parts.0 first e; second = clock-range parts.1 second e' })))
 
 pub times-range : (text : List ℕ) (times : Clock × Option Clock) → times_of text ≡ Some times → AreTimes times
-times-range text times h = times_parted-range text (parted 47 text) times h
+times-range text times h = times_parted-range text (split_once 47 text) times h
 
 number-range : (text : List ℕ) → is_number text ≡ true → digits_value 10 text < 10000
 number-range text h = digits_small text MAX_FLIGHT_DIGITS h
@@ -96,19 +96,19 @@ flight-range text flight h =
     let last = slice_index rest (length rest - 1) in
     flight_after-range airline rest last (is_capital last) flight refl h
 
-heading_checked : (flight : Flight) (day : ℕ) (registration station : List ℕ) (message : Mvt) → IsFlight flight → IsDayOfMonth day → cond (is_registration registration && is_station station) (Some (headed flight day registration station)) None ≡ Some message → IsReadable message
+heading_checked : (flight : Flight) (day : ℕ) (registration station : List ℕ) (message : Mvt) → IsFlight flight → IsDayOfMonth day → cond (is_registration registration && is_station station) (Some (message_head flight day registration station)) None ≡ Some message → IsReadable message
 heading_checked flight day registration station message f d h =
-    let kept = cond_some (is_registration registration && is_station station) (headed flight day registration station) message h in
+    let kept = cond_some (is_registration registration && is_station station) (message_head flight day registration station) message h in
     let tests = and_parts (is_registration registration) (is_station station) kept.0 in
     subst IsReadable kept.1 (record { flight = f; day = d; registration = tests.0; station = tests.1; ad = tt; aa = tt; ea = tt; ed = tt })
 
 pub heading-range : (line : List ℕ) (message : Mvt) → heading_of line ≡ Some message → IsReadable message
 heading-range line message h =
-    option_and_then_some (λ slash. option_and_then (λ dot. option_and_then (λ dots. option_and_then (λ flight. option_and_then (λ day. cond (is_registration dots.0 && is_station dots.1) (Some (headed flight day dots.0 dots.1)) None) (day_of dot.0)) (flight_of slash.0)) (parted 46 dot.1)) (parted 46 slash.1)) (parted 47 line) message h (λ slash e1 k1.
-    option_and_then_some (λ dot. option_and_then (λ dots. option_and_then (λ flight. option_and_then (λ day. cond (is_registration dots.0 && is_station dots.1) (Some (headed flight day dots.0 dots.1)) None) (day_of dot.0)) (flight_of slash.0)) (parted 46 dot.1)) (parted 46 slash.1) message k1 (λ dot e2 k2.
-    option_and_then_some (λ dots. option_and_then (λ flight. option_and_then (λ day. cond (is_registration dots.0 && is_station dots.1) (Some (headed flight day dots.0 dots.1)) None) (day_of dot.0)) (flight_of slash.0)) (parted 46 dot.1) message k2 (λ dots e3 k3.
-    option_and_then_some (λ flight. option_and_then (λ day. cond (is_registration dots.0 && is_station dots.1) (Some (headed flight day dots.0 dots.1)) None) (day_of dot.0)) (flight_of slash.0) message k3 (λ flight e4 k4.
-    option_and_then_some (λ day. cond (is_registration dots.0 && is_station dots.1) (Some (headed flight day dots.0 dots.1)) None) (day_of dot.0) message k4 (λ day e5 k5.
+    option_and_then_some (λ slash. option_and_then (λ dot. option_and_then (λ dots. option_and_then (λ flight. option_and_then (λ day. cond (is_registration dots.0 && is_station dots.1) (Some (message_head flight day dots.0 dots.1)) None) (read_day dot.0)) (flight_of slash.0)) (split_once 46 dot.1)) (split_once 46 slash.1)) (split_once 47 line) message h (λ slash e1 k1.
+    option_and_then_some (λ dot. option_and_then (λ dots. option_and_then (λ flight. option_and_then (λ day. cond (is_registration dots.0 && is_station dots.1) (Some (message_head flight day dots.0 dots.1)) None) (read_day dot.0)) (flight_of slash.0)) (split_once 46 dot.1)) (split_once 46 slash.1) message k1 (λ dot e2 k2.
+    option_and_then_some (λ dots. option_and_then (λ flight. option_and_then (λ day. cond (is_registration dots.0 && is_station dots.1) (Some (message_head flight day dots.0 dots.1)) None) (read_day dot.0)) (flight_of slash.0)) (split_once 46 dot.1) message k2 (λ dots e3 k3.
+    option_and_then_some (λ flight. option_and_then (λ day. cond (is_registration dots.0 && is_station dots.1) (Some (message_head flight day dots.0 dots.1)) None) (read_day dot.0)) (flight_of slash.0) message k3 (λ flight e4 k4.
+    option_and_then_some (λ day. cond (is_registration dots.0 && is_station dots.1) (Some (message_head flight day dots.0 dots.1)) None) (read_day dot.0) message k4 (λ day e5 k5.
     heading_checked flight day dots.0 dots.1 message (flight-range slash.0 flight e4) (day-range dot.0 day e5) k5)))))
 
 pub IfSome-flight : (text : List ℕ) (o : Option Flight) → o ≡ flight_of text → IfSome o IsFlight

@@ -5,15 +5,15 @@ use Rattle.std.specs.List.{list_all, flat_map, join_with_byte}
 use Rattle.std.proofs.lemmas.Bool.{or_cases, and_parts, and_from, le-ltb, lt-ltb, leb-true, eqb-true}
 use Rattle.std.proofs.lemmas.List.{append-nil}
 use Rattle.apron_base.specs.Name.{is_name, is_name_byte}
-use Rattle.mvt_grammar.specs.Bytes.{is_capital, is_digit, is_station, parted}
+use Rattle.mvt_grammar.specs.Bytes.{is_capital, is_digit, is_station, split_once}
 use Rattle.apron_base.specs.OptionChain.{◌>>=◌}
-use Rattle.mvt_grammar.specs.Clocks.{day_of}
+use Rattle.mvt_grammar.specs.Clocks.{read_day}
 use Rattle.mvt_grammar.specs.Flights.{is_airline_byte, flight_of}
-use Rattle.mvt_grammar.specs.Pieces.{piece, placed, is_empty, lines_of, words_of}
+use Rattle.mvt_grammar.specs.Pieces.{piece, placed_texts, is_empty, lines_of, words_of}
 use Rattle.mvt_grammar.specs.Words.{begins, begins_element, marks_of_words, marks_of_line}
-use Rattle.mvt_grammar.specs.Reading.{◌>>-◌, is_registration, headed, heading_of, with_heading, after_heading, with_marks, read_lines, read_mvt_of}
+use Rattle.mvt_grammar.specs.Reading.{◌>>-◌, is_registration, message_head, heading_of, with_heading, after_heading, with_marks, read_lines, read_mvt_of}
 use Rattle.mvt_grammar.specs.Canonical.{two_text, flight_text, clock_text, second_text, times_text, times_words, ea_words, ed_words, element_words, element_lines, heading_text, canonical}
-use Rattle.mvt_grammar.specs.Led.{led}
+use Rattle.mvt_grammar.specs.Led.{words_after}
 use Rattle.mvt_grammar.specs.Readable.{IsClock, AreTimes, IsEstimate, IsReadable}
 use Rattle.mvt_grammar.specs.declared.message.Clock.{Clock}
 use Rattle.mvt_grammar.specs.declared.message.Mvt.{Mvt}
@@ -135,25 +135,25 @@ elements_open message h =
     FirstOpens-append ad (aa ++ (ea ++ ed)) (ad_opens message.ad h.ad) (FirstOpens-append aa (ea ++ ed) (aa_opens message.aa h.aa) (FirstOpens-append ea ed (ea_opens message.ea h.ea) (ed_opens message.ed h.ed)))
 
 -- the lines after the flight line give the marks of the words
-line_marks : (at : ℕ) (words : List (List ℕ)) → AreWords words → FirstOpens words → flat_map marks_of_line (placed at (element_lines words ++ [] ∷ [])) ≡ marks_of_words (placed at words)
+line_marks : (at : ℕ) (words : List (List ℕ)) → AreWords words → FirstOpens words → flat_map marks_of_line (placed_texts at (element_lines words ++ [] ∷ [])) ≡ marks_of_words (placed_texts at words)
 line_marks at [] h k = refl
 line_marks at (word ∷ words) h k =
     let line = join_with_byte 32 (word ∷ words) in
     let joined = join-led word words in
-    let goes_on : begins line (codes "SI") ≡ false = ap (λ t. begins t (codes "SI")) joined ∙ k.goes_on (led 32 words) in
-    let element : begins_element line ≡ true = ap begins_element joined ∙ k.element (led 32 words) in
+    let goes_on : begins line (codes "SI") ≡ false = ap (λ t. begins t (codes "SI")) joined ∙ k.goes_on (words_after 32 words) in
+    let element : begins_element line ≡ true = ap begins_element joined ∙ k.element (words_after 32 words) in
     append-nil (marks_of_line (piece at line))
     ∙ ap (λ t. cond t (End ∷ []) (cond (begins_element line) (marks_of_words (words_of (piece at line))) [])) goes_on
     ∙ ap (λ t. cond t (marks_of_words (words_of (piece at line))) []) element
     ∙ ap marks_of_words (words_of-join at word words h.0 h.1)
 
 -- the elements of a message, read onto its heading, give the message
-elements_read : (message : Mvt) (at : ℕ) → IsReadable message → with_marks (headed message.flight message.day message.registration message.station) (marks_of_words (placed at (element_words message))) ≡ Ok message
+elements_read : (message : Mvt) (at : ℕ) → IsReadable message → with_marks (message_head message.flight message.day message.registration message.station) (marks_of_words (placed_texts at (element_words message))) ≡ Ok message
 elements_read message at h =
     let aa = times_words (codes "AA") message.aa in
     let ea = ea_words message.ea in
     let ed = ed_words message.ed in
-    let heading = headed message.flight message.day message.registration message.station in
+    let heading = message_head message.flight message.day message.registration message.station in
     let first = ad-reads heading at message.ad (aa ++ (ea ++ ed)) refl h.ad in
     let with_ad : Mvt = record heading { ad = message.ad } in
     let second = aa-reads with_ad first.place message.aa (ea ++ ed) refl h.aa in
@@ -183,7 +183,7 @@ heading_word message h =
       visible = list_all-both is_visible middle (46 ∷ message.station) middle_visible ((station_word message.station h.station).visible);
     }
 
-heading_back : (message : Mvt) → IsReadable message → heading_of (heading_text message) ≡ Some (headed message.flight message.day message.registration message.station)
+heading_back : (message : Mvt) → IsReadable message → heading_of (heading_text message) ≡ Some (message_head message.flight message.day message.registration message.station)
 heading_back message h =
     let flight = flight_text message.flight in
     let day = two_text message.day in
@@ -199,12 +199,12 @@ heading_back message h =
     let third = parted-at 46 registration station (lacks-kind is_name_byte 46 registration refl (registration_bytes registration h.registration)) in
     let checked = and_from (is_registration registration) (is_station station) h.registration h.station in
     ap heading_of regrouped
-    ∙ ap (option_and_then (λ slash. parted 46 slash.1 >>= λ dot. parted 46 dot.1 >>= λ dots. flight_of slash.0 >>= λ f. day_of dot.0 >>= λ d. cond (is_registration dots.0 && is_station dots.1) (Some (headed f d dots.0 dots.1)) None)) first
-    ∙ ap (option_and_then (λ dot. parted 46 dot.1 >>= λ dots. flight_of flight >>= λ f. day_of dot.0 >>= λ d. cond (is_registration dots.0 && is_station dots.1) (Some (headed f d dots.0 dots.1)) None)) second
-    ∙ ap (option_and_then (λ dots. flight_of flight >>= λ f. day_of day >>= λ d. cond (is_registration dots.0 && is_station dots.1) (Some (headed f d dots.0 dots.1)) None)) third
-    ∙ ap (option_and_then (λ f. day_of day >>= λ d. cond (is_registration registration && is_station station) (Some (headed f d registration station)) None)) (flight_of-back message.flight h.flight)
-    ∙ ap (option_and_then (λ d. cond (is_registration registration && is_station station) (Some (headed message.flight d registration station)) None)) (day_of-back message.day h.day)
-    ∙ ap (λ t. cond t (Some (headed message.flight message.day registration station)) None) checked
+    ∙ ap (option_and_then (λ slash. split_once 46 slash.1 >>= λ dot. split_once 46 dot.1 >>= λ dots. flight_of slash.0 >>= λ f. read_day dot.0 >>= λ d. cond (is_registration dots.0 && is_station dots.1) (Some (message_head f d dots.0 dots.1)) None)) first
+    ∙ ap (option_and_then (λ dot. split_once 46 dot.1 >>= λ dots. flight_of flight >>= λ f. read_day dot.0 >>= λ d. cond (is_registration dots.0 && is_station dots.1) (Some (message_head f d dots.0 dots.1)) None)) second
+    ∙ ap (option_and_then (λ dots. flight_of flight >>= λ f. read_day day >>= λ d. cond (is_registration dots.0 && is_station dots.1) (Some (message_head f d dots.0 dots.1)) None)) third
+    ∙ ap (option_and_then (λ f. read_day day >>= λ d. cond (is_registration registration && is_station station) (Some (message_head f d registration station)) None)) (flight_of-back message.flight h.flight)
+    ∙ ap (option_and_then (λ d. cond (is_registration registration && is_station station) (Some (message_head message.flight d registration station)) None)) (day_of-back message.day h.day)
+    ∙ ap (λ t. cond t (Some (message_head message.flight message.day registration station)) None) checked
 
 element_line : (words : List (List ℕ)) → AreWords words → AreLines (element_lines words)
 element_line [] h = tt
@@ -225,8 +225,8 @@ read_mvt_of-canonical message h =
     let word = heading_word message h in
     let are_lines : AreLines lines = (identifier_line, (IsLine-word heading word, element_line words are_words)) in
     let behind = 4 + length heading + 1 in
-    let rest = placed behind (element_lines words ++ [] ∷ []) in
-    let opened = headed message.flight message.day message.registration message.station in
+    let rest = placed_texts behind (element_lines words ++ [] ∷ []) in
+    let opened = message_head message.flight message.day message.registration message.station in
     ap (λ t. cond t (Err TooLong) (read_lines (lines_of (piece 0 (canonical message))))) fits
     ∙ ap read_lines (lines_of-written 0 lines are_lines)
     ∙ ap (λ t. cond t (after_heading rest) (with_heading (heading_of heading) rest) >>- λ o. with_marks o.0 (flat_map marks_of_line o.1)) word.some

@@ -24,5 +24,5 @@ parted_at text None = None
 parted_at text (Some at) = Some (take at text, drop (at + 1) text)
 
 -- the text before the first such byte and the text after it, if there is one
-abbrev pub parted : ℕ → List ℕ → Option (List ℕ × List ℕ)
-parted byte text = parted_at text (position (λ b. b == byte) text)
+abbrev pub split_once : ℕ → List ℕ → Option (List ℕ × List ℕ)
+split_once byte text = parted_at text (position (λ b. b == byte) text)

@@ -1,38 +1,38 @@
 -- The times of an element: HHMM or DDHHMM, one or two of them.
 use Rattle.std.specs.Prelude.{ℕ, ◌+◌, ◌*◌, ◌==◌, ◌&&◌, nat_le, nat_lt, List, length, take, drop, Option, Some, None, if◌then◌else◌}
-use Rattle.mvt_grammar.specs.Bytes.{two_digits, parted}
+use Rattle.mvt_grammar.specs.Bytes.{two_digits, split_once}
 use Rattle.apron_base.specs.OptionChain.{◌>>=◌}
 use Rattle.mvt_grammar.specs.declared.message.Clock.{Clock}
 
 -- DD, the day of a month
-abbrev pub day_of : List ℕ → Option ℕ
-day_of text = do
+abbrev pub read_day : List ℕ → Option ℕ
+read_day text = do
   day ← two_digits text
   if nat_le 1 day && nat_le day 31 then Some day else None
 
 -- HHMM, as the minute of the day
-abbrev pub minute_of : List ℕ → Option ℕ
-minute_of text = do
+abbrev pub read_minute : List ℕ → Option ℕ
+read_minute text = do
   hours ← two_digits (take 2 text)
   minutes ← two_digits (drop 2 text)
   if nat_lt hours 24 && nat_lt minutes 60 then Some (60 * hours + minutes) else None
 
 -- HHMM
-abbrev pub undated : List ℕ → Option Clock
-undated text = do
-  minute ← minute_of text
+abbrev pub time_without_day : List ℕ → Option Clock
+time_without_day text = do
+  minute ← read_minute text
   Some (record { day = None; minute = minute })
 
 -- DDHHMM
-abbrev pub dated : List ℕ → Option Clock
-dated text = do
-  day ← day_of (take 2 text)
-  minute ← minute_of (drop 2 text)
+abbrev pub time_with_day : List ℕ → Option Clock
+time_with_day text = do
+  day ← read_day (take 2 text)
+  minute ← read_minute (drop 2 text)
   Some (record { day = Some day; minute = minute })
 
 -- a time in either form
 abbrev pub clock_of : List ℕ → Option Clock
-clock_of text = if length text == 6 then dated text else undated text
+clock_of text = if length text == 6 then time_with_day text else time_without_day text
 
 -- the times, if the text was parted at its first slash
 abbrev pub times_parted : List ℕ → Option (List ℕ × List ℕ) → Option (Clock × Option Clock)
@@ -46,4 +46,4 @@ times_parted text (Some parts) = do
 
 -- a time, or two with a slash between them
 abbrev pub times_of : List ℕ → Option (Clock × Option Clock)
-times_of text = times_parted text (parted 47 text)
+times_of text = times_parted text (split_once 47 text)

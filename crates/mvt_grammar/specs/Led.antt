@@ -2,9 +2,9 @@
 use Rattle.std.specs.Prelude.{ℕ, List, [], ◌∷◌, ◌++◌}
 
 -- the words, the first after this byte and each other after a space
-abbrev pub led : ℕ → List (List ℕ) → List ℕ
-led gap [] = []
-led gap (word ∷ words) = gap ∷ (word ++ led 32 words)
+abbrev pub words_after : ℕ → List (List ℕ) → List ℕ
+words_after gap [] = []
+words_after gap (word ∷ words) = gap ∷ (word ++ words_after 32 words)
 
 -- the byte that goes before the next word
 abbrev pub gap_after : ℕ → List (List ℕ) → ℕ

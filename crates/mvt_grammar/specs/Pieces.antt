@@ -12,13 +12,13 @@ abbrev pub piece : ℕ → List ℕ → Piece
 piece at text = record { at = at; text = text }
 
 -- texts that follow one another with one byte between each two; the first is at this place
-abbrev pub placed : ℕ → List (List ℕ) → List Piece
-placed at [] = []
-placed at (text ∷ texts) = piece at text ∷ placed (at + length text + 1) texts
+abbrev pub placed_texts : ℕ → List (List ℕ) → List Piece
+placed_texts at [] = []
+placed_texts at (text ∷ texts) = piece at text ∷ placed_texts (at + length text + 1) texts
 
 -- a piece cut at each such byte: at least one piece
-abbrev pub cut_at : ℕ → Piece → List Piece
-cut_at byte whole = placed whole.at (slice_split (λ b. b == byte) whole.text)
+abbrev pub split_at : ℕ → Piece → List Piece
+split_at byte whole = placed_texts whole.at (slice_split (λ b. b == byte) whole.text)
 
 abbrev pub is_empty : List ℕ → Bool
 is_empty [] = true
@@ -35,13 +35,13 @@ without_spaces [] = []
 without_spaces (b ∷ bs) = if b == 32 then (if is_empty (without_spaces bs) then [] else b ∷ without_spaces bs) else b ∷ without_spaces bs
 
 -- a line loses one CR at its end, and then the spaces there
-abbrev pub trimmed : Piece → Piece
-trimmed line = piece line.at (without_spaces (without_cr line.text))
+abbrev pub trim_line : Piece → Piece
+trim_line line = piece line.at (without_spaces (without_cr line.text))
 
 -- the lines of a text, cut at each LF
 abbrev pub lines_of : Piece → List Piece
-lines_of whole = map trimmed (cut_at 10 whole)
+lines_of whole = map trim_line (split_at 10 whole)
 
 -- the words of a line: what is left of it, cut at each space, without the empty pieces
 abbrev pub words_of : Piece → List Piece
-words_of line = filter (λ word. not (is_empty word.text)) (cut_at 32 line)
+words_of line = filter (λ word. not (is_empty word.text)) (split_at 32 line)

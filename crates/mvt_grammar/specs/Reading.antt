@@ -3,9 +3,9 @@ use Rattle.std.specs.Prelude.{ℕ, zero, suc, nat_le, nat_lt, Bool, ◌&&◌, Li
 use Rattle.std.specs.List.{flat_map}
 use Rattle.std.specs.Str.{bytes_eq}
 use Rattle.apron_base.specs.Name.{is_name}
-use Rattle.mvt_grammar.specs.Bytes.{is_station, parted}
+use Rattle.mvt_grammar.specs.Bytes.{is_station, split_once}
 use Rattle.apron_base.specs.OptionChain.{◌>>=◌}
-use Rattle.mvt_grammar.specs.Clocks.{day_of}
+use Rattle.mvt_grammar.specs.Clocks.{read_day}
 use Rattle.mvt_grammar.specs.Flights.{flight_of}
 use Rattle.mvt_grammar.specs.Pieces.{Piece, piece, is_empty, lines_of}
 use Rattle.mvt_grammar.specs.Words.{marks_of_line}
@@ -29,18 +29,18 @@ abbrev pub is_registration : List ℕ → Bool
 is_registration text = is_name text && nat_le (length text) 10
 
 -- a message without elements
-abbrev pub headed : Flight → ℕ → List ℕ → List ℕ → Mvt
-headed flight day registration station = record { flight = flight; day = day; registration = registration; station = station; ad = None; aa = None; ea = None; ed = None }
+abbrev pub message_head : Flight → ℕ → List ℕ → List ℕ → Mvt
+message_head flight day registration station = record { flight = flight; day = day; registration = registration; station = station; ad = None; aa = None; ea = None; ed = None }
 
 -- the message without elements that the flight line FLIGHT/DD.REGISTRATION.STATION gives
 abbrev pub heading_of : List ℕ → Option Mvt
 heading_of line = do
-  slash ← parted 47 line
-  dot ← parted 46 slash.1
-  dots ← parted 46 dot.1
+  slash ← split_once 47 line
+  dot ← split_once 46 slash.1
+  dots ← split_once 46 dot.1
   flight ← flight_of slash.0
-  day ← day_of dot.0
-  if is_registration dots.0 && is_station dots.1 then Some (headed flight day dots.0 dots.1) else None
+  day ← read_day dot.0
+  if is_registration dots.0 && is_station dots.1 then Some (message_head flight day dots.0 dots.1) else None
 
 abbrev pub is_identifier : Piece → Bool
 is_identifier line = bytes_eq line.text (codes "MVT")

@@ -27,13 +27,13 @@ begins_element text =
     && not (is_capital (slice_index text 2))
 
 -- the time of an estimate of arrival: EA and a time
-abbrev pub estimated : List ℕ → Option Clock
-estimated text = if begins text (codes "EA") then clock_of (drop 2 text) else None
+abbrev pub estimate_time : List ℕ → Option Clock
+estimate_time text = if begins text (codes "EA") then clock_of (drop 2 text) else None
 
 -- an estimate of arrival and the word right after it, its station of three capitals
 abbrev pub estimate_of : List ℕ → List ℕ → Option Element
 estimate_of text next = do
-  clock ← estimated text
+  clock ← estimate_time text
   if is_station next then Some (Ea clock next) else None
 
 -- an element of one word: AD or AA and one or two times, or ED and a time
@@ -51,7 +51,7 @@ mark_of at None = Bad at
 
 -- a word that ends its line: one that isn't an element, or an estimate whose station is missing
 abbrev pub ends_line : List ℕ → Bool
-ends_line text = not (begins_element text) || is_some (estimated text)
+ends_line text = not (begins_element text) || is_some (estimate_time text)
 
 -- the marks from a word on that is followed by no station, by the marks of the words after it
 abbrev pub marks_from : Piece → List Mark → List Mark

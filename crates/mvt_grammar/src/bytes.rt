@@ -1,7 +1,7 @@
 // Capitals and digits, and texts of fixed forms made of them.
 ghost use Rattle.std.specs.Prelude.{◌≡◌, ◌==◌, ◌+◌, ◌<◌, length, option_map, position, slice_index, IfSome};
 ghost use Rattle.std.specs.List.{list_all};
-ghost use Rattle.mvt_grammar.specs.Bytes.{is_capital, is_digit, is_station, two_digits, parted};
+ghost use Rattle.mvt_grammar.specs.Bytes.{is_capital, is_digit, is_station, two_digits, split_once};
 
 pub(crate) fn is_capital(byte: u8) -> bool
     ensures is { result ≡ is_capital byte }
@@ -55,7 +55,7 @@ pub(crate) fn two_digits(text: &[u8]) -> Option<u8>
 }
 
 // The place of the first such byte.
-fn place_of(text: &[u8], byte: u8) -> Option<usize>
+fn place_of_byte(text: &[u8], byte: u8) -> Option<usize>
     ensures place { result ≡ position (λ b. b == byte) text.now }
     ensures inside { IfSome result (λ at. at < length text.now) }
 {
@@ -63,11 +63,11 @@ fn place_of(text: &[u8], byte: u8) -> Option<usize>
 }
 
 // The text before the first such byte and the text after it, if there is one.
-pub(crate) fn parted(text: &[u8], byte: u8) -> Option<(&[u8], &[u8])>
-    ensures parts { option_map (λ parts. (parts.0.now, parts.1.now)) result ≡ parted byte text.now }
+pub(crate) fn split_once(text: &[u8], byte: u8) -> Option<(&[u8], &[u8])>
+    ensures parts { option_map (λ parts. (parts.0.now, parts.1.now)) result ≡ split_once byte text.now }
     ensures lengths { IfSome result (λ parts. length parts.0.now + 1 + length parts.1.now ≡ length text.now) }
 {
-    match place_of(text, byte) {
+    match place_of_byte(text, byte) {
         Some(at) => Some((&text[..at], &text[at + 1..])),
         None => None,
     }

@@ -1,13 +1,13 @@
 // The times of an element: HHMM or DDHHMM, one or two of them.
 ghost use Rattle.std.specs.Prelude.{◌≡◌};
-ghost use Rattle.mvt_grammar.specs.Clocks.{day_of, minute_of, clock_of, times_of};
+ghost use Rattle.mvt_grammar.specs.Clocks.{read_day, read_minute, clock_of, times_of};
 
 use crate::Clock;
-use crate::bytes::{parted, two_digits};
+use crate::bytes::{split_once, two_digits};
 
 // DD, the day of a month.
-pub(crate) fn day_of(text: &[u8]) -> Option<u8>
-    ensures value { result ≡ day_of text.now }
+pub(crate) fn read_day(text: &[u8]) -> Option<u8>
+    ensures value { result ≡ read_day text.now }
 {
     let day = two_digits(text)?;
     if (1..=31).contains(&day) {
@@ -18,8 +18,8 @@ pub(crate) fn day_of(text: &[u8]) -> Option<u8>
 }
 
 // HHMM, as the minute of the day.
-fn minute_of(text: &[u8]) -> Option<u16>
-    ensures value { result ≡ minute_of text.now }
+fn read_minute(text: &[u8]) -> Option<u16>
+    ensures value { result ≡ read_minute text.now }
 {
     if text.len() < 2 {
         return None;
@@ -38,14 +38,14 @@ pub(crate) fn clock_of(text: &[u8]) -> Option<Clock>
     ensures value { result ≡ clock_of text.now }
 {
     if text.len() == 6 {
-        let day = day_of(&text[..2])?;
-        let minute = minute_of(&text[2..])?;
+        let day = read_day(&text[..2])?;
+        let minute = read_minute(&text[2..])?;
         Some(Clock {
             day: Some(day),
             minute,
         })
     } else {
-        let minute = minute_of(text)?;
+        let minute = read_minute(text)?;
         Some(Clock { day: None, minute })
     }
 }
@@ -54,7 +54,7 @@ pub(crate) fn clock_of(text: &[u8]) -> Option<Clock>
 pub(crate) fn times_of(text: &[u8]) -> Option<(Clock, Option<Clock>)>
     ensures value { result ≡ times_of text.now }
 {
-    match parted(text, b'/') {
+    match split_once(text, b'/') {
         None => Some((clock_of(text)?, None)),
         Some((first, second)) => {
             let first = clock_of(first)?;

@@ -2,7 +2,7 @@
 ghost use Rattle.std.specs.Prelude.{◌≡◌, ◌≤◌, [], ◌∷◌, ◌+◌, ◌<◌, ◌^◌, length, Some, MatchOption};
 ghost use Rattle.mvt_grammar.specs.Pieces.{without_cr, without_spaces};
 
-use crate::bytes::parted;
+use crate::bytes::split_once;
 
 // Bytes of a text, and the place of the first of them, counted from 0.
 #[derive(Clone, Copy)]
@@ -13,14 +13,14 @@ pub(crate) struct Span<'a> {
 }
 
 impl<'a> Span<'a> {
-    ghost use Rattle.mvt_grammar.specs.Spans.{piece_of, left_cut, left_lines, left_words};
-    ghost use Rattle.mvt_grammar.specs.Pieces.{cut_at};
+    ghost use Rattle.mvt_grammar.specs.Spans.{piece_of, left_cut, rest_lines, left_words};
+    ghost use Rattle.mvt_grammar.specs.Pieces.{split_at};
 
     // The piece before the first such byte, or the whole, and what is left after that byte.
     fn cut(self, byte: u8) -> (Span<'a>, Option<Span<'a>>)
-        ensures value { cut_at byte (piece_of self.entry) ≡ piece_of result.0 ∷ left_cut byte result.1 }
+        ensures value { split_at byte (piece_of self.entry) ≡ piece_of result.0 ∷ left_cut byte result.1 }
     {
-        match parted(self.text, byte) {
+        match split_once(self.text, byte) {
             Some((front, rest)) => {
                 let behind = self.at + front.len() as u32 + 1;
                 let front = Span {
@@ -39,7 +39,7 @@ impl<'a> Span<'a> {
 
     // The first line, and what is left after it.
     pub fn line(self) -> (Span<'a>, Option<Span<'a>>)
-        ensures value { left_lines (Some self.entry) ≡ piece_of result.0 ∷ left_lines result.1 }
+        ensures value { rest_lines (Some self.entry) ≡ piece_of result.0 ∷ rest_lines result.1 }
     {
         let (line, left) = self.cut(b'\n');
         let line = Span {

@@ -4,10 +4,10 @@ ghost use Rattle.mvt_grammar.specs.Bytes.{is_station};
 ghost use Rattle.mvt_grammar.specs.Left.{left_marks};
 ghost use Rattle.mvt_grammar.specs.Reading.{is_registration, heading_of, after_identifier, after_heading, has_element, with_element, with_marks, read_mvt_of};
 ghost use Rattle.mvt_grammar.specs.Readable.{IsReadable};
-ghost use Rattle.mvt_grammar.specs.Spans.{left_lines};
+ghost use Rattle.mvt_grammar.specs.Spans.{rest_lines};
 
-use crate::bytes::{is_station, parted};
-use crate::clocks::day_of;
+use crate::bytes::{is_station, split_once};
+use crate::clocks::read_day;
 use crate::pieces::Span;
 use crate::words::{Element, Mark, begins_element, next_mark};
 use crate::{Mvt, MvtFault, read_flight};
@@ -21,13 +21,13 @@ const IDENTIFIER_LINES: u32 = 21;
 
 // What is left to read: words of a line, and the lines after it.
 #[derive(Clone, Copy)]
-pub(crate) struct Left<'a> {
+pub(crate) struct RestOfText<'a> {
     words: Option<Span<'a>>,
     lines: Option<Span<'a>>,
 }
 
 // The next mark, and what is left after it.
-fn next_of<'a>(start: Left<'a>) -> Option<(Mark, Left<'a>)>
+fn next_of<'a>(start: RestOfText<'a>) -> Option<(Mark, RestOfText<'a>)>
     ensures value { MatchOption result (left_marks start.entry ≡ [])
         (λ found. left_marks start.entry ≡ found.0 ∷ left_marks found.1) }
 {
@@ -35,15 +35,15 @@ fn next_of<'a>(start: Left<'a>) -> Option<(Mark, Left<'a>)>
     loop {
         if let Some((mark, words)) = next_mark(left.words) {
             let lines = left.lines;
-            return Some((mark, Left { words, lines }));
+            return Some((mark, RestOfText { words, lines }));
         }
         let text = left.lines?;
         let (line, lines) = text.line();
         if line.text.starts_with(b"SI") {
-            return Some((Mark::End, Left { words: None, lines }));
+            return Some((Mark::End, RestOfText { words: None, lines }));
         }
         let words = begins_element(line.text).then_some(line);
-        left = Left { words, lines };
+        left = RestOfText { words, lines };
     }
 }
 
@@ -66,7 +66,7 @@ fn with_element(message: Mvt, at: u32, element: Element) -> Result<Mvt, MvtFault
 }
 
 // The message with the elements of what is left to read.
-fn with_elements(heading: Mvt, start: Left<'_>) -> Result<Mvt, MvtFault>
+fn with_elements(heading: Mvt, start: RestOfText<'_>) -> Result<Mvt, MvtFault>
     ensures value { result ≡ with_marks heading (left_marks start.entry) }
 {
     let mut message = heading;
@@ -107,11 +107,11 @@ fn station_of(text: &[u8]) -> Option<Name>
 fn heading_of(line: &[u8]) -> Option<Mvt>
     ensures value { result ≡ heading_of line.now }
 {
-    let (flight, rest) = parted(line, b'/')?;
-    let (day, rest) = parted(rest, b'.')?;
-    let (registration, station) = parted(rest, b'.')?;
+    let (flight, rest) = split_once(line, b'/')?;
+    let (day, rest) = split_once(rest, b'.')?;
+    let (registration, station) = split_once(rest, b'.')?;
     let flight = read_flight(flight)?;
-    let day = day_of(day)?;
+    let day = read_day(day)?;
     let registration = registration_of(registration)?;
     let station = station_of(station)?;
     Some(Mvt {
@@ -129,8 +129,8 @@ fn heading_of(line: &[u8]) -> Option<Mvt>
 // The lines after the line `MVT`.
 fn after_identifier(text: Span<'_>) -> Result<Option<Span<'_>>, MvtFault>
     ensures value { MatchResult result
-        (λ left. after_identifier 21 (left_lines (Some text.entry)) ≡ Ok (left_lines left))
-        (λ fault. after_identifier 21 (left_lines (Some text.entry)) ≡ Err fault) }
+        (λ left. after_identifier 21 (rest_lines (Some text.entry)) ≡ Ok (rest_lines left))
+        (λ fault. after_identifier 21 (rest_lines (Some text.entry)) ≡ Err fault) }
 {
     let mut left = Some(text);
     for _looked_at in 0..IDENTIFIER_LINES {
@@ -149,8 +149,8 @@ fn after_identifier(text: Span<'_>) -> Result<Option<Span<'_>>, MvtFault>
 // The message without elements, and the lines after the flight line.
 fn after_heading(lines: Option<Span<'_>>) -> Result<(Mvt, Option<Span<'_>>), MvtFault>
     ensures value { MatchResult result
-        (λ found. after_heading (left_lines lines.entry) ≡ Ok (found.0, left_lines found.1))
-        (λ fault. after_heading (left_lines lines.entry) ≡ Err fault) }
+        (λ found. after_heading (rest_lines lines.entry) ≡ Ok (found.0, rest_lines found.1))
+        (λ fault. after_heading (rest_lines lines.entry) ≡ Err fault) }
 {
     let mut left = lines;
     while let Some(text) = left {
@@ -187,7 +187,7 @@ pub fn read_mvt(text: &[u8]) -> Result<Mvt, MvtFault>
     }
     let lines = after_identifier(Span { at: 0, text })?;
     match after_heading(lines) {
-        Ok((heading, lines)) => with_elements(heading, Left { words: None, lines }),
+        Ok((heading, lines)) => with_elements(heading, RestOfText { words: None, lines }),
         Err(fault) => Err(fault),
     }
 }

@@ -1,7 +1,7 @@
 // What the words of an element line mean: elements, faults, and where the line or the whole reading
 // ends.
 ghost use Rattle.std.specs.Prelude.{◌≡◌, ◌≤◌, [], ◌∷◌, length, MatchOption};
-ghost use Rattle.mvt_grammar.specs.Words.{begins_element, element_of, estimated, marks_of_words};
+ghost use Rattle.mvt_grammar.specs.Words.{begins_element, element_of, estimate_time, marks_of_words};
 ghost use Rattle.mvt_grammar.specs.Spans.{left_words};
 
 use crate::Clock;
@@ -39,8 +39,8 @@ pub(crate) fn begins_element(text: &[u8]) -> bool
 }
 
 // The time of an estimate of arrival.
-fn estimated(word: &[u8]) -> Option<Clock>
-    ensures value { result ≡ estimated word.now }
+fn estimate_time(word: &[u8]) -> Option<Clock>
+    ensures value { result ≡ estimate_time word.now }
 {
     if word.starts_with(b"EA") {
         clock_of(&word[2..])
@@ -73,7 +73,7 @@ pub(crate) fn next_mark(line: Option<Span<'_>>) -> Option<(Mark, Option<Span<'_>
         ≡ found.0 ∷ marks_of_words (left_words found.1)) }
 {
     let (word, left) = Span::word(line)?;
-    if let Some(clock) = estimated(word.text) {
+    if let Some(clock) = estimate_time(word.text) {
         let (next, left) = Span::word(left)?;
         if !is_station(next.text) {
             return None;

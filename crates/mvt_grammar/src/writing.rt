@@ -1,7 +1,7 @@
 // Writing the canonical text of a message.
 ghost use Rattle.std.specs.Prelude.{◌≡◌, ◌≤◌, ◌<◌, ◌++◌, ◌∷◌, [], length, OnOk, IfOk, IfSome};
 ghost use Rattle.mvt_grammar.specs.Canonical.{two_text, number_text, flight_text, clock_text, times_text, times_words, ea_words, ed_words, element_words, heading_text, canonical};
-ghost use Rattle.mvt_grammar.specs.Led.{led, gap_after};
+ghost use Rattle.mvt_grammar.specs.Led.{words_after, gap_after};
 ghost use Rattle.mvt_grammar.specs.Readable.{IsClock, IsFlight, AreTimes, IsEstimate, IsReadable};
 
 use crate::{Clock, Flight, Mvt};
@@ -83,7 +83,7 @@ fn push_times_words(
     times: &Option<(Clock, Option<Clock>)>,
 ) -> Result<u8, Memory>
     requires valid { IfSome times.now AreTimes }
-    ensures text { OnOk result (out.new.items ≡ out.old.items ++ led gap (times_words pair.now times.now)) }
+    ensures text { OnOk result (out.new.items ≡ out.old.items ++ words_after gap (times_words pair.now times.now)) }
     ensures next { IfOk result (λ next. next ≡ gap_after gap (times_words pair.now times.now)) }
 {
     match times {
@@ -99,7 +99,7 @@ fn push_times_words(
 
 fn push_ea_words(out: &mut Vec<u8>, gap: u8, estimate: &Option<(Clock, Name)>) -> Result<u8, Memory>
     requires valid { IfSome estimate.now IsEstimate }
-    ensures text { OnOk result (out.new.items ≡ out.old.items ++ led gap (ea_words estimate.now)) }
+    ensures text { OnOk result (out.new.items ≡ out.old.items ++ words_after gap (ea_words estimate.now)) }
     ensures next { IfOk result (λ next. next ≡ gap_after gap (ea_words estimate.now)) }
 {
     match estimate {
@@ -117,7 +117,7 @@ fn push_ea_words(out: &mut Vec<u8>, gap: u8, estimate: &Option<(Clock, Name)>) -
 
 fn push_ed_words(out: &mut Vec<u8>, gap: u8, clock: &Option<Clock>) -> Result<(), Memory>
     requires valid { IfSome clock.now IsClock }
-    ensures text { OnOk result (out.new.items ≡ out.old.items ++ led gap (ed_words clock.now)) }
+    ensures text { OnOk result (out.new.items ≡ out.old.items ++ words_after gap (ed_words clock.now)) }
 {
     if let Some(clock) = clock {
         out.push(gap)?;
@@ -130,7 +130,7 @@ fn push_ed_words(out: &mut Vec<u8>, gap: u8, clock: &Option<Clock>) -> Result<()
 // The words of all elements, the first after a line feed.
 fn push_elements(out: &mut Vec<u8>, message: &Mvt) -> Result<(), Memory>
     requires valid { IsReadable message.now }
-    ensures text { OnOk result (out.new.items ≡ out.old.items ++ led 10 (element_words message.now)) }
+    ensures text { OnOk result (out.new.items ≡ out.old.items ++ words_after 10 (element_words message.now)) }
 {
     let gap = push_times_words(out, b'\n', b"AD", &message.ad)?;
     let gap = push_times_words(out, gap, b"AA", &message.aa)?;

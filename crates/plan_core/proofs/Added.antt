@@ -12,8 +12,8 @@ use Rattle.visit_book.specs.NewVisits.{new_of}
 use Rattle.visit_book.specs.Numbers.{visit_at}
 use Rattle.visit_book.specs.Slots.{slots_of, slots_of_visit}
 use Rattle.visit_book.proofs.ByPlace.{visit_at-outside}
-use Rattle.plan_core.specs.Adding.{IsAddable, adding, next_visit, with_added}
-use Rattle.plan_core.specs.PlanState.{ChangeState, HasBump, IsInstallable, IsPlan, IsVisitAt, KeepsOrAdds, PlanState, installed, put_one, version_limit}
+use Rattle.plan_core.specs.Adding.{IsAddable, add_change, next_visit, with_added}
+use Rattle.plan_core.specs.PlanState.{ChangeState, HasBump, IsInstallable, IsPlan, IsVisitAt, KeepsOrAdds, PlanState, plan_after_change, put_one, version_limit}
 use Rattle.plan_core.proofs.Bumps.{no_bump_in}
 use Rattle.plan_core.proofs.SlotLists.{slots_of-push}
 
@@ -29,7 +29,7 @@ put_last plan visit h =
     rw past refl
 
 -- the change that adds a visit makes the plan that has it last
-pub adding_adds : (plan : PlanState) (visit : Visit) → IsAddable plan visit → installed plan (adding plan visit) ≡ with_added plan (new_of visit)
+pub adding_adds : (plan : PlanState) (visit : Visit) → IsAddable plan visit → plan_after_change plan (add_change plan visit) ≡ with_added plan (new_of visit)
 adding_adds plan visit h =
     let visits : put_one plan.visits visit ≡ plan.visits ++ next_visit plan (new_of visit) ∷ [] =
     put_last plan visit h ∙ ap (λ (v : Visit). plan.visits ++ v ∷ []) h.is in
@@ -75,7 +75,7 @@ pub of_no_draft_is : (vs ws : List Visit) (ss ts : List Slot) (m n : ℕ) → vs
 of_no_draft_is vs ws ss ts m n e f g = cc
 
 -- a visit that a plan may be asked to add can be installed
-pub adding_fits : (plan : PlanState) (visit : Visit) → IsPlan plan → IsAddable plan visit → plan.version + 1 < version_limit → IsInstallable plan (adding plan visit)
+pub adding_fits : (plan : PlanState) (visit : Visit) → IsPlan plan → IsAddable plan visit → plan.version + 1 < version_limit → IsInstallable plan (add_change plan visit)
 adding_fits plan visit plan_is h last = record {
   version = refl;
   last = last;

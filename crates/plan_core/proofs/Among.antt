@@ -12,7 +12,7 @@ use Rattle.visit_book.specs.Edits.{visit_of}
 use Rattle.visit_book.specs.Numbers.{IsNumbered, IsNumberedAbove, has_number, visit_at, with_visit}
 use Rattle.apron_base.specs.ResultChain.{◌>>=◌}
 use Rattle.plan_core.specs.Edits.{after_all_edits, after_edit, after_edits, edit_visit, edited_visits, is_edited, is_of_visit}
-use Rattle.plan_core.specs.Working.{newest, replaced}
+use Rattle.plan_core.specs.Working.{newest, replace_visits}
 use Rattle.plan_core.proofs.ByNumber.{found_number, only, only_found, only_with}
 use Rattle.plan_core.proofs.Changed.{Follows, edits_follow, follows_numbered}
 use Rattle.plan_core.proofs.EditKept.{visit_number}
@@ -124,12 +124,12 @@ later_found e n v news m true is number above =
 later_found e n v news m false is number above = rw is refl
 
 replaced_from : (e : ℕ → Bool) (n : ℕ) (others olds news : List Visit) → IsNumberedAbove n olds → IsNumberedAbove n news → Follows e n olds news
-    → ((m : VisitNo) → n < m.0 → visit_at others m ≡ visit_at (only e news) m) → replaced olds others ≡ news
+    → ((m : VisitNo) → n < m.0 → visit_at others m ≡ visit_at (only e news) m) → replace_visits olds others ≡ news
 replaced_from e n others [] [] numbered now h found = refl
 replaced_from e n others (o ∷ olds) (v ∷ news) numbered now h found =
     let first : newest others o ≡ v =
     newest_first e n others o v news (e v.number.0) refl numbered.0 h.0.number h.0.kept now.1 (found o.number (omega (arith, numbered.0))) in
-    let rest : replaced olds others ≡ news = replaced_from e (n + 1) others olds news numbered.1 now.1 h.1
+    let rest : replace_visits olds others ≡ news = replaced_from e (n + 1) others olds news numbered.1 now.1 h.1
     (λ m above. found m (omega arith) ∙ later_found e n v news m (e v.number.0) refl h.0.number above) in
     rw (first, rest) refl
 replaced_from e n others [] (v ∷ news) numbered now h found = absurd h
@@ -137,7 +137,7 @@ replaced_from e n others (o ∷ olds) [] numbered now h found = absurd h
 
 -- the visits with the edited ones in place are the visits after the edits
 pub replaced_edited : (a : AirportParts) (base : ℕ) (edits : List Edit) (visits new : List Visit)
-    → IsNumbered visits → after_all_edits a base edits visits ≡ Ok new → replaced visits (edited_visits edits new) ≡ new
+    → IsNumbered visits → after_all_edits a base edits visits ≡ Ok new → replace_visits visits (edited_visits edits new) ≡ new
 replaced_edited a base edits visits new h e =
     let follows : Follows (is_edited edits) 0 visits new = edits_follow a base 1 edits visits new h e in
     replaced_from (is_edited edits) 0 (edited_visits edits new) visits new h (follows_numbered (is_edited edits) 0 visits new follows) follows (λ m above. refl)

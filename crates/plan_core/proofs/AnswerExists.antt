@@ -10,13 +10,13 @@ use Rattle.visit_book.specs.Slots.{slots_of}
 use Rattle.plan_core.specs.Drafts.{Draft}
 use Rattle.plan_core.specs.Edits.{after_all_edits}
 use Rattle.plan_core.specs.PlanState.{PlanState}
-use Rattle.plan_core.specs.Rebase.{Rebases, Refuses}
+use Rattle.plan_core.specs.Rebase.{Rebases, RefusesDraft}
 use Rattle.plan_core.proofs.Faults.{fault_is_of_edit, not_memory, refuses_edits}
 use Rattle.plan_core.proofs.FirstExists.{first_exists}
 
 -- a commit, or a refusal for another cause than a lack of memory
 abbrev IsAnswered : PlanState → Draft → Type 0
-IsAnswered plan draft = ((new : List Visit) × Rebases plan draft new) ⊎ ((fault : EditFault) × (fault ≢ Memory) × Refuses plan draft fault)
+IsAnswered plan draft = ((new : List Visit) × Rebases plan draft new) ⊎ ((fault : EditFault) × (fault ≢ Memory) × RefusesDraft plan draft fault)
 
 with_clash : (plan : PlanState) (draft : Draft) (new : List Visit) (found : Option Clash) → after_all_edits plan.airport draft.base draft.edits plan.visits ≡ Ok new
     → IsFirstClash plan.airport (slots_of plan.airport new) found → IsAnswered plan draft

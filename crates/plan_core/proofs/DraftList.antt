@@ -7,17 +7,17 @@ use Rattle.std.proofs.lemmas.Option.{slice_get_read}
 use Rattle.apron_base.specs.Histories.{Rises}
 use Rattle.plan_core.specs.declared.drafts.DraftId.{DraftId}
 use Rattle.plan_core.specs.declared.drafts.Drafted.{Drafted}
-use Rattle.plan_core.specs.Drafts.{AreDifferent, AreDraftsAt, AreIndexed, IsIndexOf, compare_drafts, draft_version, is_draft, version_of, with_draft}
+use Rattle.plan_core.specs.Drafts.{AreDifferent, AreDraftsAt, AreIndexed, IsIndexOf, compare_drafts, draft_version, drafted_version, is_draft, with_draft}
 use Rattle.plan_core.proofs.DraftIndex.{draft_either_way, index_pushed, version_pushed}
 
 -- a later end
-rises_up : (low high up : ℕ) (drafts : List Drafted) → high ≤ up → Rises version_of low high drafts → Rises version_of low up drafts
+rises_up : (low high up : ℕ) (drafts : List Drafted) → high ≤ up → Rises drafted_version low high drafts → Rises drafted_version low up drafts
 rises_up low high up [] le h = omega arith
 rises_up low high up (d ∷ drafts) le h = (h.0, rises_up (d.version + 1) high up drafts le h.1)
 
 -- one more
-rises_push : (low high up : ℕ) (drafts : List Drafted) (last : Drafted) → high ≤ last.version → last.version < up → Rises version_of low high drafts
-    → Rises version_of low up (drafts ++ last ∷ [])
+rises_push : (low high up : ℕ) (drafts : List Drafted) (last : Drafted) → high ≤ last.version → last.version < up → Rises drafted_version low high drafts
+    → Rises drafted_version low up (drafts ++ last ∷ [])
 rises_push low high up [] last from below h = (omega arith, omega arith)
 rises_push low high up (d ∷ drafts) last from below h = (h.0, rises_push (d.version + 1) high up drafts last from below h.1)
 
@@ -88,11 +88,11 @@ drafts_kept version next drafts (Some id) is new h = record {
   different = different_push drafts (record { id = id; version = next }) new h.different;
 }
 
-rises_order : (low high : ℕ) (drafts : List Drafted) → Rises version_of low high drafts → low ≤ high
+rises_order : (low high : ℕ) (drafts : List Drafted) → Rises drafted_version low high drafts → low ≤ high
 rises_order low high [] h = h
 rises_order low high (d ∷ drafts) h = let rest : d.version + 1 ≤ high = rises_order (d.version + 1) high drafts h.1 in let first : low ≤ d.version = h.0 in omega arith
 
-version_in : (low high : ℕ) (drafts : List Drafted) (desk : List ℕ) (number version : ℕ) → Rises version_of low high drafts
+version_in : (low high : ℕ) (drafts : List Drafted) (desk : List ℕ) (number version : ℕ) → Rises drafted_version low high drafts
     → draft_version drafts desk number ≡ Some version → (low ≤ version) × (version < high)
 version_in low high [] desk number version h is = absurd (cc)
 version_in low high (d ∷ drafts) desk number version h is =

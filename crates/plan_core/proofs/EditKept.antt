@@ -27,7 +27,7 @@ use Rattle.visit_book.specs.PartFields.{part_at}
 use Rattle.visit_book.specs.Places.{IsPlaceOf, is_actual}
 use Rattle.visit_book.specs.WellFormed.{IsEarlyIfShort, IsSpaced, IsWellFormed, latest_end}
 use Rattle.visit_book.proofs.Stands.{cut_places, join_places}
-use Rattle.plan_core.specs.Edits.{after_edit, edit_part, edit_visit, placed, refuse_unfit, with_part}
+use Rattle.plan_core.specs.Edits.{after_edit, edit_part, edit_visit, part_at_place, refuse_unfit, with_part}
 use Rattle.plan_core.specs.PlanState.{IsSameVisit}
 use Rattle.plan_core.proofs.Bumps.{HaveNoNewBump, no_new_bump, set_places}
 use Rattle.plan_core.proofs.Results.{found_ok, ok_is, then_ok}
@@ -43,7 +43,7 @@ got_all P xs i x g h = got_by P xs i x g (recursion_from_All P xs h)
 
 -- another place changes no minute
 spaced_set : (tow start j : ℕ) (parts : List Part) (part : Part) (place : Place) → slice_get parts j ≡ Some part → IsSpaced tow start parts
-    → IsSpaced tow start (slice_set parts j (placed place part))
+    → IsSpaced tow start (slice_set parts j (part_at_place place part))
 spaced_set tow start j [] part place g h = tt
 spaced_set tow start zero (p ∷ parts) part place g h =
     let is : p ≡ part = cc in
@@ -60,19 +60,19 @@ got_part parts j part false e = e
 
 -- a part in another place of the airport, not in fact, keeps its visit well formed
 pub placed_keeps : (a : AirportParts) (visit : Visit) (j : ℕ) (part : Part) (place : Place) → part_at visit.parts j ≡ Some part → IsPlaceOf a place
-    → is_actual place ≡ false → is_live visit ≡ true → IsWellFormed a visit → IsWellFormed a (with_part visit j (placed place part))
+    → is_actual place ≡ false → is_live visit ≡ true → IsWellFormed a visit → IsWellFormed a (with_part visit j (part_at_place place part))
 placed_keeps a visit j part place found here planned live h =
     let g : slice_get visit.parts (j - 1) ≡ Some part = got_part visit.parts j part (j == 0) found in
     record {
       kind = h.kind;
       class = h.class;
-      some = omega (arith, h.some, length-set visit.parts (j - 1) (placed place part));
-      few = omega (arith, h.few, length-set visit.parts (j - 1) (placed place part));
+      some = omega (arith, h.some, length-set visit.parts (j - 1) (part_at_place place part));
+      few = omega (arith, h.few, length-set visit.parts (j - 1) (part_at_place place part));
       spaced = spaced_set a.tow 0 (j - 1) visit.parts part place g h.spaced;
-      ends = All-set (λ part. part.to ≤ latest_end a visit.kind) visit.parts (j - 1) (placed place part) (got_all (λ part. part.to ≤ latest_end a visit.kind) visit.parts (j - 1) part g h.ends) h.ends;
-      short = All-set (IsEarlyIfShort a visit.kind) visit.parts (j - 1) (placed place part) (got_all (IsEarlyIfShort a visit.kind) visit.parts (j - 1) part g h.short) h.short;
-      places = All-set (λ part. IsPlaceOf a part.place) visit.parts (j - 1) (placed place part) here h.places;
-      facts = λ free. All-set (λ part. is_actual part.place ≡ false) visit.parts (j - 1) (placed place part) planned (h.facts free);
+      ends = All-set (λ part. part.to ≤ latest_end a visit.kind) visit.parts (j - 1) (part_at_place place part) (got_all (λ part. part.to ≤ latest_end a visit.kind) visit.parts (j - 1) part g h.ends) h.ends;
+      short = All-set (IsEarlyIfShort a visit.kind) visit.parts (j - 1) (part_at_place place part) (got_all (IsEarlyIfShort a visit.kind) visit.parts (j - 1) part g h.short) h.short;
+      places = All-set (λ part. IsPlaceOf a part.place) visit.parts (j - 1) (part_at_place place part) here h.places;
+      facts = λ free. All-set (λ part. is_actual part.place ≡ false) visit.parts (j - 1) (part_at_place place part) planned (h.facts free);
       cancelled = λ over. absurd (live_not_cancelled visit live over);
     }
 
@@ -102,25 +102,25 @@ join_remade (Some part) visit parts new bumps e = let is : with_parts visit part
 
 -- a part in another place, planned or without a record
 set_remade : (visit : Visit) (j : ℕ) (part : Part) (place : Place) (new : Visit)
-    → ((Holds : Place → Type 0) → ((stand : StandNo) → Holds (Planned stand)) → Holds (Unplaced None) → Holds place) → with_part visit j (placed place part) ≡ new
+    → ((Holds : Place → Type 0) → ((stand : StandNo) → Holds (Planned stand)) → Holds (Unplaced None) → Holds place) → with_part visit j (part_at_place place part) ≡ new
     → IsRemade visit new
 set_remade visit j part place new here is = record {
-  parts = slice_set visit.parts (j - 1) (placed place part);
+  parts = slice_set visit.parts (j - 1) (part_at_place place part);
   is = is;
-  bumps = no_new_bump (slice_set visit.parts (j - 1) (placed place part)) visit.parts
-      (λ Holds planned none h. set_places Holds visit.parts (j - 1) (placed place part) (here Holds planned none) h);
+  bumps = no_new_bump (slice_set visit.parts (j - 1) (part_at_place place part)) visit.parts
+      (λ Holds planned none h. set_places Holds visit.parts (j - 1) (part_at_place place part) (here Holds planned none) h);
 }
 
 -- what an edit of a part makes of its visit is the visit with other parts
 part_remade : (a : AirportParts) (k : ℕ) (edit : Edit) (v : Visit) (part : Part) (new : Visit) → edit_part a k edit v part ≡ Ok new → IsRemade v new
 part_remade a k (Put n j s) v part new e =
     let planned = then_ok (refuse_if (is_actual part.place) (OnBlock k))
-    (λ planned. refuse_unfit k (unfit_of a s v.kind) >>= λ fits. Ok (with_part v j (placed (Planned s) part))) new e in
-    let fits = then_ok (refuse_unfit k (unfit_of a s v.kind)) (λ fits. Ok (with_part v j (placed (Planned s) part))) new planned.2 in
-    set_remade v j part (Planned s) new (λ Holds planned none. planned s) (ok_is (with_part v j (placed (Planned s) part)) new fits.2)
+    (λ planned. refuse_unfit k (unfit_of a s v.kind) >>= λ fits. Ok (with_part v j (part_at_place (Planned s) part))) new e in
+    let fits = then_ok (refuse_unfit k (unfit_of a s v.kind)) (λ fits. Ok (with_part v j (part_at_place (Planned s) part))) new planned.2 in
+    set_remade v j part (Planned s) new (λ Holds planned none. planned s) (ok_is (with_part v j (part_at_place (Planned s) part)) new fits.2)
 part_remade a k (Lift n j) v part new e =
-    let planned = then_ok (refuse_if (is_actual part.place) (OnBlock k)) (λ planned. Ok (with_part v j (placed (Unplaced None) part))) new e in
-    set_remade v j part (Unplaced None) new (λ Holds planned none. none) (ok_is (with_part v j (placed (Unplaced None) part)) new planned.2)
+    let planned = then_ok (refuse_if (is_actual part.place) (OnBlock k)) (λ planned. Ok (with_part v j (part_at_place (Unplaced None) part))) new e in
+    set_remade v j part (Unplaced None) new (λ Holds planned none. none) (ok_is (with_part v j (part_at_place (Unplaced None) part)) new planned.2)
 part_remade a k (Cut n j at) v part new e =
     let planned = then_ok (refuse_if (has_actual_behind j v) (OnBlock k)) (λ planned. ok_or (cut_of a j at v) (BadCut k)) new e in
     cut_remade (part_at v.parts j) _ v _ new

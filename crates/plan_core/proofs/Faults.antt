@@ -18,9 +18,9 @@ use Rattle.visit_book.specs.PartFields.{part_at}
 use Rattle.visit_book.specs.Places.{is_actual}
 use Rattle.plan_core.specs.Drafts.{Draft}
 use Rattle.apron_base.specs.ResultChain.{◌>>=◌, refuse_if}
-use Rattle.plan_core.specs.Edits.{after_all_edits, after_edit, after_edits, edit_part, edit_visit, placed, refuse_unfit, with_part}
+use Rattle.plan_core.specs.Edits.{after_all_edits, after_edit, after_edits, edit_part, edit_visit, part_at_place, refuse_unfit, with_part}
 use Rattle.plan_core.specs.PlanState.{PlanState}
-use Rattle.plan_core.specs.Rebase.{Refuses}
+use Rattle.plan_core.specs.Rebase.{RefusesDraft}
 
 -- the fault is one of an edit
 abbrev pub IsOfEdit : EditFault → Type 0
@@ -55,9 +55,9 @@ unless_on_block k test next h = then_by_edit (refuse_if test (OnBlock k)) (λ pl
 
 part_by_edit : (a : AirportParts) (k : ℕ) (edit : Edit) (v : Visit) (part : Part) → FailsByEdit (edit_part a k edit v part)
 part_by_edit a k (Put n j s) v part =
-    unless_on_block k (is_actual part.place) (refuse_unfit k (unfit_of a s v.kind) >>= λ fits. Ok (with_part v j (placed (Planned s) part)))
-    (then_by_edit (refuse_unfit k (unfit_of a s v.kind)) (λ fits. Ok (with_part v j (placed (Planned s) part))) (unfit_by_edit k (unfit_of a s v.kind)) (λ fits. tt))
-part_by_edit a k (Lift n j) v part = unless_on_block k (is_actual part.place) (Ok (with_part v j (placed (Unplaced None) part))) tt
+    unless_on_block k (is_actual part.place) (refuse_unfit k (unfit_of a s v.kind) >>= λ fits. Ok (with_part v j (part_at_place (Planned s) part)))
+    (then_by_edit (refuse_unfit k (unfit_of a s v.kind)) (λ fits. Ok (with_part v j (part_at_place (Planned s) part))) (unfit_by_edit k (unfit_of a s v.kind)) (λ fits. tt))
+part_by_edit a k (Lift n j) v part = unless_on_block k (is_actual part.place) (Ok (with_part v j (part_at_place (Unplaced None) part))) tt
 part_by_edit a k (Cut n j at) v part =
     unless_on_block k (has_actual_behind j v) (ok_or (cut_of a j at v) (BadCut k)) (found_by_edit (cut_of a j at v) (BadCut k) tt)
 part_by_edit a k (Join n j) v part =
@@ -92,7 +92,7 @@ fault_is_of_edit plan draft fault e =
     subst P e (all_by_edit plan.airport draft.base 1 draft.edits plan.visits)
 
 -- by this fault the draft is refused
-refuses_by : (plan : PlanState) (draft : Draft) (fault : EditFault) → IsOfEdit fault → after_all_edits plan.airport draft.base draft.edits plan.visits ≡ Err fault → Refuses plan draft fault
+refuses_by : (plan : PlanState) (draft : Draft) (fault : EditFault) → IsOfEdit fault → after_all_edits plan.airport draft.base draft.edits plan.visits ≡ Err fault → RefusesDraft plan draft fault
 refuses_by plan draft (UnknownVisit k) h e = e
 refuses_by plan draft (Overtaken k n version) h e = e
 refuses_by plan draft (Gone k) h e = e
@@ -104,7 +104,7 @@ refuses_by plan draft (Unfit k by) h e = e
 refuses_by plan draft (Clash c) h e = absurd h
 refuses_by plan draft Memory h e = absurd h
 
-pub refuses_edits : (plan : PlanState) (draft : Draft) (fault : EditFault) → after_all_edits plan.airport draft.base draft.edits plan.visits ≡ Err fault → Refuses plan draft fault
+pub refuses_edits : (plan : PlanState) (draft : Draft) (fault : EditFault) → after_all_edits plan.airport draft.base draft.edits plan.visits ≡ Err fault → RefusesDraft plan draft fault
 refuses_edits plan draft fault e = refuses_by plan draft fault (fault_is_of_edit plan draft fault e) e
 
 pub not_memory : (fault : EditFault) → IsOfEdit fault → fault ≢ Memory

@@ -18,7 +18,7 @@ use Rattle.visit_book.specs.declared.visits.Key.{Key}
 use Rattle.visit_book.specs.Flights.{is_by}
 use Rattle.plan_core.specs.declared.flights.FlightDay.{FlightDay}
 use Rattle.plan_core.specs.declared.flights.FlightPlace.{FlightPlace}
-use Rattle.plan_core.specs.FlightPlaces.{AreFlightPlaces, HasNoPlace, IsFirstPlace, compare_days, compare_places, flight_day, has_live, has_place, is_of_day, place_of}
+use Rattle.plan_core.specs.FlightPlaces.{AreFlightPlaces, HasNoPlace, IsFirstPlace, compare_days, compare_places, flies_on_day, flight_day, flight_place, has_live, has_place}
 use Rattle.plan_core.proofs.LivePlaces.{day_is, is_by_day, order_of_days, placed_of}
 
 days_total : IsTotalOrder compare_days
@@ -68,7 +68,7 @@ inside flight place end h =
       ap (λ r. ordering_then r (nat_cmp place end)) same ∙ below place end h,
     )
 
-pub starts : (key : Key) (end : ℕ) → is_gt (compare_places (place_of key 0) (place_of key end)) ≡ false
+pub starts : (key : Key) (end : ℕ) → is_gt (compare_places (flight_place key 0) (flight_place key end)) ≡ false
 starts key end = ap (λ r. is_gt (ordering_then r (nat_cmp 0 end))) (tied_itself days_total (flight_day key)) ∙ up_to 0 end (omega arith)
 
 placed : (flight : FlightDay) (place : FlightPlace) → flight ≡ place.flight → place ≡ at_flight flight place.place
@@ -76,7 +76,7 @@ placed flight place same = placed_of place.flight flight place.place place.place
 
 -- the first place between is the first of the flight
 pub first_is : (live : BTreeSet FlightPlace) (key : Key) (end : ℕ) (range rest : List FlightPlace) (first : FlightPlace)
-    → IsKeyRangeOf compare_places (Included (place_of key 0)) (Excluded (place_of key end)) live range → range ≡ first ∷ rest
+    → IsKeyRangeOf compare_places (Included (flight_place key 0)) (Excluded (flight_place key end)) live range → range ≡ first ∷ rest
     → IsFirstPlace live key end first.place
 first_is live key end range rest first h is =
     let flight : FlightDay = flight_day key in
@@ -90,27 +90,27 @@ first_is live key end range rest first h is =
     }
   where
     least_by : (place : ℕ) → has_live live key place ≡ true → first.place < end → (b : Bool) → nat_lt place end ≡ b
-        → ((q : FlightPlace) → IsInRange compare_places (Included (place_of key 0)) (Excluded (place_of key end)) q → IsTrue (contains compare_places live q)
-        → IsLeBy compare_places first q) → first ≡ place_of key first.place → first.place ≤ place
+        → ((q : FlightPlace) → IsInRange compare_places (Included (flight_place key 0)) (Excluded (flight_place key end)) q → IsTrue (contains compare_places live q)
+        → IsLeBy compare_places first q) → first ≡ flight_place key first.place → first.place ≤ place
     least_by place has to true earlier all same =
-        let up : is_gt (compare_places first (place_of key place)) ≡ false = all (place_of key place) (inside (flight_day key) place end (grind (arith, nat_tests))) has in
+        let up : is_gt (compare_places first (flight_place key place)) ≡ false = all (flight_place key place) (inside (flight_day key) place end (grind (arith, nat_tests))) has in
         let level : is_gt (ordering_then (compare_days (flight_day key) (flight_day key)) (nat_cmp first.place place)) ≡ false =
-        subst (λ (p : FlightPlace). is_gt (compare_places p (place_of key place)) ≡ false) same up in
+        subst (λ (p : FlightPlace). is_gt (compare_places p (flight_place key place)) ≡ false) same up in
         up_to_is first.place place (ap (λ r. is_gt (ordering_then r (nat_cmp first.place place))) (sym (tied_itself days_total (flight_day key))) ∙ level)
     least_by place has to false later all same = let past : end ≤ place = grind (arith, nat_tests) in omega arith
 
 -- if nothing lies between, the flight has no place there
 pub none_is : (live : BTreeSet FlightPlace) (key : Key) (end : ℕ) (range : List FlightPlace)
-    → IsKeyRangeOf compare_places (Included (place_of key 0)) (Excluded (place_of key end)) live range → range ≡ []
+    → IsKeyRangeOf compare_places (Included (flight_place key 0)) (Excluded (flight_place key end)) live range → range ≡ []
     → HasNoPlace live key end
-none_is live key end range h is place within = h.5 is (place_of key place) (inside (flight_day key) place end within)
+none_is live key end range h is place within = h.5 is (flight_place key place) (inside (flight_day key) place end within)
 
 -- a key of the flight is at a place if its test passes there
 key_there : (keys : List (Option Key)) (key : Key) (place : ℕ) → place < length keys
-    → is_by key (get_or keys place None) ≡ has_place keys (place_of key place)
+    → is_by key (get_or keys place None) ≡ has_place keys (flight_place key place)
 key_there keys key place within =
     sym (is_by_day key (get_or keys place None))
-    ∙ ap (λ found. option_map_or (is_of_day (flight_day key)) found false) (sym (slice_get-get_or keys place None within))
+    ∙ ap (λ found. option_map_or (flies_on_day (flight_day key)) found false) (sym (slice_get-get_or keys place None within))
 
 position_by : (n m : ℕ) → n < m → cond (nat_lt n m) (Some n) None ≡ Some n
 position_by n m h = grind (arith, nat_tests)
@@ -123,7 +123,7 @@ place_found live indexed keys key place h first =
     let few : indexed ≤ length keys = h.few in
     let is : position_or_len (is_by key) keys ≡ place =
     position_or_len_is (is_by key) keys place None (omega arith) (λ k earlier. missing k earlier (is_by key (get_or keys k None)) refl)
-    (λ within. key_there keys key place within ∙ h.only (place_of key place) first.has) in
+    (λ within. key_there keys key place within ∙ h.only (flight_place key place) first.has) in
     rw is (position_by place (length keys) (omega arith))
   where
     missing : (k : ℕ) → k < place → (b : Bool) → is_by key (get_or keys k None) ≡ b → b ≡ false
@@ -131,7 +131,7 @@ place_found live indexed keys key place h first =
     missing k earlier true is =
         let below : place < indexed = first.below in
         let few : indexed ≤ length keys = h.few in
-        let has = h.all (place_of key k) (omega arith) (sym (key_there keys key k (omega arith)) ∙ is) in
+        let has = h.all (flight_place key k) (omega arith) (sym (key_there keys key k (omega arith)) ∙ is) in
         let least : place ≤ k = first.least k has in
         absurd (omega arith)
 
@@ -165,5 +165,5 @@ place_later live indexed keys key h none =
     missing k earlier false is = refl
     missing k earlier true is =
         let few : indexed ≤ length keys = h.few in
-        let has = h.all (place_of key k) earlier (sym (key_there keys key k (omega arith)) ∙ is) in
+        let has = h.all (flight_place key k) earlier (sym (key_there keys key k (omega arith)) ∙ is) in
         absurd (cc (sym has ∙ none k earlier))

@@ -28,7 +28,7 @@ use Rattle.visit_book.specs.Slots.{slots_of}
 use Rattle.visit_book.specs.WellFormed.{IsWellFormed}
 use Rattle.plan_core.specs.Indexed.{IsIndexed}
 use Rattle.plan_core.specs.Indexing.{AreApart, HasPlaceFor, KeepsRoom, numbers_of}
-use Rattle.plan_core.specs.PlanState.{is_on, number_of}
+use Rattle.plan_core.specs.PlanState.{is_on, visit_number}
 use Rattle.plan_core.proofs.IndexedOrder.{IsOrdered, numbered_rises, slots_minutes, slots_ordered}
 use Rattle.plan_core.proofs.IndexedStands.{added_index, added_slots}
 use Rattle.plan_core.proofs.IndexedVisits.{IsMerged, found_itself, merged_slots, other_none, slot_number, slot_visit, sound_within}
@@ -74,7 +74,7 @@ apart_visits a xs p q sound are minutes in_p in_q differ same planned planned_to
     no false c h k = cc
 
 -- a slot of a changed visit and one of another visit have different numbers
-other_number : (a : AirportParts) (changed : List Visit) (high : ℕ) (p q : Slot) → Rises number_of 1 high changed → All (IsWellFormed a) changed → Contains (slots_of a changed) p
+other_number : (a : AirportParts) (changed : List Visit) (high : ℕ) (p q : Slot) → Rises visit_number 1 high changed → All (IsWellFormed a) changed → Contains (slots_of a changed) p
     → is_of_other (numbers_of changed) q ≡ true → p.part.visit.0 ≢ q.part.visit.0
 other_number a changed high p q rise formed in_p other same =
     let found = slot_visit a changed p in_p in
@@ -86,7 +86,7 @@ other_number a changed high p q rise formed in_p other same =
 
 -- there is place for the slots of changed visits if the plan with them is sound, and there is room
 pub can_index : (a : AirportParts) (index out : List StandSlots) (visits changed new : List Visit) (high : ℕ) → IsIndexed a index visits → IsMerged visits changed new
-    → IsNumbered visits → All (IsWellFormed a) visits → All (IsWellFormed a) changed → Rises number_of 1 high changed → IsSound a (slots_of a new)
+    → IsNumbered visits → All (IsWellFormed a) visits → All (IsWellFormed a) changed → Rises visit_number 1 high changed → IsSound a (slots_of a new)
     → all_slots out ≡ others_of index (numbers_of changed) → length out ≡ length index
     → ((stand : StandNo) → count_by (is_on stand) (slots_of a changed) ≤ (at_stand out stand).spare) → HasPlaceFor out (slots_of a changed)
 can_index a index out visits changed new high indexed merged numbered formed changed_formed rise sound left long room =

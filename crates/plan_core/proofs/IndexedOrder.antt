@@ -23,7 +23,7 @@ use Rattle.visit_book.specs.Numbers.{IsNumberedAbove}
 use Rattle.visit_book.specs.Places.{stand_of}
 use Rattle.visit_book.specs.Slots.{slot_of, slot_on, slots_from, slots_of, slots_of_visit}
 use Rattle.visit_book.specs.WellFormed.{IsSpaced, IsWellFormed}
-use Rattle.plan_core.specs.PlanState.{number_of}
+use Rattle.plan_core.specs.PlanState.{visit_number}
 use Rattle.plan_core.proofs.Puts.{rises_from}
 
 -- a slot of a part, with this number or a greater one, of the visit, which starts at this minute or
@@ -95,7 +95,7 @@ from_ordered a v tow k start (part ∷ parts) h =
 abbrev IsAbove : ℕ → Slot → Type 0
 IsAbove low slot = (low ≤ slot.part.visit.0) × HasMinutes slot
 
-above : (a : AirportParts) (low high : ℕ) (visits : List Visit) → Rises number_of low high visits → All (IsWellFormed a) visits → All (IsAbove low) (slots_of a visits)
+above : (a : AirportParts) (low high : ℕ) (visits : List Visit) → Rises visit_number low high visits → All (IsWellFormed a) visits → All (IsAbove low) (slots_of a visits)
 above a low high [] rise formed = All-nil (IsAbove low)
 above a low high (v ∷ visits) rise formed =
     All-append (IsAbove low) (slots_of_visit a v) (slots_of a visits)
@@ -105,12 +105,12 @@ above a low high (v ∷ visits) rise formed =
     (slots_of a visits) (above a (v.number.0 + 1) high visits rise.1 (All-tail (IsWellFormed a) v visits formed)))
 
 -- each slot of the visits has at least one minute
-pub slots_minutes : (a : AirportParts) (low high : ℕ) (visits : List Visit) → Rises number_of low high visits → All (IsWellFormed a) visits
+pub slots_minutes : (a : AirportParts) (low high : ℕ) (visits : List Visit) → Rises visit_number low high visits → All (IsWellFormed a) visits
     → All HasMinutes (slots_of a visits)
 slots_minutes a low high visits rise formed = All-weaker (IsAbove low) HasMinutes (λ s h. h.1) (slots_of a visits) (above a low high visits rise formed)
 
 -- and come in order
-pub slots_ordered : (a : AirportParts) (low high : ℕ) (visits : List Visit) → Rises number_of low high visits → All (IsWellFormed a) visits
+pub slots_ordered : (a : AirportParts) (low high : ℕ) (visits : List Visit) → Rises visit_number low high visits → All (IsWellFormed a) visits
     → AllPairs IsOrdered (slots_of a visits)
 slots_ordered a low high [] rise formed = pairs_none IsOrdered
 slots_ordered a low high (v ∷ visits) rise formed =
@@ -165,7 +165,7 @@ pub slots_once : (xs : List Slot) → AllPairs IsOrdered xs → HasPartsOnce xs
 slots_once xs ordered part = once_by (is_of_part part) xs (λ i j d less inside. not_both part (get_or xs i d) (get_or xs j d) (ordered i j d less inside))
 
 -- the numbers of visits that are numbered in order rise
-pub numbered_rises : (n high : ℕ) (visits : List Visit) → n + 1 + length visits ≤ high → IsNumberedAbove n visits → Rises number_of (n + 1) high visits
+pub numbered_rises : (n high : ℕ) (visits : List Visit) → n + 1 + length visits ≤ high → IsNumberedAbove n visits → Rises visit_number (n + 1) high visits
 numbered_rises n high [] le h = omega (arith, le)
 numbered_rises n high (v ∷ visits) le h =
     (omega (arith, h.0), rises_from (v.number.0 + 1) (n + 1 + 1) high visits (omega (arith, h.0)) (numbered_rises (n + 1) high visits (omega (arith, le)) h.1))

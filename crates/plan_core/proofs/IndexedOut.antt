@@ -29,8 +29,8 @@ use Rattle.visit_book.specs.Slots.{slot_of, slot_on, slots_from, slots_of, slots
 use Rattle.visit_book.specs.WellFormed.{IsWellFormed}
 use Rattle.plan_core.specs.Indexed.{IsIndexed}
 use Rattle.plan_core.specs.Indexing.{HaveStandsOf, is_off, is_off_parts, is_off_visit, is_off_visits, numbers_of}
-use Rattle.plan_core.specs.PlanState.{is_on, number_of}
-use Rattle.plan_core.specs.Working.{replaced}
+use Rattle.plan_core.specs.PlanState.{is_on, visit_number}
+use Rattle.plan_core.specs.Working.{replace_visits}
 use Rattle.plan_core.proofs.ByNumber.{found_number, number_is}
 use Rattle.plan_core.proofs.IndexedOrder.{count_none, numbered_rises, slots_once, slots_ordered}
 use Rattle.plan_core.proofs.IndexedStands.{filter_alike, filter_both, filter_whole}
@@ -143,7 +143,7 @@ of_same : (part : PartId) (x : Slot) → is_of_part part x ≡ true → x.part.v
 of_same part x h = number_is x.part.visit part.visit (grind (arith, nat_tests))
 
 -- no part has a slot both among the changed ones and among those of other visits
-parts_once : (a : AirportParts) (index : List StandSlots) (changed : List Visit) (high : ℕ) → HasPartsOnce (all_slots index) → Rises number_of 1 high changed
+parts_once : (a : AirportParts) (index : List StandSlots) (changed : List Visit) (high : ℕ) → HasPartsOnce (all_slots index) → Rises visit_number 1 high changed
     → All (IsWellFormed a) changed → HasPartsOnce (others_of index (numbers_of changed) ++ slots_of a changed)
 parts_once a index changed high once rise formed part =
     by (visit_at changed part.visit) refl
@@ -179,7 +179,7 @@ parts_once a index changed high once rise formed part =
 -- the index after a change: the slots of other visits stay, and those of the changed ones are put
 -- in
 pub reindexed : (a : AirportParts) (index out after : List StandSlots) (visits changed new : List Visit) (high : ℕ) → IsIndexed a index visits → IsMerged visits changed new
-    → All (IsWellFormed a) visits → All (IsWellFormed a) changed → Rises number_of 1 high changed
+    → All (IsWellFormed a) visits → All (IsWellFormed a) changed → Rises visit_number 1 high changed
     → all_slots out ≡ others_of index (numbers_of changed) → IsPermutation (all_slots out ++ slots_of a changed) (all_slots after) → length after ≡ length index
     → IsIndexed a after new
 reindexed a index out after visits changed new high indexed merged formed changed_formed rise left permuted long =
@@ -229,11 +229,11 @@ out_done_parts n parts i now was over told =
 
 -- the first clash near the changed slots is that of the plan with the changed visits
 pub near_first : (a : AirportParts) (index : List StandSlots) (visits changed : List Visit) (numbers : List VisitNo) (slots : List Slot) (found : Option Clash)
-    → IsIndexed a index visits → All (IsWellFormed a) visits → IsNumbered visits → Rises number_of 1 (length visits + 1) changed
+    → IsIndexed a index visits → All (IsWellFormed a) visits → IsNumbered visits → Rises visit_number 1 (length visits + 1) changed
     → numbers ≡ numbers_of changed → slots ≡ slots_of a changed → IsFirstClash a (others_of index numbers ++ slots) found
-    → IsFirstClash a (slots_of a (replaced visits changed)) found
+    → IsFirstClash a (slots_of a (replace_visits visits changed)) found
 near_first a index visits changed numbers slots found indexed formed numbered rise is slots_are first =
-    first_same a (others_of index (numbers_of changed) ++ slots_of a changed) (slots_of a (replaced visits changed)) found
-    (merged_slots a index visits changed (replaced visits changed) indexed (merged_replaced visits changed numbered rise) formed)
+    first_same a (others_of index (numbers_of changed) ++ slots_of a changed) (slots_of a (replace_visits visits changed)) found
+    (merged_slots a index visits changed (replace_visits visits changed) indexed (merged_replaced visits changed numbered rise) formed)
     (subst (λ (xs : List Slot). IsFirstClash a (others_of index (numbers_of changed) ++ xs) found) slots_are
     (subst (λ (ns : List VisitNo). IsFirstClash a (others_of index ns ++ slots) found) is first))

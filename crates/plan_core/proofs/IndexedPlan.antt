@@ -18,7 +18,7 @@ use Rattle.visit_book.specs.WellFormed.{IsWellFormed}
 use Rattle.plan_core.specs.declared.drafts.Drafted.{Drafted}
 use Rattle.plan_core.specs.Indexed.{IsIndexed, IsIndexedPlan}
 use Rattle.plan_core.specs.Indexing.{HasPlaceFor, HaveStandsOf, KeepsRoom, is_off_visits, numbers_of}
-use Rattle.plan_core.specs.PlanState.{ChangeState, IsInstallable, IsPlan, IsVisitAt, PlanState, empty_plan, installed, is_on, put_in}
+use Rattle.plan_core.specs.PlanState.{ChangeState, IsInstallable, IsPlan, IsVisitAt, PlanState, empty_plan, is_on, plan_after_change, put_in}
 use Rattle.plan_core.proofs.IndexedIn.{can_index}
 use Rattle.plan_core.proofs.IndexedOrder.{numbered_rises, slots_ordered, slots_rise}
 use Rattle.plan_core.proofs.IndexedOut.{index_clear, left_others, reindexed, stands_of_index}
@@ -140,7 +140,7 @@ install_place plan change index out h fits room taken =
 -- with them it is the index of the plan after the change
 pub install_indexed : (plan : PlanState) (change : ChangeState) (index out after : List StandSlots) → IsIndexedPlan plan index → IsInstallable plan change
     → IsTakenOut plan change index out → IsPermutation (all_slots out ++ change.slots) (all_slots after) → length after ≡ length out → IsIndex after
-    → IsIndexedPlan (installed plan change) after
+    → IsIndexedPlan (plan_after_change plan change) after
 install_indexed plan change index out after h fits taken permuted long is = record {
   plan_is = installs plan change h.plan_is fits;
   indexed = reindexed plan.airport index out after plan.visits change.visits (put_in plan.visits change.visits) (length plan.visits + 2) h.indexed

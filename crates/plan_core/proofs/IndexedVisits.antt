@@ -24,9 +24,9 @@ use Rattle.visit_book.specs.WellFormed.{IsWellFormed}
 use Rattle.visit_book.proofs.ByPlace.{visit_at-within}
 use Rattle.plan_core.specs.Indexed.{IsIndexed}
 use Rattle.plan_core.specs.Indexing.{numbers_of}
-use Rattle.plan_core.specs.PlanState.{number_of, put_in, put_one}
+use Rattle.plan_core.specs.PlanState.{put_in, put_one, visit_number}
 use Rattle.plan_core.specs.Visits.{IsThereOrNext}
-use Rattle.plan_core.specs.Working.{newest, replaced}
+use Rattle.plan_core.specs.Working.{newest, replace_visits}
 use Rattle.plan_core.proofs.ByNumber.{found_number, number_is}
 use Rattle.plan_core.proofs.IndexedOrder.{IsSlotFrom, slots_from_start}
 use Rattle.plan_core.proofs.Puts.{CanPut, by_case, first_number, put_next}
@@ -127,25 +127,25 @@ first_same a xs ys found same h =
 pub sound_within : (a : AirportParts) (xs ys : List Slot) → ((x : Slot) → Contains ys x → Contains xs x) → IsSound a xs → IsSound a ys
 sound_within a xs ys within sound p q m rule in_p in_q is = sound p q m rule (within p in_p) (within q in_q) is
 
-rises_low : (low high : ℕ) (visits : List Visit) (v : Visit) → Rises number_of low high visits → Contains visits v → (low ≤ v.number.0) × (v.number.0 < high)
+rises_low : (low high : ℕ) (visits : List Visit) (v : Visit) → Rises visit_number low high visits → Contains visits v → (low ≤ v.number.0) × (v.number.0 < high)
 rises_low low high [] v rise h = absurd (omega (arith, h.1))
 rises_low low high (w ∷ visits) v rise h = elim (listed_cases w visits v h) [
   | inl same ↦ (omega (arith, rise.0, ap (λ (u : Visit). u.number.0) same), omega (arith, most (w.number.0 + 1) visits rise.1, ap (λ (u : Visit). u.number.0) same))
   | inr later ↦ (let rest = rises_low (w.number.0 + 1) high visits v rise.1 later in (omega (arith, rise.0, rest.0), rest.1))
 ]
   where
-    most : (from : ℕ) (visits : List Visit) → Rises number_of from high visits → from ≤ high
+    most : (from : ℕ) (visits : List Visit) → Rises visit_number from high visits → from ≤ high
     most from [] rise = rise
     most from (w ∷ visits) rise = omega (arith, rise.0, most (w.number.0 + 1) visits rise.1)
 
-none_low : (low high : ℕ) (visits : List Visit) (n : VisitNo) → Rises number_of low high visits → n.0 < low → visit_at visits n ≡ None
+none_low : (low high : ℕ) (visits : List Visit) (n : VisitNo) → Rises visit_number low high visits → n.0 < low → visit_at visits n ≡ None
 none_low low high [] n rise below = refl
 none_low low high (w ∷ visits) n rise below =
     let other : has_number n w ≡ false = grind (arith, nat_tests, rise.0) in
     ap (λ b. cond b (Some w) (visit_at visits n)) other ∙ none_low (w.number.0 + 1) high visits n rise.1 (omega (arith, rise.0))
 
 -- a visit is found by its number
-pub found_itself : (low high : ℕ) (visits : List Visit) (v : Visit) → Rises number_of low high visits → Contains visits v → visit_at visits v.number ≡ Some v
+pub found_itself : (low high : ℕ) (visits : List Visit) (v : Visit) → Rises visit_number low high visits → Contains visits v → visit_at visits v.number ≡ Some v
 found_itself low high [] v rise h = absurd (omega (arith, h.1))
 found_itself low high (w ∷ visits) v rise h = elim (listed_cases w visits v h) [
   | inl same ↦ (let here : has_number v.number w ≡ true = grind (arith, nat_tests, ap (λ (u : Visit). u.number.0) same) in
@@ -178,7 +178,7 @@ mapped_from f (w ∷ visits) y h = elim (listed_cases (f w) (map f visits) y h) 
 ]
 
 -- the visits of a plan, with changed ones in the places of their numbers
-pub merged_replaced : (visits changed : List Visit) → IsNumbered visits → Rises number_of 1 (length visits + 1) changed → IsMerged visits changed (replaced visits changed)
+pub merged_replaced : (visits changed : List Visit) → IsNumbered visits → Rises visit_number 1 (length visits + 1) changed → IsMerged visits changed (replace_visits visits changed)
 merged_replaced visits changed numbered rise = record {
   has = λ c h.
       let within = rises_low 1 (length visits + 1) changed c rise h in
@@ -187,9 +187,9 @@ merged_replaced visits changed numbered rise = record {
       let number : old.number ≡ c.number = number_is old.number c.number (found_number visits c.number old at) in
       let new : newest changed old ≡ c =
       ap (λ (found : Option Visit). unwrap_or found old) (ap (visit_at changed) number ∙ found_itself 1 (length visits + 1) changed c rise h) in
-      subst (Contains (replaced visits changed)) new (mapped (newest changed) visits old (found_listed visits c.number old at));
+      subst (Contains (replace_visits visits changed)) new (mapped (newest changed) visits old (found_listed visits c.number old at));
   kept = λ v h none.
-      subst (Contains (replaced visits changed)) (ap (λ (found : Option Visit). unwrap_or found v) none) (mapped (newest changed) visits v h);
+      subst (Contains (replace_visits visits changed)) (ap (λ (found : Option Visit). unwrap_or found v) none) (mapped (newest changed) visits v h);
   from = λ y h.
       let found = mapped_from (newest changed) visits y h in
       one found.0 y (visit_at changed found.0.number) refl found.1 found.2;

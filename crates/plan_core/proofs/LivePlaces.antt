@@ -18,7 +18,7 @@ use Rattle.visit_book.specs.declared.visits.Key.{Key}
 use Rattle.visit_book.specs.Flights.{is_by}
 use Rattle.plan_core.specs.declared.flights.FlightDay.{FlightDay}
 use Rattle.plan_core.specs.declared.flights.FlightPlace.{FlightPlace}
-use Rattle.plan_core.specs.FlightPlaces.{AreFlightPlaces, KeepsKey, compare_days, compare_places, flight_day, has_place, is_of_day, is_same_day, place_of}
+use Rattle.plan_core.specs.FlightPlaces.{AreFlightPlaces, KeepsKey, compare_days, compare_places, flies_on_day, flight_day, flight_place, has_place, is_same_day}
 
 -- an order of two parts tells apart what one of them tells apart
 pub both_equal : (first second : Ordering) → is_eq (ordering_then first second) ≡ (is_eq first && is_eq second)
@@ -106,7 +106,7 @@ grouped true false c d = refl
 grouped false b c d = refl
 
 -- whether a key is of the flight and the day of another
-pub is_by_day : (key : Key) (found : Option Key) → is_of_day (flight_day key) found ≡ is_by key found
+pub is_by_day : (key : Key) (found : Option Key) → flies_on_day (flight_day key) found ≡ is_by key found
 is_by_day key None = refl
 is_by_day key (Some found) =
     grouped (bytes_eq found.flight.airline key.flight.airline) (found.flight.number == key.flight.number)
@@ -118,7 +118,7 @@ record KeyAt (keys : List (Option Key)) (place : FlightPlace) : Type 0 where
   at : slice_get keys place.place ≡ Some (Some key)
   day : flight_day key ≡ place.flight
 
-found_of : (found : Option (Option Key)) (flight : FlightDay) → option_map_or (is_of_day flight) found false ≡ true
+found_of : (found : Option (Option Key)) (flight : FlightDay) → option_map_or (flies_on_day flight) found false ≡ true
     → (key : Key) × (found ≡ Some (Some key)) × (flight_day key ≡ flight)
 found_of None flight h = absurd (cc)
 found_of (Some None) flight h = absurd (cc)
@@ -130,7 +130,7 @@ key_at keys place has = let found = found_of (slice_get keys place.place) place.
 has_key : (keys : List (Option Key)) (place : FlightPlace) (key : Key) → slice_get keys place.place ≡ Some (Some key) → flight_day key ≡ place.flight
     → has_place keys place ≡ true
 has_key keys place key at day =
-    ap (λ found. option_map_or (is_of_day place.flight) found false) at
+    ap (λ found. option_map_or (flies_on_day place.flight) found false) at
     ∙ subst (λ (flight : FlightDay). is_same_day (flight_day key) flight ≡ true) day (day_itself (flight_day key))
 
 earlier_of : {X : Type 0} (xs ys : List X) (place : ℕ) → place < length xs → slice_get (xs ++ ys) place ≡ slice_get xs place
@@ -167,7 +167,7 @@ places_push live indexed keys key h = record {
       has_key (keys ++ key ∷ []) place old.key (earlier_of keys (key ∷ []) place.place within ∙ old.at) old.day;
   all = λ place below has.
       let within : place.place < length keys = omega (arith, h.few, below) in
-      h.all place below (sym (ap (λ found. option_map_or (is_of_day place.flight) found false) (earlier_of keys (key ∷ []) place.place within)) ∙ has);
+      h.all place below (sym (ap (λ found. option_map_or (flies_on_day place.flight) found false) (earlier_of keys (key ∷ []) place.place within)) ∙ has);
 }
 
 below_or_at : (place count : ℕ) → place < count + 1 → (place < count) ⊎ (place ≡ count)
@@ -176,18 +176,18 @@ below_or_at place count below = grind arith
 -- the set with the place of one more key
 pub places_more : (live new : BTreeSet FlightPlace) (i : ℕ) (keys : List (Option Key)) (key : Key) → AreFlightPlaces live i keys → i < length keys
     → slice_get keys i ≡ Some (Some key)
-    → ((place : FlightPlace) → contains compare_places new place ≡ cond (is_at (compare_places (place_of key i)) place) true (contains compare_places live place))
+    → ((place : FlightPlace) → contains compare_places new place ≡ cond (is_at (compare_places (flight_place key i)) place) true (contains compare_places live place))
     → AreFlightPlaces new (i + 1) keys
 places_more live new i keys key h within at puts = record {
   few = omega arith;
-  only = λ place has. put (is_at (compare_places (place_of key i)) place) place refl (sym (puts place) ∙ has);
+  only = λ place has. put (is_at (compare_places (flight_place key i)) place) place refl (sym (puts place) ∙ has);
   all = λ place below has.
       puts place ∙ elim (below_or_at place.place i below) [
-        | inl earlier ↦ ap (cond (is_at (compare_places (place_of key i)) place) true) (h.all place earlier has) ∙ either (is_at (compare_places (place_of key i)) place)
+        | inl earlier ↦ ap (cond (is_at (compare_places (flight_place key i)) place) true) (h.all place earlier has) ∙ either (is_at (compare_places (flight_place key i)) place)
         | inr last ↦ (let there = key_at keys place has in
             let same : there.key ≡ key = same_key (slice_get keys i) there.key key (ap (slice_get keys) (sym last) ∙ there.at) at in
             ap (λ b. cond b true (contains compare_places live place))
-            (at_same (place_of key i) place (ap flight_day (sym same) ∙ there.day) (sym last)))
+            (at_same (flight_place key i) place (ap flight_day (sym same) ∙ there.day) (sym last)))
       ];
 }
   where
@@ -195,9 +195,9 @@ places_more live new i keys key h within at puts = record {
     either true = refl
     either false = refl
 
-    put : (b : Bool) (place : FlightPlace) → is_at (compare_places (place_of key i)) place ≡ b → cond b true (contains compare_places live place) ≡ true
+    put : (b : Bool) (place : FlightPlace) → is_at (compare_places (flight_place key i)) place ≡ b → cond b true (contains compare_places live place) ≡ true
         → has_place keys place ≡ true
-    put true place is has = subst (λ (p : FlightPlace). has_place keys p ≡ true) (place_is (place_of key i) place is) (has_key keys (place_of key i) key at refl)
+    put true place is has = subst (λ (p : FlightPlace). has_place keys p ≡ true) (place_is (flight_place key i) place is) (has_key keys (flight_place key i) key at refl)
     put false place is has = h.only place has
 
 -- one more key, of no live visit, has no place
@@ -215,18 +215,18 @@ places_none live i keys h within at = record {
 -- the keys after one is set
 module _ (live : BTreeSet FlightPlace) (indexed i : ℕ) (keys : List (Option Key)) (h : AreFlightPlaces live indexed keys) (within : i < length keys) where
   elsewhere : (key : Option Key) (place : FlightPlace) → place.place ≢ i → has_place (slice_set keys i key) place ≡ has_place keys place
-  elsewhere key place apart = ap (λ found. option_map_or (is_of_day place.flight) found false) (other_of keys i place.place key apart)
+  elsewhere key place apart = ap (λ found. option_map_or (flies_on_day place.flight) found false) (other_of keys i place.place key apart)
 
   here : (key : Option Key) (place : FlightPlace) → place.place ≡ i → slice_get (slice_set keys i key) place.place ≡ Some key
   here key place at = ap (slice_get (slice_set keys i key)) at ∙ there_of keys i key within
 
   -- to none, where there was a key, whose place is taken out of the set
   pub places_clear : (new : BTreeSet FlightPlace) (old : Key) → slice_get keys i ≡ Some (Some old)
-      → ((place : FlightPlace) → contains compare_places new place ≡ cond (is_at (compare_places (place_of old i)) place) false (contains compare_places live place))
+      → ((place : FlightPlace) → contains compare_places new place ≡ cond (is_at (compare_places (flight_place old i)) place) false (contains compare_places live place))
       → AreFlightPlaces new indexed (slice_set keys i None)
   places_clear new old was takes = record {
     few = omega (arith, h.few, length-set keys i None);
-    only = λ place has. left (is_at (compare_places (place_of old i)) place) place refl (sym (takes place) ∙ has);
+    only = λ place has. left (is_at (compare_places (flight_place old i)) place) place refl (sym (takes place) ∙ has);
     all = λ place below has.
         elim (cases_eq place.place i) [
           | inl at ↦ (let there = key_at (slice_set keys i None) place has in
@@ -236,21 +236,21 @@ module _ (live : BTreeSet FlightPlace) (indexed i : ℕ) (keys : List (Option Ke
         ];
   }
     where
-      not_at : (place : FlightPlace) → place.place ≢ i → is_at (compare_places (place_of old i)) place ≡ false
-      not_at place apart = test (is_at (compare_places (place_of old i)) place) refl
+      not_at : (place : FlightPlace) → place.place ≢ i → is_at (compare_places (flight_place old i)) place ≡ false
+      not_at place apart = test (is_at (compare_places (flight_place old i)) place) refl
         where
-          test : (b : Bool) → is_at (compare_places (place_of old i)) place ≡ b → b ≡ false
-          test true is = absurd (apart (ap (λ (p : FlightPlace). p.place) (sym (place_is (place_of old i) place is))))
+          test : (b : Bool) → is_at (compare_places (flight_place old i)) place ≡ b → b ≡ false
+          test true is = absurd (apart (ap (λ (p : FlightPlace). p.place) (sym (place_is (flight_place old i) place is))))
           test false is = refl
 
-      left : (b : Bool) (place : FlightPlace) → is_at (compare_places (place_of old i)) place ≡ b → cond b false (contains compare_places live place) ≡ true
+      left : (b : Bool) (place : FlightPlace) → is_at (compare_places (flight_place old i)) place ≡ b → cond b false (contains compare_places live place) ≡ true
           → has_place (slice_set keys i None) place ≡ true
       left true place is has = absurd (cc)
       left false place is has =
           let there = key_at keys place (h.only place has) in
           elim (cases_eq place.place i) [
             | inl at ↦ (let same : old ≡ there.key = same_key (slice_get keys i) old there.key was (ap (slice_get keys) (sym at) ∙ there.at) in
-                let found : is_at (compare_places (place_of old i)) place ≡ true = at_same (place_of old i) place (ap flight_day same ∙ there.day) (sym at) in
+                let found : is_at (compare_places (flight_place old i)) place ≡ true = at_same (flight_place old i) place (ap flight_day same ∙ there.day) (sym at) in
                 absurd (cc (sym found ∙ is)))
             | inr apart ↦ elsewhere None place apart ∙ h.only place has
           ]

@@ -12,7 +12,7 @@ use Rattle.visit_book.specs.Slots.{slots_of}
 use Rattle.plan_core.specs.Drafts.{Draft}
 use Rattle.plan_core.specs.Edits.{after_all_edits, is_edited}
 use Rattle.plan_core.specs.PlanState.{PlanState}
-use Rattle.plan_core.specs.Rebase.{Rebases, Refuses}
+use Rattle.plan_core.specs.Rebase.{Rebases, RefusesDraft}
 use Rattle.plan_core.proofs.Changed.{edits_follow, follows_numbered}
 use Rattle.plan_core.proofs.OneSlot.{slots_have_different_parts}
 use Rattle.plan_core.proofs.Results.{err_is, not_both, ok_is}
@@ -30,7 +30,7 @@ record LeavesClash (plan : PlanState) (draft : Draft) (fault : EditFault) : Type
   first : IsFirstClash plan.airport (slots_of plan.airport new) (Some clash)
 
 -- an edit is refused for this cause, or the edits leave that clash
-cause_of : (plan : PlanState) (draft : Draft) (fault : EditFault) → fault ≢ Memory → Refuses plan draft fault → (edited plan draft ≡ Err fault) ⊎ LeavesClash plan draft fault
+cause_of : (plan : PlanState) (draft : Draft) (fault : EditFault) → fault ≢ Memory → RefusesDraft plan draft fault → (edited plan draft ≡ Err fault) ⊎ LeavesClash plan draft fault
 cause_of plan draft (UnknownVisit k) cause h = inl h
 cause_of plan draft (Overtaken k n version) cause h = inl h
 cause_of plan draft (Gone k) cause h = inl h
@@ -53,7 +53,7 @@ clashes_are_one plan draft f g numbered x y =
     x.is ∙ (ap ByClash clash ∙ sym y.is)
 
 pub refusals_are_one : (plan : PlanState) (draft : Draft) (f g : EditFault) → IsNumbered plan.visits → f ≢ Memory → g ≢ Memory
-    → Refuses plan draft f → Refuses plan draft g → f ≡ g
+    → RefusesDraft plan draft f → RefusesDraft plan draft g → f ≡ g
 refusals_are_one plan draft f g numbered some_f some_g h k =
     elim (cause_of plan draft f some_f h) [
       | inl x ↦ elim (cause_of plan draft g some_g k) [
@@ -71,7 +71,7 @@ some_and_sound : (plan : PlanState) (vs ws : List Visit) (c : Clash) → vs ≡ 
 some_and_sound plan vs ws c same some sound =
     none_from_sound plan.airport (slots_of plan.airport vs) (subst (λ xs. IsSound plan.airport (slots_of plan.airport xs)) (sym same) sound) c some.0
 
-pub rebased_or_refused : (plan : PlanState) (draft : Draft) (new : List Visit) (f : EditFault) → f ≢ Memory → Rebases plan draft new → Refuses plan draft f → ⊥
+pub rebased_or_refused : (plan : PlanState) (draft : Draft) (new : List Visit) (f : EditFault) → f ≢ Memory → Rebases plan draft new → RefusesDraft plan draft f → ⊥
 rebased_or_refused plan draft new f some r h =
     elim (cause_of plan draft f some h) [
       | inl x ↦ not_both new f (sym r.apply ∙ x)

@@ -11,13 +11,13 @@ use Rattle.visit_book.specs.declared.visits.Visit.{Visit}
 use Rattle.visit_book.specs.Numbers.{IsNumbered, IsNumberedAbove, has_number, visit_at}
 use Rattle.visit_book.proofs.ByPlace.{visit_at-outside, visit_at-place}
 use Rattle.plan_core.specs.Names.{HaveDifferentNames, visit_named}
-use Rattle.plan_core.specs.PlanState.{IsSameVisit, KeepsOrAdds, number_of, put_in, put_one}
+use Rattle.plan_core.specs.PlanState.{IsSameVisit, KeepsOrAdds, put_in, put_one, visit_number}
 use Rattle.plan_core.specs.Visits.{IsThereOrNext}
 use Rattle.plan_core.proofs.ByNumber.{found_number}
 use Rattle.plan_core.proofs.Names.{different_push, different_set, unnamed_set}
 
 -- numbers that rise from a lower one
-pub rises_from : (low from high : ℕ) (visits : List Visit) → low ≤ from → Rises number_of from high visits → Rises number_of low high visits
+pub rises_from : (low from high : ℕ) (visits : List Visit) → low ≤ from → Rises visit_number from high visits → Rises visit_number low high visits
 rises_from low from high [] le h = omega (arith, h)
 rises_from low from high (v ∷ visits) le h = (omega (arith, h.0), h.1)
 
@@ -26,13 +26,13 @@ rises_from low from high (v ∷ visits) le h = (omega (arith, h.0), h.1)
 pub record CanPut (count : ℕ) (visits changed : List Visit) : Type 0 where
   pub numbered : IsNumbered visits
   pub size : count ≤ length visits
-  pub rise : Rises number_of 1 (count + 2) changed
+  pub rise : Rises visit_number 1 (count + 2) changed
   pub same : AllByRecursion (KeepsOrAdds visits) changed
 
 -- the first of them is one of the visits, or the next one
 pub first_number : (count : ℕ) (visits : List Visit) (v : Visit) (changed : List Visit) → CanPut count visits (v ∷ changed) → IsThereOrNext (length visits) v
 first_number count visits v changed h =
-    let rest : v.number.0 + 1 + length changed ≤ count + 2 = rises_length number_of (v.number.0 + 1) (count + 2) changed h.rise.1 in
+    let rest : v.number.0 + 1 + length changed ≤ count + 2 = rises_length visit_number (v.number.0 + 1) (count + 2) changed h.rise.1 in
     (h.rise.0, omega (arith, h.size, rest))
 
 -- the visit in the place of a number is the visit of that number
@@ -104,7 +104,7 @@ still_set visits v w r above h =
     (kept_or_added (visit_at visits w.number) w (visit_named visits w.name ≡ None) (visit_named (slice_set visits (v.number.0 - 1) v) w.name ≡ None)
     (unnamed_set w.name visits (v.number.0 - 1) old v r.at name) h)
 
-still_each : (visits : List Visit) (v : Visit) (low high : ℕ) (changed : List Visit) → (r : Replaces visits v) → v.number.0 < low → Rises number_of low high changed
+still_each : (visits : List Visit) (v : Visit) (low high : ℕ) (changed : List Visit) → (r : Replaces visits v) → v.number.0 < low → Rises visit_number low high changed
     → AllByRecursion (KeepsOrAdds visits) changed → AllByRecursion (KeepsOrAdds (slice_set visits (v.number.0 - 1) v)) changed
 still_each visits v low high [] r below rise h = tt
 still_each visits v low high (w ∷ changed) r below rise h =
@@ -112,11 +112,11 @@ still_each visits v low high (w ∷ changed) r below rise h =
     (still_set visits v w r (omega arith) h.0, still_each visits v (w.number.0 + 1) high changed r (omega arith) rise.1 h.1)
 
 -- after the next number comes none
-none_after : (P : Visit → Type 0) (low high : ℕ) (changed : List Visit) → high ≤ low → Rises number_of low high changed → AllByRecursion P changed
+none_after : (P : Visit → Type 0) (low high : ℕ) (changed : List Visit) → high ≤ low → Rises visit_number low high changed → AllByRecursion P changed
 none_after P low high [] le rise = tt
 none_after P low high (w ∷ changed) le rise =
     let first : low ≤ w.number.0 = rise.0 in
-    let rest : w.number.0 + 1 + length changed ≤ high = rises_length number_of (w.number.0 + 1) high changed rise.1 in
+    let rest : w.number.0 + 1 + length changed ≤ high = rises_length visit_number (w.number.0 + 1) high changed rise.1 in
     absurd (omega arith)
 
 pub set_numbered : (n i : ℕ) (visits : List Visit) (v : Visit) → IsNumberedAbove n visits → v.number.0 ≡ n + i + 1 → IsNumberedAbove n (slice_set visits i v)
@@ -200,7 +200,7 @@ put_named count visits changed h named =
     (λ before v rest can now. put_one_named before v (first_number count before v rest can) can.numbered can.same.0 now) h named
 
 -- the visits of a change can be put in
-pub can_put : (visits changed : List Visit) → IsNumbered visits → Rises number_of 1 (length visits + 2) changed → All (KeepsOrAdds visits) changed
+pub can_put : (visits changed : List Visit) → IsNumbered visits → Rises visit_number 1 (length visits + 2) changed → All (KeepsOrAdds visits) changed
     → CanPut (length visits) visits changed
 can_put visits changed numbered rise same = record {
   numbered = numbered;

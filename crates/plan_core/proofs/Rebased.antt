@@ -16,8 +16,8 @@ use Rattle.visit_book.specs.Slots.{slots_of}
 use Rattle.visit_book.specs.WellFormed.{IsWellFormed}
 use Rattle.plan_core.specs.Drafts.{Draft, id_of}
 use Rattle.plan_core.specs.Edits.{after_all_edits, edited_visits, is_edited}
-use Rattle.plan_core.specs.Working.{replaced}
-use Rattle.plan_core.specs.PlanState.{ChangeState, IsPlan, PlanState, number_of}
+use Rattle.plan_core.specs.Working.{replace_visits}
+use Rattle.plan_core.specs.PlanState.{ChangeState, IsPlan, PlanState, visit_number}
 use Rattle.plan_core.specs.Rebase.{IsRebased, edited_last, rebase_steps}
 use Rattle.plan_core.proofs.Among.{edited_among, refused_among, replaced_edited}
 use Rattle.plan_core.proofs.ByNumber.{only}
@@ -37,7 +37,7 @@ pub record Applied (plan : PlanState) (draft : Draft) (edited : List Visit) : Ty
   pub new : List Visit
   pub apply : after_all_edits plan.airport draft.base draft.edits plan.visits ≡ Ok new
   pub bare : edited ≡ edited_visits draft.edits new
-  pub whole : replaced plan.visits edited ≡ new
+  pub whole : replace_visits plan.visits edited ≡ new
 
 pub applied : (plan : PlanState) (draft : Draft) (a : AirportParts) (copy edited : List Visit) → IsNumbered plan.visits → a ≡ plan.airport
     → copy ≡ edited_visits draft.edits plan.visits → after_all_edits a draft.base draft.edits copy ≡ Ok edited → Applied plan draft edited
@@ -48,7 +48,7 @@ applied plan draft a copy edited numbered airport is e =
       new = made.0;
       apply = made.1;
       bare = made.2;
-      whole = ap (replaced plan.visits) made.2 ∙ replaced_edited plan.airport draft.base draft.edits plan.visits made.0 numbered made.1;
+      whole = ap (replace_visits plan.visits) made.2 ∙ replaced_edited plan.airport draft.base draft.edits plan.visits made.0 numbered made.1;
     }
 
 pub refused : (plan : PlanState) (draft : Draft) (a : AirportParts) (copy : List Visit) (fault : EditFault) → a ≡ plan.airport
@@ -58,28 +58,28 @@ refused plan draft a copy fault airport is e =
     refused_among plan.airport draft.base draft.edits plan.visits fault
     (moved (λ b vs. after_all_edits b draft.base draft.edits vs ≡ Err fault) a plan.airport copy (edited_visits draft.edits plan.visits) airport is e)
 
-follows_rise : (e : ℕ → Bool) (n high : ℕ) (olds news : List Visit) → n + length olds + 1 ≤ high → Follows e n olds news → Rises number_of (n + 1) high news
+follows_rise : (e : ℕ → Bool) (n high : ℕ) (olds news : List Visit) → n + length olds + 1 ≤ high → Follows e n olds news → Rises visit_number (n + 1) high news
 follows_rise e n high [] [] le h = omega (arith, le)
 follows_rise e n high (o ∷ olds) (v ∷ news) le h =
     (omega (arith, h.0.number), rises_from (v.number.0 + 1) (n + 1 + 1) high news (omega (arith, h.0.number)) (follows_rise e (n + 1) high olds news (omega (arith, le)) h.1))
 follows_rise e n high [] (v ∷ news) le h = absurd h
 follows_rise e n high (o ∷ olds) [] le h = absurd h
 
-only_rise : (e : ℕ → Bool) (low high : ℕ) (visits : List Visit) → Rises number_of low high visits → Rises number_of low high (only e visits)
+only_rise : (e : ℕ → Bool) (low high : ℕ) (visits : List Visit) → Rises visit_number low high visits → Rises visit_number low high (only e visits)
 only_rise e low high [] h = h
 only_rise e low high (v ∷ visits) h = by (e v.number.0) (only_rise e (v.number.0 + 1) high visits h.1)
   where
-    by : (b : Bool) → Rises number_of (v.number.0 + 1) high (only e visits) → Rises number_of low high (cond b (v ∷ only e visits) (only e visits))
+    by : (b : Bool) → Rises visit_number (v.number.0 + 1) high (only e visits) → Rises visit_number low high (cond b (v ∷ only e visits) (only e visits))
     by true rest = (h.0, rest)
     by false rest = rises_from low (v.number.0 + 1) high (only e visits) (omega (arith, h.0)) rest
 
 -- the numbers of the edited visits rise
 pub applied_rise : (plan : PlanState) (draft : Draft) (edited : List Visit) → IsNumbered plan.visits → Applied plan draft edited
-    → Rises number_of 1 (length plan.visits + 1) edited
+    → Rises visit_number 1 (length plan.visits + 1) edited
 applied_rise plan draft edited numbered done =
     let e : ℕ → Bool = is_edited draft.edits in
     let follows : Follows e 0 plan.visits done.new = edits_follow plan.airport draft.base 1 draft.edits plan.visits done.new numbered done.apply in
-    subst (Rises number_of 1 (length plan.visits + 1)) (sym done.bare)
+    subst (Rises visit_number 1 (length plan.visits + 1)) (sym done.bare)
     (only_rise e 1 (length plan.visits + 1) done.new (follows_rise e 0 (length plan.visits + 1) plan.visits done.new (omega arith) follows))
 
 -- the steps of a rebase are those of looking near the slots of the edited visits

@@ -36,8 +36,8 @@ abbrev pub draft_version : List Drafted → List ℕ → ℕ → Option ℕ
 draft_version drafts desk number = option_map (λ drafted. drafted.version) (find (λ drafted. is_draft desk number drafted.id) drafts)
 
 -- the version that the draft made
-abbrev pub version_of : Drafted → ℕ
-version_of drafted = drafted.version
+abbrev pub drafted_version : Drafted → ℕ
+drafted_version drafted = drafted.version
 
 -- no two of the drafts have the same desk and number
 abbrev pub AreDifferent : List Drafted → Type 0
@@ -47,7 +47,7 @@ AreDifferent (drafted ∷ drafts) = (draft_version drafts drafted.id.desk drafte
 -- drafts that became commits of a plan at this version: the versions that they made rise strictly
 -- from at least 1 to at most that one, and no two have the same desk and number
 pub record AreDraftsAt (version : ℕ) (drafts : List Drafted) : Type 0 where
-  pub rising : Rises version_of 1 (version + 1) drafts
+  pub rising : Rises drafted_version 1 (version + 1) drafts
   pub different : AreDifferent drafts
 
 -- the drafts with one more, if there is one, that made this version

@@ -26,8 +26,8 @@ refuse_unfit number (Some by) = Err (Unfit number by)
 refuse_unfit number None = Ok tt
 
 -- the same part at this place
-abbrev pub placed : Place → Part → Part
-placed place part = record part { place = place }
+abbrev pub part_at_place : Place → Part → Part
+part_at_place place part = record part { place = place }
 
 -- the visit with another part of this number
 abbrev pub with_part : Visit → ℕ → Part → Visit
@@ -39,10 +39,10 @@ abbrev pub edit_part : AirportParts → ℕ → Edit → Visit → Part → Resu
 edit_part airport number (Put of k stand) visit part = do
   planned ← refuse_if (is_actual part.place) (OnBlock number)
   fits ← refuse_unfit number (unfit_of airport stand visit.kind)
-  Ok (with_part visit k (placed (Planned stand) part))
+  Ok (with_part visit k (part_at_place (Planned stand) part))
 edit_part airport number (Lift of k) visit part = do
   planned ← refuse_if (is_actual part.place) (OnBlock number)
-  Ok (with_part visit k (placed (Unplaced None) part))
+  Ok (with_part visit k (part_at_place (Unplaced None) part))
 edit_part airport number (Cut of k at) visit part = do
   planned ← refuse_if (has_actual_behind k visit) (OnBlock number)
   ok_or (cut_of airport k at visit) (BadCut number)

@@ -44,20 +44,20 @@ abbrev pub compare_places : FlightPlace → FlightPlace → Ordering
 compare_places place other = ordering_then (compare_days place.flight other.flight) (nat_cmp place.place other.place)
 
 -- a place of the key's flight
-abbrev pub place_of : Key → ℕ → FlightPlace
-place_of key place = record { flight = flight_day key; place = place }
+abbrev pub flight_place : Key → ℕ → FlightPlace
+flight_place key place = record { flight = flight_day key; place = place }
 
 -- the set has this place of the key's flight
 abbrev pub has_live : BTreeSet FlightPlace → Key → ℕ → Bool
-has_live live key place = contains compare_places live (place_of key place)
+has_live live key place = contains compare_places live (flight_place key place)
 
 -- there is a key, of this flight and day
-abbrev pub is_of_day : FlightDay → Option Key → Bool
-is_of_day flight found = option_map_or (λ key. is_same_day (flight_day key) flight) found false
+abbrev pub flies_on_day : FlightDay → Option Key → Bool
+flies_on_day flight found = option_map_or (λ key. is_same_day (flight_day key) flight) found false
 
 -- the key at this place is of its flight and day
 abbrev pub has_place : List (Option Key) → FlightPlace → Bool
-has_place keys place = option_map_or (is_of_day place.flight) (slice_get keys place.place) false
+has_place keys place = option_map_or (flies_on_day place.flight) (slice_get keys place.place) false
 
 -- the set has only places of the keys, and all of those among this many first ones
 pub record AreFlightPlaces (live : BTreeSet FlightPlace) (indexed : ℕ) (keys : List (Option Key)) : Type 0 where

@@ -25,8 +25,8 @@ abbrev pub newest : List Visit → Visit → Visit
 newest others visit = unwrap_or (visit_at others visit.number) visit
 
 -- the visits, each replaced by the one of its number among others
-abbrev pub replaced : List Visit → List Visit → List Visit
-replaced visits others = map (newest others) visits
+abbrev pub replace_visits : List Visit → List Visit → List Visit
+replace_visits visits others = map (newest others) visits
 
 -- for a put or a lift the part is actual, for a cut or a join a later part is
 abbrev pub is_on_block : Edit → Visit → Part → Bool

@@ -6,7 +6,7 @@ ghost use Rattle.visit_book.specs.Ends.{is_live};
 ghost use Rattle.visit_book.specs.Numbers.{IsNumbered, has_number};
 ghost use Rattle.visit_book.specs.PartFields.{part_at};
 ghost use Rattle.visit_book.specs.WellFormed.{IsWellFormed};
-ghost use Rattle.plan_core.specs.Edits.{after_all_edits, after_edit, edit_part, edit_visit, edited_visits, placed, with_part};
+ghost use Rattle.plan_core.specs.Edits.{after_all_edits, after_edit, edit_part, edit_visit, edited_visits, part_at_place, with_part};
 ghost use Rattle.plan_core.specs.Working.{is_from, is_on_block, with_visit_once};
 ghost use Rattle.plan_core.specs.Rebase.{edited_last};
 
@@ -40,7 +40,7 @@ pub(crate) fn edited_visits(
 pub fn add_visit_once(visits: &mut Vec<Visit>, visit: Visit) -> Result<(), Memory>
     ensures ok { OnOk result (visits.new.items ≡ with_visit_once visits.old.items visit) }
 {
-    if place_of(visits.as_slice(), visit.number).is_none() {
+    if index_of_visit(visits.as_slice(), visit.number).is_none() {
         visits.insert(count_below(visits.as_slice(), visit.number), visit)?;
     }
     Ok(())
@@ -105,7 +105,7 @@ fn after_edit(
     ensures err { IfErr result (λ fault. after_edit airport.now base number edit.now visits.old ≡ Err fault) }
     ensures each { OnOk result (All (IsWellFormed airport.now) visits.new) }
 {
-    let Some(place) = place_of(visits, visit_of(edit)) else {
+    let Some(place) = index_of_visit(visits, visit_of(edit)) else {
         return Err(EditFault::UnknownVisit { edit: number });
     };
     visits[place] = edit_visit(airport, base, number, edit, &visits[place])?;
@@ -164,9 +164,13 @@ fn edit_part(
             if let Err(by) = airport.fits(stand, visit.kind) {
                 return Err(EditFault::Unfit { edit: number, by });
             }
-            Ok(with_part(visit, place, placed(Place::Planned(stand), part)))
+            Ok(with_part(visit, place, part_at_place(Place::Planned(stand), part)))
         }
-        Edit::Lift { .. } => Ok(with_part(visit, place, placed(Place::Unplaced(None), part))),
+        Edit::Lift { .. } => Ok(with_part(
+            visit,
+            place,
+            part_at_place(Place::Unplaced(None), part),
+        )),
         Edit::Cut { at, .. } => match cut(visit, airport, place, at) {
             Ok(made) => Ok(made),
             Err(BadCut) => Err(EditFault::BadCut { edit: number }),
@@ -188,8 +192,8 @@ fn is_on_block(edit: &Edit, visit: &Visit, part: &Part) -> bool
     }
 }
 
-fn placed(place: Place, part: Part) -> Part
-    ensures is { result ≡ placed place part }
+fn part_at_place(place: Place, part: Part) -> Part
+    ensures is { result ≡ part_at_place place part }
 {
     Part { place, ..part }
 }
@@ -206,7 +210,7 @@ fn with_part(visit: &Visit, number: u8, part: Part) -> Visit
 }
 
 // Where the visit of this number is among visits.
-fn place_of(visits: &[Visit], number: VisitNo) -> Option<usize>
+fn index_of_visit(visits: &[Visit], number: VisitNo) -> Option<usize>
     ensures place { result ≡ position (has_number number) visits.now }
 {
     visits.iter().position(|visit| has_number(visit, number))

@@ -1,7 +1,7 @@
 // Where the live visits of each flight are in a list of visits.
 ghost use Rattle.std.specs.Prelude.{◌≡◌, ◌≤◌, ◌<◌, ◌+◌, ◌++◌, ◌∷◌, [], IfNone, IfSome, OnOk, drop, length, option_map, position, slice_set};
 ghost use Rattle.visit_book.specs.Flights.{is_by};
-ghost use Rattle.plan_core.specs.FlightPlaces.{AreFlightPlaces, HasNoPlace, IsFirstPlace, KeepsKey, flight_day, place_of, put_key};
+ghost use Rattle.plan_core.specs.FlightPlaces.{AreFlightPlaces, HasNoPlace, IsFirstPlace, KeepsKey, flight_day, flight_place, put_key};
 
 use apron_base::{Memory, Name};
 use std::alloc::Global;
@@ -211,7 +211,7 @@ fn is_by(key: &Key, found: &Option<Key>) -> bool
 }
 
 fn place_of(key: &Key, place: usize) -> FlightPlace
-    ensures is { result ≡ place_of key.now place }
+    ensures is { result ≡ flight_place key.now place }
 {
     FlightPlace {
         flight: flight_day(key),

@@ -13,8 +13,8 @@ ghost use Rattle.visit_book.specs.Slots.{slots_of};
 ghost use Rattle.visit_book.specs.WellFormed.{IsWellFormed};
 ghost use Rattle.plan_core.specs.Indexed.{IsIndexed};
 ghost use Rattle.plan_core.specs.Indexing.{HasPlaceFor, HaveStandsOf, KeepsRoom, is_off, is_off_parts, is_off_visit, is_off_visits, numbers_of};
-ghost use Rattle.plan_core.specs.PlanState.{is_on, number_of};
-ghost use Rattle.plan_core.specs.Working.{replaced};
+ghost use Rattle.plan_core.specs.PlanState.{is_on, visit_number};
+ghost use Rattle.plan_core.specs.Working.{replace_visits};
 
 use apron_base::{Memory, PartId, Slot, StandNo, Steps, VisitNo};
 use apron_rules::{Airport, Clash};
@@ -154,10 +154,10 @@ pub(crate) fn first_clash_near<L: Ledger>(
     requires numbered { IsNumbered visits.now }
     requires sound { IsSound airport.now (slots_of airport.now visits.now) }
     requires changed { All (IsWellFormed airport.now) changed.now }
-    requires rise { Rises number_of 1 (length visits.now + 1) changed.now }
+    requires rise { Rises visit_number 1 (length visits.now + 1) changed.now }
     requires slots { slots.now ≡ slots_of airport.now changed.now }
-    ensures first { IfOk result (IsFirstClash airport.now (slots_of airport.now (replaced visits.now changed.now))) }
-    ensures sound { IfOk result (λ found. IfNone found (IsSound airport.now (slots_of airport.now (replaced visits.now changed.now)))) }
+    ensures first { IfOk result (IsFirstClash airport.now (slots_of airport.now (replace_visits visits.now changed.now))) }
+    ensures sound { IfOk result (λ found. IfNone found (IsSound airport.now (slots_of airport.now (replace_visits visits.now changed.now)))) }
     ensures steps { steps.new ≤ steps.old + steps_of airport.now index.now slots.now }
 {
     let numbers = numbers_of(alloc, changed)?;

@@ -8,11 +8,11 @@ ghost use Rattle.visit_book.specs.declared.visits.Visit.{Visit};
 ghost use Rattle.visit_book.specs.NewVisits.{new_of};
 ghost use Rattle.visit_book.specs.Numbers.{IsNumbered};
 ghost use Rattle.visit_book.specs.Slots.{slots_of};
-ghost use Rattle.plan_core.specs.Adding.{IsAddable, adding, with_added};
+ghost use Rattle.plan_core.specs.Adding.{IsAddable, add_change, with_added};
 ghost use Rattle.plan_core.specs.Drafts.{Draft, draft_version};
-ghost use Rattle.plan_core.specs.Moving.{IsCancellable, cancelled, moving, with_cancelled};
-ghost use Rattle.plan_core.specs.PlanState.{ChangeState, IsInstallable, IsPlan, PlanState, installed};
-ghost use Rattle.plan_core.specs.Rebase.{IsRebased, Rebases, Refuses, committed};
+ghost use Rattle.plan_core.specs.Moving.{IsCancellable, cancelled_visit, move_change, with_cancelled};
+ghost use Rattle.plan_core.specs.PlanState.{ChangeState, IsInstallable, IsPlan, PlanState, plan_after_change};
+ghost use Rattle.plan_core.specs.Rebase.{IsRebased, Rebases, RefusesDraft, plan_after_commit};
 
 /// Each part of visits that are numbered in order has at most one slot, so there is one first
 /// clash.
@@ -25,37 +25,37 @@ pub fn slots_have_different_parts()
 pub fn answer_is_one()
     ensures refusal { (plan : PlanState) (draft : Draft) (fault other : EditFault)
         → IsNumbered plan.visits → fault ≢ Memory → other ≢ Memory
-        → Refuses plan draft fault → Refuses plan draft other → fault ≡ other }
+        → RefusesDraft plan draft fault → RefusesDraft plan draft other → fault ≡ other }
     ensures either { (plan : PlanState) (draft : Draft) (new : List Visit) (fault : EditFault)
-        → fault ≢ Memory → Rebases plan draft new → ¬ (Refuses plan draft fault) }
+        → fault ≢ Memory → Rebases plan draft new → ¬ (RefusesDraft plan draft fault) }
 {}
 
 /// Apart from a lack of memory, each draft has an answer.
 pub fn answer_exists()
     ensures some { (plan : PlanState) (draft : Draft)
-        → ((new : List Visit) × Rebases plan draft new) ⊎ ((fault : EditFault) × (fault ≢ Memory) × Refuses plan draft fault) }
+        → ((new : List Visit) × Rebases plan draft new) ⊎ ((fault : EditFault) × (fault ≢ Memory) × RefusesDraft plan draft fault) }
 {}
 
 /// What a rebase gives makes the plan that the commit of the draft makes.
 pub fn rebased_is_committed()
     ensures installed { (plan : PlanState) (draft : Draft) (change : ChangeState)
-        → IsNumbered plan.visits → (rebased : IsRebased plan draft change) → installed plan change ≡ committed plan draft rebased.new }
+        → IsNumbered plan.visits → (rebased : IsRebased plan draft change) → plan_after_change plan change ≡ plan_after_commit plan draft rebased.new }
 {}
 
 /// The change that adds a visit makes the plan that has this visit last.
 pub fn added_is_with_added()
-    ensures installed { (plan : PlanState) (visit : Visit) → IsAddable plan visit → installed plan (adding plan visit) ≡ with_added plan (new_of visit) }
+    ensures installed { (plan : PlanState) (visit : Visit) → IsAddable plan visit → plan_after_change plan (add_change plan visit) ≡ with_added plan (new_of visit) }
 {}
 
 /// The change that cancels a visit makes the plan in which it is cancelled.
 pub fn cancelling_is_with_cancelled()
     ensures installed { (plan : PlanState) (visit : Visit)
-        → IsNumbered plan.visits → IsCancellable plan visit → installed plan (moving plan (cancelled visit ∷ [])) ≡ with_cancelled plan visit }
+        → IsNumbered plan.visits → IsCancellable plan visit → plan_after_change plan (move_change plan (cancelled_visit visit ∷ [])) ≡ with_cancelled plan visit }
 {}
 
 /// A plan stays a plan, and the version that a draft made is one that the plan had.
 pub fn plan_is_kept()
-    ensures installed { (plan : PlanState) (change : ChangeState) → IsPlan plan → IsInstallable plan change → IsPlan (installed plan change) }
+    ensures installed { (plan : PlanState) (change : ChangeState) → IsPlan plan → IsInstallable plan change → IsPlan (plan_after_change plan change) }
     ensures drafts { (plan : PlanState) (desk : List ℕ) (number version : ℕ)
         → IsPlan plan → draft_version plan.drafts desk number ≡ Some version → (1 ≤ version) × (version ≤ plan.version) }
 {}

@@ -15,7 +15,7 @@ use Rattle.desk_words.specs.declared.replies.PartRow.{PartRow}
 use Rattle.plan_lists.specs.declared.waiting.Waiting.{Waiting}
 use Rattle.plan_lists.specs.Held.{held_of, held_on, holds_on, is_held_on}
 use Rattle.plan_lists.specs.Rows.{rows_of}
-use Rattle.plan_lists.specs.Unplaced.{by_rank, is_unplaced, unplaced, waiting_of, with_rank}
+use Rattle.plan_lists.specs.Unplaced.{by_rank, is_unplaced_row, unplaced_parts, waiting_of, with_rank}
 use Rattle.plan_lists.proofs.Ranks.{ordered_from}
 
 -- the part is on a stand
@@ -49,14 +49,14 @@ nowhere_by : (stand : Option StandNo) → is_none stand ≡ true → stand ≡ N
 nowhere_by None h = refl
 nowhere_by (Some stand) h = absurd (cc)
 
-waits_if : (visit : Visit) (live : Bool) → All (λ part. IsNowhere part.row) (if live then map (with_rank visit) (filter is_unplaced (rows_of visit)) else [])
+waits_if : (visit : Visit) (live : Bool) → All (λ part. IsNowhere part.row) (if live then map (with_rank visit) (filter is_unplaced_row (rows_of visit)) else [])
 waits_if visit false = All-nil (λ (part : Waiting). IsNowhere part.row)
 waits_if visit true =
-    All-map (λ (part : Waiting). IsNowhere part.row) (with_rank visit) (filter is_unplaced (rows_of visit))
-    (All-weaker (λ row. is_unplaced row ≡ true) IsNowhere (λ row h. nowhere_by (stand_of row.part.place) h) (filter is_unplaced (rows_of visit)) (filter_passes is_unplaced (rows_of visit)))
+    All-map (λ (part : Waiting). IsNowhere part.row) (with_rank visit) (filter is_unplaced_row (rows_of visit))
+    (All-weaker (λ row. is_unplaced_row row ≡ true) IsNowhere (λ row h. nowhere_by (stand_of row.part.place) h) (filter is_unplaced_row (rows_of visit)) (filter_passes is_unplaced_row (rows_of visit)))
 
 -- the parts that wait for a stand are on none
-pub waiting_are_nowhere : (plan : PlanState) → All IsNowhere (unplaced plan)
+pub waiting_are_nowhere : (plan : PlanState) → All IsNowhere (unplaced_parts plan)
 waiting_are_nowhere plan =
     let P : Waiting → Type 0 = λ part. IsNowhere part.row in
     let parts = flat_map waiting_of plan.visits in

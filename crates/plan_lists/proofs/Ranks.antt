@@ -22,7 +22,7 @@ use Rattle.bump_core.proofs.Settled.{lower_total}
 use Rattle.desk_words.specs.declared.replies.PartRow.{PartRow}
 use Rattle.plan_lists.specs.declared.waiting.Waiting.{Waiting}
 use Rattle.plan_lists.specs.Rows.{rows_from}
-use Rattle.plan_lists.specs.Unplaced.{by_rank, is_unplaced, rank_of, ranks_before, waiting_of, with_rank}
+use Rattle.plan_lists.specs.Unplaced.{by_rank, is_unplaced_row, rank_of, ranks_before, waiting_of, with_rank}
 
 lower_one_way : (xs ys : List ℕ) (b : Bool) → is_lower ys xs ≡ b → is_lower xs ys ≡ true → is_lower ys xs ≡ false
 lower_one_way xs ys false e h = e
@@ -62,7 +62,7 @@ one_if id part = cond (is_id id part) 1 0
 
 -- the rows that are on no stand, as parts of the visit
 abbrev waits : Visit → List PartRow → List Waiting
-waits visit rows = map (with_rank visit) (filter is_unplaced rows)
+waits visit rows = map (with_rank visit) (filter is_unplaced_row rows)
 
 other_part : (id : PartId) (part : Waiting) → (part.row.id.part ≡ id.part → ⊥) → is_id id part ≡ false
 other_part id part h = grind (arith, nat_tests)
@@ -82,9 +82,9 @@ at_most_one id part = by_test (is_id id part)
 
 -- one more row adds at most itself
 one_more : (id : PartId) (visit : Visit) (row : PartRow) (rows : List PartRow) → sum_by (one_if id) (waits visit (row ∷ rows)) ≤ one_if id (with_rank visit row) + sum_by (one_if id) (waits visit rows)
-one_more id visit row rows = by_test (is_unplaced row)
+one_more id visit row rows = by_test (is_unplaced_row row)
   where
-    by_test : (b : Bool) → sum_by (one_if id) (map (with_rank visit) (cond b (row ∷ filter is_unplaced rows) (filter is_unplaced rows))) ≤ one_if id (with_rank visit row) + sum_by (one_if id) (waits visit rows)
+    by_test : (b : Bool) → sum_by (one_if id) (map (with_rank visit) (cond b (row ∷ filter is_unplaced_row rows) (filter is_unplaced_row rows))) ≤ one_if id (with_rank visit row) + sum_by (one_if id) (waits visit rows)
     by_test true = omega (arith, sum_by-cons (one_if id) (with_rank visit row) (waits visit rows))
     by_test false = omega arith
 

@@ -10,7 +10,7 @@ use Rattle.desk_words.specs.declared.replies.PartRow.{PartRow}
 use Rattle.plan_lists.specs.Days.{minutes_of_day}
 use Rattle.plan_lists.specs.Held.{holds_on}
 use Rattle.plan_lists.specs.Rows.{rows_of}
-use Rattle.plan_lists.specs.Unplaced.{is_unplaced}
+use Rattle.plan_lists.specs.Unplaced.{is_unplaced_row}
 
 -- the minute is one of the part's own, not of its buffer
 abbrev pub is_within : Part → ℕ → Bool
@@ -22,7 +22,7 @@ is_of_day day row = list_any (is_within row.part) (minutes_of_day day)
 
 -- the part of the visit waits for a stand and has a minute of the day
 abbrev pub waits_on : ℕ → Visit → PartRow → Bool
-waits_on day visit row = is_live visit && (is_unplaced row && is_of_day day row)
+waits_on day visit row = is_live visit && (is_unplaced_row row && is_of_day day row)
 
 -- the part of the visit holds a stand on the day, or waits for one
 abbrev pub is_seen_on : AirportParts → ℕ → Visit → PartRow → Bool

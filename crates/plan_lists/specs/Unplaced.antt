@@ -12,8 +12,8 @@ use Rattle.plan_lists.specs.Rows.{rows_of}
 use Rattle.plan_lists.specs.declared.waiting.Waiting.{Waiting}
 
 -- the part is on no stand
-abbrev pub is_unplaced : PartRow → Bool
-is_unplaced row = is_none (stand_of row.part.place)
+abbrev pub is_unplaced_row : PartRow → Bool
+is_unplaced_row row = is_none (stand_of row.part.place)
 
 -- a part of the visit, with what ranks it
 abbrev pub with_rank : Visit → PartRow → Waiting
@@ -21,7 +21,7 @@ with_rank visit row = record { class = visit.class; on = visit.on; row = row }
 
 -- the parts of the visit that wait for a stand: none if it is gone or cancelled
 abbrev pub waiting_of : Visit → List Waiting
-waiting_of visit = if is_live visit then map (with_rank visit) (filter is_unplaced (rows_of visit)) else []
+waiting_of visit = if is_live visit then map (with_rank visit) (filter is_unplaced_row (rows_of visit)) else []
 
 -- its rank: the class, the scheduled minute on block, the visit and the part
 abbrev pub rank_of : Waiting → List ℕ
@@ -36,5 +36,5 @@ abbrev pub by_rank : List Waiting → List Waiting
 by_rank parts = sorted_by ranks_before parts
 
 -- the parts of live visits that wait for a stand, by rank
-abbrev pub unplaced : PlanState → List PartRow
-unplaced plan = map (λ part. part.row) (by_rank (flat_map waiting_of plan.visits))
+abbrev pub unplaced_parts : PlanState → List PartRow
+unplaced_parts plan = map (λ part. part.row) (by_rank (flat_map waiting_of plan.visits))

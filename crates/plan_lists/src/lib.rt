@@ -11,4 +11,4 @@ pub mod waiting;
 pub use days::DAY_LENGTH;
 pub use held::held_on;
 pub use visits::{is_of_day, visits_on};
-pub use waiting::unplaced;
+pub use waiting::unplaced_parts;

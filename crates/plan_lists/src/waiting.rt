@@ -2,7 +2,7 @@
 ghost use Rattle.std.specs.Prelude.{◌≡◌, ◌++◌, ◌∷◌, [], All, IfOk, None, OnOk, map, if◌then◌else◌};
 ghost use Rattle.std.specs.List.{flat_map};
 ghost use Rattle.visit_book.specs.Places.{stand_of};
-ghost use Rattle.plan_lists.specs.Unplaced.{is_unplaced, unplaced, waiting_of, with_rank};
+ghost use Rattle.plan_lists.specs.Unplaced.{is_unplaced_row, unplaced_parts, waiting_of, with_rank};
 
 use crate::rows::row;
 use apron_base::{Listed, Memory, Minute};
@@ -22,8 +22,8 @@ pub struct Waiting {
 /// The parts of live visits that are on no stand, by rank: the class of the visit, its scheduled
 /// minute on block, its number and the part decide, lower ones first. The only error is a lack of
 /// memory.
-pub fn unplaced(alloc: Global, plan: &Plan) -> Result<Listed<PartRow>, Memory>
-    ensures unplaced { IfOk result (λ rows. rows ≡ unplaced plan.now.plan) }
+pub fn unplaced_parts(alloc: Global, plan: &Plan) -> Result<Listed<PartRow>, Memory>
+    ensures unplaced { IfOk result (λ rows. rows ≡ unplaced_parts plan.now.plan) }
     ensures nowhere { IfOk result (λ rows. All (λ row. stand_of row.part.place ≡ None) rows) }
 {
     let mut parts = all_waiting(alloc, plan.visits())?;
@@ -51,7 +51,7 @@ fn push_waiting(parts: &mut Vec<Waiting>, visit: &Visit) -> Result<(), Memory>
     }
     let own = visit.parts.as_slice();
     for index in 0..own.len() {
-        push_if(
+        push_waiting_if(
             parts,
             with_rank(visit, row(visit, index as u8 + 1, &own[index])),
         )?;
@@ -59,8 +59,8 @@ fn push_waiting(parts: &mut Vec<Waiting>, visit: &Visit) -> Result<(), Memory>
     Ok(())
 }
 
-fn push_if(parts: &mut Vec<Waiting>, part: Waiting) -> Result<(), Memory>
-    ensures ok { OnOk result (parts.new.items ≡ parts.old.items ++ (if is_unplaced part.row then part ∷ [] else [])) }
+fn push_waiting_if(parts: &mut Vec<Waiting>, part: Waiting) -> Result<(), Memory>
+    ensures ok { OnOk result (parts.new.items ≡ parts.old.items ++ (if is_unplaced_row part.row then part ∷ [] else [])) }
 {
     if is_unplaced(&part.row) {
         parts.push(part)?;
@@ -69,7 +69,7 @@ fn push_if(parts: &mut Vec<Waiting>, part: Waiting) -> Result<(), Memory>
 }
 
 pub(crate) fn is_unplaced(row: &PartRow) -> bool
-    ensures is { result ≡ is_unplaced row.now }
+    ensures is { result ≡ is_unplaced_row row.now }
 {
     matches!(row.part.place, Place::Unplaced(_))
 }

@@ -11,11 +11,11 @@ use Rattle.wall_chart.specs.Rows.{part_text}
 use Rattle.stand_proposer.specs.declared.proposals.Left.{Left}
 use Rattle.stand_proposer.specs.declared.proposals.Proposal.{Proposal}
 use Rattle.stand_proposer.specs.Proposals.{IsProposal}
-use Rattle.proposal_text.specs.Reasons.{part_lines, stand_name}
+use Rattle.proposal_text.specs.Reasons.{reason_lines, stand_name}
 
 -- propose on version N
-abbrev pub first_line : ℕ → List ℕ
-first_line version = codes "propose on version " ++ decimal version ++ codes "\n"
+abbrev pub proposal_first_line : ℕ → List ℕ
+proposal_first_line version = codes "propose on version " ++ decimal version ++ codes "\n"
 
 -- put PART STAND
 abbrev pub put_line : AirportParts → PartId → StandNo → List ℕ
@@ -34,7 +34,7 @@ edit_lines airport edits = flat_map (edit_line airport) edits
 
 -- the lines of each part that no stand takes
 abbrev pub left_lines : AirportParts → List Left → List ℕ
-left_lines airport lefts = flat_map (part_lines airport) lefts
+left_lines airport lefts = flat_map (reason_lines airport) lefts
 
 -- over PART
 abbrev pub over_line : PartId → List ℕ
@@ -47,7 +47,7 @@ over_lines parts = flat_map over_line parts
 -- the text of a proposal
 unfoldable pub proposal_text : AirportParts → Proposal → List ℕ
 proposal_text airport proposal =
-    first_line proposal.base
+    proposal_first_line proposal.base
     ++ edit_lines airport proposal.edits
     ++ left_lines airport proposal.left
     ++ over_lines proposal.over

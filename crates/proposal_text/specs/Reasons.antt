@@ -46,5 +46,5 @@ reason_line airport part (place, why) =
     ++ codes " " ++ reason_text part why ++ codes "\n"
 
 -- a line for each stand, in order
-abbrev pub part_lines : AirportParts → Left → List ℕ
-part_lines airport left = flat_map (reason_line airport left.part) (enumerate_from 0 left.why)
+abbrev pub reason_lines : AirportParts → Left → List ℕ
+reason_lines airport left = flat_map (reason_line airport left.part) (enumerate_from 0 left.why)

@@ -1,6 +1,6 @@
 // The lines of a proposal.
 ghost use Rattle.std.specs.Prelude.{◌≡◌, ◌++◌, OnOk};
-ghost use Rattle.proposal_text.specs.Lines.{edit_line, edit_lines, first_line, left_lines};
+ghost use Rattle.proposal_text.specs.Lines.{edit_line, edit_lines, left_lines, proposal_first_line};
 ghost use Rattle.proposal_text.specs.Lines.{over_line, over_lines, proposal_text, put_line};
 
 use crate::reasons::{push_left_part, push_stand_name};
@@ -20,16 +20,16 @@ pub(crate) fn push_proposal(
     ensures text { OnOk result
         (text.new.items ≡ text.old.items ++ proposal_text airport.now proposal.now) }
 {
-    push_first_line(text, proposal.base)?;
-    push_edits(text, airport, proposal.edits.as_slice())?;
+    push_proposal_first_line(text, proposal.base)?;
+    push_put_lines(text, airport, proposal.edits.as_slice())?;
     push_left_parts(text, airport, proposal.left.as_slice())?;
     push_over_parts(text, proposal.over.as_slice())?;
     text.extend_from_slice(b"end\n")?;
     Ok(())
 }
 
-fn push_first_line(text: &mut Vec<u8>, version: u32) -> Result<(), Memory>
-    ensures text { OnOk result (text.new.items ≡ text.old.items ++ first_line version) }
+fn push_proposal_first_line(text: &mut Vec<u8>, version: u32) -> Result<(), Memory>
+    ensures text { OnOk result (text.new.items ≡ text.old.items ++ proposal_first_line version) }
 {
     text.extend_from_slice(b"propose on version ")?;
     push_number(text, version)?;
@@ -37,18 +37,18 @@ fn push_first_line(text: &mut Vec<u8>, version: u32) -> Result<(), Memory>
     Ok(())
 }
 
-fn push_edits(text: &mut Vec<u8>, airport: &AirportParts, edits: &[Edit]) -> Result<(), Memory>
+fn push_put_lines(text: &mut Vec<u8>, airport: &AirportParts, edits: &[Edit]) -> Result<(), Memory>
     ensures text { OnOk result
         (text.new.items ≡ text.old.items ++ edit_lines airport.now edits.now) }
 {
     for edit in edits {
-        push_edit(text, airport, edit)?;
+        push_put_line(text, airport, edit)?;
     }
     Ok(())
 }
 
 // A proposal has no other edits than puts, so no line is made for others.
-fn push_edit(text: &mut Vec<u8>, airport: &AirportParts, edit: &Edit) -> Result<(), Memory>
+fn push_put_line(text: &mut Vec<u8>, airport: &AirportParts, edit: &Edit) -> Result<(), Memory>
     ensures text { OnOk result (text.new.items ≡ text.old.items ++ edit_line airport.now edit.now) }
 {
     match *edit {

@@ -1,6 +1,6 @@
 // The lines of a part that no stand takes: the reason of each stand.
 ghost use Rattle.std.specs.Prelude.{◌≡◌, ◌++◌, OnOk};
-ghost use Rattle.proposal_text.specs.Reasons.{clash_text, other_part, part_lines, reason_line};
+ghost use Rattle.proposal_text.specs.Reasons.{clash_text, other_part, reason_line, reason_lines};
 ghost use Rattle.proposal_text.specs.Reasons.{reason_text, stand_name, unfit_text};
 
 use apron_base::{Memory, PartId};
@@ -29,7 +29,7 @@ pub(crate) fn push_left_part(
     left: &Left,
 ) -> Result<(), Memory>
     ensures text { OnOk result
-        (text.new.items ≡ text.old.items ++ part_lines airport.now left.now) }
+        (text.new.items ≡ text.old.items ++ reason_lines airport.now left.now) }
 {
     let whys = left.why.as_slice();
     for (place, why) in whys.iter().enumerate() {

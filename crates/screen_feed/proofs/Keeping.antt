@@ -6,7 +6,7 @@ use Rattle.std.proofs.lemmas.List.{append-nil}
 use Rattle.crossbeam_utils.specs.Register.{Admits, TurnsAt, Turns, Forks, Merges}
 use Rattle.atomic_table.proofs.Lists.{at_set, at_snoc}
 use Rattle.screen_feed.specs.Sheets.{Begins, SheetState}
-use Rattle.screen_feed.specs.Pages.{Follows, Looks, Keeps, Knows, PageState, sheets_with}
+use Rattle.screen_feed.specs.Pages.{Follows, LooksAtPage, Keeps, Knows, PageState, sheets_with}
 
 pub begins_self : (l : List SheetState) → Begins l l
 begins_self l = ([], sym (append-nil l))
@@ -36,12 +36,12 @@ knows_it x p is = let e : x ≡ p = ap (out_of x) is in subst (λ (z : PageState
 keeps_set : (x : PageState) (views : List (Option PageState)) (id : ℕ) (w : Option PageState) → Keeps x views → Knows w x → Keeps x (set views id w)
 keeps_set x views id w k mine j u e = ⊎_elim (λ (t : (j ≡ id) × (w ≡ u)). subst (λ (z : Option PageState). Knows z x) t.1 mine) (λ (t : (j ≢ id) × (get_elem? views j ≡ some u)). k j u t.1) (at_set views id j w u e)
 
-pub turns : (id : ℕ) (v : Option PageState) (x y : PageState) → Follows x y → TurnsAt Keeps id v x y Looks
+pub turns : (id : ℕ) (v : Option PageState) (x y : PageState) → Follows x y → TurnsAt Keeps id v x y LooksAtPage
 turns id v x y f views k at =
     let on : Keeps y views = λ j u e. knows_on u x y (k j u e) f in
     (Some y, keeps_set y views id (Some y) on (knows_it y), (refl, on id v at))
 
-pub looks : (id : ℕ) (v : Option PageState) → Turns Keeps id v (λ x. x) Looks
+pub looks : (id : ℕ) (v : Option PageState) → Turns Keeps id v (λ x. x) LooksAtPage
 looks id v x = turns id v x x (follows_self x)
 
 pub admits : Admits Keeps None
@@ -63,13 +63,13 @@ last_wins x y [] = refl
 last_wins x y (p ∷ ps) = last_wins p y ps
 
 -- what is published after one operation, whatever was pending
-pub last_turns : (id : ℕ) (v : Option PageState) (x y next : PageState) (before pending : List PageState) → Follows x y → pending ≡ before ++ y ∷ [] → next ≡ fold (λ (s o : PageState). o) x pending → TurnsAt Keeps id v x next Looks
+pub last_turns : (id : ℕ) (v : Option PageState) (x y next : PageState) (before pending : List PageState) → Follows x y → pending ≡ before ++ y ∷ [] → next ≡ fold (λ (s o : PageState). o) x pending → TurnsAt Keeps id v x next LooksAtPage
 last_turns id v x y next before pending f one is =
     let same : next ≡ y = is ∙ (ap (λ (l : List PageState). fold (λ (s o : PageState). o) x l) one ∙ last_wins x y before) in
-    subst (λ (z : PageState). TurnsAt Keeps id v x z Looks) (sym same) (turns id v x y f)
+    subst (λ (z : PageState). TurnsAt Keeps id v x z LooksAtPage) (sym same) (turns id v x y f)
 
 -- and where nothing was pending
-pub same_turns : (id : ℕ) (v : Option PageState) (x next : PageState) (pending : List PageState) → pending ≡ [] → next ≡ fold (λ (s o : PageState). o) x pending → TurnsAt Keeps id v x next Looks
+pub same_turns : (id : ℕ) (v : Option PageState) (x next : PageState) (pending : List PageState) → pending ≡ [] → next ≡ fold (λ (s o : PageState). o) x pending → TurnsAt Keeps id v x next LooksAtPage
 same_turns id v x next pending none is =
     let same : next ≡ x = is ∙ ap (λ (l : List PageState). fold (λ (s o : PageState). o) x l) none in
-    subst (λ (z : PageState). TurnsAt Keeps id v x z Looks) (sym same) (turns id v x x (follows_self x))
+    subst (λ (z : PageState). TurnsAt Keeps id v x z LooksAtPage) (sym same) (turns id v x x (follows_self x))

@@ -3,31 +3,31 @@ use Rattle.std.proofs.Common.{◌≡◌, ◌⊎◌, ℕ, ◌+◌, ◌≤◌, Boo
 use Rattle.std.proofs.lemmas.List.{append-nil}
 use mathlib.Core.List.{IsPrefix}
 use Rattle.screen_feed.specs.Sheets.{Begins, SheetState}
-use Rattle.screen_feed.specs.declared.book.Entry.{Entry}
-use Rattle.screen_feed.specs.Logs.{shown_in, begun_with, begun_after, LegalAfter, IsLegal}
+use Rattle.screen_feed.specs.declared.book.SheetEntry.{SheetEntry}
+use Rattle.screen_feed.specs.Logs.{shown_in, begun_with, begun_after, LegalAfter, IsLegalLog}
 use Rattle.screen_feed.proofs.Fronts.{prefix_shorter}
 
 by_kind_of : (s : SheetState) (both xs ys : List SheetState) → both ≡ xs ++ ys → (b : Bool) → cond b (s ∷ both) both ≡ cond b (s ∷ xs) xs ++ ys
 by_kind_of s both xs ys is true = ap (λ (l : List SheetState). s ∷ l) is
 by_kind_of s both xs ys is false = is
 
-pub shown_append : (xs ys : List Entry) → shown_in (xs ++ ys) ≡ shown_in xs ++ shown_in ys
+pub shown_append : (xs ys : List SheetEntry) → shown_in (xs ++ ys) ≡ shown_in xs ++ shown_in ys
 shown_append [] ys = refl
 shown_append (e ∷ es) ys = by_kind_of e.sheet.value (shown_in (es ++ ys)) (shown_in es) (shown_in ys) (shown_append es ys) e.shown
 
-pub begun_push : (p : Option SheetState) (xs : List Entry) (e : Entry) → e.shown ≡ false → begun_after p (xs ++ e ∷ []) ≡ Some e.sheet.value
+pub begun_push : (p : Option SheetState) (xs : List SheetEntry) (e : SheetEntry) → e.shown ≡ false → begun_after p (xs ++ e ∷ []) ≡ Some e.sheet.value
 begun_push p [] e is = ap (λ (b : Bool). cond b None (Some e.sheet.value)) is
 begun_push p (x ∷ xs) e is = begun_push (begun_with p x) xs e is
 
-pub legal_front : (p : Option SheetState) (xs ys : List Entry) → LegalAfter p (xs ++ ys) → LegalAfter p xs
+pub legal_front : (p : Option SheetState) (xs ys : List SheetEntry) → LegalAfter p (xs ++ ys) → LegalAfter p xs
 legal_front p [] ys l = tt
 legal_front p (x ∷ xs) ys l = (l.0, legal_front (begun_with p x) xs ys l.1)
 
-pub legal_last : (p : Option SheetState) (xs : List Entry) (e : Entry) → LegalAfter p (xs ++ e ∷ []) → e.shown ≡ true → begun_after p xs ≡ Some e.sheet.value
+pub legal_last : (p : Option SheetState) (xs : List SheetEntry) (e : SheetEntry) → LegalAfter p (xs ++ e ∷ []) → e.shown ≡ true → begun_after p xs ≡ Some e.sheet.value
 legal_last p [] e l is = l.0 is
 legal_last p (x ∷ xs) e l is = legal_last (begun_with p x) xs e l.1 is
 
-pub legal_push : (p : Option SheetState) (xs : List Entry) (e : Entry) → LegalAfter p xs → (e.shown ≡ true → begun_after p xs ≡ Some e.sheet.value) → LegalAfter p (xs ++ e ∷ [])
+pub legal_push : (p : Option SheetState) (xs : List SheetEntry) (e : SheetEntry) → LegalAfter p xs → (e.shown ≡ true → begun_after p xs ≡ Some e.sheet.value) → LegalAfter p (xs ++ e ∷ [])
 legal_push p [] e l may = (may, tt)
 legal_push p (x ∷ xs) e l may = (l.0, legal_push (begun_with p x) xs e l.1 may)
 
@@ -39,7 +39,7 @@ some_inj {A} d x y e = ap (out d) e
     out d (Some z) = z
 
 -- one entry after a try: it adds what was tried, or nothing
-one_after : (mine : List Entry) (s : SheetState) (e : Entry) → begun_after None mine ≡ Some s → IsLegal (mine ++ e ∷ []) → Begins (shown_in mine ++ s ∷ []) (shown_in (mine ++ e ∷ []))
+one_after : (mine : List SheetEntry) (s : SheetState) (e : SheetEntry) → begun_after None mine ≡ Some s → IsLegalLog (mine ++ e ∷ []) → Begins (shown_in mine ++ s ∷ []) (shown_in (mine ++ e ∷ []))
 one_after mine s e opened legal = by_kind e.shown refl
   where
     by_kind : (b : Bool) → e.shown ≡ b → Begins (shown_in mine ++ s ∷ []) (shown_in (mine ++ e ∷ []))
@@ -55,7 +55,7 @@ by_one : (a b : ℕ) → a ≤ b + 1 → (a ≤ b) ⊎ (a ≡ b + 1)
 by_one a b h = grind arith
 
 -- a page whose log is shorter by one at most than what was told shows all that was told
-pub shows_told : (mine told both : List Entry) (s : SheetState) → begun_after None mine ≡ Some s → IsPrefix mine both → IsPrefix told both → IsLegal both → length told ≤ length mine + 1 → Begins (shown_in mine ++ s ∷ []) (shown_in told)
+pub shows_told : (mine told both : List SheetEntry) (s : SheetState) → begun_after None mine ≡ Some s → IsPrefix mine both → IsPrefix told both → IsLegalLog both → length told ≤ length mine + 1 → Begins (shown_in mine ++ s ∷ []) (shown_in told)
 shows_told mine told both s opened p q legal le = ⊎_elim shorter longer (by_one (length told) (length mine) le)
   where
     shorter : length told ≤ length mine → Begins (shown_in mine ++ s ∷ []) (shown_in told)
@@ -65,18 +65,18 @@ shows_told mine told both s opened p q legal le = ⊎_elim shorter longer (by_on
     longer : length told ≡ length mine + 1 → Begins (shown_in mine ++ s ∷ []) (shown_in told)
     longer h = let r = prefix_shorter mine told both p q (omega arith) in by_rest r.0 r.1
       where
-        by_rest : (rest : List Entry) → mine ++ rest ≡ told → Begins (shown_in mine ++ s ∷ []) (shown_in told)
+        by_rest : (rest : List SheetEntry) → mine ++ rest ≡ told → Begins (shown_in mine ++ s ∷ []) (shown_in told)
         by_rest [] e = absurd (let a = ap length e in let b = length-append mine [] in omega arith)
         by_rest (x ∷ []) e =
-            let legal' : IsLegal told = legal_front None told q.0 (subst IsLegal (sym q.1) legal) in
-            subst (λ (l : List Entry). Begins (shown_in mine ++ s ∷ []) (shown_in l)) e (one_after mine s x opened (subst IsLegal (sym e) legal'))
+            let legal' : IsLegalLog told = legal_front None told q.0 (subst IsLegalLog (sym q.1) legal) in
+            subst (λ (l : List SheetEntry). Begins (shown_in mine ++ s ∷ []) (shown_in l)) e (one_after mine s x opened (subst IsLegalLog (sym e) legal'))
         by_rest (x ∷ y ∷ l) e = absurd (let a = ap length e in let b = length-append mine (x ∷ y ∷ l) in omega arith)
 
-pub begins_shown : (xs ys : List Entry) → IsPrefix xs ys → Begins (shown_in ys) (shown_in xs)
+pub begins_shown : (xs ys : List SheetEntry) → IsPrefix xs ys → Begins (shown_in ys) (shown_in xs)
 begins_shown xs ys p = (shown_in p.0, ap shown_in (sym p.1) ∙ shown_append xs p.0)
 
-pub shown_begun : (log : List Entry) (e : Entry) → e.shown ≡ false → shown_in (log ++ e ∷ []) ≡ shown_in log
+pub shown_begun : (log : List SheetEntry) (e : SheetEntry) → e.shown ≡ false → shown_in (log ++ e ∷ []) ≡ shown_in log
 shown_begun log e is = shown_append log (e ∷ []) ∙ (ap (λ (b : Bool). shown_in log ++ cond b (e.sheet.value ∷ []) []) is ∙ append-nil (shown_in log))
 
-pub shown_push : (log : List Entry) (e : Entry) → e.shown ≡ true → shown_in (log ++ e ∷ []) ≡ shown_in log ++ e.sheet.value ∷ []
+pub shown_push : (log : List SheetEntry) (e : SheetEntry) → e.shown ≡ true → shown_in (log ++ e ∷ []) ≡ shown_in log ++ e.sheet.value ∷ []
 shown_push log e is = shown_append log (e ∷ []) ∙ ap (λ (b : Bool). shown_in log ++ cond b (e.sheet.value ∷ []) []) is

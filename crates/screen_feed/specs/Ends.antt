@@ -4,10 +4,10 @@ use Rattle.logbook.specs.Pages.{Book}
 use Rattle.screen_feed.specs.Appenders.{AppenderState}
 use Rattle.screen_feed.specs.Logs.{shown_in}
 use Rattle.screen_feed.specs.Pages.{Knows, PageState, sheets_with}
-use Rattle.screen_feed.specs.Sheets.{AreSheets, Shown, last_version}
+use Rattle.screen_feed.specs.Sheets.{AreSheets, ShownChart, last_version}
 
 -- the writer's page is the one that its screen sees, and its appender knows that each sheet up to this page is shown
-pub record IsWriter (page : PageState) (appender : AppenderState) (shown : Shown) (version : ℕ) : Type 0 where
+pub record IsWriter (page : PageState) (appender : AppenderState) (shown : ShownChart) (version : ℕ) : Type 0 where
   pub book : page.book ≡ appender.book
   pub of : page.sheet.shown ≡ shown
   pub list : sheets_with page ≡ shown_in appender.log
@@ -16,7 +16,7 @@ pub record IsWriter (page : PageState) (appender : AppenderState) (shown : Shown
   pub days : (1 ≤ shown.day) × (shown.day ≤ shown.airport.days)
 
 -- a page of this book was seen, of what is shown
-pub record IsScreenAt (seen : Option PageState) (shown : Shown) (book : Book) : Type 0 where
+pub record IsScreenAt (seen : Option PageState) (shown : ShownChart) (book : Book) : Type 0 where
   pub page : PageState
   pub is : seen ≡ Some page
   pub book_is : page.book ≡ book

@@ -4,14 +4,14 @@ use mathlib.Core.Option.{some}
 use lib.ListN.{get_elem?}
 use Rattle.logbook.specs.Pages.{Book}
 use Rattle.screen_feed.specs.Sheets.{AreSheets, Begins, SheetState}
-use Rattle.screen_feed.specs.declared.book.Entry.{Entry}
+use Rattle.screen_feed.specs.declared.book.SheetEntry.{SheetEntry}
 use Rattle.screen_feed.specs.Logs.{begun_after, shown_in}
 
 -- a sheet of a writer, with the log of its book, in which it was begun last
 pub record PageState : Type 0 where
   pub sheet : SheetState
   pub book : Book
-  pub log : List Entry
+  pub log : List SheetEntry
 
 -- the sheets that have been shown once this page is
 abbrev pub sheets_with : PageState → List SheetState
@@ -36,8 +36,8 @@ abbrev pub Keeps : PageState → List (Option PageState) → Type 0
 Keeps x views = (seat : ℕ) (v : Option PageState) → get_elem? views seat ≡ some v → Knows v x
 
 -- the page that is shown is seen
-abbrev pub Looks : Option PageState → PageState → PageState → Option PageState → Type 0
-Looks v x y w = (w ≡ Some y) × Knows v y
+abbrev pub LooksAtPage : Option PageState → PageState → PageState → Option PageState → Type 0
+LooksAtPage v x y w = (w ≡ Some y) × Knows v y
 
 -- the list that a screen with this view has seen
 abbrev pub sheets_seen : Option PageState → List SheetState

@@ -1,18 +1,18 @@
 -- Writers and screens as contracts see them.
 use Rattle.std.specs.Prelude.{◌≡◌, ◌⊎◌, List, [], ◌∷◌, ◌++◌, if◌then◌else◌, nat_lt}
 use Rattle.logbook.specs.Pages.{Book}
-use Rattle.screen_feed.specs.Sheets.{AreSheets, Begins, SheetState, Shown, last_version}
+use Rattle.screen_feed.specs.Sheets.{AreSheets, Begins, SheetState, ShownChart, last_version}
 
 -- a writer: its pair, what it shows, and the sheets that it has shown
 pub record WriterState : Type 0 where
   pub pair : Book
-  pub shown : Shown
+  pub shown : ShownChart
   pub sheets : List SheetState
 
 -- a screen: its pair, what it shows, the list that it has seen, and the longest list that it was told
 pub record ScreenState : Type 0 where
   pub pair : Book
-  pub shown : Shown
+  pub shown : ShownChart
   pub seen : List SheetState
   pub told : List SheetState
 

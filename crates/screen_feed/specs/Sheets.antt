@@ -6,34 +6,34 @@ use Rattle.plan_core.specs.PlanState.{IsPlan, PlanState, version_limit}
 use Rattle.wall_chart.specs.Chart.{chart_text}
 
 -- what a sheet is of: plans of an airport, on a day
-pub record Shown : Type 0 where
+pub record ShownChart : Type 0 where
   pub airport : AirportParts
   pub day : ℕ
 
 -- what it is of, a version, and the chart of a plan of this version
 pub record SheetState : Type 0 where
-  pub shown : Shown
+  pub shown : ShownChart
   pub version : ℕ
   pub text : List ℕ
 
-abbrev pub version_of : SheetState → ℕ
-version_of sheet = sheet.version
+abbrev pub sheet_version : SheetState → ℕ
+sheet_version sheet = sheet.version
 
 -- the sheet of a plan for a day
 abbrev pub sheet_of : PlanState → ℕ → SheetState
 sheet_of plan day = record { shown = record { airport = plan.airport; day = day }; version = plan.version; text = chart_text plan.airport plan day }
 
 -- the sheet of some plan of the airport
-pub record IsSheet (shown : Shown) (sheet : SheetState) : Type 0 where
+pub record IsSheet (shown : ShownChart) (sheet : SheetState) : Type 0 where
   pub plan : PlanState
   pub is_plan : IsPlan plan
   pub airport : plan.airport ≡ shown.airport
   pub is : sheet ≡ sheet_of plan shown.day
 
 -- each is a sheet, and their versions rise strictly
-pub record AreSheets (shown : Shown) (sheets : List SheetState) : Type 0 where
+pub record AreSheets (shown : ShownChart) (sheets : List SheetState) : Type 0 where
   pub each : Every (IsSheet shown) sheets
-  pub rises : Rises version_of 0 version_limit sheets
+  pub rises : Rises sheet_version 0 version_limit sheets
 
 -- the first list begins with the second
 abbrev pub Begins : List SheetState → List SheetState → Type 0

@@ -2,9 +2,9 @@
 ghost use Rattle.std.specs.Prelude.{◌≡◌, ◌+◌, ◌<◌, ◌^◌, [], ◌∷◌, ◌++◌, length, true, Some, None, IfOk};
 ghost use Rattle.logbook.specs.Pages.{may_write};
 ghost use Rattle.screen_feed.specs.Logs.{begun_after, shown_in};
-ghost use Rattle.screen_feed.specs.Rules.{IsAdded, head_of};
+ghost use Rattle.screen_feed.specs.Rules.{IsEntryAdded, entry_word};
 
-use crate::book::{Add, AddFirst, BookRule, Entry, Head, Log, MakePen, Nothing};
+use crate::book::{Add, AddFirst, BookRule, EntryWord, Log, MakePen, Nothing, SheetEntry};
 use crate::sheet::Sheet;
 use apron_base::Memory;
 use logbook::{Offer, Pen, Seen, Start, Word};
@@ -13,7 +13,7 @@ use std::marker::Model;
 /// The one value that may add entries to its book, and so knows all of them. Contracts see the book and its log.
 #[derive(Drop)]
 pub(crate) struct Appender {
-    head: Head,
+    head: EntryWord,
     pen: Pen,
     seen: Log,
     round: u64,
@@ -30,18 +30,20 @@ impl Model for Appender {
 }
 
 // The pen for a later entry. The step wants some entry, and does nothing with it.
-fn new_pen(head: &Head, seen: &Log, entry: &Entry) -> Pen
-    requires head { head.now ≡ head_of seen.now.book }
+fn new_pen(head: &EntryWord, seen: &Log, entry: &SheetEntry) -> Pen
+    requires head { head.now ≡ entry_word seen.now.book }
     ensures book { result.book ≡ seen.now.book }
     ensures right { result.nib.right ≡ may_write }
 {
     let mut log = seen.again();
-    let mut offer: Offer<Entry, u64, BookRule, Nothing> = log.plain::<Nothing, Entry, Nothing>(
-        entry,
-    );
+    let mut offer: Offer<SheetEntry, u64, BookRule, Nothing> = log.plain::<
+        Nothing,
+        SheetEntry,
+        Nothing,
+    >(entry);
     let mut pen = log.no_pen();
     head.compare_exchange::<MakePen, Nothing>(1, 1, &mut log, &mut offer, &mut pen);
-    let _word: Head = Word::tracked(0, &mut pen);
+    let _word: EntryWord = Word::tracked(0, &mut pen);
     pen
 }
 
@@ -55,11 +57,13 @@ impl Appender {
     {
         let (mut seen, mut first, _second) = Seen::open(Start::alone(), 0, 0);
         let head = Word::tracked(0, &mut first);
-        let pen = new_pen(&head, &seen, &Entry::of(sheet, false, &first));
-        let entry = Entry::of(sheet, false, &pen);
-        let mut offer: Offer<Entry, u64, BookRule, Nothing> = seen.plain::<Nothing, Entry, Nothing>(
-            &entry,
-        );
+        let pen = new_pen(&head, &seen, &SheetEntry::of(sheet, false, &first));
+        let entry = SheetEntry::of(sheet, false, &pen);
+        let mut offer: Offer<SheetEntry, u64, BookRule, Nothing> = seen.plain::<
+            Nothing,
+            SheetEntry,
+            Nothing,
+        >(&entry);
         let mut no_pen = seen.no_pen();
         let found = head.compare_exchange::<AddFirst, Nothing>(
             0,
@@ -99,13 +103,17 @@ impl Appender {
         requires room { length self.old.log < 2 ^ 62 }
         requires legal { shown ≡ true → begun_after None self.old.log ≡ Some sheet.now }
         ensures book { self.new.book ≡ self.old.book }
-        ensures log { IsAdded self.old.log (sheet.now, shown) self.new.log }
+        ensures log { IsEntryAdded self.old.log (sheet.now, shown) self.new.log }
     {
-        let next = new_pen(&self.head, &self.seen, &Entry::of(sheet, shown, &self.pen));
-        let entry = Entry::of(sheet, shown, &next);
-        let mut offer: Offer<Entry, u64, BookRule, Nothing> = self
+        let next = new_pen(
+            &self.head,
+            &self.seen,
+            &SheetEntry::of(sheet, shown, &self.pen),
+        );
+        let entry = SheetEntry::of(sheet, shown, &next);
+        let mut offer: Offer<SheetEntry, u64, BookRule, Nothing> = self
             .seen
-            .plain::<Nothing, Entry, Nothing>(&entry);
+            .plain::<Nothing, SheetEntry, Nothing>(&entry);
         self.head
             .compare_exchange::<Add, Nothing>(1, 1, &mut self.seen, &mut offer, &mut self.pen);
         self.pen = next;

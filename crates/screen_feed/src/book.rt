@@ -7,7 +7,7 @@ use std::snapshot::Snapshot;
 
 /// A sheet that the writer began to show, or, where it is `shown`, the same after it was published.
 #[derive(Drop)]
-pub(crate) struct Entry {
+pub(crate) struct SheetEntry {
     pub sheet: Snapshot<Sheet>,
     pub shown: bool,
     /// The pen that may add the next entry.
@@ -17,12 +17,12 @@ pub(crate) struct Entry {
 /// The rule of the book.
 pub(crate) struct BookRule;
 
-impl Rule<Entry, u64> for BookRule {
+impl Rule<SheetEntry, u64> for BookRule {
     ghost use Rattle.std.specs.Prelude.{[]};
     ghost use base.Fml.{ftrue};
-    ghost use Rattle.screen_feed.specs.Rules.{IsKept};
+    ghost use Rattle.screen_feed.specs.Rules.{KeepsFirstWord};
 
-    ghost holds = { λ cells log. IsKept cells log };
+    ghost holds = { λ cells log. KeepsFirstWord cells log };
 
     ghost first = { [] };
 
@@ -38,13 +38,13 @@ impl Rule<Entry, u64> for BookRule {
 /// Callers trade nothing.
 pub(crate) struct Nothing;
 
-impl Gain<Entry, u64> for Nothing {
+impl Gain<SheetEntry, u64> for Nothing {
     ghost use base.Fml.{ftrue};
 
     ghost after = { λ names about answer. ftrue };
 }
 
-impl Plain<Entry, Entry, u64> for Nothing {
+impl Plain<SheetEntry, SheetEntry, u64> for Nothing {
     ghost use Rattle.std.specs.Prelude.{None};
 
     ghost ask = { λ entry. entry };
@@ -55,7 +55,7 @@ impl Plain<Entry, Entry, u64> for Nothing {
 /// A step that makes the pen for a later entry.
 pub(crate) struct MakePen;
 
-impl Play<Entry, u64> for MakePen {
+impl Play<SheetEntry, u64> for MakePen {
     ghost use Rattle.screen_feed.specs.Rules.{MakesPen};
 
     ghost then = { MakesPen };
@@ -64,7 +64,7 @@ impl Play<Entry, u64> for MakePen {
 /// A step that adds the first entry.
 pub(crate) struct AddFirst;
 
-impl Play<Entry, u64> for AddFirst {
+impl Play<SheetEntry, u64> for AddFirst {
     ghost use Rattle.screen_feed.specs.Rules.{AddsFirst};
 
     ghost then = { AddsFirst };
@@ -73,25 +73,25 @@ impl Play<Entry, u64> for AddFirst {
 /// A step that adds an entry by its pen.
 pub(crate) struct Add;
 
-impl Play<Entry, u64> for Add {
-    ghost use Rattle.screen_feed.specs.Rules.{Adds};
+impl Play<SheetEntry, u64> for Add {
+    ghost use Rattle.screen_feed.specs.Rules.{AddsSheet};
 
-    ghost then = { Adds };
+    ghost then = { AddsSheet };
 }
 
 /// What is known of the book's entries.
-pub(crate) type Log = Seen<Entry, u64, BookRule>;
+pub(crate) type Log = Seen<SheetEntry, u64, BookRule>;
 
 /// The word whose steps add entries.
-pub(crate) type Head = Word<Entry, u64, BookRule>;
+pub(crate) type EntryWord = Word<SheetEntry, u64, BookRule>;
 
-impl Entry {
-    pub(crate) fn of(sheet: &Sheet, shown: bool, next: &Pen) -> Entry
+impl SheetEntry {
+    pub(crate) fn of(sheet: &Sheet, shown: bool, next: &Pen) -> SheetEntry
         ensures sheet { result.sheet.value ≡ sheet.now }
         ensures shown { result.shown ≡ shown }
         ensures next { result.next.value ≡ next.now }
     {
-        Entry {
+        SheetEntry {
             sheet: Snapshot::of(sheet),
             shown,
             next: Snapshot::of(next),

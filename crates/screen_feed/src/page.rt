@@ -62,9 +62,9 @@ impl Absorb<Page> for Page {
 }
 
 /// The rule of a pair of copies. A screen's view is the page that it has seen last.
-pub(crate) struct Pair;
+pub(crate) struct PairRule;
 
-impl Protocol<Page, Option<Page>> for Pair {
+impl Protocol<Page, Option<Page>> for PairRule {
     ghost use Rattle.std.specs.Prelude.{None};
     ghost use Rattle.screen_feed.specs.Pages.{Keeps};
 
@@ -74,12 +74,12 @@ impl Protocol<Page, Option<Page>> for Pair {
 }
 
 /// The page that is shown is seen.
-pub(crate) struct Look;
+pub(crate) struct LookAtPage;
 
-impl Outcome<Page, Option<Page>> for Look {
-    ghost use Rattle.screen_feed.specs.Pages.{Looks};
+impl Outcome<Page, Option<Page>> for LookAtPage {
+    ghost use Rattle.screen_feed.specs.Pages.{LooksAtPage};
 
-    ghost then = { Looks };
+    ghost then = { LooksAtPage };
 }
 
 /// The writer tells its screen which page was published first.

@@ -14,11 +14,11 @@ use wall_chart::chart;
 /// The chart of one day of a plan, with the plan's version. A sheet may have several owners, which share its text.
 #[derive(Drop)]
 pub struct Sheet {
-    kept: Arc<Kept, Global>,
+    kept: Arc<SheetFields, Global>,
 }
 
 #[derive(Drop)]
-struct Kept {
+struct SheetFields {
     airport: Snapshot<Airport>,
     day: u32,
     version: u32,
@@ -49,7 +49,7 @@ impl Sheet {
     {
         let _sound = plan.visits();
         let text = chart(alloc, airport, plan, day)?;
-        let kept = Kept {
+        let kept = SheetFields {
             airport: Snapshot::of(airport),
             day,
             version: plan.version(),

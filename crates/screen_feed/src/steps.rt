@@ -9,7 +9,7 @@ ghost use Rattle.screen_feed.specs.Sheets.{AreSheets, Begins, IsLast};
 
 use crate::appender::Appender;
 use crate::book::Log;
-use crate::page::{Look, Page, Pair, Tell};
+use crate::page::{LookAtPage, Page, PairRule, Tell};
 use crate::sheet::Sheet;
 use apron_base::Memory;
 use core::mem::replace_with;
@@ -19,10 +19,10 @@ use std::alloc::Global;
 use std::sync::Wait;
 
 /// The writer's side of a pair of copies.
-pub(crate) type WriterSide = Writer<Page, Page, Option<Page>, Pair>;
+pub(crate) type WriterSide = Writer<Page, Page, Option<Page>, PairRule>;
 
 /// The screen's side.
-pub(crate) type ScreenSide = Reader<Page, Option<Page>, Pair>;
+pub(crate) type ScreenSide = Reader<Page, Option<Page>, PairRule>;
 
 /// The page of the sheet that was begun last.
 pub(crate) fn page_of(appender: &Appender, sheet: Sheet) -> Page
@@ -48,7 +48,7 @@ pub(crate) fn pair_of<R: Wait>(
 {
     let second = page.again()?;
     let end = WriterSide::new(alloc, page, second, 1)?;
-    let (mut end, published) = end.publish_as::<Look, R>(rt);
+    let (mut end, published) = end.publish_as::<LookAtPage, R>(rt);
     let Ok(()) = published else {
         end.take(rt);
         return Err(Memory);
@@ -62,7 +62,7 @@ pub(crate) fn pair_of<R: Wait>(
 }
 
 // The writer's side once the page is published.
-fn published<R: Wait>(rt: &R, end: WriterSide, page: Page) -> (WriterSide, Result<(), Memory>)
+fn publish_page<R: Wait>(rt: &R, end: WriterSide, page: Page) -> (WriterSide, Result<(), Memory>)
     requires follows { Follows end.desk.shown.value page }
     ensures ok { OnOk result.1 (result.0.desk.shown.value ≡ page) }
     ensures err { OnErr result.1 (result.0.desk.shown.value ≡ end.desk.shown.value) }
@@ -71,7 +71,7 @@ fn published<R: Wait>(rt: &R, end: WriterSide, page: Page) -> (WriterSide, Resul
     let Ok(()) = end.append(page) else {
         return (end, Err(Memory));
     };
-    let (end, published) = end.publish_as::<Look, R>(rt);
+    let (end, published) = end.publish_as::<LookAtPage, R>(rt);
     match published {
         Ok(()) => (end, Ok(())),
         Err(_) => (end, Err(Memory)),
@@ -85,7 +85,7 @@ pub(crate) fn publish<R: Wait>(rt: &R, end: &mut WriterSide, page: Page) -> Resu
     ensures ok { OnOk result (end.new.desk.shown.value ≡ page) }
     ensures err { OnErr result (end.new.desk.shown.value ≡ end.old.desk.shown.value) }
 {
-    replace_with(end, page, |end, page| published(rt, end, page))
+    replace_with(end, page, |end, page| publish_page(rt, end, page))
 }
 
 // Whether the page is late enough to show all that was told. It always is, since a writer publishes a page before it tells
@@ -114,7 +114,7 @@ pub(crate) fn look_at(
     ensures last { IfOk result.1 (IsLast (sheets_seen (view result.0.place))) }
     ensures told { IfOk result.1 (λ sheet. Begins (sheets_seen (view result.0.place)) (shown_in told.now.log)) }
 {
-    match front.enter_as::<Look>() {
+    match front.enter_as::<LookAtPage>() {
         Ok(reading) => {
             let page = reading.get();
             let answer = if covers(page, told, round) {

@@ -50,13 +50,13 @@ pub record HallHeld (K R : Type 0) : Type 0 where
 
 module _ {K R : Type 0} where
   -- the plan of the board
-  abbrev pub plan_of : HallHeld K R → PlanState
-  plan_of hall = replay hall.board.board.airport hall.board.board.history
+  abbrev pub hall_plan : HallHeld K R → PlanState
+  hall_plan hall = replay hall.board.board.airport hall.board.board.history
 
   -- each writer shows fronts of the board's history, and no show was missed exactly if each writer shows the plan's version
   pub record IsHall (hall : HallHeld K R) : Type 0 where
     pub writers : Every (IsWriterOf hall.board.board.airport hall.board.board.history) hall.writers
-    pub missed : hall.missed ≡ false ↔ Every (ShowsVersion (plan_of hall).version) hall.writers
+    pub missed : hall.missed ≡ false ↔ Every (ShowsVersion (hall_plan hall).version) hall.writers
 
   -- as a machine it is its board
   abbrev pub hall_state : (K → KeeperState) → HallHeld K R → MachineState Entry (WatchFixed R)

@@ -2,13 +2,13 @@
 ghost use Rattle.std.specs.Prelude.{◌≡◌, ◌≤◌, ◌<◌, false};
 ghost use Rattle.std.specs.List.{AllZip};
 ghost use Rattle.apron_base.specs.Histories.{Every, Rises};
-ghost use Rattle.apron_base.specs.Machine.{Acts, ActsAtRisk, is_fault, standing};
+ghost use Rattle.apron_base.specs.Machine.{Acts, ActsAtRisk, history_at_risk_of, is_fault};
 ghost use Rattle.history_core.specs.History.{IsLegal, call_limit, call_of};
 ghost use Rattle.watch_list.specs.WatchBoards.{CanAdd, IsWatchAskOf, WatchAnswers, watch_fixed, watch_state};
-ghost use Rattle.screen_hall.specs.Halls.{IsHall, IsNewWriter, IsShown, plan_of};
+ghost use Rattle.screen_hall.specs.Halls.{IsHall, IsNewWriter, IsShown, hall_plan};
 
 use crate::charts::Charts;
-use crate::show::{close_all, show_all};
+use crate::show::{close_all, show_on_all};
 use apron_base::{Acted, Keeper, Machine};
 use desk_words::asks::Entry;
 use screen_feed::ScreenWriter;
@@ -102,16 +102,16 @@ impl<'s, 'w, 'a, W: Wait, K: Keeper, R: Stated, T: NoteTest> Hall<'s, 'w, 'a, W,
         requires last { call < call_limit }
         ensures acts { Acts call_of (watch_state K.state self.old.board) (watch_state K.state self.new.board) call result }
         ensures at_risk { ActsAtRisk (λ entry. (call_of entry ≡ call) × CanAdd ask.now entry) (is_fault result)
-            (standing (watch_state K.state self.old.board)) (standing (watch_state K.state self.new.board)) }
+            (history_at_risk_of (watch_state K.state self.old.board)) (history_at_risk_of (watch_state K.state self.new.board)) }
         ensures answers { WatchAnswers R.tells (watch_fixed self.old.board) self.old.board.board.history call ask.now result self.new.board.board.history }
-        ensures shown { AllZip (IsShown (plan_of self.new)) self.old.writers self.new.writers }
+        ensures shown { AllZip (IsShown (hall_plan self.new)) self.old.writers self.new.writers }
     {
         let acted = self.board.act(alloc, call, ask);
         let board = self.board.board();
         // It is legal, so that it has as many entries as its plan's version says.
         let _history = board.history();
         let mut charts = Charts::of(board.airport(), board.plan());
-        self.missed = show_all(self.rt, alloc, &mut charts, self.writers.as_mut_slice());
+        self.missed = show_on_all(self.rt, alloc, &mut charts, self.writers.as_mut_slice());
         acted
     }
 }

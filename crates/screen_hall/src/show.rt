@@ -11,7 +11,7 @@ use std::sync::Wait;
 
 /// Shows a plan on each of these. It gives whether a show wanted memory: exactly where some writer does not show the plan's
 /// version. Writers of one day that follow each other share a chart. It may wait for screens that are looking.
-pub(crate) fn show_all<W: Wait>(
+pub(crate) fn show_on_all<W: Wait>(
     rt: &W,
     alloc: Global,
     charts: &mut Charts<'_>,
@@ -26,7 +26,7 @@ pub(crate) fn show_all<W: Wait>(
     }
     let (first, rest) = writers.split_at_mut(1);
     let missed = charts.show_on(rt, alloc, &mut first[0]).is_err();
-    let others = show_all(rt, alloc, charts, rest);
+    let others = show_on_all(rt, alloc, charts, rest);
     missed || others
 }
 

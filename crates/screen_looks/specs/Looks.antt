@@ -18,7 +18,7 @@ IsNewScreen airport history day screen =
     (screen.shown ≡ record { airport = airport; day = day }) × (screen.seen ≡ sheet_of (replay airport history) day ∷ [])
 
 -- a screen and the sink of a connection
-pub record Look : Type 0 where
+pub record ScreenAndSink : Type 0 where
   pub screen : ScreenState
   pub sink : SinkState
 
@@ -29,7 +29,7 @@ pub record IsLastSheet (screen : ScreenState) (sheet : SheetState) : Type 0 wher
 
 -- how a connection ends, and what is put on it: the text of the last sheet; or, if there is no memory, nothing; or, if the sink
 -- fails, a front of the text
-abbrev pub EndsAs : Look → Look → Outcome → Type 0
+abbrev pub EndsAs : ScreenAndSink → ScreenAndSink → Outcome → Type 0
 EndsAs before after Ended = (sheet : SheetState) × IsLastSheet after.screen sheet × Wrote false before.sink after.sink sheet.text
 EndsAs before after Memory = after.sink ≡ before.sink
 EndsAs before after WriteFault = (sheet : SheetState) × IsLastSheet after.screen sheet
@@ -37,7 +37,7 @@ EndsAs before after WriteFault = (sheet : SheetState) × IsLastSheet after.scree
 EndsAs before after outcome = ⊥
 
 -- one look: the screen has seen no older sheet than before
-pub record LooksOnce (before after : Look) (outcome : Outcome) : Type 0 where
+pub record LooksOnce (before after : ScreenAndSink) (outcome : Outcome) : Type 0 where
   pub looked : HasLooked before.screen after.screen
   pub later : last_version before.screen.seen ≤ last_version after.screen.seen
   pub ends : EndsAs before after outcome

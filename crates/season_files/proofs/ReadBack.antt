@@ -21,7 +21,7 @@ use Rattle.visit_book.specs.declared.visits.Key.{Key}
 use Rattle.visit_book.specs.declared.visits.NewVisit.{NewVisit}
 use Rattle.visit_book.specs.declared.visits.Visit.{Visit}
 use Rattle.season_files.specs.Laws.{HasName, IsVisitOf, SeasonIsReadBack}
-use Rattle.season_files.specs.Records.{is_header, key_in, visit_in, visit_of}
+use Rattle.season_files.specs.Records.{is_header, key_in, visit_in, visit_of_record}
 use Rattle.season_files.specs.Seasons.{season_in, visits_from, visits_of}
 use Rattle.season_files.specs.Texts.{columns, is_uncancelled, line, season_of, season_text, visit_fields, visit_line}
 use Rattle.season_files.proofs.Lines.{header_row, plain-fields, visit_row}
@@ -31,7 +31,7 @@ use Rattle.season_files.proofs.TypeNames.{type-back, type_row}
 
 module _ (airport : AirportParts) (is : IsAirport airport) (named : All HasName airport.types) where
   -- the fields of a visit give that visit
-  visit-back : (new : NewVisit) → IsSeasonVisit airport new → visit_of airport (visit_fields airport new) ≡ Some new
+  visit-back : (new : NewVisit) → IsSeasonVisit airport new → visit_of_record airport (visit_fields airport new) ≡ Some new
   unfolding visit_in key_in field_at
   visit-back new h =
       let times = times_of airport new h.of_airport.in_time in

@@ -9,7 +9,7 @@ use Rattle.csv.specs.Machine.{Read, next_record}
 use Rattle.csv.specs.Reading.{default_config, records_from}
 use Rattle.csv.specs.declared.parser.State.{State}
 use Rattle.visit_book.specs.declared.visits.NewVisit.{NewVisit}
-use Rattle.season_files.specs.Records.{is_header, visit_of}
+use Rattle.season_files.specs.Records.{is_header, visit_of_record}
 use Rattle.season_files.specs.Seasons.{season_left, visits_from, visits_left, visits_of}
 
 -- the visits found so far, and those of the rest
@@ -28,12 +28,12 @@ module _ (airport : AirportParts) where
   pub walk-start : (m n : ℕ) (s : State) (left : List ℕ) (found : List NewVisit) → found ≡ [] → m ≡ n → joined found (visits_left airport 2 m s left) ≡ visits_left airport 2 n s left
   walk-start m n s left found none same = rw (none, same) (joined-nil (visits_left airport 2 n s left))
 
-  pub step-visit : (k j m n : ℕ) (s : State) (left : List ℕ) (p : Read) (found : List NewVisit) (new : NewVisit) → j ≡ k + 1 → m ≡ n + 1 → next_record default_config s [] [] left ≡ Some p → visit_of airport p.0 ≡ Some new
+  pub step-visit : (k j m n : ℕ) (s : State) (left : List ℕ) (p : Read) (found : List NewVisit) (new : NewVisit) → j ≡ k + 1 → m ≡ n + 1 → next_record default_config s [] [] left ≡ Some p → visit_of_record airport p.0 ≡ Some new
       → joined found (visits_left airport k m s left) ≡ joined (found ++ new ∷ []) (visits_left airport j n p.1 p.2)
   unfolding records_from visits_from
   step-visit k j m n s left p found new after turn next good = rw (after, turn, add-one n, next, good) (joined-cons found new _)
 
-  pub step-bad : (k m n : ℕ) (s : State) (left : List ℕ) (p : Read) (found : List NewVisit) → m ≡ n + 1 → next_record default_config s [] [] left ≡ Some p → visit_of airport p.0 ≡ None
+  pub step-bad : (k m n : ℕ) (s : State) (left : List ℕ) (p : Read) (found : List NewVisit) → m ≡ n + 1 → next_record default_config s [] [] left ≡ Some p → visit_of_record airport p.0 ≡ None
       → joined found (visits_left airport k m s left) ≡ Err k
   unfolding records_from visits_from
   step-bad k m n s left p found turn next bad = rw (turn, add-one, next, bad)

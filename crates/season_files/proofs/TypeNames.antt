@@ -8,7 +8,7 @@ use Rattle.apron_base.specs.Name.{IsName}
 use Rattle.apron_base.specs.declared.numbers.TypeNo.{TypeNo}
 use Rattle.apron_base.proofs.NameTests.{name_decides}
 use Rattle.apron_rules.specs.Names.{frontage_names, first_repeated, place_of, stand_names, type_names}
-use Rattle.apron_rules.specs.Refusals.{duplicate_of, fault_of, later_fault_of}
+use Rattle.apron_rules.specs.Refusals.{airport_fault, duplicate_of, later_fault_of}
 use Rattle.apron_rules.specs.declared.parts.AirportParts.{AirportParts}
 use Rattle.apron_rules.specs.declared.parts.TypeRow.{TypeRow}
 use Rattle.apron_rules.proofs.Airports.{left_none, right_none}
@@ -22,14 +22,14 @@ unmapped f None h = refl
 unmapped f (Some x) h = absurd (cc)
 
 -- no name of a type occurs twice
-types_once : (parts : AirportParts) → fault_of parts ≡ None → first_repeated (type_names parts) ≡ None
-unfolding fault_of
+types_once : (parts : AirportParts) → airport_fault parts ≡ None → first_repeated (type_names parts) ≡ None
+unfolding airport_fault
 types_once parts h =
     let once = unmapped _ (duplicate_of parts) (left_none _ (later_fault_of parts) h) in
     right_none (first_repeated (stand_names parts)) _ (right_none (first_repeated (frontage_names parts)) _ once)
 
 -- the place of a type's name is the type's number
-type_place : (parts : AirportParts) (k : ℕ) (row : TypeRow) → fault_of parts ≡ None → slice_get parts.types k ≡ Some row → place_of row.name (type_names parts) ≡ Some k
+type_place : (parts : AirportParts) (k : ℕ) (row : TypeRow) → airport_fault parts ≡ None → slice_get parts.types k ≡ Some row → place_of row.name (type_names parts) ≡ Some k
 type_place parts k row none at =
     place_at (type_names parts) k row.name (types_once parts none) (slice_get-map (λ (row : TypeRow). row.name) parts.types k ∙ ap (option_map (λ (row : TypeRow). row.name)) at)
 
@@ -51,6 +51,6 @@ pub name_of_type-is : (airport : AirportParts) (kind : TypeNo) (row : TypeRow) �
 name_of_type-is airport kind row at = ap name_of_row at
 
 -- a type is found by its name
-pub type-back : (airport : AirportParts) (kind : TypeNo) (row : TypeRow) → fault_of airport ≡ None → IsRowOf airport kind row → type_named airport (name_of_type airport kind) ≡ Some kind
+pub type-back : (airport : AirportParts) (kind : TypeNo) (row : TypeRow) → airport_fault airport ≡ None → IsRowOf airport kind row → type_named airport (name_of_type airport kind) ≡ Some kind
 type-back airport kind row none h =
     rw (name_of_type-is airport kind row h.at, (name_decides row.name).1 h.name, type_place airport kind.0 row none h.at) refl

@@ -122,5 +122,5 @@ visit_in airport fields = do
 
 -- the visit that a record gives at the airport: a name, a type of the airport, a class, the minutes
 -- on and off block, and the flights that it comes and leaves by, each with its day or both empty
-abbrev pub visit_of : AirportParts → List (List ℕ) → Option NewVisit
-visit_of airport fields = if length fields == COLUMNS then visit_in airport fields else None
+abbrev pub visit_of_record : AirportParts → List (List ℕ) → Option NewVisit
+visit_of_record airport fields = if length fields == COLUMNS then visit_in airport fields else None

@@ -8,7 +8,7 @@ use Rattle.csv.specs.declared.parser.State.TheVariants as st
 use Rattle.visit_book.specs.declared.visits.NewVisit.{NewVisit}
 use Rattle.season_files.specs.declared.faults.SeasonFault.{SeasonFault}
 use Rattle.season_files.specs.declared.faults.SeasonFault.TheVariants.{BadRow, Memory}
-use Rattle.season_files.specs.Records.{is_header, visit_of}
+use Rattle.season_files.specs.Records.{is_header, visit_of_record}
 
 -- the visit of the k-th record, or this record is refused
 abbrev pub or_refused : ℕ → Option NewVisit → Result NewVisit ℕ
@@ -19,7 +19,7 @@ or_refused k (Some new) = Ok new
 unfoldable pub visits_from : AirportParts → ℕ → List (List (List ℕ)) → Result (List NewVisit) ℕ
 visits_from airport k [] = Ok []
 visits_from airport k (fields ∷ rest) = do
-  new ← or_refused k (visit_of airport fields)
+  new ← or_refused k (visit_of_record airport fields)
   more ← visits_from airport (k + 1) rest
   Ok (new ∷ more)
 
@@ -44,11 +44,11 @@ abbrev pub season_in : AirportParts → List ℕ → Result (List NewVisit) ℕ
 season_in airport text = season_left airport (length text + 1) st.StartRecord (strip_bom text)
 
 -- the fault is that of the text, unless memory ran out
-abbrev pub Refuses : SeasonFault → Result (List NewVisit) ℕ → Type 0
-Refuses (BadRow k) told = told ≡ Err k
-Refuses Memory told = Unit {0}
+abbrev pub RefusesSeason : SeasonFault → Result (List NewVisit) ℕ → Type 0
+RefusesSeason (BadRow k) told = told ≡ Err k
+RefusesSeason Memory told = Unit {0}
 
 -- what was read is what the text gives, unless memory ran out
-abbrev pub Reads : Result (List NewVisit) SeasonFault → Result (List NewVisit) ℕ → Type 0
-Reads (Ok visits) told = told ≡ Ok visits
-Reads (Err fault) told = Refuses fault told
+abbrev pub ReadsSeason : Result (List NewVisit) SeasonFault → Result (List NewVisit) ℕ → Type 0
+ReadsSeason (Ok visits) told = told ≡ Ok visits
+ReadsSeason (Err fault) told = RefusesSeason fault told

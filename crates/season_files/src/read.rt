@@ -3,10 +3,10 @@ ghost use Rattle.std.specs.Prelude.{◌≡◌, ℕ, List, Some, OnOk, IfOk, IfEr
 ghost use Rattle.csv.specs.declared.parser.State.{State};
 ghost use Rattle.visit_book.specs.NewVisits.{IsNewVisitOf};
 ghost use Rattle.csv_records.specs.Reading.{IsReading};
-ghost use Rattle.season_files.specs.Seasons.{Reads, Refuses, season_in, season_left, visits_left};
+ghost use Rattle.season_files.specs.Seasons.{ReadsSeason, RefusesSeason, season_in, season_left, visits_left};
 
 use crate::faults::SeasonFault;
-use crate::records::{is_header, visit_of};
+use crate::records::{is_header, visit_of_record};
 use apron_base::Listed;
 use apron_rules::Airport;
 use csv::{ByteRecord, Reader};
@@ -15,7 +15,7 @@ use std::alloc::Global;
 use visit_book::{Key, NewVisit};
 
 // Reads the first record, which is the header.
-fn read_header(
+fn read_season_header(
     airport: &Airport,
     rdr: &mut Reader<&[u8]>,
     row: &mut ByteRecord,
@@ -24,7 +24,7 @@ fn read_header(
         → (t : State) × (rest : List ℕ) × IsReading (λ b. Some b.now) rdr.new t rest
         × (season_left airport.now (turns + 1) s left ≡ visits_left airport.now 2 turns t rest)) }
     ensures err { IfErr result (λ e. (turns : ℕ) (s : State) (left : List ℕ) → IsReading (λ b. Some b.now) rdr.old s left
-        → Refuses e (season_left airport.now (turns + 1) s left)) }
+        → RefusesSeason e (season_left airport.now (turns + 1) s left)) }
 {
     if !read_row(rdr, row)? {
         return Err(SeasonFault::BadRow(1));
@@ -45,7 +45,7 @@ fn read_visits(
     turns: usize,
 ) -> Result<Listed<NewVisit>, SeasonFault>
     requires few { turns < 2 ^ 31 }
-    ensures value { (s : State) (left : List ℕ) → IsReading (λ b. Some b.now) rdr.old s left → Reads result (visits_left airport.now 2 turns s left) }
+    ensures value { (s : State) (left : List ℕ) → IsReading (λ b. Some b.now) rdr.old s left → ReadsSeason result (visits_left airport.now 2 turns s left) }
     ensures new { IfOk result (All (IsNewVisitOf airport.now)) }
 {
     let mut visits = Listed::new(alloc);
@@ -53,7 +53,7 @@ fn read_visits(
         if !read_row(rdr, row)? {
             return Ok(visits);
         }
-        let Some(new) = visit_of(airport, row) else {
+        let Some(new) = visit_of_record(airport, row) else {
             return Err(SeasonFault::BadRow(k as u32 + 2));
         };
         // This names the type of a field of what is pushed; the proof of the push needs it.
@@ -76,11 +76,11 @@ pub fn read_season(
     text: &[u8],
 ) -> Result<Listed<NewVisit>, SeasonFault>
     requires few { length text.now < 2 ^ 31 }
-    ensures read { Reads result (season_in airport.now text.now) }
+    ensures read { ReadsSeason result (season_in airport.now text.now) }
     ensures new { IfOk result (All (IsNewVisitOf airport.now)) }
 {
     let mut rdr = start(alloc, text);
     let mut row = ByteRecord::new(alloc);
-    read_header(airport, &mut rdr, &mut row)?;
+    read_season_header(airport, &mut rdr, &mut row)?;
     read_visits(alloc, airport, &mut rdr, &mut row, text.len())
 }

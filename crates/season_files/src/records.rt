@@ -3,7 +3,7 @@ ghost use Rattle.std.specs.Prelude.{◌≡◌, ◌≤◌, ◌<◌, ◌+◌, IfSo
 ghost use Rattle.csv.specs.Records.{fields_of};
 ghost use Rattle.visit_book.specs.NewVisits.{HasFlight, IsNewVisitOf};
 ghost use Rattle.visit_book.specs.WellFormed.{greatest_class};
-ghost use Rattle.season_files.specs.Records.{class_in, heads_flights, heads_visit, if_name, is_field, is_header, key_in, key_named, key_with, name_in, number_in, number_named, small_named, type_in, type_named, visit_in, visit_of};
+ghost use Rattle.season_files.specs.Records.{class_in, heads_flights, heads_visit, if_name, is_field, is_header, key_in, key_named, key_with, name_in, number_in, number_named, small_named, type_in, type_named, visit_in, visit_of_record};
 
 use apron_base::{Name, TypeNo, number_of};
 use apron_rules::Airport;
@@ -59,8 +59,8 @@ fn is_field(row: &ByteRecord, i: usize, word: &[u8]) -> bool
 }
 
 /// The visit that a record gives at the airport, if it gives one.
-pub(crate) fn visit_of(airport: &Airport, row: &ByteRecord) -> Option<NewVisit>
-    ensures value { result ≡ visit_of airport.now (fields_of row.now) }
+pub(crate) fn visit_of_record(airport: &Airport, row: &ByteRecord) -> Option<NewVisit>
+    ensures value { result ≡ visit_of_record airport.now (fields_of row.now) }
     ensures new { IfSome result (IsNewVisitOf airport.now) }
 {
     if row.len() == COLUMNS {
@@ -101,10 +101,10 @@ fn visit_in(airport: &Airport, row: &ByteRecord) -> Option<NewVisit>
 fn name_in(row: &ByteRecord, i: usize) -> Option<Name>
     ensures value { result ≡ name_in (fields_of row.now) i }
 {
-    name(row.get(i)?)
+    if_name(row.get(i)?)
 }
 
-fn name(text: &[u8]) -> Option<Name>
+fn if_name(text: &[u8]) -> Option<Name>
     ensures value { result ≡ if_name text.now }
 {
     Name::new(text)
@@ -121,7 +121,7 @@ fn type_named(airport: &Airport, text: &[u8]) -> Option<TypeNo>
     ensures value { result ≡ type_named airport.now text.now }
     ensures inside { IfSome result (λ kind. kind.0 < length airport.now.types) }
 {
-    match name(text) {
+    match if_name(text) {
         Some(name) => airport.type_of(&name),
         None => None,
     }
@@ -131,7 +131,7 @@ fn class_in(row: &ByteRecord, i: usize) -> Option<u8>
     ensures value { result ≡ class_in (fields_of row.now) i }
     ensures class { IfSome result (λ class. class ≤ greatest_class) }
 {
-    small(row.get(i)?, GREATEST_CLASS)
+    if_small(row.get(i)?, GREATEST_CLASS)
 }
 
 fn number_in(row: &ByteRecord, i: usize) -> Option<u32>
@@ -149,7 +149,7 @@ fn number(text: &[u8]) -> Option<u32>
     }
 }
 
-fn small(text: &[u8], most: u8) -> Option<u8>
+fn if_small(text: &[u8], most: u8) -> Option<u8>
     ensures value { result ≡ small_named most text.now }
     ensures most { IfSome result (λ number. number ≤ most) }
 {
@@ -186,6 +186,6 @@ fn key_with(flight: &[u8], day: &[u8]) -> Option<Key>
     ensures flight { IfSome result HasFlight }
 {
     let flight = read_flight(flight)?;
-    let day = small(day, u8::MAX)?;
+    let day = if_small(day, u8::MAX)?;
     Some(Key { flight, day })
 }

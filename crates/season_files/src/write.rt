@@ -2,7 +2,7 @@
 ghost use Rattle.std.specs.Prelude.{◌≡◌, ◌++◌, ◌<◌, Some, IfOk, IfSome, OnOk, All, length};
 ghost use Rattle.std.specs.Io.KnownBytes.{Appends};
 ghost use Rattle.visit_book.specs.NewVisits.{HasFlight, IsNewVisitOf, new_of};
-ghost use Rattle.season_files.specs.CsvWriting.{IsWriting, known};
+ghost use Rattle.season_files.specs.CsvWriting.{IsWriting, written_bytes};
 ghost use Rattle.season_files.specs.Texts.{columns, day_field, flight_field, is_uncancelled, line, name_of_type, season_of, season_text, visit_line};
 
 use crate::csv_writing::{start_writing, write_row};
@@ -16,7 +16,7 @@ use visit_book::{End, Key, NewVisit, Visit, new_of};
 
 // A writer that has written the header.
 fn write_header(alloc: Global) -> Result<Writer<Vec<u8>>, Memory>
-    ensures header { IfOk result (λ wtr. IsWriting wtr × (known wtr ≡ Some (line columns))) }
+    ensures header { IfOk result (λ wtr. IsWriting wtr × (written_bytes wtr ≡ Some (line columns))) }
 {
     let mut wtr = start_writing(alloc);
     write_row(
@@ -58,7 +58,7 @@ fn write_visit(
     new: &NewVisit,
 ) -> Result<(), Memory>
     requires new { IsNewVisitOf airport.now new.now }
-    ensures line { OnOk result (IsWriting wtr.old → IsWriting wtr.new × Appends (known wtr.old) (known wtr.new) (visit_line airport.now new.now)) }
+    ensures line { OnOk result (IsWriting wtr.old → IsWriting wtr.new × Appends (written_bytes wtr.old) (written_bytes wtr.new) (visit_line airport.now new.now)) }
 {
     let kind = airport.parts().types.as_slice()[new.kind.0 as usize].name;
     let arr = flight_field(alloc, &new.arr)?;

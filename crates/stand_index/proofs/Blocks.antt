@@ -11,7 +11,7 @@ use Rattle.std.proofs.Math.Seq.{get_or-append_seam}
 use Rattle.std.proofs.lemmas.List.Elements.{filter-append}
 use Rattle.std.proofs.lemmas.List.Folds.{list_any_at, list_any_more, list_any_none}
 use Rattle.apron_base.specs.declared.slot.Slot.{Slot}
-use Rattle.stand_index.specs.Blocks.{AreInBlocks, AreLastEnds, IsLastEnd, block, count_blocks, ends_after, is_reached, starts_before}
+use Rattle.stand_index.specs.Blocks.{AreInBlocks, AreLastEnds, IsLastEnd, block, count_blocks, ends_after, is_reached, slot_starts_before}
 use Rattle.stand_index.specs.Slots.{IsByStart, StandSlots, is_hit}
 use Rattle.stand_index.specs.Steps.{binary_digits, block_steps, blocks_steps, most_steps}
 use Rattle.stand_index.proofs.Hits.{none_pass}
@@ -78,19 +78,19 @@ is_before m n h = grind (arith, nat_tests)
 
 -- the first slot of a block says whether one starts before a minute
 pub first_starts : (xs : List Slot) (number end : ℕ) (slot : Slot) → IsByStart xs → number * 64 < length xs → ((d : Slot) → slot ≡ get_or xs (number * 64) d)
-    → list_any (starts_before end) (block xs number) ≡ nat_lt slot.from end
+    → list_any (slot_starts_before end) (block xs number) ≡ nat_lt slot.from end
 first_starts xs number end slot order inside at = by (nat_lt slot.from end) refl
   where
-    by : (b : Bool) → nat_lt slot.from end ≡ b → list_any (starts_before end) (block xs number) ≡ b
+    by : (b : Bool) → nat_lt slot.from end ≡ b → list_any (slot_starts_before end) (block xs number) ≡ b
     by true is =
         let some : 0 < length (block xs number) = omega (arith, block_length xs number) in
         let n : number * 64 + 0 ≡ number * 64 = omega arith in
         let here : slot ≡ get_or (block xs number) 0 slot = at slot ∙ (ap (λ i. get_or xs i slot) (sym n) ∙ sym (block_at xs number 0 slot some)) in
         let P : Slot → Type 0 = λ y. nat_lt y.from end ≡ true in
-        list_any_at (starts_before end) (block xs number) 0 slot some (subst P here is)
+        list_any_at (slot_starts_before end) (block xs number) 0 slot some (subst P here is)
     by false is =
         let late : end ≤ slot.from = grind (arith, nat_tests) in
-        list_any_none (starts_before end) (block xs number) (λ k d within.
+        list_any_none (slot_starts_before end) (block xs number) (λ k d within.
         let far : number * 64 + k < length xs = omega (arith, block_length xs number) in
         let first : slot.from ≤ (get_or xs (number * 64 + k) d).from =
         (let Q : Slot → Type 0 = λ y. y.from ≤ (get_or xs (number * 64 + k) d).from in subst Q (sym (at d)) (order (number * 64) (number * 64 + k) d (omega arith) far)) in
@@ -106,7 +106,7 @@ unreached_misses xs from end misses = none_pass (is_hit from end) xs (λ k d ins
     by k d inside true is =
         let starts : nat_lt (get_or xs k d).from end ≡ true = grind (arith, nat_tests) in
         let ends : nat_lt from (get_or xs k d).end ≡ true = grind (arith, nat_tests) in
-        let one : list_any (starts_before end) xs ≡ true = list_any_at (starts_before end) xs k d inside starts in
+        let one : list_any (slot_starts_before end) xs ≡ true = list_any_at (slot_starts_before end) xs k d inside starts in
         let other : list_any (ends_after from) xs ≡ true = list_any_at (ends_after from) xs k d inside ends in
         let both : is_reached from end xs ≡ true = rw (one, other) refl in
         absurd (cc)
@@ -134,7 +134,7 @@ reached_then xs ys ends number from end slot last blocks same inside at last_at 
     let Q : List Slot → Type 0 = λ zs. number * 64 < length zs in
     let within : number * 64 < length xs = subst Q (sym same) inside in
     let counted : number < length ends = omega (arith, blocks.whole) in
-    let first : list_any (starts_before end) (block xs number) ≡ true =
+    let first : list_any (slot_starts_before end) (block xs number) ≡ true =
     first_starts xs number end slot blocks.order within (λ d. at ∙ get_or_default xs (number * 64) slot d within) ∙ is_before slot.from end starts in
     let ended : list_any (ends_after from) (block xs number) ≡ nat_lt from last =
     blocks.each number counted from ∙ ap (nat_lt from) (sym (last_at ∙ get_or_default ends number last 0 counted)) in
@@ -146,7 +146,7 @@ reached_else xs ys ends number from end slot blocks same inside at late =
     let P : List Slot → Type 0 = λ zs. nat_lt slot.from end ≡ is_reached from end (block zs number) in
     let Q : List Slot → Type 0 = λ zs. number * 64 < length zs in
     let within : number * 64 < length xs = subst Q (sym same) inside in
-    let none : list_any (starts_before end) (block xs number) ≡ false =
+    let none : list_any (slot_starts_before end) (block xs number) ≡ false =
     first_starts xs number end slot blocks.order within (λ d. at ∙ get_or_default xs (number * 64) slot d within) ∙ not_before slot.from end late in
     subst P same (rw (none, not_before slot.from end late) refl)
 

@@ -13,8 +13,8 @@ abbrev pub count_blocks : List Slot → ℕ
 count_blocks slots = (length slots + 63) / 64
 
 -- a slot starts before the minute
-abbrev pub starts_before : ℕ → Slot → Bool
-starts_before minute slot = nat_lt slot.from minute
+abbrev pub slot_starts_before : ℕ → Slot → Bool
+slot_starts_before minute slot = nat_lt slot.from minute
 
 -- a slot ends after the minute
 abbrev pub ends_after : ℕ → Slot → Bool
@@ -22,7 +22,7 @@ ends_after minute slot = nat_lt minute slot.end
 
 -- a slot of the block starts before end, and one ends after from
 abbrev pub is_reached : ℕ → ℕ → List Slot → Bool
-is_reached from end slots = list_any (starts_before end) slots && list_any (ends_after from) slots
+is_reached from end slots = list_any (slot_starts_before end) slots && list_any (ends_after from) slots
 
 -- the last of the slots ends at this minute, which is 0 if there is none
 abbrev pub IsLastEnd : List Slot → ℕ → Type 0

@@ -19,8 +19,8 @@ use Rattle.stand_proposer.specs.declared.proposals.Proposal.{Proposal}
 use Rattle.stand_proposer.specs.declared.proposals.Why.{Why}
 use Rattle.stand_proposer.specs.declared.proposals.Why.TheVariants as why
 use Rattle.stand_proposer.specs.Clauses.{ClashesAmong, ClashesHold, ClashesWith}
-use Rattle.stand_proposer.specs.Proposals.{AreDecided, IsDecided, nothing_proposed, put}
-use Rattle.stand_proposer.specs.SoFar.{IsMade, IsUnasked, slots_so_far}
+use Rattle.stand_proposer.specs.Proposals.{AreDecided, IsDecided, nothing_proposed, put_edit}
+use Rattle.stand_proposer.specs.SoFar.{IsProposedSoFar, IsUnput, slots_so_far}
 use Rattle.stand_proposer.specs.Trials.{AreTrials, IsFirstTaker, IsTrial, slot_at}
 use Rattle.stand_proposer.proofs.Made.{IsTurn, clash_is, first_fit, made_with, whys_are}
 use Rattle.stand_proposer.proofs.Puts.{id_is}
@@ -44,18 +44,18 @@ if_ok (Err e) f p = tt
 -- a part that is put
 pub fits_decided : (plan : PlanState) (before : Proposal) (slots others : List Slot) (row : PartRow) (visit : Visit) (slot : Slot) (edits : List Edit) → length before.edits < most_edits
     → IsTurn plan before.edits slots others row visit → IsFirstTaker plan.airport others visit row slot
-    → edits ≡ before.edits ++ put row.id slot.stand ∷ [] → IsDecided plan before row.id (record before { edits = edits })
+    → edits ≡ before.edits ++ put_edit row.id slot.stand ∷ [] → IsDecided plan before row.id (record before { edits = edits })
 fits_decided plan before slots others row visit slot edits few turn taker more =
-    let is : edits ≡ before.edits ++ put row.id taker.stand ∷ [] = more ∙ ap (λ (x : Slot). before.edits ++ put row.id x.stand ∷ []) taker.is in
+    let is : edits ≡ before.edits ++ put_edit row.id taker.stand ∷ [] = more ∙ ap (λ (x : Slot). before.edits ++ put_edit row.id x.stand ∷ []) taker.is in
     inl (few, inl (taker.stand, first_fit plan before.edits slots others row visit turn slot taker, ap (λ (es : List Edit). record before { edits = es }) is))
 
 pub fits_made : (plan : PlanState) (before edits : List Edit) (slots others after : List Slot) (row : PartRow) (visit : Visit) (slot : Slot) → length before < most_edits
     → visit.kind.0 < length plan.airport.types → IsTurn plan before slots others row visit → IsFirstTaker plan.airport others visit row slot
-    → edits ≡ before ++ put row.id slot.stand ∷ [] → after ≡ slots ++ slot ∷ [] → IsMade plan edits after
+    → edits ≡ before ++ put_edit row.id slot.stand ∷ [] → after ≡ slots ++ slot ∷ [] → IsProposedSoFar plan edits after
 fits_made plan before edits slots others after row visit slot few kind turn taker more added =
-    let is : edits ≡ before ++ put row.id taker.stand ∷ [] = more ∙ ap (λ (x : Slot). before ++ put row.id x.stand ∷ []) taker.is in
-    subst (λ (es : List Edit). IsMade plan es after) (sym is)
-    (subst (λ (xs : List Slot). IsMade plan (before ++ put row.id taker.stand ∷ []) xs) (sym added) (made_with plan before slots others row visit turn slot few kind taker))
+    let is : edits ≡ before ++ put_edit row.id taker.stand ∷ [] = more ∙ ap (λ (x : Slot). before ++ put_edit row.id x.stand ∷ []) taker.is in
+    subst (λ (es : List Edit). IsProposedSoFar plan es after) (sym is)
+    (subst (λ (xs : List Slot). IsProposedSoFar plan (before ++ put_edit row.id taker.stand ∷ []) xs) (sym added) (made_with plan before slots others row visit turn slot few kind taker))
 
 -- a part that is left
 pub left_decided : (plan : PlanState) (before : Proposal) (slots others : List Slot) (row : PartRow) (visit : Visit) (reasons : List Why) (lefts : List Left) → length before.edits < most_edits
@@ -72,7 +72,7 @@ over_decided plan before part overs full more = inr (full, ap (λ (ids : List Pa
 -- what a decided part changes
 record Changes (before : Proposal) (part : PartId) (after : Proposal) : Type 0 where
   base : after.base ≡ before.base
-  edits : (after.edits ≡ before.edits) ⊎ ((stand : StandNo) × (after.edits ≡ before.edits ++ put part stand ∷ []))
+  edits : (after.edits ≡ before.edits) ⊎ ((stand : StandNo) × (after.edits ≡ before.edits ++ put_edit part stand ∷ []))
 
 changes : (plan : PlanState) (before : Proposal) (part : PartId) (after : Proposal) → IsDecided plan before part after → Changes before part after
 changes plan before part after (inl (few, inl (stand, fit, is))) = record { base = ap (λ (p : Proposal). p.base) is; edits = inr (stand, ap (λ (p : Proposal). p.edits) is) }
@@ -82,7 +82,7 @@ changes plan before part after (inr (full, is)) = record { base = ap (λ (p : Pr
 pub decided_base : (plan : PlanState) (before : Proposal) (part : PartId) (after : Proposal) → IsDecided plan before part after → after.base ≡ before.base
 decided_base plan before part after h = (changes plan before part after h).base
 
-id_of_put : (id other : PartId) (s t : StandNo) → put id s ≡ put other t → id ≡ other
+id_of_put : (id other : PartId) (s t : StandNo) → put_edit id s ≡ put_edit other t → id ≡ other
 id_of_put id other s t e =
     let visit : id.visit ≡ other.visit = cc in
     let part : id.part ≡ other.part = cc in
@@ -90,11 +90,11 @@ id_of_put id other s t e =
 
 -- the edits put no other part
 pub decided_asks : (plan : PlanState) (before : Proposal) (part : PartId) (after : Proposal) (other : PartId) → IsDecided plan before part after → (part ≡ other → ⊥)
-    → IsUnasked before.edits other → IsUnasked after.edits other
+    → IsUnput before.edits other → IsUnput after.edits other
 decided_asks plan before part after other h apart unasked stand listed =
     elim (changes plan before part after h).edits [
-      | inl same ↦ unasked stand (subst (λ (edits : List Edit). Contains edits (put other stand)) same listed)
-      | inr more ↦ elim (Contains-push_cases before.edits (put part more.0) (put other stand) (subst (λ (edits : List Edit). Contains edits (put other stand)) more.1 listed)) [
+      | inl same ↦ unasked stand (subst (λ (edits : List Edit). Contains edits (put_edit other stand)) same listed)
+      | inr more ↦ elim (Contains-push_cases before.edits (put_edit part more.0) (put_edit other stand) (subst (λ (edits : List Edit). Contains edits (put_edit other stand)) more.1 listed)) [
         | inl old ↦ unasked stand old
         | inr own ↦ apart (id_of_put part other more.0 stand own)
       ]
@@ -130,7 +130,7 @@ left_push plan edits slots others row visit lefts after reasons turn trials h mo
     (at_stand (λ stand reason. IsTrial plan.airport others (slot_at plan.airport visit row stand) (Some reason)) (length plan.airport.stands) reasons stand (why.Clash clash) trials told)))
 
 -- the clashes given for a part are with parts of the plan after the edits
-pub clashes_hold : (plan : PlanState) (edits : List Edit) (slots : List Slot) (lefts : List Left) → IsMade plan edits slots → All (ClashesAmong plan (slots_so_far plan slots)) lefts
+pub clashes_hold : (plan : PlanState) (edits : List Edit) (slots : List Slot) (lefts : List Left) → IsProposedSoFar plan edits slots → All (ClashesAmong plan (slots_so_far plan slots)) lefts
     → All (ClashesHold plan edits) lefts
 clashes_hold plan edits slots lefts made h =
     All-weaker (ClashesAmong plan (slots_so_far plan slots)) (ClashesHold plan edits)
@@ -144,8 +144,8 @@ pub nothing_is : (plan : PlanState) (base : ℕ) (edits : List Edit) (left : Lis
     → ◌≡◌ {A = Proposal} (record { base = base; edits = edits; left = left; over = over }) (nothing_proposed plan)
 nothing_is plan base edits left over e f g h = rw (e, f, g, h) refl
 
-pub nothing_asked : (edits : List Edit) (part : PartId) → edits ≡ [] → IsUnasked edits part
-nothing_asked edits part e stand listed = omega (arith, (subst (λ (es : List Edit). Contains es (put part stand)) e listed).1)
+pub nothing_asked : (edits : List Edit) (part : PartId) → edits ≡ [] → IsUnput edits part
+nothing_asked edits part e stand listed = omega (arith, (subst (λ (es : List Edit). Contains es (put_edit part stand)) e listed).1)
 
 pub nothing_left : (plan : PlanState) (slots : List Slot) (lefts : List Left) → lefts ≡ [] → All (ClashesAmong plan slots) lefts
 nothing_left plan slots lefts e = subst (All (ClashesAmong plan slots)) (sym e) (All-nil (ClashesAmong plan slots))

@@ -25,7 +25,7 @@ use Rattle.visit_book.specs.Edits.{IsEditOf, most_edits}
 use Rattle.visit_book.specs.Numbers.{with_visit}
 use Rattle.visit_book.specs.PartFields.{part_at}
 use Rattle.visit_book.specs.Slots.{slot_on, slots_of}
-use Rattle.plan_core.specs.Edits.{after_all_edits, placed}
+use Rattle.plan_core.specs.Edits.{after_all_edits, part_at_place}
 use Rattle.plan_core.specs.Indexed.{IsIndexed}
 use Rattle.plan_core.specs.PlanState.{IsPlan, PlanState}
 use Rattle.plan_core.proofs.IndexedVisits.{first_same, sound_within}
@@ -33,8 +33,8 @@ use Rattle.desk_words.specs.declared.replies.PartRow.{PartRow}
 use Rattle.stand_proposer.specs.declared.proposals.Why.{Why}
 use Rattle.stand_proposer.specs.declared.proposals.Why.TheVariants as why
 use Rattle.stand_proposer.specs.Clauses.{ClashesWith}
-use Rattle.stand_proposer.specs.Proposals.{AreWhys, IsFirstFit, IsWhy, put}
-use Rattle.stand_proposer.specs.SoFar.{IsMade, IsUnasked, Waits, WaitsInPlan, slots_so_far}
+use Rattle.stand_proposer.specs.Proposals.{AreWhys, IsFirstFit, IsWhy, put_edit}
+use Rattle.stand_proposer.specs.SoFar.{IsProposedSoFar, IsUnput, Waits, WaitsInPlan, slots_so_far}
 use Rattle.stand_proposer.specs.Trials.{AreTrials, IsFirstTaker, IsTrial, slot_at}
 use Rattle.stand_proposer.proofs.Puts.{edits_push, put_fits, put_slots, put_unfit, still_waits, visit_after, waits_number}
 use Rattle.stand_proposer.proofs.OneMore.{with_it, zip_map}
@@ -45,11 +45,11 @@ refused n by = Err (fault.Unfit n by)
 -- a part that waits beside edits that do not put it on a stand, and the slots that there are then,
 -- in any order
 pub record IsTurn (plan : PlanState) (edits : List Edit) (slots others : List Slot) (row : PartRow) (visit : Visit) : Type 0 where
-  pub made : IsMade plan edits slots
+  pub made : IsProposedSoFar plan edits slots
   pub kind : TypeNo
   pub waits : Waits plan plan.visits kind row
   pub visit_is : waits.visit ≡ visit
-  pub unasked : IsUnasked edits row.id
+  pub unasked : IsUnput edits row.id
   pub same : (y : Slot) → Contains others y ↔ Contains (slots_so_far plan slots) y
 
 module _ (plan : PlanState) (edits : List Edit) (slots others : List Slot) (row : PartRow) (visit : Visit) (turn : IsTurn plan edits slots others row visit) where
@@ -71,9 +71,9 @@ module _ (plan : PlanState) (edits : List Edit) (slots others : List Slot) (row 
   alike a v w k part stand number kind = rw (number, kind) refl
 
   -- its slot on the stand
-  slot_is : (stand : StandNo) → slot_on plan.airport now.visit row.id.part (placed (Planned stand) row.part) stand ≡ slot_at plan.airport visit row stand
+  slot_is : (stand : StandNo) → slot_on plan.airport now.visit row.id.part (part_at_place (Planned stand) row.part) stand ≡ slot_at plan.airport visit row stand
   slot_is stand =
-      alike plan.airport now.visit visit row.id.part (placed (Planned stand) row.part) stand
+      alike plan.airport now.visit visit row.id.part (part_at_place (Planned stand) row.part) stand
       (waits_number plan turn.made.new turn.kind row now ∙ sym number_is) (now.kind_is ∙ kind_is)
 
   put_now : (stand : StandNo) (y : Slot) → Contains (slots_of plan.airport turn.made.new ++ slot_at plan.airport visit row stand ∷ []) y ↔ Contains (slots_of plan.airport (new_with stand)) y
@@ -104,16 +104,16 @@ module _ (plan : PlanState) (edits : List Edit) (slots others : List Slot) (row 
   fits_by stand unfit h = ap (unfit_of plan.airport stand) kind_is ∙ h
 
   pub apply_with : (stand : StandNo) → unfit_of plan.airport stand visit.kind ≡ None
-      → after_all_edits plan.airport plan.version (edits ++ put row.id stand ∷ []) plan.visits ≡ Ok (new_with stand)
+      → after_all_edits plan.airport plan.version (edits ++ put_edit row.id stand ∷ []) plan.visits ≡ Ok (new_with stand)
   apply_with stand fits =
-      edits_push plan.airport plan.version 1 edits (put row.id stand) plan.visits turn.made.new turn.made.apply
+      edits_push plan.airport plan.version 1 edits (put_edit row.id stand) plan.visits turn.made.new turn.made.apply
       ∙ put_fits plan turn.made.new turn.kind row stand (1 + length edits) now (fits_by stand None fits)
 
   refused_with : (stand : StandNo) (by : UnfitBy) → unfit_of plan.airport stand visit.kind ≡ Some by
-      → after_all_edits plan.airport plan.version (edits ++ put row.id stand ∷ []) plan.visits ≡ Err (fault.Unfit (length edits + 1) by)
+      → after_all_edits plan.airport plan.version (edits ++ put_edit row.id stand ∷ []) plan.visits ≡ Err (fault.Unfit (length edits + 1) by)
   refused_with stand by unfit =
       let number : 1 + length edits ≡ length edits + 1 = omega arith in
-      edits_push plan.airport plan.version 1 edits (put row.id stand) plan.visits turn.made.new turn.made.apply
+      edits_push plan.airport plan.version 1 edits (put_edit row.id stand) plan.visits turn.made.new turn.made.apply
       ∙ (put_unfit plan turn.made.new turn.kind row stand (1 + length edits) by now (fits_by stand (Some by) unfit)
       ∙ ap (λ (n : ℕ). refused n by) number)
 
@@ -176,19 +176,19 @@ module _ (plan : PlanState) (edits : List Edit) (slots others : List Slot) (row 
         ],
       )
 
-  waits_with : (stand : StandNo) (kind : TypeNo) (other : PartRow) → Waits plan plan.visits kind other → IsUnasked (edits ++ put row.id stand ∷ []) other.id
+  waits_with : (stand : StandNo) (kind : TypeNo) (other : PartRow) → Waits plan plan.visits kind other → IsUnput (edits ++ put_edit row.id stand ∷ []) other.id
       → Waits plan (new_with stand) kind other
   waits_with stand kind other waits unasked =
       still_waits plan turn.made.new turn.kind row stand now kind other
-      (turn.made.waits kind other waits (λ s listed. unasked s (Contains-append_left edits (put row.id stand ∷ []) (put other.id s) listed)))
-      (λ same. unasked stand (subst (λ (id : PartId). Contains (edits ++ put row.id stand ∷ []) (put id stand)) (sym same) (Contains-push edits (put row.id stand))))
+      (turn.made.waits kind other waits (λ s listed. unasked s (Contains-append_left edits (put_edit row.id stand ∷ []) (put_edit other.id s) listed)))
+      (λ same. unasked stand (subst (λ (id : PartId). Contains (edits ++ put_edit row.id stand ∷ []) (put_edit id stand)) (sym same) (Contains-push edits (put_edit row.id stand))))
 
   -- with one more edit they still apply
   pub made_with : (slot : Slot) → length edits < most_edits → visit.kind.0 < length plan.airport.types → (taker : IsFirstTaker plan.airport others visit row slot)
-      → IsMade plan (edits ++ put row.id taker.stand ∷ []) (slots ++ slot ∷ [])
+      → IsProposedSoFar plan (edits ++ put_edit row.id taker.stand ∷ []) (slots ++ slot ∷ [])
   made_with slot few kind taker =
       let takes = takes_there slot taker in
-      subst (λ (x : Slot). IsMade plan (edits ++ put row.id taker.stand ∷ []) (slots ++ x ∷ [])) (sym taker.is)
+      subst (λ (x : Slot). IsProposedSoFar plan (edits ++ put_edit row.id taker.stand ∷ []) (slots ++ x ∷ [])) (sym taker.is)
       (record {
         new = new_with taker.stand;
         apply = apply_with taker.stand takes.0;
@@ -196,8 +196,8 @@ module _ (plan : PlanState) (edits : List Edit) (slots others : List Slot) (row 
         adds = adds_with taker.stand;
         waits = waits_with taker.stand;
         slots_are = All-push (IsSlotOf plan.airport) slots (slot_at plan.airport visit row taker.stand) turn.made.slots_are (taker.inside, kind);
-        edits_are = All-push (IsEditOf plan.airport) edits (put row.id taker.stand) turn.made.edits_are taker.inside;
-        few = omega (arith, few, length-append edits (put row.id taker.stand ∷ []));
+        edits_are = All-push (IsEditOf plan.airport) edits (put_edit row.id taker.stand) turn.made.edits_are taker.inside;
+        few = omega (arith, few, length-append edits (put_edit row.id taker.stand ∷ []));
       })
 
 -- the slots of an index of the plan, and those that edits add
@@ -218,8 +218,8 @@ same_slots plan index held slots more same indexed added y =
     ))
 
 -- it is the turn of a part that waits in the plan
-pub turn_of : (plan : PlanState) (index held : List StandSlots) (edits : List Edit) (slots more : List Slot) (row : PartRow) (visit : Visit) → IsMade plan edits slots → (waits : WaitsInPlan plan row)
-    → waits.1.visit ≡ visit → IsUnasked edits row.id → index ≡ held → IsIndexed plan.airport held plan.visits → more ≡ slots
+pub turn_of : (plan : PlanState) (index held : List StandSlots) (edits : List Edit) (slots more : List Slot) (row : PartRow) (visit : Visit) → IsProposedSoFar plan edits slots → (waits : WaitsInPlan plan row)
+    → waits.1.visit ≡ visit → IsUnput edits row.id → index ≡ held → IsIndexed plan.airport held plan.visits → more ≡ slots
     → IsTurn plan edits slots (all_slots index ++ more) row visit
 turn_of plan index held edits slots more row visit made waits is unasked same indexed added = record {
   made = made;
@@ -230,7 +230,7 @@ turn_of plan index held edits slots more row visit made waits is unasked same in
   same = same_slots plan index held slots more same indexed added;
 }
 
-no_edits : (plan : PlanState) → IsPlan plan → IsMade plan [] []
+no_edits : (plan : PlanState) → IsPlan plan → IsProposedSoFar plan [] []
 no_edits plan is =
     let none : slots_so_far plan [] ≡ slots_of plan.airport plan.visits = append-nil (slots_of plan.airport plan.visits) in
     record {
@@ -245,8 +245,8 @@ no_edits plan is =
     }
 
 -- no edits at all
-pub nothing_made : (plan : PlanState) (edits : List Edit) (slots : List Slot) → IsPlan plan → edits ≡ [] → slots ≡ [] → IsMade plan edits slots
-nothing_made plan edits slots is e f = subst (λ (es : List Edit). IsMade plan es slots) (sym e) (subst (IsMade plan []) (sym f) (no_edits plan is))
+pub nothing_made : (plan : PlanState) (edits : List Edit) (slots : List Slot) → IsPlan plan → edits ≡ [] → slots ≡ [] → IsProposedSoFar plan edits slots
+nothing_made plan edits slots is e f = subst (λ (es : List Edit). IsProposedSoFar plan es slots) (sym e) (subst (IsProposedSoFar plan []) (sym f) (no_edits plan is))
 
 -- a visit that is found
 pub found_is : (found : Option Visit) (v w : Visit) → found ≡ Some v → found ≡ Some w → v ≡ w

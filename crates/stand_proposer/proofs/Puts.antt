@@ -24,13 +24,13 @@ use Rattle.visit_book.specs.Numbers.{has_number, visit_at, with_visit}
 use Rattle.visit_book.specs.PartFields.{part_at}
 use Rattle.visit_book.specs.Places.{is_actual, stand_of}
 use Rattle.visit_book.specs.Slots.{slot_of, slot_on, slots_from, slots_of, slots_of_visit}
-use Rattle.plan_core.specs.Edits.{after_edit, after_edits, edit_visit, placed, refuse_unfit, with_part}
+use Rattle.plan_core.specs.Edits.{after_edit, after_edits, edit_visit, part_at_place, refuse_unfit, with_part}
 use Rattle.plan_core.specs.PlanState.{PlanState}
 use Rattle.plan_core.proofs.ByNumber.{found_number, number_is}
 use Rattle.plan_core.proofs.Results.{ok_is, then_ok}
 use Rattle.plan_core.proofs.SlotLists.{slots_from_alike}
 use Rattle.desk_words.specs.declared.replies.PartRow.{PartRow}
-use Rattle.stand_proposer.specs.Proposals.{put}
+use Rattle.stand_proposer.specs.Proposals.{put_edit}
 use Rattle.stand_proposer.specs.SoFar.{Waits}
 
 same_result : {T E : Type 0} (r : Result T E) → (r >>= λ x. Ok x) ≡ r
@@ -53,7 +53,7 @@ edits_push a base k (first ∷ edits) edit visits new e =
 
 -- the visit after its part is put on the stand
 abbrev pub visit_after : Visit → PartRow → StandNo → Visit
-visit_after visit row stand = with_part visit row.id.part (placed (Planned stand) row.part)
+visit_after visit row stand = with_part visit row.id.part (part_at_place (Planned stand) row.part)
 
 not_actual : (place : Place) → stand_of place ≡ None → is_actual place ≡ false
 not_actual (Unplaced bump) h = refl
@@ -66,29 +66,29 @@ joined (Err e) x f = refl
 
 -- a waiting part is put on the stand, unless the type does not fit there
 put_gives : (plan : PlanState) (visits : List Visit) (kind : TypeNo) (row : PartRow) (stand : StandNo) (k : ℕ) → (waits : Waits plan visits kind row)
-    → after_edit plan.airport plan.version k (put row.id stand) visits
+    → after_edit plan.airport plan.version k (put_edit row.id stand) visits
     ≡ (refuse_unfit k (unfit_of plan.airport stand kind) >>= λ fits. Ok (with_visit visits (visit_after waits.visit row stand)))
 put_gives plan visits kind row stand k waits =
     let fresh : nat_lt plan.version waits.visit.edited ≡ false = grind (arith, nat_tests, waits.fresh) in
     let planned : is_actual row.part.place ≡ false = not_actual row.part.place waits.nowhere in
-    let within : edit_visit plan.airport plan.version k (put row.id stand) waits.visit
+    let within : edit_visit plan.airport plan.version k (put_edit row.id stand) waits.visit
     ≡ (refuse_unfit k (unfit_of plan.airport stand waits.visit.kind) >>= λ fits. Ok (visit_after waits.visit row stand)) =
     rw (fresh, waits.live, waits.part, planned) refl in
-    ap (λ (found : Option Visit). ok_or found (UnknownVisit k) >>= λ visit. edit_visit plan.airport plan.version k (put row.id stand) visit >>= λ after. Ok (with_visit visits after)) waits.at
+    ap (λ (found : Option Visit). ok_or found (UnknownVisit k) >>= λ visit. edit_visit plan.airport plan.version k (put_edit row.id stand) visit >>= λ after. Ok (with_visit visits after)) waits.at
     ∙ (ap (λ (r : Result Visit EditFault). r >>= λ after. Ok (with_visit visits after)) within
     ∙ (joined (refuse_unfit k (unfit_of plan.airport stand waits.visit.kind)) (visit_after waits.visit row stand) (with_visit visits)
     ∙ ap (λ (t : TypeNo). refuse_unfit k (unfit_of plan.airport stand t) >>= λ fits. Ok (with_visit visits (visit_after waits.visit row stand))) waits.kind_is))
 
 pub put_fits : (plan : PlanState) (visits : List Visit) (kind : TypeNo) (row : PartRow) (stand : StandNo) (k : ℕ) → (waits : Waits plan visits kind row)
     → unfit_of plan.airport stand kind ≡ None
-    → after_edit plan.airport plan.version k (put row.id stand) visits ≡ Ok (with_visit visits (visit_after waits.visit row stand))
+    → after_edit plan.airport plan.version k (put_edit row.id stand) visits ≡ Ok (with_visit visits (visit_after waits.visit row stand))
 put_fits plan visits kind row stand k waits fits =
     put_gives plan visits kind row stand k waits
     ∙ ap (λ (unfit : Option UnfitBy). refuse_unfit k unfit >>= λ fits. Ok (with_visit visits (visit_after waits.visit row stand))) fits
 
 pub put_unfit : (plan : PlanState) (visits : List Visit) (kind : TypeNo) (row : PartRow) (stand : StandNo) (k : ℕ) (by : UnfitBy) → Waits plan visits kind row
     → unfit_of plan.airport stand kind ≡ Some by
-    → after_edit plan.airport plan.version k (put row.id stand) visits ≡ Err (Unfit k by)
+    → after_edit plan.airport plan.version k (put_edit row.id stand) visits ≡ Err (Unfit k by)
 put_unfit plan visits kind row stand k by waits is =
     put_gives plan visits kind row stand k waits
     ∙ ap (λ (unfit : Option UnfitBy). refuse_unfit k unfit >>= λ fits. Ok (with_visit visits (visit_after waits.visit row stand))) is
@@ -137,7 +137,7 @@ inserted x xs ys h y = (
 
 -- the slots of parts with one of them put on a stand
 parts_put : (a : AirportParts) (v : Visit) (n m j : ℕ) (parts : List Part) (part : Part) (stand : StandNo) → m ≡ n + j → slice_get parts j ≡ Some part → stand_of part.place ≡ None
-    → Inserts (slot_on a v m (placed (Planned stand) part) stand) (slots_from a v n parts) (slots_from a v n (slice_set parts j (placed (Planned stand) part)))
+    → Inserts (slot_on a v m (part_at_place (Planned stand) part) stand) (slots_from a v n parts) (slots_from a v n (slice_set parts j (part_at_place (Planned stand) part)))
 parts_put a v n m j [] part stand number found none = absurd (cc)
 parts_put a v n m zero (p ∷ parts) part stand number found none =
     let same : p ≡ part = cc in
@@ -147,10 +147,10 @@ parts_put a v n m zero (p ∷ parts) part stand number found none =
       pre = [];
       post = slots_from a v (n + 1) parts;
       before = ap (λ (us : List Slot). us ++ slots_from a v (n + 1) parts) bare;
-      after = ap (λ (i : ℕ). slot_on a v i (placed (Planned stand) part) stand ∷ slots_from a v (n + 1) parts) (sym is);
+      after = ap (λ (i : ℕ). slot_on a v i (part_at_place (Planned stand) part) stand ∷ slots_from a v (n + 1) parts) (sym is);
     }
 parts_put a v n m (suc j) (p ∷ parts) part stand number found none =
-    in_front (slot_on a v m (placed (Planned stand) part) stand) (option_to_list (slot_of a v n p)) (slots_from a v (n + 1) parts) (slots_from a v (n + 1) (slice_set parts j (placed (Planned stand) part)))
+    in_front (slot_on a v m (part_at_place (Planned stand) part) stand) (option_to_list (slot_of a v n p)) (slots_from a v (n + 1) parts) (slots_from a v (n + 1) (slice_set parts j (part_at_place (Planned stand) part)))
     (parts_put a v (n + 1) m j parts part stand (omega (arith, number)) found none)
 
 -- a part of a number is at its place
@@ -168,12 +168,12 @@ place_part parts k part some h =
 
 -- of one visit
 visit_put : (a : AirportParts) (v : Visit) (row : PartRow) (stand : StandNo) → part_at v.parts row.id.part ≡ Some row.part → stand_of row.part.place ≡ None
-    → Inserts (slot_on a v row.id.part (placed (Planned stand) row.part) stand) (slots_of_visit a v) (slots_of_visit a (visit_after v row stand))
+    → Inserts (slot_on a v row.id.part (part_at_place (Planned stand) row.part) stand) (slots_of_visit a v) (slots_of_visit a (visit_after v row stand))
 visit_put a v row stand found none =
     let at = part_place v.parts row.id.part row.part found in
     let put_there = parts_put a v 1 row.id.part (row.id.part - 1) v.parts row.part stand (omega (arith, at.0)) at.1 none in
-    subst (Inserts (slot_on a v row.id.part (placed (Planned stand) row.part) stand) (slots_of_visit a v))
-    (slots_from_alike a v (visit_after v row stand) 1 (slice_set v.parts (row.id.part - 1) (placed (Planned stand) row.part)) refl refl) put_there
+    subst (Inserts (slot_on a v row.id.part (part_at_place (Planned stand) row.part) stand) (slots_of_visit a v))
+    (slots_from_alike a v (visit_after v row stand) 1 (slice_set v.parts (row.id.part - 1) (part_at_place (Planned stand) row.part)) refl refl) put_there
 
 -- of all visits
 visits_put : (a : AirportParts) (visits : List Visit) (v after : Visit) (x : Slot) → visit_at visits after.number ≡ Some v → Inserts x (slots_of_visit a v) (slots_of_visit a after)
@@ -194,12 +194,12 @@ waits_number plan visits kind row waits = number_is waits.visit.number row.id.vi
 
 -- the slots after a waiting part is put on a stand are those before it and its own
 pub put_slots : (plan : PlanState) (a : AirportParts) (visits : List Visit) (kind : TypeNo) (row : PartRow) (stand : StandNo) → (waits : Waits plan visits kind row) → (y : Slot)
-    → Contains (slots_of a visits ++ slot_on a waits.visit row.id.part (placed (Planned stand) row.part) stand ∷ []) y
+    → Contains (slots_of a visits ++ slot_on a waits.visit row.id.part (part_at_place (Planned stand) row.part) stand ∷ []) y
     ↔ Contains (slots_of a (with_visit visits (visit_after waits.visit row stand))) y
 put_slots plan a visits kind row stand waits =
     let number = waits_number plan visits kind row waits in
-    inserted (slot_on a waits.visit row.id.part (placed (Planned stand) row.part) stand) (slots_of a visits) (slots_of a (with_visit visits (visit_after waits.visit row stand)))
-    (visits_put a visits waits.visit (visit_after waits.visit row stand) (slot_on a waits.visit row.id.part (placed (Planned stand) row.part) stand)
+    inserted (slot_on a waits.visit row.id.part (part_at_place (Planned stand) row.part) stand) (slots_of a visits) (slots_of a (with_visit visits (visit_after waits.visit row stand)))
+    (visits_put a visits waits.visit (visit_after waits.visit row stand) (slot_on a waits.visit row.id.part (part_at_place (Planned stand) row.part) stand)
     (ap (visit_at visits) number ∙ waits.at) (visit_put a waits.visit row stand waits.part waits.nowhere))
 
 -- what is found of a number after a visit was put in
@@ -266,7 +266,7 @@ still_waits plan visits kind row stand waits type_of other too apart =
             kind_is = ap (λ (u : Visit). u.kind) (sym is) ∙ too.kind_is;
             fresh = waits.fresh;
             live = waits.live;
-            part = other_part waits.visit.parts row.id.part other.id.part (placed (Planned stand) row.part) other.part (λ e. apart (id_is other.id row.id same (sym e))) at.0
+            part = other_part waits.visit.parts row.id.part other.id.part (part_at_place (Planned stand) row.part) other.part (λ e. apart (id_is other.id row.id same (sym e))) at.0
                 (ap (λ (u : Visit). part_at u.parts other.id.part) (sym is) ∙ too.part);
             nowhere = too.nowhere;
           }

@@ -19,7 +19,7 @@ use Rattle.plan_core.proofs.EditKept.{found_has}
 use Rattle.desk_words.specs.declared.replies.PartRow.{PartRow}
 use Rattle.plan_lists.specs.declared.waiting.Waiting.{Waiting}
 use Rattle.plan_lists.specs.Rows.{rows_from}
-use Rattle.plan_lists.specs.Unplaced.{by_rank, is_unplaced, ranks_before, unplaced, waiting_of, with_rank}
+use Rattle.plan_lists.specs.Unplaced.{by_rank, is_unplaced_row, ranks_before, unplaced_parts, waiting_of, with_rank}
 use Rattle.stand_proposer.specs.SoFar.{WaitsInPlan}
 use Rattle.stand_proposer.proofs.Puts.{place_part}
 
@@ -48,10 +48,10 @@ record IsPartOf (v : Visit) (low : ℕ) (w : Waiting) : Type 0 where
   number : w.row.id.visit ≡ v.number
   from : low ≤ w.row.id.part
   part : part_at v.parts w.row.id.part ≡ Some w.row.part
-  nowhere : is_unplaced w.row ≡ true
+  nowhere : is_unplaced_row w.row ≡ true
 
 abbrev waits : Visit → List PartRow → List Waiting
-waits v rows = map (with_rank v) (filter is_unplaced rows)
+waits v rows = map (with_rank v) (filter is_unplaced_row rows)
 
 later_part : (v : Visit) (n : ℕ) (w : Waiting) → IsPartOf v (n + 1) w → IsPartOf v n w
 later_part v n w h = record { number = h.number; from = omega (arith, h.from); part = h.part; nowhere = h.nowhere }
@@ -69,7 +69,7 @@ record Own (v : Visit) (n : ℕ) (ws : List Waiting) : Type 0 where
 rows_wait : (v : Visit) (before parts : List Part) (n : ℕ) → v.parts ≡ before ++ parts → n ≡ length before + 1 → Own v n (waits v (rows_from v n parts))
 rows_wait v before [] n whole number = record { each = tt; apart = tt }
 rows_wait v before (p ∷ parts) n whole number =
-    by_test (is_unplaced here) refl
+    by_test (is_unplaced_row here) refl
     (rows_wait v (before ++ p ∷ []) parts (n + 1) (whole ∙ sym (append_assoc before (p ∷ []) parts)) (omega (arith, number, length-append before (p ∷ []))))
   where
     here : PartRow
@@ -78,8 +78,8 @@ rows_wait v before (p ∷ parts) n whole number =
     found : part_at v.parts n ≡ Some p
     found = place_part v.parts n p (omega (arith, number)) (ap (λ (parts : List Part). slice_get parts (n - 1)) whole ∙ seam before p parts (n - 1) (omega (arith, number)))
 
-    by_test : (b : Bool) → is_unplaced here ≡ b → Own v (n + 1) (waits v (rows_from v (n + 1) parts))
-        → Own v n (map (with_rank v) (cond b (here ∷ filter is_unplaced (rows_from v (n + 1) parts)) (filter is_unplaced (rows_from v (n + 1) parts))))
+    by_test : (b : Bool) → is_unplaced_row here ≡ b → Own v (n + 1) (waits v (rows_from v (n + 1) parts))
+        → Own v n (map (with_rank v) (cond b (here ∷ filter is_unplaced_row (rows_from v (n + 1) parts)) (filter is_unplaced_row (rows_from v (n + 1) parts))))
     by_test true e rest = record {
       each = (record { number = refl; from = omega arith; part = found; nowhere = e }, all_weaker (IsPartOf v (n + 1)) (IsPartOf v n) (waits v (rows_from v (n + 1) parts)) (λ w h. later_part v n w h) rest.each);
       apart = (all_weaker (IsPartOf v (n + 1)) (λ w. here.id ≡ id_of w → ⊥) (waits v (rows_from v (n + 1) parts)) (λ w h same. omega (arith, h.from, ap (λ (id : PartId). id.part) same)) rest.each, rest.apart);
@@ -95,7 +95,7 @@ record IsOfOne (visits : List Visit) (n : ℕ) (w : Waiting) : Type 0 where
   at : visit_at visits w.row.id.visit ≡ Some visit
   live : is_live visit ≡ true
   part : part_at visit.parts w.row.id.part ≡ Some w.row.part
-  nowhere : is_unplaced w.row ≡ true
+  nowhere : is_unplaced_row w.row ≡ true
   above : n + 1 ≤ w.row.id.visit.0
 
 record AllOwn (visits : List Visit) (n : ℕ) (ws : List Waiting) : Type 0 where
@@ -203,10 +203,10 @@ waits_in plan w is h =
     )
 
 -- each of the parts by rank waits in the plan
-rows_in_plan : (plan : PlanState) → IsPlan plan → All (WaitsInPlan plan) (unplaced plan)
+rows_in_plan : (plan : PlanState) → IsPlan plan → All (WaitsInPlan plan) (unplaced_parts plan)
 rows_in_plan plan is =
     let found : AllOwn plan.visits 0 (flat_map waiting_of plan.visits) = all_wait 0 plan.visits is.numbered in
-    All-from_recursion (WaitsInPlan plan) (unplaced plan) (all_rows (WaitsInPlan plan) (by_rank (flat_map waiting_of plan.visits))
+    All-from_recursion (WaitsInPlan plan) (unplaced_parts plan) (all_rows (WaitsInPlan plan) (by_rank (flat_map waiting_of plan.visits))
     (sorted_all ranks_before (λ w. WaitsInPlan plan w.row) (flat_map waiting_of plan.visits)
     (all_weaker (IsOfOne plan.visits 0) (λ w. WaitsInPlan plan w.row) (flat_map waiting_of plan.visits) (λ w h. waits_in plan w is h) found.each)))
 
@@ -217,14 +217,14 @@ apart_at key (x ∷ xs) zero (suc j) d e h less inside same = All-from_recursion
 apart_at key (x ∷ xs) (suc i) (suc j) d e h less inside same = apart_at key xs i j d e h.1 (omega (arith, less)) (omega (arith, inside)) same
 
 -- no two of them are the same part
-pub rows_apart : (plan : PlanState) (rows : List PartRow) → IsPlan plan → rows ≡ unplaced plan → (i j : ℕ) (d e : PartRow) → i < j → j < length rows
+pub rows_apart : (plan : PlanState) (rows : List PartRow) → IsPlan plan → rows ≡ unplaced_parts plan → (i j : ℕ) (d e : PartRow) → i < j → j < length rows
     → (get_or rows i d).id ≡ (get_or rows j e).id → ⊥
 rows_apart plan rows is are i j d e less inside same =
     let found : AllOwn plan.visits 0 (flat_map waiting_of plan.visits) = all_wait 0 plan.visits is.numbered in
-    let apart : Apart (λ (row : PartRow). row.id) (unplaced plan) =
+    let apart : Apart (λ (row : PartRow). row.id) (unplaced_parts plan) =
     apart_rows (by_rank (flat_map waiting_of plan.visits)) (sorted_apart ranks_before id_of (flat_map waiting_of plan.visits) found.apart) in
     apart_at (λ (row : PartRow). row.id) rows i j d e (subst (Apart (λ (row : PartRow). row.id)) (sym are) apart) less inside same
 
 -- one of them waits in the plan
-pub row_in_plan : (plan : PlanState) (rows : List PartRow) → IsPlan plan → rows ≡ unplaced plan → (i : ℕ) (d : PartRow) → i < length rows → WaitsInPlan plan (get_or rows i d)
+pub row_in_plan : (plan : PlanState) (rows : List PartRow) → IsPlan plan → rows ≡ unplaced_parts plan → (i : ℕ) (d : PartRow) → i < length rows → WaitsInPlan plan (get_or rows i d)
 row_in_plan plan rows is are i d inside = subst (All (WaitsInPlan plan)) (sym are) (rows_in_plan plan is) i d inside

@@ -14,14 +14,14 @@ use Rattle.visit_book.specs.Numbers.{visit_at}
 use Rattle.visit_book.specs.PartFields.{part_at}
 use Rattle.visit_book.specs.Slots.{slot_on, slots_of}
 use Rattle.plan_core.specs.Drafts.{Draft}
-use Rattle.plan_core.specs.Edits.{after_all_edits, placed}
+use Rattle.plan_core.specs.Edits.{after_all_edits, part_at_place}
 use Rattle.plan_core.specs.PlanState.{PlanState}
 use Rattle.plan_core.specs.Rebase.{IsDraftFor, Rebases}
 use Rattle.stand_proposer.specs.declared.proposals.Left.{Left}
 use Rattle.stand_proposer.specs.declared.proposals.Why.TheVariants as why
 
 -- the plan may be asked to take the draft, and takes it
-pub record IsTaken (plan : PlanState) (draft : Draft) : Type 0 where
+pub record TakesDraft (plan : PlanState) (draft : Draft) : Type 0 where
   pub asked : IsDraftFor plan draft
   pub new : List Visit
   pub rebases : Rebases plan draft new
@@ -30,7 +30,7 @@ pub record IsTaken (plan : PlanState) (draft : Draft) : Type 0 where
 abbrev pub slot_if_put : AirportParts → List Visit → PartId → StandNo → Option Slot
 slot_if_put airport visits part stand =
     visit_at visits part.visit >>= λ visit. part_at visit.parts part.part
-    >>= λ own. Some (slot_on airport visit part.part (placed (Planned stand) own) stand)
+    >>= λ own. Some (slot_on airport visit part.part (part_at_place (Planned stand) own) stand)
 
 -- the part, if it is put on the stand, clashes in this way with one of these slots
 pub record ClashesWith (plan : PlanState) (slots : List Slot)

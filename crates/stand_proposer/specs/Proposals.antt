@@ -12,16 +12,16 @@ use Rattle.visit_book.specs.declared.visits.Visit.{Visit}
 use Rattle.visit_book.specs.Edits.{most_edits}
 use Rattle.plan_core.specs.Drafts.{Draft, draft_of}
 use Rattle.plan_core.specs.PlanState.{PlanState}
-use Rattle.plan_core.specs.Rebase.{Rebases, Refuses}
-use Rattle.plan_lists.specs.Unplaced.{unplaced}
+use Rattle.plan_core.specs.Rebase.{Rebases, RefusesDraft}
+use Rattle.plan_lists.specs.Unplaced.{unplaced_parts}
 use Rattle.stand_proposer.specs.declared.proposals.Left.{Left}
 use Rattle.stand_proposer.specs.declared.proposals.Proposal.{Proposal}
 use Rattle.stand_proposer.specs.declared.proposals.Why.{Why}
 use Rattle.stand_proposer.specs.declared.proposals.Why.TheVariants.{Unfit, Clash}
 
 -- the edit that puts the part on the stand
-abbrev pub put : PartId → StandNo → Edit
-put part stand = Put part.visit part.part stand
+abbrev pub put_edit : PartId → StandNo → Edit
+put_edit part stand = Put part.visit part.part stand
 
 -- a draft of these edits over the plan as it is; its desk and number do not matter here
 abbrev pub draft_over : PlanState → List Edit → Draft
@@ -29,17 +29,17 @@ draft_over plan edits = draft_of [] 0 plan.version edits
 
 -- the draft of the edits so far and one more, which puts the part on the stand
 abbrev pub draft_with : PlanState → List Edit → PartId → StandNo → Draft
-draft_with plan edits part stand = draft_over plan (edits ++ put part stand ∷ [])
+draft_with plan edits part stand = draft_over plan (edits ++ put_edit part stand ∷ [])
 
 -- the fault for this reason, if the edit of this number puts the part on the stand
-abbrev pub fault_of : ℕ → Why → EditFault
-fault_of number (Unfit by) = fault.Unfit number by
-fault_of number (Clash clash) = fault.Clash clash
+abbrev pub edit_fault : ℕ → Why → EditFault
+edit_fault number (Unfit by) = fault.Unfit number by
+edit_fault number (Clash clash) = fault.Clash clash
 
 -- why the stand does not take the part: the type does not fit, or else this is the first clash
 abbrev pub IsWhy : PlanState → List Edit → PartId → StandNo → Why → Type 0
 IsWhy plan edits part stand why =
-    Refuses plan (draft_with plan edits part stand) (fault_of (length edits + 1) why)
+    RefusesDraft plan (draft_with plan edits part stand) (edit_fault (length edits + 1) why)
 
 -- why each stand below this count does not take the part, in order
 abbrev pub AreWhys : PlanState → List Edit → PartId → ℕ → List Why → Type 0
@@ -70,7 +70,7 @@ with_over proposal part = record proposal { over = proposal.over ++ part ∷ [] 
 abbrev pub IsPut : PlanState → Proposal → PartId → Proposal → Type 0
 IsPut plan before part after =
     (stand : StandNo) × IsFirstFit plan before.edits part stand
-    × (after ≡ with_edit before (put part stand))
+    × (after ≡ with_edit before (put_edit part stand))
 
 -- no stand takes the part, and each has its reason
 abbrev pub IsLeft : PlanState → Proposal → PartId → Proposal → Type 0
@@ -97,7 +97,7 @@ nothing_proposed plan = record { base = plan.version; edits = []; left = []; ove
 
 -- the parts of live visits that wait for a stand, by rank
 abbrev pub waiting_parts : PlanState → List PartId
-waiting_parts plan = map (λ row. row.id) (unplaced plan)
+waiting_parts plan = map (λ row. row.id) (unplaced_parts plan)
 
 -- what is proposed over the plan: all waiting parts are decided, by rank
 abbrev pub IsProposal : PlanState → Proposal → Type 0

@@ -19,7 +19,7 @@ use Rattle.plan_core.specs.PlanState.{PlanState}
 use Rattle.desk_words.specs.declared.replies.PartRow.{PartRow}
 use Rattle.stand_proposer.specs.declared.proposals.Left.{Left}
 use Rattle.stand_proposer.specs.Clauses.{ClashesAmong}
-use Rattle.stand_proposer.specs.Proposals.{put}
+use Rattle.stand_proposer.specs.Proposals.{put_edit}
 
 -- the part waits for a stand: its visit has this type, is live, and was not edited later
 pub record Waits (plan : PlanState) (visits : List Visit)
@@ -47,18 +47,18 @@ abbrev pub AreTold : PlanState → List Slot → List Left → Type 0
 AreTold plan slots lefts = All (ClashesAmong plan (slots_so_far plan slots)) lefts
 
 -- none of the edits puts the part on a stand
-abbrev pub IsUnasked : List Edit → PartId → Type 0
-IsUnasked edits part = (stand : StandNo) → Contains edits (put part stand) → ⊥
+abbrev pub IsUnput : List Edit → PartId → Type 0
+IsUnput edits part = (stand : StandNo) → Contains edits (put_edit part stand) → ⊥
 
 -- the edits apply and leave the plan sound, the slots are what they add, and other parts still wait
-pub record IsMade (plan : PlanState) (edits : List Edit) (slots : List Slot) : Type 0 where
+pub record IsProposedSoFar (plan : PlanState) (edits : List Edit) (slots : List Slot) : Type 0 where
   pub new : List Visit
   pub apply : after_all_edits plan.airport plan.version edits plan.visits ≡ Ok new
   pub sound : IsSound plan.airport (slots_of plan.airport new)
   pub adds : (slot : Slot)
       → Contains (slots_so_far plan slots) slot ↔ Contains (slots_of plan.airport new) slot
   pub waits : (kind : TypeNo) (row : PartRow)
-      → Waits plan plan.visits kind row → IsUnasked edits row.id → Waits plan new kind row
+      → Waits plan plan.visits kind row → IsUnput edits row.id → Waits plan new kind row
   pub slots_are : All (IsSlotOf plan.airport) slots
   pub edits_are : All (IsEditOf plan.airport) edits
   pub few : length edits ≤ most_edits

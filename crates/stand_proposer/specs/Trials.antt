@@ -10,7 +10,7 @@ use Rattle.apron_rules.specs.Rules.{unfit_of}
 use Rattle.visit_book.specs.declared.visits.Place.TheVariants.{Planned}
 use Rattle.visit_book.specs.declared.visits.Visit.{Visit}
 use Rattle.visit_book.specs.Slots.{slot_on}
-use Rattle.plan_core.specs.Edits.{placed}
+use Rattle.plan_core.specs.Edits.{part_at_place}
 use Rattle.desk_words.specs.declared.replies.PartRow.{PartRow}
 use Rattle.stand_proposer.specs.declared.proposals.Why.{Why}
 use Rattle.stand_proposer.specs.declared.proposals.Why.TheVariants as why
@@ -20,7 +20,7 @@ use Rattle.stand_proposer.specs.declared.trials.Tried.TheVariants.{Fits, Refused
 -- the slot of a part of the visit if it is put on the stand
 abbrev pub slot_at : AirportParts → Visit → PartRow → StandNo → Slot
 slot_at airport visit row stand =
-    slot_on airport visit row.id.part (placed (Planned stand) row.part) stand
+    slot_on airport visit row.id.part (part_at_place (Planned stand) row.part) stand
 
 -- the type does not fit; or else the first clash after the slot is added to others, if there is one
 abbrev pub IsTrial : AirportParts → List Slot → Slot → Option Why → Type 0

@@ -2,16 +2,16 @@
 ghost use Rattle.std.specs.Prelude.{◌≡◌, ◌≤◌, All, IfOk, None, OnOk, length};
 ghost use Rattle.visit_book.specs.Numbers.{IsNumbered};
 ghost use Rattle.plan_core.specs.Drafts.{draft_of, draft_version};
-ghost use Rattle.stand_proposer.specs.Clauses.{ClashesHold, IsTaken};
+ghost use Rattle.stand_proposer.specs.Clauses.{ClashesHold, TakesDraft};
 ghost use Rattle.stand_proposer.specs.Proposals.{IsDecided, IsProposal};
-ghost use Rattle.stand_proposer.specs.SoFar.{AreTold, IsMade, IsUnasked, WaitsInPlan};
+ghost use Rattle.stand_proposer.specs.SoFar.{AreTold, IsProposedSoFar, IsUnput, WaitsInPlan};
 
 use crate::trials::{Tried, first_stand};
 use apron_base::{Listed, Memory, Name, PartId, Slot, Steps};
 use apron_rules::{Airport, Clash, UnfitBy};
 use desk_words::replies::PartRow;
 use plan_core::Plan;
-use plan_lists::unplaced;
+use plan_lists::unplaced_parts;
 use std::alloc::Global;
 use std::sync::ledger::Ledger;
 use visit_book::{Edit, Visit, visit_at};
@@ -75,10 +75,10 @@ pub fn propose<L: Ledger>(
     requires unused { draft_version plan.now.plan.drafts desk.now draft ≡ None }
     ensures proposal { IfOk result (IsProposal plan.now.plan) }
     ensures taken { IfOk result (λ made. 1 ≤ length made.edits
-        → IsTaken plan.now.plan (draft_of desk.now draft made.base made.edits)) }
+        → TakesDraft plan.now.plan (draft_of desk.now draft made.base made.edits)) }
     ensures clashes { IfOk result (λ made. All (ClashesHold plan.now.plan made.edits) made.left) }
 {
-    let waiting = unplaced(alloc, plan)?;
+    let waiting = unplaced_parts(alloc, plan)?;
     let mut proposing = Proposing {
         proposal: Proposal {
             base: plan.version(),
@@ -111,13 +111,13 @@ fn add_part<L: Ledger>(
     requires visits { visits.now ≡ plan.now.plan.visits }
     requires numbered { IsNumbered visits.now }
     requires waits { WaitsInPlan plan.now.plan row.now }
-    requires unasked { IsUnasked proposing.old.proposal.edits row.now.id }
-    requires made { IsMade plan.now.plan proposing.old.proposal.edits proposing.old.slots }
+    requires unasked { IsUnput proposing.old.proposal.edits row.now.id }
+    requires made { IsProposedSoFar plan.now.plan proposing.old.proposal.edits proposing.old.slots }
     requires told { AreTold plan.now.plan proposing.old.slots proposing.old.proposal.left }
     ensures decided { OnOk result
         (IsDecided plan.now.plan proposing.old.proposal row.now.id proposing.new.proposal) }
     ensures made { OnOk result
-        (IsMade plan.now.plan proposing.new.proposal.edits proposing.new.slots) }
+        (IsProposedSoFar plan.now.plan proposing.new.proposal.edits proposing.new.slots) }
     ensures told { OnOk result
         (AreTold plan.now.plan proposing.new.slots proposing.new.proposal.left) }
 {

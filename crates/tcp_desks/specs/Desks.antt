@@ -9,9 +9,9 @@ pub record DesksState : Type 0 where
   pub faults : ℕ
 
 -- what is known of such a listener: it exposes no connection
-abbrev pub listener_state : {In Out : Type 0} → DesksState → ListenerState In Out
-listener_state desks = record { to_come = None; finished = None; accepted = desks.accepted; ended = desks.ended; faults = desks.faults }
+abbrev pub tcp_listener_state : {In Out : Type 0} → DesksState → ListenerState In Out
+tcp_listener_state desks = record { to_come = None; finished = None; accepted = desks.accepted; ended = desks.ended; faults = desks.faults }
 
 -- a listener at which nothing was accepted yet
-abbrev pub unused : DesksState
-unused = record { accepted = 0; ended = 0; faults = 0 }
+abbrev pub new_desks : DesksState
+new_desks = record { accepted = 0; ended = 0; faults = 0 }

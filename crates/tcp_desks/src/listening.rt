@@ -1,10 +1,10 @@
 // The system's TCP listener.
 ghost use Rattle.std.specs.Prelude.{◌≡◌, IfOk};
 ghost use Rattle.apron_base.specs.Listener.{Accepts};
-ghost use Rattle.tcp_desks.specs.Desks.{listener_state, unused};
+ghost use Rattle.tcp_desks.specs.Desks.{new_desks, tcp_listener_state};
 
 use crate::taking::{Doorway, Reporter, Unreported, take_next};
-use apron_base::{Failed, Listener, Outcome, Reading, Writing};
+use apron_base::{Failed, Listener, Outcome, ReaderSource, WriterSink};
 use std::io;
 use std::marker::Model;
 use std::net::{Net, SocketAddr, TcpListener, TcpStream};
@@ -44,14 +44,14 @@ impl TcpDesks {
         net: &N,
         address: &str,
     ) -> io::Result<TcpDesks>
-        ensures unused { IfOk result (λ desks. desks ≡ unused) }
+        ensures unused { IfOk result (λ desks. desks ≡ new_desks) }
     {
         Ok(TcpDesks::over(Some(TcpListener::bind(net, address)?), None))
     }
 
     /// Listens nowhere: each accept fails.
     pub fn nowhere() -> TcpDesks
-        ensures unused { result ≡ unused }
+        ensures unused { result ≡ new_desks }
     {
         TcpDesks::over(None, None)
     }
@@ -64,7 +64,7 @@ impl TcpDesks {
     /// Another listener at the same address, for another worker. If the system gives none, each of
     /// its accepts fails.
     pub fn beside(&self) -> TcpDesks
-        ensures unused { result ≡ unused }
+        ensures unused { result ≡ new_desks }
     {
         match &self.listener {
             Some(listener) => match listener.try_clone() {
@@ -86,8 +86,8 @@ impl TcpDesks {
         &mut self,
         rt: &R,
         reporter: &mut N,
-    ) -> Result<(Reading<TcpStream>, Writing<TcpStream>), Failed>
-        ensures accepts { Accepts (listener_state self.old) (listener_state self.new) result }
+    ) -> Result<(ReaderSource<TcpStream>, WriterSink<TcpStream>), Failed>
+        ensures accepts { Accepts (tcp_listener_state self.old) (tcp_listener_state self.new) result }
     {
         match self.next_ends(rt, reporter) {
             Some(ends) if self.accepted < u64::MAX => {
@@ -106,7 +106,7 @@ impl TcpDesks {
         &mut self,
         rt: &R,
         reporter: &mut N,
-    ) -> Option<(Reading<TcpStream>, Writing<TcpStream>)>
+    ) -> Option<(ReaderSource<TcpStream>, WriterSink<TcpStream>)>
         ensures counts { self.new ≡ self.old }
     {
         match take_next(rt, self.listener.as_mut()?, reporter) {
@@ -119,7 +119,7 @@ impl TcpDesks {
     }
 
     fn over(listener: Option<TcpListener>, cause: Option<io::Error>) -> TcpDesks
-        ensures unused { result ≡ unused }
+        ensures unused { result ≡ new_desks }
     {
         TcpDesks {
             listener,
@@ -132,11 +132,11 @@ impl TcpDesks {
 }
 
 impl Listener for TcpDesks {
-    type In = Reading<TcpStream>;
+    type In = ReaderSource<TcpStream>;
 
-    type Out = Writing<TcpStream>;
+    type Out = WriterSink<TcpStream>;
 
-    ghost state = { listener_state };
+    ghost state = { tcp_listener_state };
 
     fn accept<R: Wait>(&mut self, rt: &R) -> Result<(Self::In, Self::Out), Failed> {
         self.accept_reporting(rt, &mut Unreported)
@@ -151,7 +151,7 @@ impl Listener for TcpDesks {
 impl Doorway for TcpListener {
     ghost use Rattle.std.specs.Prelude.{None};
 
-    type Ends = (Reading<TcpStream>, Writing<TcpStream>);
+    type Ends = (ReaderSource<TcpStream>, WriterSink<TcpStream>);
 
     ghost failures = { λ _. None };
 
@@ -161,6 +161,6 @@ impl Doorway for TcpListener {
         // If this fails, replies may be sent late, which is no fault.
         let _sent_at_once = stream.set_nodelay(true);
         let output = stream.try_clone()?;
-        Ok((Reading::new(stream), Writing::new(output)))
+        Ok((ReaderSource::new(stream), WriterSink::new(output)))
     }
 }

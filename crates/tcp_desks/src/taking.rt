@@ -1,7 +1,7 @@
 // How a connection is taken, also after a time at which none could be.
 ghost use Rattle.std.specs.Prelude.{◌≡◌, IfErr, IfSome, false};
 ghost use Rattle.std.specs.IoError.{error_kind, raw_os_error};
-ghost use Rattle.tcp_desks.specs.Taking.{EndsAt, IsReported, is_cut, is_passing, is_signal, is_tried_again, is_want, notices};
+ghost use Rattle.tcp_desks.specs.Taking.{EndsTaking, IsReported, is_cut, is_passing, is_signal, is_tried_again, is_want, notices};
 
 use std::io;
 use std::io::ErrorKind;
@@ -13,7 +13,7 @@ use std::time::Duration;
 pub trait Doorway {
     ghost use Rattle.std.specs.Prelude.{IfSome, List, Option};
     ghost use Rattle.std.specs.declared.io.Error.{Error};
-    ghost use Rattle.tcp_desks.specs.Taking.{Gives};
+    ghost use Rattle.tcp_desks.specs.Taking.{GivesConnection};
 
     /// The two ends of a connection.
     type Ends;
@@ -23,7 +23,7 @@ pub trait Doorway {
 
     /// Takes the next connection. If there is none it waits. `Err` says why none could be taken.
     fn take(&mut self) -> io::Result<Self::Ends>
-        ensures gives { IfSome (failures self.old) (λ causes. Gives causes (failures self.new) result) };
+        ensures gives { IfSome (failures self.old) (λ causes. GivesConnection causes (failures self.new) result) };
 }
 
 /// Where it is reported that no connection could be taken for a time.
@@ -35,7 +35,7 @@ pub trait Reporter {
     ghost reported: { Self → Option (List Notice) };
 
     /// None could be taken, for this cause. Taking goes on until one comes.
-    fn waiting(&mut self, cause: &io::Error)
+    fn report_waiting(&mut self, cause: &io::Error)
         ensures reported { IsReported (reported self.old) (reported self.new) (Waits cause.now ∷ []) };
 
     /// One was taken again.
@@ -52,7 +52,7 @@ impl Reporter for Unreported {
 
     ghost reported = { λ _. None };
 
-    fn waiting(&mut self, _cause: &io::Error) {}
+    fn report_waiting(&mut self, _cause: &io::Error) {}
 
     fn taken_again(&mut self) {}
 }
@@ -66,7 +66,7 @@ pub fn take_next<R: Wait, D: Doorway, N: Reporter>(
     reporter: &mut N,
 ) -> io::Result<D::Ends>
     ensures lasting { IfErr result (λ cause. is_tried_again cause ≡ false) }
-    ensures ends { IfSome (D.failures doorway.old) (λ causes. EndsAt causes result) }
+    ensures ends { IfSome (D.failures doorway.old) (λ causes. EndsTaking causes result) }
     ensures reports { IfSome (D.failures doorway.old) (λ causes. IsReported (N.reported reporter.old) (N.reported reporter.new) (notices causes)) }
 {
     let mut is_reported = false;
@@ -82,7 +82,7 @@ pub fn take_next<R: Wait, D: Doorway, N: Reporter>(
             Err(cause) if is_signal(cause.kind()) => {}
             Err(cause) if passes(&cause) => {
                 if !is_reported {
-                    reporter.waiting(&cause);
+                    reporter.report_waiting(&cause);
                     is_reported = true;
                 }
                 pause(rt);

@@ -3,17 +3,17 @@ use Rattle.std.proofs.Common.{◌≡◌, ℕ, ◌+◌, ◌<◌, ◌≤◌, Bool,
 use Rattle.atomic_table.specs.Seated.{TableId}
 use Rattle.apron_base.specs.Counts.{Counts}
 use Rattle.apron_base.specs.Histories.{Grows}
-use Rattle.apron_base.specs.Machine.{Acts, ActsAtRisk, Leaves, MachineState, is_fault, standing}
+use Rattle.apron_base.specs.Machine.{Acts, ActsAtRisk, Leaves, MachineState, history_at_risk_of, is_fault}
 use Rattle.apron_base.specs.declared.outside.Acted.{Acted}
 use Rattle.apron_base.specs.declared.outside.Acted.TheVariants.{Fault, Memory, Reply, Spent}
 use Rattle.apron_base.proofs.Rising.{leaves_grown}
 use Rattle.turn_board.specs.declared.view.Start.{Start}
 use Rattle.turn_board.specs.declared.view.View.{View}
 use Rattle.turn_board.specs.Board.{GotTurn, SeatState, seat_of}
-use Rattle.turn_board.specs.Plays.{IsTaken, Mine}
+use Rattle.turn_board.specs.Plays.{IsMachineTaken, Mine}
 use Rattle.turn_board.specs.Totals.{AreBelow}
 use Rattle.turn_board.specs.Turns.{HasActed, HasLeftAtRisk, IsOver}
-use Rattle.turn_board.specs.Views.{acted, call_end, counted, drawn, ended, turned}
+use Rattle.turn_board.specs.Views.{after_act, after_count, after_draw, after_end, after_take, call_end}
 
 -- a count of faults never falls
 counts_rise : (failed : Bool) (before now : ℕ) → Counts failed before now → before ≤ now
@@ -45,7 +45,7 @@ module _ {E F : Type 0} (number : E → ℕ) where
 
   -- what the act left at risk, as the seat that it acted for knows it
   pub left_at_risk : {M A : Type 0} (adds : A → E → Type 0) (ask : A) (mine : Mine M E F) (before after : MachineState E F) (call : ℕ) (answer : Acted) → Acts number before after call answer
-      → ActsAtRisk (λ e. (number e ≡ call) × adds ask e) (is_fault answer) (standing before) (standing after)
+      → ActsAtRisk (λ e. (number e ≡ call) × adds ask e) (is_fault answer) (history_at_risk_of before) (history_at_risk_of after)
       → mine.0.number ≡ call → mine.0.seen ≡ before.history → mine.0.at_risk ≡ before.at_risk → HasLeftAtRisk number mine after
   left_at_risk adds ask mine before after call answer acts risks number_is seen_is risk_is = ⊎_elim inl
       (⊎_elim (λ (same : (after.at_risk ≡ before.at_risk) × (after.history ≡ before.history)). inr (inl (same.0 ∙ sym risk_is, same.1 ∙ sym seen_is)))
@@ -59,31 +59,31 @@ module _ {M E F : Type 0} (state : M → MachineState E F) (number : E → ℕ) 
   -- after the note and the count the call is over
   pub over : (before noted counted' : Mine M E F) (machine : M) (added : Bool) → HasActed number before (state machine) → length (state machine).history ≡ length before.0.seen + cond added 1 0
       → (state machine).next ≡ before.0.number + 1 → (start : Start F) × (before.0.start ≡ Some start) × ((state machine).fixed ≡ start.fixed)
-      → noted ≡ (acted (state machine) before.0, (0, Some machine) ∷ []) → counted' ≡ (cond added (counted noted.0) noted.0, noted.1) → IsOver state counted' machine
+      → noted ≡ (after_act (state machine) before.0, (0, Some machine) ∷ []) → counted' ≡ (cond added (after_count noted.0) noted.0, noted.1) → IsOver state counted' machine
   over before noted counted' machine added has one next start noted_is counted_is = subst (λ (m : Mine M E F). IsOver state m machine) (sym whole) (at added one)
     where
       w : View E F
-      w = acted (state machine) before.0
+      w = after_act (state machine) before.0
 
-      whole : counted' ≡ (cond added (counted w) w, (0, Some machine) ∷ [])
-      whole = counted_is ∙ ap (λ (m : Mine M E F). (cond added (counted m.0) m.0, m.1)) noted_is
+      whole : counted' ≡ (cond added (after_count w) w, (0, Some machine) ∷ [])
+      whole = counted_is ∙ ap (λ (m : Mine M E F). (cond added (after_count m.0) m.0, m.1)) noted_is
 
-      at : (b : Bool) → length (state machine).history ≡ length before.0.seen + cond b 1 0 → IsOver state (cond b (counted w) w, (0, Some machine) ∷ []) machine
+      at : (b : Bool) → length (state machine).history ≡ length before.0.seen + cond b 1 0 → IsOver state (cond b (after_count w) w, (0, Some machine) ∷ []) machine
       at true long = record { stage = refl; share = has.share; paid = refl; held = refl; history = refl; next = omega arith; start = start; left = refl; at_risk = refl }
       at false long = record { stage = refl; share = has.share; paid = omega arith; held = refl; history = refl; next = omega arith; start = start; left = refl; at_risk = refl }
 
   -- the seat with the machine knows the start as before, and the machine has its fixed part
-  pub keeps_start : (v p : View E F) (q : Mine M E F) (cs : List (ℕ × Option M)) (n : ℕ) (m : M) (left : MachineState E F) (x : Start F) → v.start ≡ Some x → p ≡ drawn n v → q ≡ (turned (state m) p, cs)
-      → IsTaken number p n (state m) → left.fixed ≡ (state m).fixed → (y : Start F) × (q.0.start ≡ Some y) × (left.fixed ≡ y.fixed)
+  pub keeps_start : (v p : View E F) (q : Mine M E F) (cs : List (ℕ × Option M)) (n : ℕ) (m : M) (left : MachineState E F) (x : Start F) → v.start ≡ Some x → p ≡ after_draw n v → q ≡ (after_take (state m) p, cs)
+      → IsMachineTaken number p n (state m) → left.fixed ≡ (state m).fixed → (y : Start F) × (q.0.start ≡ Some y) × (left.fixed ≡ y.fixed)
   keeps_start v p q cs n m left x has drawn_is turned_is taken fixed =
       let known : p.start ≡ Some x = ap (λ (y : View E F). y.start) drawn_is ∙ has in
       (x, ap (λ (y : Mine M E F). y.0.start) turned_is ∙ known, fixed ∙ (taken.start x known).0)
 
   module _ {A : Type 0} (adds : A → E → Type 0) (answers : F → List E → ℕ → A → Acted → List E → Type 0) (z z' : TableId) (v : View E F) (before : SeatState E F) (ask : A) (answer : Acted) where
     -- a call that got its turn
-    pub got_turn : seat_of z v ≡ before → (n : ℕ) (m m' : M) (p : View E F) (q w : Mine M E F) (cs : List (ℕ × Option M)) → p ≡ drawn n v → q ≡ (turned (state m) p, cs)
-        → w ≡ (ended (acted (state m') q.0), []) → n < call_end → AreBelow n v.calls → v.exhausted ≡ false → IsTaken number p n (state m) → Acts number (state m) (state m') n answer
-        → ActsAtRisk (λ e. (number e ≡ n) × adds ask e) (is_fault answer) (standing (state m)) (standing (state m'))
+    pub got_turn : seat_of z v ≡ before → (n : ℕ) (m m' : M) (p : View E F) (q w : Mine M E F) (cs : List (ℕ × Option M)) → p ≡ after_draw n v → q ≡ (after_take (state m) p, cs)
+        → w ≡ (after_end (after_act (state m') q.0), []) → n < call_end → AreBelow n v.calls → v.exhausted ≡ false → IsMachineTaken number p n (state m) → Acts number (state m) (state m') n answer
+        → ActsAtRisk (λ e. (number e ≡ n) × adds ask e) (is_fault answer) (history_at_risk_of (state m)) (history_at_risk_of (state m'))
         → answers (state m).fixed (state m).history n ask answer (state m').history → GotTurn state number adds answers before (record { ask = ask; answer = answer }) (seat_of z' w.0)
     got_turn seat_is n m m' p q w cs drawn_is turned_is ended_is small new room taken acts risks meets =
         subst (λ (s : SeatState E F). GotTurn state number adds answers s (record { ask = ask; answer = answer }) (seat_of z' w.0)) seat_is
@@ -107,8 +107,8 @@ module _ {M E F : Type 0} (state : M → MachineState E F) (number : E → ℕ) 
           calls = refl;
         }))
       where
-        whole : w.0 ≡ ended (acted (state m') (turned (state m) (drawn n v)))
-        whole = ap (λ (y : Mine M E F). y.0) ended_is ∙ (ap (λ (y : Mine M E F). ended (acted (state m') y.0)) turned_is ∙ ap (λ (x : View E F). ended (acted (state m') (turned (state m) x))) drawn_is)
+        whole : w.0 ≡ after_end (after_act (state m') (after_take (state m) (after_draw n v)))
+        whole = ap (λ (y : Mine M E F). y.0) ended_is ∙ (ap (λ (y : Mine M E F). after_end (after_act (state m') y.0)) turned_is ∙ ap (λ (x : View E F). after_end (after_act (state m') (after_take (state m) x))) drawn_is)
 
-        took : IsTaken number (drawn n v) n (state m)
-        took = subst (λ (x : View E F). IsTaken number x n (state m)) drawn_is taken
+        took : IsMachineTaken number (after_draw n v) n (state m)
+        took = subst (λ (x : View E F). IsMachineTaken number x n (state m)) drawn_is taken

@@ -16,29 +16,29 @@ use Rattle.turn_board.specs.declared.view.Stage.{Stage}
 use Rattle.turn_board.specs.declared.view.Stage.TheVariants.{Idle}
 use Rattle.turn_board.specs.declared.view.View.{View}
 use Rattle.turn_board.specs.Board.{Closes, IsPutAtRisk, SeatState, TurnBoardState, seat_of}
-use Rattle.turn_board.specs.Rule.{AtHome, Fits, IsAtRisk, IsNewAtRisk, IsOut, TurnRule}
+use Rattle.turn_board.specs.Rule.{AtHome, HoldsForSeat, IsAtRisk, IsNewAtRisk, IsOut, TurnRule}
 use Rattle.turn_board.specs.Totals.{below, times, total}
-use Rattle.turn_board.specs.Views.{all_shares, calls_of, has_acted, has_turn, in_flight, is_flying, opened, share_of, start_of, turn_of}
+use Rattle.turn_board.specs.Views.{all_shares, count_of_call, first_view, has_acted, has_turn, in_flight, is_flying, share_of, start_of, turn_of}
 use Rattle.turn_board.proofs.Faults.{IsKnown}
 use Rattle.turn_board.proofs.Risks.{IsLeft, if_some}
 use Rattle.turn_board.proofs.Totals.{below_here, called, every_more, not_below, same_inside, total_only, total_two}
 
 module _ {M E F : Type 0} (number : E → ℕ) (state : M → MachineState E F) where
   pub starts : (m : M) (first long : ℕ) → first ≡ (state m).next → first ≤ 2 ^ 62 → long ≡ length (state m).history → Rises number 1 (state m).next (state m).history → (state m).at_risk ≡ None
-      → TurnRule number state (state m) (opening (first ∷ first ∷ long ∷ []) (Some m ∷ []) (opened (state m)))
+      → TurnRule number state (state m) (opening (first ∷ first ∷ long ∷ []) (Some m ∷ []) (first_view (state m)))
   starts m first long is few long_is rises safe = record {
     standing = record { ticket = first; serving = first; count = long; longest = (state m).history };
     words = refl;
     facts = record {
       order = (omega arith, few);
-      flights = λ x. let a : in_flight x (opened (state m)) ≡ 0 = grind (arith, nat_tests) in omega arith;
+      flights = λ x. let a : in_flight x (first_view (state m)) ≡ 0 = grind (arith, nat_tests) in omega arith;
       calls = λ x. let a : below x (state m).next ≡ below x first = ap (below x) (sym is) in omega arith;
       counted = omega arith;
       rises = subst (λ (n : ℕ). Rises number 1 n (state m).history) (omega arith) rises;
       shares = refl;
       slot = inl (m, refl, refl, record { history = refl; next = omega arith; fixed = refl });
       seats = at_first;
-      longest = (0, opened (state m), refl, refl, omega arith);
+      longest = (0, first_view (state m), refl, refl, omega arith);
     };
     faults = record {
       found = λ x. (state m).faults;
@@ -67,26 +67,26 @@ module _ {M E F : Type 0} (number : E → ℕ) (state : M → MachineState E F) 
       held_risk d (some (Some x) ∷ _) = (state x).at_risk
       held_risk d _ = (state d).at_risk
 
-      none_left : (j : ℕ) (v : View E F) → get_elem? (opened (state m) ∷ []) j ≡ some v → Every (IsLeft (λ x. None) first) v.calls
-      none_left zero v e = subst (λ (z : View E F). Every (IsLeft (λ x. None) first) z.calls) (some-injective (opened (state m)) v e) tt
+      none_left : (j : ℕ) (v : View E F) → get_elem? (first_view (state m) ∷ []) j ≡ some v → Every (IsLeft (λ x. None) first) v.calls
+      none_left zero v e = subst (λ (z : View E F). Every (IsLeft (λ x. None) first) z.calls) (some-injective (first_view (state m)) v e) tt
       none_left (suc j) v e = absurd (some-ne-none v (sym e))
 
       Knows : View E F → Type 0
       Knows v = 0 < has_turn v.stage → IfSome v.at_risk (λ a. IsNewAtRisk number v a ⊎ IsAtRisk number (state m) (λ x. None) first v.seen a)
 
-      never_turned : (j : ℕ) (v : View E F) → get_elem? (opened (state m) ∷ []) j ≡ some v → Knows v
-      never_turned zero v e = subst Knows (some-injective (opened (state m)) v e) (λ p. absurd (omega arith))
+      never_turned : (j : ℕ) (v : View E F) → get_elem? (first_view (state m) ∷ []) j ≡ some v → Knows v
+      never_turned zero v e = subst Knows (some-injective (first_view (state m)) v e) (λ p. absurd (omega arith))
       never_turned (suc j) v e = absurd (some-ne-none v (sym e))
 
-      no_calls : (j : ℕ) (v : View E F) → get_elem? (opened (state m) ∷ []) j ≡ some v → Every (λ (c : Call E). (c.number < first) × (c.found ≡ (state m).faults) × (c.left ≡ (state m).faults)) v.calls
-      no_calls zero v e = subst (λ (z : View E F). Every (λ (c : Call E). (c.number < first) × (c.found ≡ (state m).faults) × (c.left ≡ (state m).faults)) z.calls) (some-injective (opened (state m)) v e) tt
+      no_calls : (j : ℕ) (v : View E F) → get_elem? (first_view (state m) ∷ []) j ≡ some v → Every (λ (c : Call E). (c.number < first) × (c.found ≡ (state m).faults) × (c.left ≡ (state m).faults)) v.calls
+      no_calls zero v e = subst (λ (z : View E F). Every (λ (c : Call E). (c.number < first) × (c.found ≡ (state m).faults) × (c.left ≡ (state m).faults)) z.calls) (some-injective (first_view (state m)) v e) tt
       no_calls (suc j) v e = absurd (some-ne-none v (sym e))
 
-      no_turn : (j : ℕ) (v : View E F) → get_elem? (opened (state m) ∷ []) j ≡ some v → (0 < has_turn v.stage → (state m).faults ≤ v.found) × (0 < has_acted v.stage → v.found ≤ v.left)
-      no_turn zero v e = subst (λ (z : View E F). (0 < has_turn z.stage → (state m).faults ≤ z.found) × (0 < has_acted z.stage → z.found ≤ z.left)) (some-injective (opened (state m)) v e) ((λ p. absurd (omega arith)), (λ p. absurd (omega arith)))
+      no_turn : (j : ℕ) (v : View E F) → get_elem? (first_view (state m) ∷ []) j ≡ some v → (0 < has_turn v.stage → (state m).faults ≤ v.found) × (0 < has_acted v.stage → v.found ≤ v.left)
+      no_turn zero v e = subst (λ (z : View E F). (0 < has_turn z.stage → (state m).faults ≤ z.found) × (0 < has_acted z.stage → z.found ≤ z.left)) (some-injective (first_view (state m)) v e) ((λ p. absurd (omega arith)), (λ p. absurd (omega arith)))
       no_turn (suc j) v e = absurd (some-ne-none v (sym e))
 
-      mine : Fits number (state m) first first (state m).history (opened (state m))
+      mine : HoldsForSeat number (state m) first first (state m).history (first_view (state m))
       mine = record {
         start = λ _. refl;
         seen = record { rest = []; is = sym (append-nil (state m).history); later = tt };
@@ -100,18 +100,18 @@ module _ {M E F : Type 0} (number : E → ℕ) (state : M → MachineState E F) 
         spent = λ h. absurd (omega arith);
       }
 
-      at_first : (j : ℕ) (v : View E F) → get_elem? (opened (state m) ∷ []) j ≡ some v → Fits number (state m) first first (state m).history v
-      at_first zero v e = subst (Fits number (state m) first first (state m).history) (some-injective (opened (state m)) v e) mine
+      at_first : (j : ℕ) (v : View E F) → get_elem? (first_view (state m) ∷ []) j ≡ some v → HoldsForSeat number (state m) first first (state m).history v
+      at_first zero v e = subst (HoldsForSeat number (state m) first first (state m).history) (some-injective (first_view (state m)) v e) mine
       at_first (suc j) v e = absurd (some-ne-none v (sym e))
 
 module _ {M E F : Type 0} (number : E → ℕ) (state : M → MachineState E F) where
   pub starts_as : (m m' : M) (xs : List (Option M)) (first second long : ℕ) → m' ≡ m → xs ≡ Some m ∷ [] → first ≡ (state m).next → second ≡ (state m).next → (state m).next ≤ 2 ^ 62 → long ≡ length (state m).history
-      → Rises number 1 (state m).next (state m).history → (state m).at_risk ≡ None → TurnRule number state (state m') (opening (first ∷ second ∷ long ∷ []) xs (opened (state m')))
+      → Rises number 1 (state m).next (state m).history → (state m).at_risk ≡ None → TurnRule number state (state m') (opening (first ∷ second ∷ long ∷ []) xs (first_view (state m')))
   starts_as m m' xs first second long is items first_is second_is few long_is rises safe =
-      let at : TurnRule number state (state m) (opening (first ∷ second ∷ long ∷ []) (Some m ∷ []) (opened (state m))) =
-      subst (λ (z : ℕ). TurnRule number state (state m) (opening (first ∷ z ∷ long ∷ []) (Some m ∷ []) (opened (state m)))) (first_is ∙ sym second_is) (starts number state m first long first_is (omega arith) long_is rises safe) in
-      let other : TurnRule number state (state m') (opening (first ∷ second ∷ long ∷ []) (Some m ∷ []) (opened (state m'))) = subst (λ (z : M). TurnRule number state (state z) (opening (first ∷ second ∷ long ∷ []) (Some m ∷ []) (opened (state z)))) (sym is) at in
-      subst (λ (ys : List (Option M)). TurnRule number state (state m') (opening (first ∷ second ∷ long ∷ []) ys (opened (state m')))) (sym items) other
+      let at : TurnRule number state (state m) (opening (first ∷ second ∷ long ∷ []) (Some m ∷ []) (first_view (state m))) =
+      subst (λ (z : ℕ). TurnRule number state (state m) (opening (first ∷ z ∷ long ∷ []) (Some m ∷ []) (first_view (state m)))) (first_is ∙ sym second_is) (starts number state m first long first_is (omega arith) long_is rises safe) in
+      let other : TurnRule number state (state m') (opening (first ∷ second ∷ long ∷ []) (Some m ∷ []) (first_view (state m'))) = subst (λ (z : M). TurnRule number state (state z) (opening (first ∷ second ∷ long ∷ []) (Some m ∷ []) (first_view (state z)))) (sym is) at in
+      subst (λ (ys : List (Option M)). TurnRule number state (state m') (opening (first ∷ second ∷ long ∷ []) ys (first_view (state m')))) (sym items) other
 
 module _ {M E F : Type 0} (number : E → ℕ) (state : M → MachineState E F) (origin : MachineState E F) where
   abbrev V : Type 0
@@ -137,7 +137,7 @@ module _ {M E F : Type 0} (number : E → ℕ) (state : M → MachineState E F) 
       let end : t ≡ k = dite (dec_le t k) (λ (l : t ≤ k). let a = r.order.0 in omega arith)
       (λ (g : t ≤ k → ⊥). absurd (let a = empty k in let b = r.flights k in let c = not_below k k (omega arith) in let d = below_here k t (lt_of_not-le g) in omega arith)) in
       let calls : (x : ℕ) → times x v.calls + below x (origin.next) ≡ below x k =
-      λ x. let a = only (calls_of x) (λ u i e. ap (times x) e) in let b = r.calls x in omega arith in
+      λ x. let a = only (count_of_call x) (λ u i e. ap (times x) e) in let b = r.calls x in omega arith in
       let since : origin.next ≤ k = dite (dec_le (origin.next) k) (λ (l : origin.next ≤ k). l)
       (λ (g : origin.next ≤ k → ⊥). absurd (let a = calls k in let c = not_below k k (omega arith) in let d = below_here k (origin.next) (lt_of_not-le g) in omega arith)) in
       ⊎_elim

@@ -19,11 +19,11 @@ use Rattle.turn_board.specs.declared.view.Stage.TheVariants.{Idle, Waiting, Turn
 use Rattle.turn_board.specs.declared.view.View.{View}
 use Rattle.apron_base.specs.Machine.{MachineState}
 use Rattle.turn_board.specs.declared.view.Start.{Start}
-use Rattle.turn_board.specs.Rule.{AreFaults, AreRisks, AtHome, EndsAt, Extends, Facts, Fits, IsAtRisk, IsNewAtRisk, IsOut, Standing, TurnRule}
+use Rattle.turn_board.specs.Rule.{AreFaults, AreRisks, AtHome, Extends, Facts, HoldsForSeat, IsAtRisk, IsNewAtRisk, IsOut, LastEntryIs, TurnRule, TurnState}
 use Rattle.turn_board.specs.Totals.{below, same, total}
 use Rattle.turn_board.specs.Turns.{HasActed, HasLeftAtRisk}
-use Rattle.turn_board.specs.Views.{acted, acted_of, calls_of, counted, drawn, ended, has_acted, has_turn, in_flight, is_flying, looked, may_owe, owes_of, run_out, share_of, start_of, turn_of, turned}
-use Rattle.turn_board.specs.Plays.{CountsEntry, Draws, Ends, Looks, Notes, Takes, noted}
+use Rattle.turn_board.specs.Views.{acted_count, after_act, after_count, after_draw, after_end, after_look, after_take, count_of_call, has_acted, has_turn, in_flight, is_flying, may_owe, owes_of, run_out, share_of, start_of, turn_of}
+use Rattle.turn_board.specs.Plays.{CountsEntry, DrawsNumber, EndsCall, LooksAfterMeeting, Notes, Takes, after_note}
 use Rattle.turn_board.proofs.Faults.{IsKnown, apart, ended_call, kept}
 use Rattle.turn_board.proofs.Risks.{ended_risk, if_some, keeps_risks, noted_risk, risks_stay}
 use Rattle.turn_board.proofs.Totals.{same_inside, below_here, below_suc, not_below, below_most, times_append, total_set, total_le, total_apart, total_at, total_two, set_at, every_append, every_more, every_always, every_both, every_front, later_rest}
@@ -41,7 +41,7 @@ module _ {M E F : Type 0} (number : E → ℕ) (state : M → MachineState E F) 
   abbrev Homes : Type 0
   Homes = List (maybe.Option S)
 
-  abbrev stand : ℕ → ℕ → ℕ → List E → Standing E
+  abbrev stand : ℕ → ℕ → ℕ → List E → TurnState E
   stand t k n log = record { ticket = t; serving = k; count = n; longest = log }
 
   -- what a step on the word i owes, if these are the words, the slots at home and the views
@@ -63,24 +63,24 @@ module _ {M E F : Type 0} (number : E → ℕ) (state : M → MachineState E F) 
       → (t' k' n' : ℕ) (log' : List E) (homes' : Homes)
       → (k' ≤ t') × (t' ≤ 2 ^ 62)
       → ((x : ℕ) → in_flight x w + below x k' + below x t ≡ in_flight x v + below x t' + below x k)
-      → ((x : ℕ) → calls_of x w + below x k ≡ calls_of x v + below x k')
+      → ((x : ℕ) → count_of_call x w + below x k ≡ count_of_call x v + below x k')
       → n' + w.owes + length log ≡ n + v.owes + length log'
-      → Rises number 1 (k' + total acted_of (set views id w)) log'
+      → Rises number 1 (k' + total acted_count (set views id w)) log'
       → w.share ≡ v.share
       → AtHome state origin k' log' homes' (set views id w) ⊎ IsOut homes' (set views id w)
-      → Fits number origin t' k' log' w
-      → ((j : ℕ) (u : V) → j ≢ id → get_elem? views j ≡ some u → Fits number origin t k log u → Fits number origin t' k' log' u)
+      → HoldsForSeat number origin t' k' log' w
+      → ((j : ℕ) (u : V) → j ≢ id → get_elem? views j ≡ some u → HoldsForSeat number origin t k log u → HoldsForSeat number origin t' k' log' u)
       → (((log' ≡ w.seen) × (0 < w.share)) ⊎ ((log' ≡ log) × (w.seen ≡ v.seen)))
       → Facts number state origin (stand t' k' n' log') homes' (set views id w)
   moved t k n log homes views r id v w at t' k' n' log' homes' order flights calls count rises share slot mine others last = record {
     order = order;
     flights = λ x. let a = total_set (in_flight x) views id v w at in let b = r.flights x in let c = flights x in omega arith;
-    calls = λ x. let a = total_set (calls_of x) views id v w at in let b = r.calls x in let c = calls x in omega arith;
+    calls = λ x. let a = total_set (count_of_call x) views id v w at in let b = r.calls x in let c = calls x in omega arith;
     counted = let a = total_set owes_of views id v w at in let b = r.counted in omega arith;
     rises = rises;
     shares = let a = total_set share_of views id v w at in let b = r.shares in omega arith;
     slot = slot;
-    seats = λ j u e. ⊎_elim (λ (h : (j ≡ id) × (w ≡ u)). subst (Fits number origin t' k' log') h.1 mine)
+    seats = λ j u e. ⊎_elim (λ (h : (j ≡ id) × (w ≡ u)). subst (HoldsForSeat number origin t' k' log') h.1 mine)
         (λ (h : (j ≢ id) × (get_elem? views j ≡ some u)). others j u h.0 h.1 (r.seats j u h.1))
         (at_set views id j w u e);
     longest = ⊎_elim (λ (h : (log' ≡ w.seen) × (0 < w.share)). (id, w, set_at views id v w at, sym h.0, h.1))
@@ -107,8 +107,8 @@ module _ {M E F : Type 0} (number : E → ℕ) (state : M → MachineState E F) 
   stays t k n log homes views r id v at = subst (Facts number state origin (stand t k n log) homes) (sym (set_again views id v at)) r
 
   done_stays : (number : E → ℕ) (k : ℕ) (log : List E) (views : List V) (id : ℕ) (v w : V) → get_elem? views id ≡ some v → has_acted w.stage ≡ has_acted v.stage
-      → Rises number 1 (k + total acted_of views) log → Rises number 1 (k + total acted_of (set views id w)) log
-  done_stays number k log views id v w at is r = let a = total_set acted_of views id v w at in let b : total acted_of (set views id w) ≡ total acted_of views = omega arith in
+      → Rises number 1 (k + total acted_count views) log → Rises number 1 (k + total acted_count (set views id w)) log
+  done_stays number k log views id v w at is r = let a = total_set acted_count views id v w at in let b : total acted_count (set views id w) ≡ total acted_count views = omega arith in
       subst (λ (z : ℕ). Rises number 1 (k + z) log) (sym b) r
 
   -- the counts stay if the slot and the seat's calls, stage and counts do
@@ -122,11 +122,11 @@ module _ {M E F : Type 0} (number : E → ℕ) (state : M → MachineState E F) 
   not_true false f = refl
 
   pub draws : (slots id : ℕ) (me : Mine) (old new : ℕ) → me.0.stage ≡ Idle → 0 < me.0.share → (old < 2 ^ 62 → new ≡ old + 1) → (2 ^ 62 ≤ old → new ≡ old)
-      → Allows (TurnRule number state origin) slots id me 0 (λ n. either (n == old) new n) (Draws (step slots 0 old new none) me)
-  draws slots id me old new idle live up at_end = allowed slots id me 0 (λ n. either (n == old) new n) (Draws (step slots 0 old new none) me) (λ t k n log homes views r q d at.
+      → Allows (TurnRule number state origin) slots id me 0 (λ n. either (n == old) new n) (DrawsNumber (step slots 0 old new none) me)
+  draws slots id me old new idle live up at_end = allowed slots id me 0 (λ n. either (n == old) new n) (DrawsNumber (step slots 0 old new none) me) (λ t k n log homes views r q d at.
       let v = me.0 in
       let mine = r.seats id v at in
-      let Goal : ℕ → Type 0 = λ x. Owed (t ∷ k ∷ n ∷ []) homes views id me 0 x (Draws (step slots 0 old new none) me) in
+      let Goal : ℕ → Type 0 = λ x. Owed (t ∷ k ∷ n ∷ []) homes views id me 0 x (DrawsNumber (step slots 0 old new none) me) in
       dite (ℕ_discrete t (2 ^ 62))
       (λ (full : t ≡ 2 ^ 62).
       let w = run_out v in
@@ -149,7 +149,7 @@ module _ {M E F : Type 0} (number : E → ℕ) (state : M → MachineState E F) 
       let less : t < 2 ^ 62 = let h = r.order.1 in omega arith in
       exchanged t old new Goal
       (λ (e : t ≡ old).
-      let w = drawn t v in
+      let w = after_draw t v in
       let one : t + 1 ≡ new = let h = up (omega arith) in omega arith in
       subst Goal one (
         w,
@@ -213,8 +213,8 @@ module _ {M E F : Type 0} (number : E → ℕ) (state : M → MachineState E F) 
       omega arith
 
   -- the longest history begins with itself, and nothing follows
-  whole : (log seen : List E) (ended : List (Call E)) → seen ≡ log → Extends number log seen ended
-  whole log seen ended is = record { rest = []; is = sym (append-nil seen ∙ is); later = every_always (λ (c : Call E). Every (λ e. c.number < number e) []) (λ c. tt) ended }
+  whole : (log seen : List E) (after_end : List (Call E)) → seen ≡ log → Extends number log seen after_end
+  whole log seen after_end is = record { rest = []; is = sym (append-nil seen ∙ is); later = every_always (λ (c : Call E). Every (λ e. c.number < number e) []) (λ c. tt) after_end }
 
   head_is : (m' : M) {homes : Homes} {m : M} → homes ≡ some (Some m) ∷ [] → set homes 0 none ≡ some (Some m') ∷ [] → some (Some m') ≡ none
   head_is m' {homes} {m} is e = sym (ap (head none) (sym (ap (λ (hs : Homes). set hs 0 none) is) ∙ e))
@@ -234,10 +234,10 @@ module _ {M E F : Type 0} (number : E → ℕ) (state : M → MachineState E F) 
       (λ (h : AtHome state origin k log homes views).
       let m = h.0 in
       let home = h.3 in
-      let w = turned (state m) v in
+      let w = after_take (state m) v in
       let p = total_set turn_of views id v w at in
       let none_past : has_turn v.stage ≡ 0 = ap has_turn waits in
-      let undone : total acted_of views ≡ 0 = let a = total_le acted_of turn_of views (λ j u _. done_le_past u.stage) in omega arith in
+      let undone : total acted_count views ≡ 0 = let a = total_le acted_count turn_of views (λ j u _. done_le_past u.stage) in omega arith in
       let rises = subst (λ (z : ℕ). Rises number 1 z log) (let a = undone in omega arith) r.rises in (
         w,
         takes 0 (Some m),
@@ -306,21 +306,21 @@ module _ {M E F : Type 0} (number : E → ℕ) (state : M → MachineState E F) 
   others_wait homes views out id v at is j u ne e = let a = total_two turn_of views id j v u ne at e in let b = out.1 in omega arith
 
   -- what was not seen, after one more entry of the number k
-  before_grown : (k call : ℕ) (log after seen : List E) (ended : List (Call E)) → call ≡ k → Grows number call log after → Every (λ (c : Call E). c.number < k) ended → Extends number log seen ended → Extends number after seen ended
-  before_grown k call log after seen ended is g below_k b = ⊎_elim
-      (λ (same : after ≡ log). subst (λ (l : List E). Extends number l seen ended) (sym same) b)
+  before_grown : (k call : ℕ) (log after seen : List E) (after_end : List (Call E)) → call ≡ k → Grows number call log after → Every (λ (c : Call E). c.number < k) after_end → Extends number log seen after_end → Extends number after seen after_end
+  before_grown k call log after seen after_end is g below_k b = ⊎_elim
+      (λ (same : after ≡ log). subst (λ (l : List E). Extends number l seen after_end) (sym same) b)
       (λ (more : (e : E) × (number e ≡ call) × (after ≡ log ++ e ∷ [])). record {
         rest = b.rest ++ more.0 ∷ [];
         is = more.2 ∙ (ap (λ (l : List E). l ++ more.0 ∷ []) b.is ∙ append_assoc seen b.rest (more.0 ∷ []));
         later = every_both (λ (c : Call E). Every (λ e. c.number < number e) b.rest) (λ (c : Call E). c.number < k) (λ (c : Call E). Every (λ e. c.number < number e) (b.rest ++ more.0 ∷ []))
-            (λ c h l. every_append (λ e. c.number < number e) b.rest (more.0 ∷ []) h ((let a = more.1 in omega arith), tt)) ended b.later below_k;
+            (λ c h l. every_append (λ e. c.number < number e) b.rest (more.0 ∷ []) h ((let a = more.1 in omega arith), tt)) after_end b.later below_k;
       }) g
 
   grown_length : (call : ℕ) (before after : List E) → Grows number call before after → (length before ≤ length after) × (length after ≤ length before + 1)
   grown_length call before after g = ⊎_elim (λ (same : after ≡ before). let a : length after ≡ length before = ap length same in (omega arith, omega arith))
       (λ (more : (e : E) × (number e ≡ call) × (after ≡ before ++ e ∷ [])). let a : length after ≡ length before + 1 = ap length more.2 ∙ length-append before (more.0 ∷ []) in (omega arith, omega arith)) g
 
-  own_entry : (call : ℕ) (before after : List E) → Grows number call before after → 0 < length after - length before → EndsAt number call after
+  own_entry : (call : ℕ) (before after : List E) → Grows number call before after → 0 < length after - length before → LastEntryIs number call after
   own_entry call before after g more = ⊎_elim (λ (same : after ≡ before). absurd (let a : length after ≡ length before = ap length same in omega arith))
       (λ (h : (e : E) × (number e ≡ call) × (after ≡ before ++ e ∷ [])). (before, h.0, h.2, h.1)) g
 
@@ -329,7 +329,7 @@ module _ {M E F : Type 0} (number : E → ℕ) (state : M → MachineState E F) 
   notes slots id me m turn holds live grows rose left = allowed slots id me 1 (λ n. n) (Notes state (step slots 1 0 0 none) me) (λ t k n log homes views r q d at.
       let v = me.0 in
       let mine = r.seats id v at in
-      let w = acted (state m) v in
+      let w = after_act (state m) v in
       let went : has_turn v.stage ≡ 1 = ap has_turn turn in
       let undone : has_acted v.stage ≡ 0 = ap has_acted turn in
       let out = out_with t k n log homes views r id v at went in
@@ -337,11 +337,11 @@ module _ {M E F : Type 0} (number : E → ℕ) (state : M → MachineState E F) 
       let long = grown_length v.number v.seen (state m).history grows in
       let as_long : length v.seen ≡ length log = ap length now.1 in
       let grown : Grows number v.number log (state m).history = subst (λ (l : List E). Grows number v.number l (state m).history) now.1 grows in
-      let done_before : total acted_of views ≡ 0 = let a = total_apart acted_of turn_of views id v at (λ j u _. done_le_past u.stage) in let b = out.1 in omega arith in
-      let done_after : total acted_of (set views id w) ≡ 1 = let a = total_set acted_of views id v w at in omega arith in
+      let done_before : total acted_count views ≡ 0 = let a = total_apart acted_count turn_of views id v at (λ j u _. done_le_past u.stage) in let b = out.1 in omega arith in
+      let done_after : total acted_count (set views id w) ≡ 1 = let a = total_set acted_count views id v w at in omega arith in
       let rises : Rises number 1 k log = subst (λ (z : ℕ). Rises number 1 z log) (let a = done_before in omega arith) r.rises in
-      let rises' : Rises number 1 (k + total acted_of (set views id w)) (state m).history =
-      rises_grown number 1 k v.number (k + total acted_of (set views id w)) log (state m).history rises grown (let a = now.0 in omega arith) (let a = now.0 in omega arith) in (
+      let rises' : Rises number 1 (k + total acted_count (set views id w)) (state m).history =
+      rises_grown number 1 k v.number (k + total acted_count (set views id w)) log (state m).history rises grown (let a = now.0 in omega arith) (let a = now.0 in omega arith) in (
         w,
         keeps,
         tt,
@@ -380,7 +380,7 @@ module _ {M E F : Type 0} (number : E → ℕ) (state : M → MachineState E F) 
           risks = keeps_risks number state origin k homes homes views d id w (d.calls id v at)
               (λ _. noted_risk number state origin v m me.1 d.left k left (subst (λ (z : ℕ). Rises number 1 z v.seen) (sym now.0) (subst (Rises number 1 k) (sym now.1) rises)) (d.turn id v at (omega arith))) d.home;
         },
-        (λ i. (ap (λ (cs : List (ℕ × S)). noted state v cs) (sym holds) i, me.1)),
+        (λ i. (ap (λ (cs : List (ℕ × S)). after_note state v cs) (sym holds) i, me.1)),
       ))
 
   -- the same, after the machine was put back into the slot
@@ -403,13 +403,13 @@ module _ {M E F : Type 0} (number : E → ℕ) (state : M → MachineState E F) 
   counts_entry slots id me acted_ owes live = allowed slots id me 2 (λ n. (n + 1) % 2 ^ 64) (CountsEntry (step slots 2 1 0 none) me) (λ t k n log homes views r q d at.
       let v = me.0 in
       let mine = r.seats id v at in
-      let w = counted v in
+      let w = after_count v in
       let went : has_turn v.stage ≡ 1 = ap has_turn acted_ in
       let is_done : has_acted v.stage ≡ 1 = ap has_acted acted_ in
       let out = out_with t k n log homes views r id v at went in
-      let few : total acted_of views ≤ 1 = let a = total_le acted_of turn_of views (λ j u _. done_le_past u.stage) in let b = out.1 in omega arith in
+      let few : total acted_count views ≤ 1 = let a = total_le acted_count turn_of views (λ j u _. done_le_past u.stage) in let b = out.1 in omega arith in
       let owed : 1 ≤ total owes_of views = let a = total_at owes_of views id v at in omega arith in
-      let small : n + 1 < 2 ^ 64 = let a = rises_length number 1 (k + total acted_of views) log r.rises in let b = r.counted in let c = r.order in omega arith in
+      let small : n + 1 < 2 ^ 64 = let a = rises_length number 1 (k + total acted_count views) log r.rises in let b = r.counted in let c = r.order in omega arith in
       let Goal : ℕ → Type 0 = λ x. Owed (t ∷ k ∷ n ∷ []) homes views id me 2 x (CountsEntry (step slots 2 1 0 none) me) in
       subst Goal (sym (mod-eq_of_lt small)) (
         w,
@@ -438,11 +438,11 @@ module _ {M E F : Type 0} (number : E → ℕ) (state : M → MachineState E F) 
 
   pub ends : (slots id : ℕ) (me : Mine) (m : M) → has_acted me.0.stage ≡ 1 → me.0.owes ≡ 0 → 0 < me.0.share → me.1 ≡ (0, Some m) ∷ []
       → (state m).history ≡ me.0.seen → (state m).next ≤ me.0.number + 1 → (x : Start F) → me.0.start ≡ Some x → (state m).fixed ≡ x.fixed → me.0.left ≡ (state m).faults → me.0.at_risk ≡ (state m).at_risk
-      → Allows (TurnRule number state origin) slots id me 1 (λ n. (n + 1) % 2 ^ 64) (Ends (step slots 1 1 0 none) me)
-  ends slots id me m is_done owes live holds same_history next_is x has same_fixed left_is risk_is = allowed slots id me 1 (λ n. (n + 1) % 2 ^ 64) (Ends (step slots 1 1 0 none) me) (λ t k n log homes views r q d at.
+      → Allows (TurnRule number state origin) slots id me 1 (λ n. (n + 1) % 2 ^ 64) (EndsCall (step slots 1 1 0 none) me)
+  ends slots id me m is_done owes live holds same_history next_is x has same_fixed left_is risk_is = allowed slots id me 1 (λ n. (n + 1) % 2 ^ 64) (EndsCall (step slots 1 1 0 none) me) (λ t k n log homes views r q d at.
       let v = me.0 in
       let mine = r.seats id v at in
-      let w = ended v in
+      let w = after_end v in
       let went : has_turn v.stage ≡ 1 = (flying_done v.stage is_done).1 in
       let flew : is_flying v.stage ≡ 1 = (flying_done v.stage is_done).0 in
       let out = out_with t k n log homes views r id v at went in
@@ -453,10 +453,10 @@ module _ {M E F : Type 0} (number : E → ℕ) (state : M → MachineState E F) 
       let small : k + 1 < 2 ^ 64 = let c = r.order in omega arith in
       let since : origin.next ≤ k = dite (dec_le origin.next k) (λ (l : origin.next ≤ k). l)
       (λ (g : origin.next ≤ k → ⊥). absurd (let a = r.calls k in let b = not_below k k (omega arith) in let c = below_here k origin.next (lt_of_not-le g) in omega arith)) in
-      let Goal : ℕ → Type 0 = λ z. Owed (t ∷ k ∷ n ∷ []) homes views id me 1 z (Ends (step slots 1 1 0 none) me) in
+      let Goal : ℕ → Type 0 = λ z. Owed (t ∷ k ∷ n ∷ []) homes views id me 1 z (EndsCall (step slots 1 1 0 none) me) in
       let returned : put_back homes me.1 ≡ some (Some m) ∷ [] = λ i. put_back (out.0 i) (holds i) in
       let past_after : total turn_of (set views id w) ≡ 0 = let a = total_set turn_of views id v w at in let b = out.1 in omega arith in
-      let done_after : k + total acted_of views ≡ (k + 1) + total acted_of (set views id w) = let a = total_set acted_of views id v w at in omega arith in
+      let done_after : k + total acted_count views ≡ (k + 1) + total acted_count (set views id w) = let a = total_set acted_count views id v w at in omega arith in
       subst Goal (sym (mod-eq_of_lt small)) (
         w,
         gives,
@@ -517,11 +517,11 @@ module _ {M E F : Type 0} (number : E → ℕ) (state : M → MachineState E F) 
         (λ c all. every_front (λ e. c.number < number e) l.0 rest (subst (Every (λ e. c.number < number e)) l.2 all)) late b.later;
   }
 
-  pub looks : (slots id : ℕ) (me : Mine) → Allows (TurnRule number state origin) slots id me 1 (λ n. n) (Looks number (step slots 1 0 0 none) me)
-  looks slots id me = allowed slots id me 1 (λ n. n) (Looks number (step slots 1 0 0 none) me) (λ t k n log homes views r q d at.
+  pub looks : (slots id : ℕ) (me : Mine) → Allows (TurnRule number state origin) slots id me 1 (λ n. n) (LooksAfterMeeting number (step slots 1 0 0 none) me)
+  looks slots id me = allowed slots id me 1 (λ n. n) (LooksAfterMeeting number (step slots 1 0 0 none) me) (λ t k n log homes views r q d at.
       let v = me.0 in
       let mine = r.seats id v at in
-      let w = looked v in (
+      let w = after_look v in (
         w,
         keeps,
         tt,
@@ -538,7 +538,7 @@ module _ {M E F : Type 0} (number : E → ℕ) (state : M → MachineState E F) 
         (
           refl,
           (λ h. stands log v.seen v.told v.late mine.seen.rest mine.seen.is mine.told h),
-          (λ x. let a = total_at (calls_of x) views id v at in let b = r.calls x in let c = below_most x k in omega arith),
+          (λ x. let a = total_at (count_of_call x) views id v at in let b = r.calls x in let c = below_most x k in omega arith),
           apart state origin k homes views q id v at,
         ),
       ))

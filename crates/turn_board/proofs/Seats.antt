@@ -19,9 +19,9 @@ use Rattle.atomic_table.specs.Seated.{TableId}
 use Rattle.apron_base.specs.Machine.{MachineState}
 use Rattle.turn_board.specs.Board.{Meets, SeatState, seat_of}
 use Rattle.turn_board.specs.Plays.{DoNotOverlap}
-use Rattle.turn_board.specs.Rule.{AtHome, Extends, Fits, IsOut, TurnRule}
+use Rattle.turn_board.specs.Rule.{AtHome, Extends, HoldsForSeat, IsOut, TurnRule}
 use Rattle.turn_board.specs.Totals.{times, total}
-use Rattle.turn_board.specs.Views.{acted_of, both, calls_of, has_acted, has_turn, in_flight, is_flying, less_one, longer, looked, may_owe, owes_of, share_of, shorter, spent, split_off, turn_of}
+use Rattle.turn_board.specs.Views.{acted_count, after_look, both, count_of_call, has_acted, has_turn, in_flight, is_flying, less_one, longer, may_owe, owes_of, share_of, shorter, spent_view, split_off, turn_of}
 use Rattle.turn_board.proofs.Faults.{IsKnown, kept, with_new}
 use Rattle.turn_board.proofs.Risks.{IsLeft, keeps_risks, new_at_risk}
 use Rattle.turn_board.proofs.Totals.{times_append, total_set, total_snoc, set_at, every_append, every_more, every_rest, later_rest}
@@ -37,7 +37,7 @@ module _ {M E F : Type 0} (number : E → ℕ) (state : M → MachineState E F) 
   Homes = List (maybe.Option S)
 
   -- an idle seat is in no total except those of its calls and its share
-  idle_in : (x : ℕ) (v : V) → v.stage ≡ Idle → v.owes ≤ may_owe v.stage → (in_flight x v ≡ 0) × (turn_of v ≡ 0) × (acted_of v ≡ 0) × (owes_of v ≡ 0)
+  idle_in : (x : ℕ) (v : V) → v.stage ≡ Idle → v.owes ≤ may_owe v.stage → (in_flight x v ≡ 0) × (turn_of v ≡ 0) × (acted_count v ≡ 0) × (owes_of v ≡ 0)
   idle_in x v is few = let a : in_flight x v ≡ cond (x == v.number) 0 0 = ap (λ (z : Stage). cond (x == v.number) (is_flying z) 0) is in let d : has_acted v.stage ≡ 0 = ap has_acted is in let n : may_owe v.stage ≡ 0 = ap may_owe is in
       ((grind (arith, nat_tests)), ap has_turn is, d, omega arith)
 
@@ -51,20 +51,20 @@ module _ {M E F : Type 0} (number : E → ℕ) (state : M → MachineState E F) 
       let more : (f : V → ℕ) → total f (set views id w ++ u ∷ []) + f v ≡ total f views + f w + f u =
       λ (f : V → ℕ). let a = total_set f views id v w at in let b = total_snoc f (set views id w) u in omega arith in
       let past_same : total turn_of (set views id w ++ u ∷ []) ≡ total turn_of views = let a = more turn_of in omega arith in
-      let done_same : total acted_of views ≡ total acted_of (set views id w ++ u ∷ []) = let a = more acted_of in omega arith in record {
+      let done_same : total acted_count views ≡ total acted_count (set views id w ++ u ∷ []) = let a = more acted_count in omega arith in record {
         standing = h.standing;
         words = h.words;
         facts = record {
           order = r.order;
           flights = λ x. let a = more (in_flight x) in let b = r.flights x in let c : in_flight x u ≡ 0 = (idle_in x u refl (omega arith)).0 in omega arith;
-          calls = λ x. let a = more (calls_of x) in let b = r.calls x in omega arith;
+          calls = λ x. let a = more (count_of_call x) in let b = r.calls x in omega arith;
           counted = let a = more owes_of in let b = r.counted in omega arith;
           rises = subst (λ (z : ℕ). Rises number 1 (k + z) log) done_same r.rises;
           shares = let a = more share_of in let b = r.shares in omega arith;
           slot = ⊎_elim (λ (m : AtHome state origin k log s.homes views). inl (m.0, m.1, past_same ∙ m.2, m.3)) (λ (m : IsOut s.homes views). inr (m.0, past_same ∙ m.1)) r.slot;
           seats = λ j z e. ⊎_elim
               (λ (was : get_elem? (set views id w) j ≡ some z). ⊎_elim
-              (λ (me : (j ≡ id) × (w ≡ z)). subst (Fits number origin t k log) me.1 (record {
+              (λ (me : (j ≡ id) × (w ≡ z)). subst (HoldsForSeat number origin t k log) me.1 (record {
                 start = λ g. mine.start (omega arith);
                 seen = mine.seen;
                 told = mine.told;
@@ -78,7 +78,7 @@ module _ {M E F : Type 0} (number : E → ℕ) (state : M → MachineState E F) 
               }))
               (λ (other : (j ≢ id) × (get_elem? views j ≡ some z)). r.seats j z other.1)
               (at_set views id j w z was))
-              (λ (new : u ≡ z). subst (Fits number origin t k log) new (record {
+              (λ (new : u ≡ z). subst (HoldsForSeat number origin t k log) new (record {
                 start = λ g. mine.start (omega arith);
                 seen = record { rest = mine.seen.rest; is = mine.seen.is; later = tt };
                 told = record { rest = log; is = refl; later = tt };
@@ -141,12 +141,12 @@ module _ {M E F : Type 0} (number : E → ℕ) (state : M → MachineState E F) 
   either_true true b P is f g = f refl
   either_true false b P is f g = g is
 
-  pub joins : (id : ℕ) (v : V) (other : ℕ) (u : V) → v.stage ≡ Idle → u.stage ≡ Idle → 0 < v.share → Joins (TurnRule number state origin) id v other u (both v u) spent
+  pub joins : (id : ℕ) (v : V) (other : ℕ) (u : V) → v.stage ≡ Idle → u.stage ≡ Idle → 0 < v.share → Joins (TurnRule number state origin) id v other u (both v u) spent_view
   joins id v other u idle idle' live s h at apart there' =
       let t = h.standing.ticket in let k = h.standing.serving in let n = h.standing.count in let log = h.standing.longest in let r = h.facts in let q = h.faults in let d = h.risks in
       let views = s.views in
       let w = both v u in
-      let sp : V = spent in
+      let sp : V = spent_view in
       let there : get_elem? views other ≡ some u = sym (set_else views id other w apart) ∙ there' in
       let mine = r.seats id v at in
       let theirs = r.seats other u there in
@@ -157,20 +157,20 @@ module _ {M E F : Type 0} (number : E → ℕ) (state : M → MachineState E F) 
       let no_u = λ (x : ℕ). idle_in x u idle' theirs.owes in
       let no_w = λ (x : ℕ). idle_in x w idle mine.owes in
       let past_same : total turn_of after ≡ total turn_of views = let a = all turn_of in let b = (no_v 0).1 in let c = (no_u 0).1 in omega arith in
-      let done_same : total acted_of views ≡ total acted_of after = let a = all acted_of in let b = (no_v 0).2 in let c = (no_u 0).2 in omega arith in
+      let done_same : total acted_count views ≡ total acted_count after = let a = all acted_count in let b = (no_v 0).2 in let c = (no_u 0).2 in omega arith in
       let last = before_both log v.seen u.seen v.calls u.calls mine.seen theirs.seen in record {
         standing = h.standing;
         words = h.words;
         facts = record {
           order = r.order;
           flights = λ x. let a = all (in_flight x) in let b = r.flights x in let c = (no_v x).0 in let d = (no_u x).0 in let e = (no_w x).0 in let f = (idle_in x sp refl (omega arith)).0 in omega arith;
-          calls = λ x. let a = all (calls_of x) in let b = r.calls x in let c = times_append x v.calls u.calls in omega arith;
+          calls = λ x. let a = all (count_of_call x) in let b = r.calls x in let c = times_append x v.calls u.calls in omega arith;
           counted = let a = all owes_of in let b = r.counted in let c = (no_u 0).3 in omega arith;
           rises = subst (λ (z : ℕ). Rises number 1 (k + z) log) done_same r.rises;
           shares = let a = all share_of in let b = r.shares in omega arith;
           slot = ⊎_elim (λ (m : AtHome state origin k log s.homes views). inl (m.0, m.1, past_same ∙ m.2, m.3)) (λ (m : IsOut s.homes views). inr (m.0, past_same ∙ m.1)) r.slot;
           seats = λ j z e. ⊎_elim
-              (λ (gone : (j ≡ other) × (sp ≡ z)). subst (Fits number origin t k log) gone.1 (record {
+              (λ (gone : (j ≡ other) × (sp ≡ z)). subst (HoldsForSeat number origin t k log) gone.1 (record {
                 start = λ g. absurd (omega arith);
                 seen = record { rest = log; is = refl; later = tt };
                 told = record { rest = log; is = refl; later = tt };
@@ -183,7 +183,7 @@ module _ {M E F : Type 0} (number : E → ℕ) (state : M → MachineState E F) 
                 spent = λ _. (refl, refl);
               }))
               (λ (was : (j ≢ other) × (get_elem? (set views id w) j ≡ some z)). ⊎_elim
-              (λ (me : (j ≡ id) × (w ≡ z)). subst (Fits number origin t k log) me.1 (record {
+              (λ (me : (j ≡ id) × (w ≡ z)). subst (HoldsForSeat number origin t k log) me.1 (record {
                 start = λ _. mine.start live;
                 seen = last;
                 told = told_both log v.seen u.seen v.calls u.calls mine.seen theirs.seen;
@@ -236,12 +236,12 @@ module _ {M E F : Type 0} (number : E → ℕ) (state : M → MachineState E F) 
       cases true e f = (f (let l : length v.seen < length u.seen = grind (arith, nat_tests) in omega arith), itself u.seen u.calls)
       cases false e f = (itself v.seen v.calls, f (let l : length u.seen ≤ length v.seen = grind (arith, nat_tests) in l))
 
-  pub meets : (before other : SeatState E F) (z z' z'' : TableId) (v u j w : V) → seat_of z v ≡ before → seat_of z' u ≡ other → j ≡ both v u → w ≡ looked j
+  pub meets : (before other : SeatState E F) (z z' z'' : TableId) (v u j w : V) → seat_of z v ≡ before → seat_of z' u ≡ other → j ≡ both v u → w ≡ after_look j
       → (length j.told ≤ length j.seen → Extends number j.seen j.told j.late) → ((x : ℕ) → times x j.calls ≤ 1) → DoNotOverlap j.calls → Meets number before other (seat_of z'' w)
   meets before other z z' z'' v u j w before_is other_is j_is w_is told once apart =
       let m = met v u j j_is told in
-      let whole : w ≡ looked (both v u) = w_is ∙ ap (λ (y : V). looked y) j_is in
-      let at : Meets number (seat_of z v) (seat_of z' u) (seat_of z'' (looked (both v u))) = record {
+      let whole : w ≡ after_look (both v u) = w_is ∙ ap (λ (y : V). after_look y) j_is in
+      let at : Meets number (seat_of z v) (seat_of z' u) (seat_of z'' (after_look (both v u))) = record {
         one = longer_is (λ (xs : List E). (xs ≡ v.seen) ⊎ (xs ≡ u.seen)) v.seen u.seen (λ _. inr refl) (λ _. inl refl);
         mine = subst (λ (y : V). Extends number y.seen v.seen v.calls) j_is m.0;
         theirs = subst (λ (y : V). Extends number y.seen u.seen u.calls) j_is m.1;
@@ -252,4 +252,4 @@ module _ {M E F : Type 0} (number : E → ℕ) (state : M → MachineState E F) 
         share = refl;
       } in
       subst (λ (y : V). Meets number before other (seat_of z'' y)) (sym whole)
-      (subst (λ (y : SeatState E F). Meets number y other (seat_of z'' (looked (both v u)))) before_is (subst (λ (y : SeatState E F). Meets number (seat_of z v) y (seat_of z'' (looked (both v u)))) other_is at))
+      (subst (λ (y : SeatState E F). Meets number y other (seat_of z'' (after_look (both v u)))) before_is (subst (λ (y : SeatState E F). Meets number (seat_of z v) y (seat_of z'' (after_look (both v u)))) other_is at))

@@ -3,7 +3,7 @@ use Rattle.std.specs.Prelude.{◌≡◌, ◌⊎◌, ℕ, ◌+◌, ◌<◌, ◌�
 use Rattle.std.specs.List.{Any}
 use Rattle.atomic_table.specs.Seated.{TableId}
 use Rattle.apron_base.specs.Histories.{Every, Rises}
-use Rattle.apron_base.specs.Machine.{Acts, ActsAtRisk, MachineState, is_fault, standing}
+use Rattle.apron_base.specs.Machine.{Acts, ActsAtRisk, MachineState, history_at_risk_of, is_fault}
 use Rattle.apron_base.specs.declared.outside.Acted.{Acted}
 use Rattle.turn_board.specs.declared.view.Call.{Call}
 use Rattle.turn_board.specs.declared.view.Start.{Start}
@@ -30,7 +30,7 @@ pub record SeatState (Entry Fixed : Type 0) : Type 0 where
   pub share : ℕ
 
 -- what was asked, and the answer
-pub record Asked (Ask : Type 0) : Type 0 where
+pub record AskAndAnswer (Ask : Type 0) : Type 0 where
   pub ask : Ask
   pub answer : Acted
 
@@ -45,7 +45,7 @@ module _ {Entry Fixed : Type 0} where
     pub start : seat.start ≡ Some board.start
 
   -- a board that was made with this machine, and its first seat
-  pub record Opens (machine : MachineState Entry Fixed) (board : TurnBoardState Fixed) (seat : SeatState Entry Fixed) : Type 0 where
+  pub record OpensTurnBoard (machine : MachineState Entry Fixed) (board : TurnBoardState Fixed) (seat : SeatState Entry Fixed) : Type 0 where
     pub start : board.start ≡ start_of machine
     pub first : seat ≡ record { table = board.table; start = Some board.start; seen = machine.history; calls = []; exhausted = false; share = all_shares }
 
@@ -53,7 +53,7 @@ module _ {Entry Fixed : Type 0} where
 -- new; the machine was found with all that the seat had seen; it answered by its own relation; an
 -- entry that it put at risk is one that was asked for; and the seat has then seen what it left
 pub record GotTurn {M Entry Fixed Ask : Type 0} (state : M → MachineState Entry Fixed) (number : Entry → ℕ) (adds : Ask → Entry → Type 0) (answers : Fixed → List Entry → ℕ → Ask → Acted → List Entry → Type 0)
-    (before : SeatState Entry Fixed) (asked : Asked Ask) (after : SeatState Entry Fixed) : Type 0 where
+    (before : SeatState Entry Fixed) (asked : AskAndAnswer Ask) (after : SeatState Entry Fixed) : Type 0 where
   pub found : M
   pub left : M
   pub ticket : ℕ
@@ -66,7 +66,7 @@ pub record GotTurn {M Entry Fixed Ask : Type 0} (state : M → MachineState Entr
   pub start : (start : Start Fixed) → before.start ≡ Some start → ((state found).fixed ≡ start.fixed) × (start.faults ≤ (state found).faults)
   pub faults : Every (λ (call : Call Entry). call.left ≤ (state found).faults) before.calls
   pub older : IfSome (state found).at_risk (λ entry. number entry < ticket)
-  pub at_risk : ActsAtRisk (λ entry. (number entry ≡ ticket) × adds asked.ask entry) (is_fault asked.answer) (standing (state found)) (standing (state left))
+  pub at_risk : ActsAtRisk (λ entry. (number entry ≡ ticket) × adds asked.ask entry) (is_fault asked.answer) (history_at_risk_of (state found)) (history_at_risk_of (state left))
   pub acts : Acts number (state found) (state left) ticket asked.answer
   pub answered : answers (state found).fixed (state found).history ticket asked.ask asked.answer (state left).history
   pub seen : after.seen ≡ (state left).history

@@ -10,11 +10,11 @@ use Rattle.turn_board.specs.declared.view.Call.{Call}
 use Rattle.turn_board.specs.declared.view.Stage.TheVariants.{Idle}
 use Rattle.turn_board.specs.declared.view.View.{View}
 use Rattle.turn_board.specs.Totals.{AreBelow, below, total}
-use Rattle.turn_board.specs.Views.{acted_of, all_shares, call_end, calls_of, has_acted, has_turn, in_flight, may_owe, owes_of, share_of, start_of, turn_of}
+use Rattle.turn_board.specs.Views.{acted_count, all_shares, call_end, count_of_call, has_acted, has_turn, in_flight, may_owe, owes_of, share_of, start_of, turn_of}
 
 -- what the words say, and the longest history that a seat has seen: the next ticket, the ticket
 -- that is served, and how many entries are counted
-pub record Standing (Entry : Type 0) : Type 0 where
+pub record TurnState (Entry : Type 0) : Type 0 where
   pub ticket : ℕ
   pub serving : ℕ
   pub count : ℕ
@@ -22,8 +22,8 @@ pub record Standing (Entry : Type 0) : Type 0 where
 
 module _ {Entry : Type 0} (number : Entry → ℕ) where
   -- the last entry has the number of this call
-  abbrev pub EndsAt : ℕ → List Entry → Type 0
-  EndsAt call history = (front : List Entry) × (last : Entry) × (history ≡ front ++ last ∷ []) × (number last ≡ call)
+  abbrev pub LastEntryIs : ℕ → List Entry → Type 0
+  LastEntryIs call history = (front : List Entry) × (last : Entry) × (history ≡ front ++ last ∷ []) × (number last ≡ call)
 
   -- a history goes on from what was seen, and each entry that was not seen has a number above those
   -- of these calls
@@ -80,7 +80,7 @@ module _ {Entry Fixed : Type 0} (number : Entry → ℕ) (origin : MachineState 
 
   -- what is known of one seat, if these are the next ticket, the ticket that is served, and the
   -- longest history
-  pub record Fits (ticket serving : ℕ) (longest : List Entry) (view : View Entry Fixed) : Type 0 where
+  pub record HoldsForSeat (ticket serving : ℕ) (longest : List Entry) (view : View Entry Fixed) : Type 0 where
     pub start : 0 < view.share → view.start ≡ Some (start_of origin)
     pub seen : Extends number longest view.seen view.calls
     pub told : Extends number longest view.told view.late
@@ -88,7 +88,7 @@ module _ {Entry Fixed : Type 0} (number : Entry → ℕ) (origin : MachineState 
     pub calls : AreBelow serving view.calls
     pub turn : 0 < has_turn view.stage → (view.number ≡ serving) × (view.seen ≡ longest)
     pub owes : view.owes ≤ may_owe view.stage
-    pub own : 0 < view.owes → EndsAt number view.number view.seen
+    pub own : 0 < view.owes → LastEntryIs number view.number view.seen
     pub note : view.exhausted ≡ true → ticket ≡ call_end
     pub spent : view.share ≡ 0 → (view.stage ≡ Idle) × (view.calls ≡ [])
 
@@ -113,21 +113,21 @@ module _ {M Entry Fixed : Type 0} (number : Entry → ℕ) (state : M → Machin
   -- shares: all shares are with seats
   -- slot, seats, longest: where the machine is, what is known of each seat, and that one seat has
   -- seen the longest history
-  pub record Facts (standing : Standing Entry) (homes : List (maybe.Option (Option M))) (views : List (View Entry Fixed)) : Type 0 where
+  pub record Facts (standing : TurnState Entry) (homes : List (maybe.Option (Option M))) (views : List (View Entry Fixed)) : Type 0 where
     pub order : (standing.serving ≤ standing.ticket) × (standing.ticket ≤ call_end)
     pub flights : (call : ℕ) → total (in_flight call) views + below call standing.serving ≡ below call standing.ticket
-    pub calls : (call : ℕ) → total (calls_of call) views + below call origin.next ≡ below call standing.serving
+    pub calls : (call : ℕ) → total (count_of_call call) views + below call origin.next ≡ below call standing.serving
     pub counted : standing.count + total owes_of views ≡ length standing.longest
-    pub rises : Rises number 1 (standing.serving + total acted_of views) standing.longest
+    pub rises : Rises number 1 (standing.serving + total acted_count views) standing.longest
     pub shares : total share_of views ≡ all_shares
     pub slot : AtHome state origin standing.serving standing.longest homes views ⊎ IsOut homes views
     pub seats : (seat : ℕ) (view : View Entry Fixed) → get_elem? views seat ≡ some view
-        → Fits number origin standing.ticket standing.serving standing.longest view
+        → HoldsForSeat number origin standing.ticket standing.serving standing.longest view
     pub longest : (seat : ℕ) × (view : View Entry Fixed) × (get_elem? views seat ≡ some view) × (view.seen ≡ standing.longest) × (0 < view.share)
 
   -- the rule of a table whose board was made with a machine in the state `origin`
   pub record TurnRule (table : State (Option M) (View Entry Fixed)) : Type 0 where
-    pub standing : Standing Entry
+    pub standing : TurnState Entry
     pub words : table.words ≡ standing.ticket ∷ standing.serving ∷ standing.count ∷ []
     pub facts : Facts standing table.homes table.views
     pub faults : AreFaults state origin standing.serving table.homes table.views

@@ -2,7 +2,7 @@
 use Rattle.std.specs.Prelude.{◌≡◌, ℕ, ◌+◌, ◌<◌, ◌≤◌, true, [], ◌∷◌, Some, None}
 use Rattle.atomic_table.specs.Seated.{TableId}
 use Rattle.apron_base.specs.Histories.{Grows}
-use Rattle.apron_base.specs.Machine.{ActsAtRisk, MachineState, standing}
+use Rattle.apron_base.specs.Machine.{ActsAtRisk, MachineState, history_at_risk_of}
 use Rattle.turn_board.specs.declared.view.Stage.TheVariants.{Turn}
 use Rattle.turn_board.specs.declared.view.Start.{Start}
 use Rattle.turn_board.specs.Plays.{Mine}
@@ -29,7 +29,7 @@ module _ {M Entry Fixed : Type 0} where
   -- seat found, or an entry of this call
   abbrev pub HasLeftAtRisk : (Entry → ℕ) → Mine M Entry Fixed → MachineState Entry Fixed → Type 0
   HasLeftAtRisk number mine machine = ActsAtRisk (λ entry. (number entry ≡ mine.0.number) × (machine.history ≡ mine.0.seen)) true
-      (record { entries = mine.0.seen; at_risk = mine.0.at_risk }) (standing machine)
+      (record { entries = mine.0.seen; at_risk = mine.0.at_risk }) (history_at_risk_of machine)
 
   -- the machine lies in the slot that the seat holds, and is as the seat noted it, and nothing is
   -- owed to the count

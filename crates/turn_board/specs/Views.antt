@@ -51,16 +51,16 @@ module _ {Entry Fixed : Type 0} where
   in_flight number view = cond (number == view.number) (is_flying view.stage) 0
 
   -- how many of its ended calls have this number
-  abbrev pub calls_of : ℕ → View Entry Fixed → ℕ
-  calls_of number view = times number view.calls
+  abbrev pub count_of_call : ℕ → View Entry Fixed → ℕ
+  count_of_call number view = times number view.calls
 
   -- 1 if it has its turn, and 0 otherwise
   abbrev pub turn_of : View Entry Fixed → ℕ
   turn_of view = has_turn view.stage
 
   -- 1 if the machine has acted for it, and 0 otherwise
-  abbrev pub acted_of : View Entry Fixed → ℕ
-  acted_of view = has_acted view.stage
+  abbrev pub acted_count : View Entry Fixed → ℕ
+  acted_count view = has_acted view.stage
 
   -- how many entries it owes to the count
   abbrev pub owes_of : View Entry Fixed → ℕ
@@ -75,8 +75,8 @@ module _ {Entry Fixed : Type 0} where
   start_of machine = record { fixed = machine.fixed; first = machine.next; faults = machine.faults }
 
   -- the view of the first seat
-  abbrev pub opened : MachineState Entry Fixed → View Entry Fixed
-  opened machine = record {
+  abbrev pub first_view : MachineState Entry Fixed → View Entry Fixed
+  first_view machine = record {
     start = Some (start_of machine);
     seen = machine.history;
     told = [];
@@ -93,20 +93,20 @@ module _ {Entry Fixed : Type 0} where
   }
 
   -- a number was drawn
-  abbrev pub drawn : ℕ → View Entry Fixed → View Entry Fixed
-  drawn number view = record view { stage = Waiting; number = number }
+  abbrev pub after_draw : ℕ → View Entry Fixed → View Entry Fixed
+  after_draw number view = record view { stage = Waiting; number = number }
 
   -- the numbers had run out
   abbrev pub run_out : View Entry Fixed → View Entry Fixed
   run_out view = record view { exhausted = true }
 
   -- the machine was taken as it was found
-  abbrev pub turned : MachineState Entry Fixed → View Entry Fixed → View Entry Fixed
-  turned found view = record view { stage = Turn; seen = found.history; found = found.faults; at_risk = found.at_risk }
+  abbrev pub after_take : MachineState Entry Fixed → View Entry Fixed → View Entry Fixed
+  after_take found view = record view { stage = Turn; seen = found.history; found = found.faults; at_risk = found.at_risk }
 
   -- the machine acted, and what it left is noted; an entry that it added is owed to the count
-  abbrev pub acted : MachineState Entry Fixed → View Entry Fixed → View Entry Fixed
-  acted left view = record view {
+  abbrev pub after_act : MachineState Entry Fixed → View Entry Fixed → View Entry Fixed
+  after_act left view = record view {
     stage = Noted;
     seen = left.history;
     left = left.faults;
@@ -115,12 +115,12 @@ module _ {Entry Fixed : Type 0} where
   }
 
   -- the entry is counted
-  abbrev pub counted : View Entry Fixed → View Entry Fixed
-  counted view = record view { stage = Counted; owes = 0 }
+  abbrev pub after_count : View Entry Fixed → View Entry Fixed
+  after_count view = record view { stage = Counted; owes = 0 }
 
   -- the call has ended
-  abbrev pub ended : View Entry Fixed → View Entry Fixed
-  ended view = record view {
+  abbrev pub after_end : View Entry Fixed → View Entry Fixed
+  after_end view = record view {
     stage = Idle;
     owes = 0;
     calls = view.calls ++ record { number = view.number; found = view.found; left = view.left; at_risk = view.at_risk } ∷ [];
@@ -161,8 +161,8 @@ module _ {Entry Fixed : Type 0} where
   }
 
   -- a seat that was taken in
-  abbrev pub spent : View Entry Fixed
-  spent = record {
+  abbrev pub spent_view : View Entry Fixed
+  spent_view = record {
     start = None;
     seen = [];
     told = [];
@@ -179,5 +179,5 @@ module _ {Entry Fixed : Type 0} where
   }
 
   -- after the look
-  abbrev pub looked : View Entry Fixed → View Entry Fixed
-  looked view = record view { told = []; late = [] }
+  abbrev pub after_look : View Entry Fixed → View Entry Fixed
+  after_look view = record view { told = []; late = [] }

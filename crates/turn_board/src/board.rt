@@ -1,10 +1,10 @@
 // The board and its seats.
 ghost use Rattle.std.specs.Prelude.{◌≡◌, ◌≢◌, ◌↔◌, ◌-◌, ◌≤◌, [], false, true, IfErr, IfOk, IsSome, None, Some};
 ghost use Rattle.apron_base.specs.declared.outside.Acted.TheVariants.{Spent};
-ghost use Rattle.turn_board.specs.Board.{Closes, GotTurn, Meets, Opens, Sits};
+ghost use Rattle.turn_board.specs.Board.{Closes, GotTurn, Meets, OpensTurnBoard, Sits};
 
-use crate::plays::{InTurns, Look, Shares};
-use crate::steps::{Place, SERVING, draw, finish, take};
+use crate::plays::{InTurns, LookStep, Shares};
+use crate::steps::{SERVING, SeatHandle, draw_number, finish_call, take_machine};
 use crate::view::View;
 use crate::wait::Sleepers;
 use apron_base::{Acted, CALL_END, Machine};
@@ -20,7 +20,7 @@ pub const SHARES: u64 = 1_000;
 /// What one desk knows of a board: the history that it has seen; its own calls, with the counts of
 /// faults that each found and left; whether the numbers had run out; and its share.
 pub struct Seat<M: Machine> {
-    place: Place<M>,
+    place: SeatHandle<M>,
 }
 
 impl<M: Machine> Model for Seat<M> {
@@ -69,7 +69,7 @@ impl<M: Machine> TurnBoard<M> {
     pub fn new(alloc: Global, machine: M) -> Result<(TurnBoard<M>, Seat<M>), M>
         requires next { (M.state machine).next ≤ CALL_END }
         requires at_risk { (M.state machine).at_risk ≡ None }
-        ensures ok { IfOk result (λ made. Opens (M.state machine) made.0 made.1) }
+        ensures ok { IfOk result (λ made. OpensTurnBoard (M.state machine) made.0 made.1) }
         ensures err { IfErr result (λ back. back ≡ machine) }
     {
         let words = [machine.next_call(), machine.next_call(), machine.length()];
@@ -111,14 +111,14 @@ impl<M: Machine> TurnBoard<M> {
         let table = &self.table.shared;
         let sleepers = &self.sleepers;
         let place = &mut seat.place;
-        let Some(call) = draw(rt, table, sleepers, place) else {
+        let Some(call) = draw_number(rt, table, sleepers, place) else {
             return Acted::Spent;
         };
-        let mut machine = take(rt, table, sleepers, place, call);
+        let mut machine = take_machine(rt, table, sleepers, place, call);
         let before = machine.length();
         let answer = machine.act(alloc, call, ask);
         let added = machine.length() > before;
-        finish(table, sleepers, place, machine, added);
+        finish_call(table, sleepers, place, machine, added);
         answer
     }
 
@@ -145,7 +145,7 @@ impl<M: Machine> TurnBoard<M> {
         let Seat { place: other } = other;
         let place = &mut seat.place;
         table.join_seat::<Shares>(place, other);
-        table.load::<Look>(place, SERVING);
+        table.load::<LookStep>(place, SERVING);
     }
 
     /// The machine, once one seat has all shares, so that every other seat was taken in.

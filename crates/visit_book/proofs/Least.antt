@@ -12,7 +12,7 @@ use Rattle.apron_rules.specs.declared.parts.AirportParts.{AirportParts}
 use Rattle.apron_rules.specs.declared.parts.TypeRow.{TypeRow}
 use Rattle.apron_rules.specs.declared.refusals.Limit.{Limit}
 use Rattle.apron_rules.specs.declared.refusals.Limit.TheVariants as limit
-use Rattle.apron_rules.specs.Refusals.{bad_fold_of, bad_half_of, bad_span_of, fault_of, first_reason, first_some, is_within, later_fault_of, limit_of, passed_limits, unknown_of, unless_kept}
+use Rattle.apron_rules.specs.Refusals.{airport_fault, bad_fold_of, bad_half_of, bad_span_of, first_reason, first_some, is_between, later_fault_of, limit_of, passed_limits, unknown_of, unless_kept}
 use Rattle.apron_rules.specs.Rules.{IsAirport, least_of, least_of_row}
 use Rattle.apron_rules.proofs.Airports.{left_none, right_none}
 
@@ -24,8 +24,8 @@ kept : (which : Limit) (b : Bool) → unless_kept which b ≡ None → b ≡ tru
 kept which true none = refl
 kept which false none = absurd (cc)
 
-limit_none : (airport : AirportParts) → fault_of airport ≡ None → limit_of airport ≡ None
-unfolding fault_of later_fault_of
+limit_none : (airport : AirportParts) → airport_fault airport ≡ None → limit_of airport ≡ None
+unfolding airport_fault later_fault_of
 limit_none airport none =
     let later = right_none _ (first_reason (unknown_of airport) (bad_half_of airport) (limit_of airport) (bad_span_of airport) (bad_fold_of airport)) none in
     unmapped _ (limit_of airport) (left_none _ _ (right_none _ _ (right_none _ _ later)))
@@ -39,13 +39,13 @@ all_none : {A : Type 0} (found : List (Option A)) → first_some found ≡ None 
 all_none [] none = tt
 all_none (first ∷ others) none = (left_none first _ none, all_none others (right_none first _ none))
 
-least_from : (airport : AirportParts) → AllNone (passed_limits airport) → list_all (λ row. is_within 1 MAX_LEAST row.least) airport.types ≡ true
+least_from : (airport : AirportParts) → AllNone (passed_limits airport) → list_all (λ row. is_between 1 MAX_LEAST row.least) airport.types ≡ true
 least_from airport (days, (taxi_in, (tow, (frontages, (objects, (stands, (centre, (buffers, (pairs, (types, (least, none))))))))))) = kept limit.Least _ least
 
-within_some : (low high n : ℕ) → is_within low high n ≡ true → low ≤ n
+within_some : (low high n : ℕ) → is_between low high n ≡ true → low ≤ n
 within_some low high n h = grind (arith, nat_tests)
 
-least_some : (rows : List TypeRow) (i : ℕ) → i < length rows → list_all (λ row. is_within 1 MAX_LEAST row.least) rows ≡ true → 1 ≤ least_of_row (slice_get rows i)
+least_some : (rows : List TypeRow) (i : ℕ) → i < length rows → list_all (λ row. is_between 1 MAX_LEAST row.least) rows ≡ true → 1 ≤ least_of_row (slice_get rows i)
 least_some [] i inside h = absurd (omega arith)
 least_some (row ∷ rows) zero inside h = within_some 1 MAX_LEAST row.least (grind (arith, nat_tests))
 least_some (row ∷ rows) (suc i) inside h = least_some rows i (omega arith) (grind (arith, nat_tests))

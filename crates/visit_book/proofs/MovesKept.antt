@@ -13,7 +13,7 @@ use Rattle.visit_book.specs.declared.visits.Place.{Place}
 use Rattle.visit_book.specs.declared.visits.Place.TheVariants.{Unplaced, Planned, Actual}
 use Rattle.visit_book.specs.declared.visits.Visit.{Visit}
 use Rattle.visit_book.specs.Changes.{has_actual_behind}
-use Rattle.visit_book.specs.Movements.{arrive_of, arrived, depart_of, departed, estimate_off_of, first_starts_before, has_time_to_tow, in_fact, last_ended, last_expected, made_actual, starts_before}
+use Rattle.visit_book.specs.Movements.{arrive_of, depart_of, estimate_off_of, first_starts_before, has_time_to_tow, in_fact, last_ended, last_expected, made_actual, starts_before, visit_after_arrival, visit_after_departure}
 use Rattle.visit_book.specs.PartFields.{part_at}
 use Rattle.visit_book.specs.Places.{IsPlaceOf}
 use Rattle.visit_book.specs.WellFormed.{IsWellFormed, plan_end}
@@ -55,9 +55,9 @@ from_of (suc place) at = tt
 
 arrived_kept : (airport : AirportParts) (number at : ℕ) (given : Option StandNo) (visit : Visit) → IsAirport airport → IsWellFormed airport visit → visit.end ≡ Live
     → 1 ≤ number → number ≤ length visit.parts → at < plan_end airport → IfSome given (λ stand. stand.0 < length airport.stands)
-    → has_time_to_tow airport.tow number at visit.parts ≡ true → IsWellFormed airport (arrived airport number at given visit)
+    → has_time_to_tow airport.tow number at visit.parts ≡ true → IsWellFormed airport (visit_after_arrival airport number at given visit)
 arrived_kept airport number at given visit airports h live some within early stand time =
-    let new : Visit = arrived airport number at given visit in
+    let new : Visit = visit_after_arrival airport number at given visit in
     let pace : Pace = pace_of airport visit.kind in
     let count : length new.parts ≡ length visit.parts = arrive_length airport.tow (least_of airport visit.kind) (number - 1) (at - airport.tow) at given visit.parts in
     well_formed_by airport new h.kind h.class (omega (arith, h.some)) (omega (arith, h.few))
@@ -72,7 +72,7 @@ pub arrive_keeps : (airport : AirportParts) (number at : ℕ) (given : Option St
     → visit.end ≡ Live → 1 ≤ number → number ≤ length visit.parts → at < plan_end airport → IfSome given (λ stand. stand.0 < length airport.stands)
     → arrive_of airport number at given visit ≡ Some new → IsWellFormed airport new
 arrive_keeps airport number at given visit new airports h live some within early stand is =
-    made_where (not (has_actual_behind number visit) && has_time_to_tow airport.tow number at visit.parts) (arrived airport number at given visit) new
+    made_where (not (has_actual_behind number visit) && has_time_to_tow airport.tow number at visit.parts) (visit_after_arrival airport number at given visit) new
     (IsWellFormed airport) is
     (λ passed. arrived_kept airport number at given visit airports h live some within early stand (second_of (not (has_actual_behind number visit)) _ passed))
   where
@@ -108,9 +108,9 @@ filtered_few : (at : ℕ) (parts : List Part) → length (filter (starts_before 
 filtered_few at parts = omega (arith, length-filter (starts_before at) parts, count_by-le-length (starts_before at) parts)
 
 departed_kept : (airport : AirportParts) (at : ℕ) (visit : Visit) → IsWellFormed airport visit → at < plan_end airport → first_starts_before at visit.parts ≡ true
-    → IsWellFormed airport (departed at visit)
+    → IsWellFormed airport (visit_after_departure at visit)
 departed_kept airport at visit h early first =
-    let new : Visit = departed at visit in
+    let new : Visit = visit_after_departure at visit in
     let count : length new.parts ≡ length (filter (starts_before at) visit.parts) = left_length at (filter (starts_before at) visit.parts) in
     well_formed_by airport new h.kind h.class (omega (arith, gone_some at visit.parts first)) (omega (arith, h.few, filtered_few at visit.parts))
     (gone_follows (pace_of airport visit.kind) at visit.parts first early (times_of airport visit h))
@@ -120,4 +120,4 @@ departed_kept airport at visit h early first =
 pub depart_keeps : (airport : AirportParts) (at : ℕ) (visit new : Visit) → IsWellFormed airport visit → at < plan_end airport
     → depart_of at visit ≡ Some new → IsWellFormed airport new
 depart_keeps airport at visit new h early is =
-    made_where (first_starts_before at visit.parts) (departed at visit) new (IsWellFormed airport) is (λ first. departed_kept airport at visit h early first)
+    made_where (first_starts_before at visit.parts) (visit_after_departure at visit) new (IsWellFormed airport) is (λ first. departed_kept airport at visit h early first)

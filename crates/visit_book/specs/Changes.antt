@@ -15,22 +15,22 @@ abbrev pub with_parts : Visit → List Part → Visit
 with_parts visit parts = record visit { parts = parts }
 
 -- the part starts at this minute, and ends at least the least minutes later
-abbrev pub starting : ℕ → ℕ → Part → Part
-starting least from part = record part { from = from; to = max part.to (from + least) }
+abbrev pub part_from : ℕ → ℕ → Part → Part
+part_from least from part = record part { from = from; to = max part.to (from + least) }
 
 -- the first part starts at this minute at the earliest, and each later one at least the tow minutes
 -- after the one before ends
 abbrev pub pushed_behind : ℕ → ℕ → ℕ → List Part → List Part
 pushed_behind tow least earliest [] = []
 pushed_behind tow least earliest (part ∷ parts) =
-    let first = starting least (max earliest part.from) part in
+    let first = part_from least (max earliest part.from) part in
     first ∷ pushed_behind tow least (first.to + tow) parts
 
 -- the first part starts at this minute, and the others are delayed after it
 abbrev pub pushed_from : ℕ → ℕ → ℕ → List Part → List Part
 pushed_from tow least from [] = []
 pushed_from tow least from (part ∷ parts) =
-    let first = starting least from part in
+    let first = part_from least from part in
     first ∷ pushed_behind tow least (first.to + tow) parts
 
 -- the parts before the one of this number, counted from 1

@@ -45,8 +45,8 @@ has_time_to_tow tow number at parts = option_map_or (λ part. nat_le (part.from 
 -- the visit on block at this minute with the part of this number: the part before it ends the tow
 -- minutes earlier, the parts up to it are on their stands in fact, and the later ones are delayed
 -- as far as needed
-abbrev pub arrived : AirportParts → ℕ → ℕ → Option StandNo → Visit → Visit
-arrived airport number at given visit = record visit {
+abbrev pub visit_after_arrival : AirportParts → ℕ → ℕ → Option StandNo → Visit → Visit
+visit_after_arrival airport number at given visit = record visit {
   parts = map made_actual (last_ended (at - airport.tow) (before_part number visit.parts))
       ++ pushed_from airport.tow (least_of airport visit.kind) at (first_on_block given (from_part number visit.parts));
   on_block = true;
@@ -57,7 +57,7 @@ arrived airport number at given visit = record visit {
 abbrev pub arrive_of : AirportParts → ℕ → ℕ → Option StandNo → Visit → Option Visit
 arrive_of airport number at given visit =
     if not (has_actual_behind number visit) && has_time_to_tow airport.tow number at visit.parts
-    then Some (arrived airport number at given visit)
+    then Some (visit_after_arrival airport number at given visit)
     else None
 
 -- the last of these parts ends at this minute, or as much later as needed to have the least minutes
@@ -76,8 +76,8 @@ starts_before at part = nat_lt part.from at
 
 -- the visit gone at this minute: the parts that start before it are on their stands in fact, and
 -- the last of them ends at it
-abbrev pub departed : ℕ → Visit → Visit
-departed at visit = record visit {
+abbrev pub visit_after_departure : ℕ → Visit → Visit
+visit_after_departure at visit = record visit {
   parts = map made_actual (last_ended at (filter (starts_before at) visit.parts));
   on_block = true;
   end = Gone;
@@ -90,4 +90,4 @@ first_starts_before at (part ∷ parts) = starts_before at part
 
 -- the visit gone at this minute, if that is possible: its first part starts before it
 abbrev pub depart_of : ℕ → Visit → Option Visit
-depart_of at visit = if first_starts_before at visit.parts then Some (departed at visit) else None
+depart_of at visit = if first_starts_before at visit.parts then Some (visit_after_departure at visit) else None

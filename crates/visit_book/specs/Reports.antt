@@ -19,12 +19,12 @@ IsEventOf airport (Off minute) = Unit {0}
 
 -- what the event makes of a live visit: it is refused if there is no such part, or at a minute
 -- after the plan's end, or at one that is too early
-abbrev pub happened : AirportParts → Event → Visit → Result Visit ReportFault
-happened airport (On part stand minute) visit = do
+abbrev pub visit_after_event : AirportParts → Event → Visit → Result Visit ReportFault
+visit_after_event airport (On part stand minute) visit = do
   found ← ok_or (part_at visit.parts part) NoSuchPart
   within ← refuse_if (not (nat_lt minute (plan_end airport))) Time
   ok_or (arrive_of airport part minute (Some stand) visit) Time
-happened airport (Off minute) visit = do
+visit_after_event airport (Off minute) visit = do
   within ← refuse_if (not (nat_lt minute (plan_end airport))) Time
   ok_or (depart_of minute visit) Time
 
@@ -32,4 +32,4 @@ happened airport (Off minute) visit = do
 abbrev pub report_of : AirportParts → Event → Visit → Result Visit ReportFault
 report_of airport event visit = do
   live ← refuse_if (not (is_live visit)) Gone
-  happened airport event visit
+  visit_after_event airport event visit

@@ -3,7 +3,7 @@ ghost use Rattle.std.specs.Prelude.{◌≡◌, ◌≤◌, ◌<◌, ◌+◌, ◌+
 ghost use Rattle.apron_rules.specs.declared.parts.AirportParts.{AirportParts};
 ghost use Rattle.std.specs.List.{list_any};
 ghost use Rattle.apron_rules.specs.Rules.{IsAirport, least_of};
-ghost use Rattle.visit_book.specs.Changes.{IsTowedBy, cut_of, has_actual_behind, has_few, is_long_enough, join_of, push_of, pushed_behind, starting, with_parts};
+ghost use Rattle.visit_book.specs.Changes.{IsTowedBy, cut_of, has_actual_behind, has_few, is_long_enough, join_of, part_from, push_of, pushed_behind, with_parts};
 ghost use Rattle.visit_book.specs.Places.{is_actual};
 ghost use Rattle.visit_book.specs.WellFormed.{IsWellFormed, plan_end};
 
@@ -37,7 +37,7 @@ pub fn push(visit: &Visit, airport: &Airport, part: u8, from: Minute) -> Visit
 {
     let tow = airport.parts().tow;
     let old = visit.parts.as_slice()[part as usize - 1];
-    let first = starting(least_of(airport, visit.kind), from, old);
+    let first = part_from(least_of(airport, visit.kind), from, old);
     let pushed = push_behind(visit, airport, part as usize, first.to + tow);
     with_parts(visit, pushed.with(part, first))
 }
@@ -139,7 +139,7 @@ pub(crate) fn push_behind(visit: &Visit, airport: &Airport, kept: usize, earlies
     let mut earliest = earliest;
     for index in kept..visit.parts.len() {
         let old = visit.parts.as_slice()[index];
-        let pushed = starting(least, earliest.max(old.from), old);
+        let pushed = part_from(least, earliest.max(old.from), old);
         parts = parts.with(index as u8 + 1, pushed);
         earliest = pushed.to + tow;
     }
@@ -147,9 +147,9 @@ pub(crate) fn push_behind(visit: &Visit, airport: &Airport, kept: usize, earlies
 }
 
 // The part starting at this minute, with an end at least the least minutes later.
-pub(crate) fn starting(least: u32, from: Minute, part: Part) -> Part
+pub(crate) fn part_from(least: u32, from: Minute, part: Part) -> Part
     requires room { from + least < 2 ^ 32 }
-    ensures is { result ≡ starting least from part }
+    ensures is { result ≡ part_from least from part }
 {
     Part {
         from,

@@ -6,7 +6,7 @@ ghost use Rattle.visit_book.specs.Movements.{arrive_of, depart_of, estimate_off_
 ghost use Rattle.visit_book.specs.WellFormed.{IsWellFormed, plan_end};
 ghost use Rattle.visit_book.specs.declared.visits.End.TheVariants.{Live};
 
-use crate::changes::{has_actual_behind, least_of, push_behind, starting, with_parts};
+use crate::changes::{has_actual_behind, least_of, part_from, push_behind, with_parts};
 use crate::{End, Part, Parts, Place, Visit};
 use apron_base::{Minute, StandNo};
 use apron_rules::Airport;
@@ -55,7 +55,7 @@ pub fn estimate_off(visit: &Visit, airport: &Airport, at: Minute) -> Visit
     let parts = visit.parts.as_slice();
     let last = parts[parts.len() - 1];
     let end = at.max(last.from + least);
-    with_parts(visit, ended(visit.parts, parts.len(), end))
+    with_parts(visit, parts_ended(visit.parts, parts.len(), end))
 }
 
 /// The visit gone at this minute: its parts that start earlier are on their stands in fact, the
@@ -91,11 +91,11 @@ fn arrive_of(
     }
     let old = visit.parts.as_slice()[part as usize - 1];
     let own = made_actual(on_given(stand, old));
-    let first = starting(least_of(airport, visit.kind), at, own);
+    let first = part_from(least_of(airport, visit.kind), at, own);
     let pushed = push_behind(visit, airport, part as usize, first.to + tow).with(part, first);
     let before = part as usize - 1;
     Some(Visit {
-        parts: left(pushed, before, at.saturating_sub(tow)),
+        parts: parts_left(pushed, before, at.saturating_sub(tow)),
         on_block: true,
         ..*visit
     })
@@ -109,7 +109,7 @@ fn depart_of(visit: &Visit, at: Minute) -> Option<Visit>
     }
     let started = started_before(&visit.parts, at);
     Some(Visit {
-        parts: left(started, started.len(), at),
+        parts: parts_left(started, started.len(), at),
         on_block: true,
         end: End::Gone,
         ..*visit
@@ -160,11 +160,11 @@ fn in_fact(place: Place) -> Place
 
 // The parts, with the first `count` of them on their stands in fact, and the last of these ending
 // at this minute.
-fn left(parts: Parts, count: usize, end: Minute) -> Parts
+fn parts_left(parts: Parts, count: usize, end: Minute) -> Parts
     requires count { count ≤ length parts }
     ensures is { result ≡ map made_actual (last_ended end (take count parts)) ++ drop count parts }
 {
-    with_actual(ended(parts, count, end), count)
+    with_actual(parts_ended(parts, count, end), count)
 }
 
 // The parts, with the first `count` of them on their stands in fact.
@@ -181,7 +181,7 @@ fn with_actual(parts: Parts, count: usize) -> Parts
 }
 
 // The parts, with the last of the first `count` ending at this minute.
-fn ended(parts: Parts, count: usize, end: Minute) -> Parts
+fn parts_ended(parts: Parts, count: usize, end: Minute) -> Parts
     requires count { count ≤ length parts }
     ensures is { result ≡ last_ended end (take count parts) ++ drop count parts }
 {

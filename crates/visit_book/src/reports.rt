@@ -1,7 +1,7 @@
 // Reports of what happened to a visit.
 ghost use Rattle.std.specs.Prelude.{◌≡◌, ◌<◌, IfOk, length};
 ghost use Rattle.visit_book.specs.Ends.{is_live};
-ghost use Rattle.visit_book.specs.Reports.{IsEventOf, happened, report_of};
+ghost use Rattle.visit_book.specs.Reports.{IsEventOf, report_of, visit_after_event};
 ghost use Rattle.visit_book.specs.WellFormed.{IsWellFormed};
 ghost use Rattle.visit_book.specs.declared.visits.End.TheVariants.{Live};
 ghost use Rattle.visit_book.specs.declared.reports.Event.TheVariants.{On, Off};
@@ -53,7 +53,7 @@ pub fn report(visit: &Visit, airport: &Airport, event: &Event) -> Result<Visit, 
             stand,
             minute,
         } => came(visit, airport, part, stand, minute),
-        Event::Off { minute } => went(visit, airport, minute),
+        Event::Off { minute } => report_off(visit, airport, minute),
     }
 }
 
@@ -74,7 +74,7 @@ fn came(
     requires well_formed { IsWellFormed airport.now visit.now }
     requires live { visit.now.end ≡ Live }
     requires stand { stand.0 < length airport.now.stands }
-    ensures is { result ≡ happened airport.now (On part stand minute) visit.now }
+    ensures is { result ≡ visit_after_event airport.now (On part stand minute) visit.now }
     ensures well_formed { IfOk result (IsWellFormed airport.now) }
 {
     if visit.parts.get(part).is_none() {
@@ -89,9 +89,9 @@ fn came(
     }
 }
 
-fn went(visit: &Visit, airport: &Airport, minute: Minute) -> Result<Visit, ReportFault>
+fn report_off(visit: &Visit, airport: &Airport, minute: Minute) -> Result<Visit, ReportFault>
     requires well_formed { IsWellFormed airport.now visit.now }
-    ensures is { result ≡ happened airport.now (Off minute) visit.now }
+    ensures is { result ≡ visit_after_event airport.now (Off minute) visit.now }
     ensures well_formed { IfOk result (IsWellFormed airport.now) }
 {
     if minute >= airport.minutes() {

@@ -15,7 +15,7 @@ pub fn slot_of(airport: &Airport, visit: &Visit, number: u8, part: &Part) -> Opt
     requires to { part.now.to ≤ latest_end airport.now visit.now.kind }
     ensures is { result ≡ slot_of airport.now visit.now number part.now }
 {
-    let stand = stand_of(&part.place)?;
+    let stand = stand_of_place(&part.place)?;
     Some(slot_on(airport, visit, number, part, stand))
 }
 
@@ -37,7 +37,7 @@ fn slot_on(airport: &Airport, visit: &Visit, number: u8, part: &Part, stand: Sta
     }
 }
 
-fn stand_of(place: &Place) -> Option<StandNo>
+fn stand_of_place(place: &Place) -> Option<StandNo>
     ensures is { result ≡ stand_of place.now }
 {
     match *place {

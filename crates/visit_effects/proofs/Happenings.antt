@@ -19,19 +19,19 @@ use Rattle.visit_book.specs.declared.visits.Place.TheVariants.{Unplaced, Planned
 use Rattle.visit_book.specs.declared.visits.Visit.{Visit}
 use Rattle.visit_book.specs.Changes.{has_actual_behind, push_of}
 use Rattle.visit_book.specs.Ends.{is_live}
-use Rattle.visit_book.specs.Movements.{arrive_of, arrived, depart_of, departed, estimate_off_of, first_starts_before, has_time_to_tow, in_fact}
+use Rattle.visit_book.specs.Movements.{arrive_of, depart_of, estimate_off_of, first_starts_before, has_time_to_tow, in_fact, visit_after_arrival, visit_after_departure}
 use Rattle.visit_book.specs.Numbers.{IsNumbered, IsNumberedAbove, visit_at}
 use Rattle.visit_book.specs.PartFields.{part_at}
-use Rattle.visit_book.specs.Reports.{happened, report_of}
+use Rattle.visit_book.specs.Reports.{report_of, visit_after_event}
 use Rattle.visit_book.specs.WellFormed.{plan_end}
 use Rattle.visit_book.proofs.Kept.{made_where}
 use Rattle.visit_book.proofs.OnStands.{arrive_places, depart_places, expected_places}
 use Rattle.visit_book.proofs.Stands.{AllPlaces, push_places}
-use Rattle.visit_effects.specs.ClockTimes.{is_of_month, latest_day, minute_of}
-use Rattle.visit_effects.specs.declared.effects.Moment.{Moment}
-use Rattle.visit_effects.specs.declared.effects.Moment.TheVariants.{Touchdown, OnBlock, ExpectedOff, OffBlock}
-use Rattle.visit_effects.specs.declared.effects.Told.{Told}
-use Rattle.visit_effects.specs.Effects.{changed_at, changed_by, effect_of, is_meant, scheduled, told_of, visit_meant}
+use Rattle.visit_effects.specs.ClockTimes.{is_of_month, latest_day, plan_minute_of}
+use Rattle.visit_effects.specs.declared.effects.Happening.{Happening}
+use Rattle.visit_effects.specs.declared.effects.Happening.TheVariants.{Touchdown, OnBlock, ExpectedOff, OffBlock}
+use Rattle.visit_effects.specs.declared.effects.MessageFacts.{MessageFacts}
+use Rattle.visit_effects.specs.Effects.{changed_at, changed_by, effect_of, facts_of, is_meant, scheduled_minute, visit_meant}
 use Rattle.visit_effects.specs.Happenings.{IsBumpOf, IsOneOf, IsOneVisit}
 
 -- the record of what took a stand that a place has, if any, is one of these parts
@@ -67,13 +67,13 @@ pushed_is_one airport number from visit = record {
       (push_places (HasKnownBump visit.parts) airport.tow (least_of airport visit.kind) from (number - 1) visit.parts (known_of visit.parts));
 }
 
-arrived_is_one : (airport : AirportParts) (number at : ℕ) (given : Option StandNo) (visit : Visit) → IsOneVisit visit (arrived airport number at given visit)
+arrived_is_one : (airport : AirportParts) (number at : ℕ) (given : Option StandNo) (visit : Visit) → IsOneVisit visit (visit_after_arrival airport number at given visit)
 arrived_is_one airport number at given visit = record {
   number = refl;
   new = refl;
   added = refl;
   edited = refl;
-  bumps = bumps_of visit.parts (arrived airport number at given visit).parts
+  bumps = bumps_of visit.parts (visit_after_arrival airport number at given visit).parts
       (arrive_places (HasKnownBump visit.parts) airport.tow (least_of airport visit.kind) (number - 1) (at - airport.tow) at given visit.parts
       (known_in_fact visit.parts) (known_given visit.parts given) (known_of visit.parts));
 }
@@ -88,25 +88,25 @@ estimated_is_one airport at visit = record {
       (expected_places (HasKnownBump visit.parts) (least_of airport visit.kind) at visit.parts (known_of visit.parts));
 }
 
-departed_is_one : (at : ℕ) (visit : Visit) → IsOneVisit visit (departed at visit)
+departed_is_one : (at : ℕ) (visit : Visit) → IsOneVisit visit (visit_after_departure at visit)
 departed_is_one at visit = record {
   number = refl;
   new = refl;
   added = refl;
   edited = refl;
-  bumps = bumps_of visit.parts (departed at visit).parts
+  bumps = bumps_of visit.parts (visit_after_departure at visit).parts
       (depart_places (HasKnownBump visit.parts) at visit.parts (known_in_fact visit.parts) (known_of visit.parts));
 }
 
 arrive_is_one : (airport : AirportParts) (number at : ℕ) (given : Option StandNo) (visit after : Visit) → arrive_of airport number at given visit ≡ Some after
     → IsOneVisit visit after
 arrive_is_one airport number at given visit after is =
-    made_where (not (has_actual_behind number visit) && has_time_to_tow airport.tow number at visit.parts) (arrived airport number at given visit) after
+    made_where (not (has_actual_behind number visit) && has_time_to_tow airport.tow number at visit.parts) (visit_after_arrival airport number at given visit) after
     (IsOneVisit visit) is (λ passed. arrived_is_one airport number at given visit)
 
 depart_is_one : (at : ℕ) (visit after : Visit) → depart_of at visit ≡ Some after → IsOneVisit visit after
 depart_is_one at visit after is =
-    made_where (first_starts_before at visit.parts) (departed at visit) after (IsOneVisit visit) is (λ passed. departed_is_one at visit)
+    made_where (first_starts_before at visit.parts) (visit_after_departure at visit) after (IsOneVisit visit) is (λ passed. departed_is_one at visit)
 
 -- What messages make of one of some visits.
 
@@ -115,7 +115,7 @@ not_on_block : (airport : AirportParts) (at : ℕ) (visit after : Visit) (on_blo
 not_on_block airport at visit after true is = absurd (cc)
 not_on_block airport at visit after false is = arrive_is_one airport 1 at None visit after is
 
-changed_is_one : (airport : AirportParts) (moment : Moment) (at : ℕ) (visit after : Visit) → changed_at airport moment at visit ≡ Some after
+changed_is_one : (airport : AirportParts) (moment : Happening) (at : ℕ) (visit after : Visit) → changed_at airport moment at visit ≡ Some after
     → IsOneVisit visit after
 changed_is_one airport Touchdown at visit after is =
     made_where (not visit.on_block && nat_lt (at + airport.taxi_in) (plan_end airport)) (push_of airport 1 (at + airport.taxi_in) visit) after
@@ -164,10 +164,10 @@ numbered_found test number (first ∷ visits) visit numbered is =
 pub effect_is_one : (airport : AirportParts) (visits : List Visit) (message : Mvt) (after : Visit) → IsNumbered visits
     → effect_of airport visits message ≡ Some after → IsOneOf visits after
 effect_is_one airport visits message after numbered is =
-    let told = had (λ (told : Told). option_and_then (changed_by airport told) (visit_meant airport visits told.moment message)) (told_of airport message) after is in
+    let told = had (λ (told : MessageFacts). option_and_then (changed_by airport told) (visit_meant airport visits told.moment message)) (facts_of airport message) after is in
     let meant = had (changed_by airport told.0) (visit_meant airport visits told.0.moment message) after told.2 in
     let day = had (λ (day : ℕ). find (is_meant told.0.moment message.flight day) visits) (latest_day (is_of_month airport message.day) 0 (airport.days + 1)) meant.0 meant.1 in
-    let at = had (λ (at : ℕ). changed_at airport told.0.moment at meant.0) (minute_of airport (scheduled told.0.moment meant.0) told.0.clock) after meant.2 in
+    let at = had (λ (at : ℕ). changed_at airport told.0.moment at meant.0) (plan_minute_of airport (scheduled_minute told.0.moment meant.0) told.0.clock) after meant.2 in
     let one : IsOneVisit meant.0 after = changed_is_one airport told.0.moment at.0 meant.0 after at.2 in
     record {
       before = meant.0;
@@ -186,7 +186,7 @@ was_some : {X E : Type 0} (found : Option X) (fault : E) (x : X) → ok_or found
 was_some None fault x is = absurd (cc)
 was_some (Some y) fault x is = cc
 
-happened_is_one : (airport : AirportParts) (event : Event) (before after : Visit) → happened airport event before ≡ Ok after → IsOneVisit before after
+happened_is_one : (airport : AirportParts) (event : Event) (before after : Visit) → visit_after_event airport event before ≡ Ok after → IsOneVisit before after
 happened_is_one airport (On part stand minute) before after is =
     let found = done (ok_or (part_at before.parts part) NoSuchPart)
     (λ (found : Part). refuse_if (not (nat_lt minute (plan_end airport))) Time >>= (λ within. ok_or (arrive_of airport part minute (Some stand) before) Time)) after is in
@@ -199,5 +199,5 @@ happened_is_one airport (Off minute) before after is =
 -- what a report makes of a visit is still that visit
 pub report_is_one : (airport : AirportParts) (event : Event) (before after : Visit) → report_of airport event before ≡ Ok after → IsOneVisit before after
 report_is_one airport event before after is =
-    let live = done (refuse_if (not (is_live before)) Gone) (λ live. happened airport event before) after is in
+    let live = done (refuse_if (not (is_live before)) Gone) (λ live. visit_after_event airport event before) after is in
     happened_is_one airport event before after live.2

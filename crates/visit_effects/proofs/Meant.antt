@@ -7,7 +7,7 @@ use Rattle.std.proofs.lemmas.Bool.Decides.{nat_tests}
 use Rattle.std.proofs.lemmas.List.Elements.{recursion_from_All}
 use Rattle.mvt_grammar.specs.declared.message.Flight.{Flight}
 use Rattle.apron_rules.specs.declared.parts.AirportParts.{AirportParts}
-use Rattle.visit_effects.specs.declared.effects.Moment.{Moment}
+use Rattle.visit_effects.specs.declared.effects.Happening.{Happening}
 use Rattle.visit_book.specs.declared.visits.End.{End}
 use Rattle.visit_book.specs.declared.visits.End.TheVariants.{Live, Gone, Cancelled}
 use Rattle.visit_book.specs.declared.visits.Part.{Part}
@@ -38,14 +38,14 @@ first_of : (a b : Bool) → (a && b) ≡ true → a ≡ true
 first_of a b h = grind (arith, nat_tests)
 
 -- the visit that is meant is one of the visits
-pub meant_well_formed : (airport : AirportParts) (visits : List Visit) (moment : Moment) (flight : Flight) (day : ℕ) → All (IsWellFormed airport) visits
+pub meant_well_formed : (airport : AirportParts) (visits : List Visit) (moment : Happening) (flight : Flight) (day : ℕ) → All (IsWellFormed airport) visits
     → IfSome (find (is_meant moment flight day) visits) (IsWellFormed airport)
 meant_well_formed airport visits moment flight day h =
     found_holds (IsWellFormed airport) (IsWellFormed airport) (is_meant moment flight day) visits (λ visit passed well. well)
     (recursion_from_All (IsWellFormed airport) visits h)
 
 -- and live
-pub meant_live : (airport : AirportParts) (visits : List Visit) (moment : Moment) (flight : Flight) (day : ℕ) → All (IsWellFormed airport) visits
+pub meant_live : (airport : AirportParts) (visits : List Visit) (moment : Happening) (flight : Flight) (day : ℕ) → All (IsWellFormed airport) visits
     → IfSome (find (is_meant moment flight day) visits) (λ visit. visit.end ≡ Live)
 meant_live airport visits moment flight day h =
     found_holds (IsWellFormed airport) (λ visit. visit.end ≡ Live) (is_meant moment flight day) visits

@@ -7,10 +7,10 @@ use Rattle.mvt_grammar.specs.declared.message.Mvt.{Mvt}
 use Rattle.apron_rules.specs.declared.parts.AirportParts.{AirportParts}
 use Rattle.visit_book.specs.declared.visits.Visit.{Visit}
 use Rattle.visit_effects.specs.ClockTimes.{is_of_month, latest_day}
-use Rattle.visit_effects.specs.declared.effects.Moment.{Moment}
-use Rattle.visit_effects.specs.declared.effects.Moment.TheVariants.{Touchdown, OnBlock, ExpectedOff, OffBlock}
-use Rattle.visit_effects.specs.declared.effects.Told.{Told}
-use Rattle.visit_effects.specs.Effects.{changed_by, effect_of, is_meant, live_of, movement_meant, movement_of, told_of}
+use Rattle.visit_effects.specs.declared.effects.Happening.{Happening}
+use Rattle.visit_effects.specs.declared.effects.Happening.TheVariants.{Touchdown, OnBlock, ExpectedOff, OffBlock}
+use Rattle.visit_effects.specs.declared.effects.MessageFacts.{MessageFacts}
+use Rattle.visit_effects.specs.Effects.{changed_by, effect_of, facts_of, is_meant, live_of, movement_meant, movement_of}
 
 alone : {X : Type 0} (test : X → Bool) (x : X) (later : Option X) (b : Bool) → test x ≡ b → later ≡ option_and_then (λ y. find test (y ∷ [])) later
     → cond b (Some x) later ≡ option_and_then (λ y. find test (y ∷ [])) (cond b (Some x) later)
@@ -28,14 +28,14 @@ then_then f g None = refl
 then_then f g (Some x) = refl
 
 -- the visit that is meant is the first live one of the flight
-meant_live : (visits : List Visit) (moment : Moment) (flight : Flight) (day : ℕ)
+meant_live : (visits : List Visit) (moment : Happening) (flight : Flight) (day : ℕ)
     → live_of visits (movement_of moment (record { flight = flight; day = day })) ≡ find (is_meant moment flight day) visits
 meant_live visits Touchdown flight day = refl
 meant_live visits OnBlock flight day = refl
 meant_live visits ExpectedOff flight day = refl
 meant_live visits OffBlock flight day = refl
 
-one_of : (airport : AirportParts) (visits : List Visit) (flight : Flight) (told : Option Told) (day : Option ℕ)
+one_of : (airport : AirportParts) (visits : List Visit) (flight : Flight) (told : Option MessageFacts) (day : Option ℕ)
     → option_and_then (λ t. option_and_then (changed_by airport t) (option_and_then (λ d. find (is_meant t.moment flight d) visits) day)) told
     ≡ option_and_then
     (λ visit. option_and_then (λ t. option_and_then (changed_by airport t) (option_and_then (λ d. find (is_meant t.moment flight d) (visit ∷ [])) day)) told)
@@ -53,4 +53,4 @@ pub effect_of_one : (airport : AirportParts) (visits : List Visit) (message : Mv
     → effect_of airport visits message
     ≡ option_and_then (λ visit. effect_of airport (visit ∷ []) message) (option_and_then (live_of visits) (movement_meant airport message))
 effect_of_one airport visits message =
-    one_of airport visits message.flight (told_of airport message) (latest_day (is_of_month airport message.day) 0 (airport.days + 1))
+    one_of airport visits message.flight (facts_of airport message) (latest_day (is_of_month airport message.day) 0 (airport.days + 1))

@@ -29,10 +29,10 @@ nearest_day airport scheduled minute = latest_day (λ day. is_nearest scheduled 
 
 -- the day of the plan that a clock time names: the one of its day of the month, if it has one, or
 -- otherwise the one that brings it nearest to the scheduled minute
-abbrev pub day_of : AirportParts → ℕ → Clock → Option ℕ
-day_of airport scheduled clock =
+abbrev pub plan_day_of : AirportParts → ℕ → Clock → Option ℕ
+plan_day_of airport scheduled clock =
     option_map_or (λ number. latest_day (is_of_month airport number) 1 airport.days) clock.day (nearest_day airport scheduled clock.minute)
 
 -- the minute of the plan that a clock time names beside a scheduled minute
-abbrev pub minute_of : AirportParts → ℕ → Clock → Option ℕ
-minute_of airport scheduled clock = option_map (minute_on clock.minute) (day_of airport scheduled clock)
+abbrev pub plan_minute_of : AirportParts → ℕ → Clock → Option ℕ
+plan_minute_of airport scheduled clock = option_map (minute_on clock.minute) (plan_day_of airport scheduled clock)

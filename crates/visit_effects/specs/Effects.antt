@@ -7,71 +7,71 @@ use Rattle.mvt_grammar.specs.declared.message.Clock.{Clock}
 use Rattle.mvt_grammar.specs.declared.message.Flight.{Flight}
 use Rattle.mvt_grammar.specs.declared.message.Mvt.{Mvt}
 use Rattle.apron_rules.specs.declared.parts.AirportParts.{AirportParts}
-use Rattle.visit_effects.specs.declared.effects.Moment.{Moment}
-use Rattle.visit_effects.specs.declared.effects.Moment.TheVariants.{Touchdown, OnBlock, ExpectedOff, OffBlock}
+use Rattle.visit_effects.specs.declared.effects.Happening.{Happening}
+use Rattle.visit_effects.specs.declared.effects.Happening.TheVariants.{Touchdown, OnBlock, ExpectedOff, OffBlock}
 use Rattle.visit_effects.specs.declared.effects.Movement.{Movement}
 use Rattle.visit_effects.specs.declared.effects.Movement.TheVariants.{Arrival, Departure}
-use Rattle.visit_effects.specs.declared.effects.Told.{Told}
+use Rattle.visit_effects.specs.declared.effects.MessageFacts.{MessageFacts}
 use Rattle.visit_book.specs.declared.visits.Key.{Key}
 use Rattle.visit_book.specs.declared.visits.Visit.{Visit}
 use Rattle.visit_book.specs.Changes.{push_of}
 use Rattle.visit_book.specs.Ends.{is_live}
 use Rattle.visit_book.specs.Flights.{is_key_of, live_arriving, live_departing}
 use Rattle.visit_book.specs.Movements.{arrive_of, depart_of, estimate_off_of}
-use Rattle.visit_effects.specs.ClockTimes.{is_of_month, latest_day, minute_of}
+use Rattle.visit_effects.specs.ClockTimes.{is_of_month, latest_day, plan_minute_of}
 use Rattle.visit_book.specs.WellFormed.{plan_end}
 
 -- Which element counts.
 
 -- the moment, at this time
-abbrev pub told_at : Moment → Clock → Told
-told_at moment clock = record { moment = moment; clock = clock }
+abbrev pub facts_at : Happening → Clock → MessageFacts
+facts_at moment clock = record { moment = moment; clock = clock }
 
 -- an arrival gives the time on block if it has one, and otherwise that of the touchdown
-abbrev pub told_by_arrival : Clock × Option Clock → Told
-told_by_arrival (touchdown, None) = told_at Touchdown touchdown
-told_by_arrival (touchdown, Some on) = told_at OnBlock on
+abbrev pub facts_of_arrival : Clock × Option Clock → MessageFacts
+facts_of_arrival (touchdown, None) = facts_at Touchdown touchdown
+facts_of_arrival (touchdown, Some on) = facts_at OnBlock on
 
 -- a message of the airport's own station gives the arrival, or else the departure, or else the
 -- expected departure
-abbrev pub told_here : Mvt → Option Told
-told_here message =
-    option_or (option_map told_by_arrival message.aa)
-    (option_or (option_map (λ times. told_at OffBlock times.0) message.ad) (option_map (told_at ExpectedOff) message.ed))
+abbrev pub facts_here : Mvt → Option MessageFacts
+facts_here message =
+    option_or (option_map facts_of_arrival message.aa)
+    (option_or (option_map (λ times. facts_at OffBlock times.0) message.ad) (option_map (facts_at ExpectedOff) message.ed))
 
 -- a message of another station gives the expected arrival, if that is at the airport
-abbrev pub told_elsewhere : AirportParts → Mvt → Option Told
-told_elsewhere airport message = do
+abbrev pub facts_elsewhere : AirportParts → Mvt → Option MessageFacts
+facts_elsewhere airport message = do
   estimate ← message.ea
-  if bytes_eq estimate.1 airport.station then Some (told_at Touchdown estimate.0) else None
+  if bytes_eq estimate.1 airport.station then Some (facts_at Touchdown estimate.0) else None
 
 -- what the message says at the airport
-abbrev pub told_of : AirportParts → Mvt → Option Told
-told_of airport message = if bytes_eq message.station airport.station then told_here message else told_elsewhere airport message
+abbrev pub facts_of : AirportParts → Mvt → Option MessageFacts
+facts_of airport message = if bytes_eq message.station airport.station then facts_here message else facts_elsewhere airport message
 
 -- Which visit is meant.
 
 -- the flight of the visit that is meant at a moment: the one that it comes by, or the one that it
 -- leaves by
-abbrev pub key_of : Moment → Visit → Option Key
-key_of Touchdown visit = visit.arr
-key_of OnBlock visit = visit.arr
-key_of ExpectedOff visit = visit.dep
-key_of OffBlock visit = visit.dep
+abbrev pub flight_key : Happening → Visit → Option Key
+flight_key Touchdown visit = visit.arr
+flight_key OnBlock visit = visit.arr
+flight_key ExpectedOff visit = visit.dep
+flight_key OffBlock visit = visit.dep
 
 -- the visit is live, and has a key of this flight and this day
-abbrev pub is_meant : Moment → Flight → ℕ → Visit → Bool
-is_meant moment flight day visit = is_live visit && option_map_or (is_key_of flight day) (key_of moment visit) false
+abbrev pub is_meant : Happening → Flight → ℕ → Visit → Bool
+is_meant moment flight day visit = is_live visit && option_map_or (is_key_of flight day) (flight_key moment visit) false
 
 -- the first visit that is meant, on the latest day of the plan, or the day before it, that has the
 -- message's day of the month
-abbrev pub visit_meant : AirportParts → List Visit → Moment → Mvt → Option Visit
+abbrev pub visit_meant : AirportParts → List Visit → Happening → Mvt → Option Visit
 visit_meant airport visits moment message = do
   day ← latest_day (is_of_month airport message.day) 0 (airport.days + 1)
   find (is_meant moment message.flight day) visits
 
 -- the flight at a moment: one that a visit comes by, or one that it leaves by
-abbrev pub movement_of : Moment → Key → Movement
+abbrev pub movement_of : Happening → Key → Movement
 movement_of Touchdown key = Arrival key
 movement_of OnBlock key = Arrival key
 movement_of ExpectedOff key = Departure key
@@ -81,7 +81,7 @@ movement_of OffBlock key = Departure key
 -- has its day of the month
 abbrev pub movement_meant : AirportParts → Mvt → Option Movement
 movement_meant airport message = do
-  told ← told_of airport message
+  told ← facts_of airport message
   day ← latest_day (is_of_month airport message.day) 0 (airport.days + 1)
   Some (movement_of told.moment (record { flight = message.flight; day = day }))
 
@@ -93,16 +93,16 @@ live_of visits (Departure key) = live_departing visits key
 -- What is done to it.
 
 -- the scheduled minute of the moment
-abbrev pub scheduled : Moment → Visit → ℕ
-scheduled Touchdown visit = visit.on
-scheduled OnBlock visit = visit.on
-scheduled ExpectedOff visit = visit.off
-scheduled OffBlock visit = visit.off
+abbrev pub scheduled_minute : Happening → Visit → ℕ
+scheduled_minute Touchdown visit = visit.on
+scheduled_minute OnBlock visit = visit.on
+scheduled_minute ExpectedOff visit = visit.off
+scheduled_minute OffBlock visit = visit.off
 
 -- the visit, if it is not on block yet, expected on block the taxi-in minutes after it has landed,
 -- which is a minute of the plan
-abbrev pub landed : AirportParts → ℕ → Visit → Option Visit
-landed airport at visit =
+abbrev pub visit_after_landing : AirportParts → ℕ → Visit → Option Visit
+visit_after_landing airport at visit =
     if not visit.on_block && nat_lt (at + airport.taxi_in) (plan_end airport) then Some (push_of airport 1 (at + airport.taxi_in) visit) else None
 
 -- the visit, if it is not on block yet, on block at this minute on the stand that it has by the
@@ -111,21 +111,21 @@ abbrev pub on_block_at : AirportParts → ℕ → Visit → Option Visit
 on_block_at airport at visit = if visit.on_block then None else arrive_of airport 1 at None visit
 
 -- what the moment does to the visit at this minute
-abbrev pub changed_at : AirportParts → Moment → ℕ → Visit → Option Visit
-changed_at airport Touchdown at visit = landed airport at visit
+abbrev pub changed_at : AirportParts → Happening → ℕ → Visit → Option Visit
+changed_at airport Touchdown at visit = visit_after_landing airport at visit
 changed_at airport OnBlock at visit = on_block_at airport at visit
 changed_at airport ExpectedOff at visit = Some (estimate_off_of airport at visit)
 changed_at airport OffBlock at visit = depart_of at visit
 
 -- what the message says, done to the visit
-abbrev pub changed_by : AirportParts → Told → Visit → Option Visit
+abbrev pub changed_by : AirportParts → MessageFacts → Visit → Option Visit
 changed_by airport told visit = do
-  at ← minute_of airport (scheduled told.moment visit) told.clock
+  at ← plan_minute_of airport (scheduled_minute told.moment visit) told.clock
   changed_at airport told.moment at visit
 
 -- the visit as the message changes it, or none if it does nothing
 abbrev pub effect_of : AirportParts → List Visit → Mvt → Option Visit
 effect_of airport visits message = do
-  told ← told_of airport message
+  told ← facts_of airport message
   visit ← visit_meant airport visits told.moment message
   changed_by airport told visit

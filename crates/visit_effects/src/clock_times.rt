@@ -1,7 +1,7 @@
 // The days and minutes that days of a month and clock times name.
 ghost use Rattle.std.specs.Prelude.{◌≡◌, ◌≤◌, ◌<◌, ◌+◌, ◌^◌, IfSome};
 ghost use Rattle.apron_rules.specs.Rules.{IsAirport};
-ghost use Rattle.visit_effects.specs.ClockTimes.{day_of, is_nearest, is_of_month, latest_day, minute_of, minute_on, nearest_day};
+ghost use Rattle.visit_effects.specs.ClockTimes.{is_nearest, is_of_month, latest_day, minute_on, nearest_day, plan_day_of, plan_minute_of};
 ghost use Rattle.visit_book.specs.WellFormed.{plan_end};
 
 use apron_base::Minute;
@@ -15,17 +15,17 @@ const MINUTES_OF_HALF_DAY: u32 = 720;
 /// The minute of the plan that a clock time names: on the day of the month that it has, or
 /// otherwise on the day that brings it nearest to the scheduled minute, the later of two. `None` if
 /// that is not a minute of the plan.
-pub(crate) fn minute_of(airport: &Airport, scheduled: Minute, clock: &Clock) -> Option<Minute>
+pub(crate) fn plan_minute_of(airport: &Airport, scheduled: Minute, clock: &Clock) -> Option<Minute>
     requires minute { clock.now.minute < 1440 }
-    ensures is { result ≡ minute_of airport.now scheduled clock.now }
+    ensures is { result ≡ plan_minute_of airport.now scheduled clock.now }
     ensures in_plan { IfSome result (λ minute. minute < plan_end airport.now) }
 {
-    let day = day_of(airport, scheduled, clock)?;
+    let day = plan_day_of(airport, scheduled, clock)?;
     Some(minute_on(clock.minute, day))
 }
 
-fn day_of(airport: &Airport, scheduled: Minute, clock: &Clock) -> Option<u32>
-    ensures is { result ≡ day_of airport.now scheduled clock.now }
+fn plan_day_of(airport: &Airport, scheduled: Minute, clock: &Clock) -> Option<u32>
+    ensures is { result ≡ plan_day_of airport.now scheduled clock.now }
     ensures some { IfSome result (λ day. 1 ≤ day) }
     ensures few { IfSome result (λ day. day ≤ airport.now.days) }
     ensures airport { IsAirport airport.now }

@@ -2,12 +2,12 @@
 ghost use Rattle.std.specs.Prelude.{◌≡◌, ◌<◌, false, All, IfSome, find, option_copied};
 ghost use Rattle.std.specs.Option.{option_map_or};
 ghost use Rattle.mvt_grammar.specs.Readable.{IsReadable};
-ghost use Rattle.visit_effects.specs.Effects.{changed_at, changed_by, effect_of, is_meant, key_of, landed, movement_meant, movement_of, on_block_at, scheduled, told_by_arrival, told_elsewhere, told_here, told_of, visit_meant};
+ghost use Rattle.visit_effects.specs.Effects.{changed_at, changed_by, effect_of, facts_elsewhere, facts_here, facts_of, facts_of_arrival, flight_key, is_meant, movement_meant, movement_of, on_block_at, scheduled_minute, visit_after_landing, visit_meant};
 ghost use Rattle.visit_book.specs.Flights.{is_key_of, is_same_flight};
 ghost use Rattle.visit_book.specs.WellFormed.{IsWellFormed, plan_end};
 ghost use Rattle.visit_book.specs.declared.visits.End.TheVariants.{Live};
 
-use crate::clock_times::{day_of_month, minute_of};
+use crate::clock_times::{day_of_month, plan_minute_of};
 use apron_base::Minute;
 use apron_rules::Airport;
 use mvt_grammar::{Clock, Flight, Mvt};
@@ -15,7 +15,7 @@ use visit_book::{Key, Visit, arrive, depart, estimate_off, is_live, push};
 
 /// What happens to a visit at the time that a message gives.
 #[derive(Clone, Copy, Debug, PartialEq, Eq)]
-enum Moment {
+enum Happening {
     /// It lands, as expected or in fact.
     Touchdown,
     /// It comes on block.
@@ -28,8 +28,8 @@ enum Moment {
 
 /// What counts of a message.
 #[derive(Clone, Copy, Debug, PartialEq, Eq)]
-struct Told {
-    moment: Moment,
+struct MessageFacts {
+    moment: Happening,
     clock: Clock,
 }
 
@@ -53,7 +53,7 @@ pub fn effect_of(airport: &Airport, visits: &[Visit], message: &Mvt) -> Option<V
     ensures is { result ≡ effect_of airport.now visits.now message.now }
     ensures well_formed { IfSome result (IsWellFormed airport.now) }
 {
-    let told = told_of(airport, message)?;
+    let told = facts_of(airport, message)?;
     let visit = visit_meant(airport, visits, told.moment, message)?;
     changed_by(airport, &told, visit)
 }
@@ -65,7 +65,7 @@ pub fn movement_meant(airport: &Airport, message: &Mvt) -> Option<Movement>
     requires readable { IsReadable message.now }
     ensures is { result ≡ movement_meant airport.now message.now }
 {
-    let told = told_of(airport, message)?;
+    let told = facts_of(airport, message)?;
     let day = day_of_month(airport, message.day, 0, airport.parts().days + 1)?;
     let key = Key {
         flight: message.flight,
@@ -74,71 +74,73 @@ pub fn movement_meant(airport: &Airport, message: &Mvt) -> Option<Movement>
     Some(movement_of(told.moment, key))
 }
 
-fn movement_of(moment: Moment, key: Key) -> Movement
+fn movement_of(moment: Happening, key: Key) -> Movement
     ensures is { result ≡ movement_of moment key }
 {
     match moment {
-        Moment::Touchdown | Moment::OnBlock => Movement::Arrival(key),
-        Moment::ExpectedOff | Moment::OffBlock => Movement::Departure(key),
+        Happening::Touchdown | Happening::OnBlock => Movement::Arrival(key),
+        Happening::ExpectedOff | Happening::OffBlock => Movement::Departure(key),
     }
 }
 
-fn told_of(airport: &Airport, message: &Mvt) -> Option<Told>
+fn facts_of(airport: &Airport, message: &Mvt) -> Option<MessageFacts>
     requires readable { IsReadable message.now }
-    ensures is { result ≡ told_of airport.now message.now }
+    ensures is { result ≡ facts_of airport.now message.now }
     ensures minute { IfSome result (λ told. told.clock.minute < 1440) }
 {
     if message.station.is_same(&airport.parts().station) {
-        told_here(message)
+        facts_here(message)
     } else {
-        told_elsewhere(airport, message)
+        facts_elsewhere(airport, message)
     }
 }
 
-fn told_here(message: &Mvt) -> Option<Told>
+fn facts_here(message: &Mvt) -> Option<MessageFacts>
     requires readable { IsReadable message.now }
-    ensures is { result ≡ told_here message.now }
+    ensures is { result ≡ facts_here message.now }
     ensures minute { IfSome result (λ told. told.clock.minute < 1440) }
 {
     match (message.aa, message.ad, message.ed) {
-        (Some((touchdown, on)), _, _) => Some(told_by_arrival(touchdown, on)),
-        (None, Some((off, _)), _) => Some(Told {
-            moment: Moment::OffBlock,
+        (Some((touchdown, on)), _, _) => Some(facts_of_arrival(touchdown, on)),
+        (None, Some((off, _)), _) => Some(MessageFacts {
+            moment: Happening::OffBlock,
             clock: off,
         }),
-        (None, None, Some(off)) => Some(Told {
-            moment: Moment::ExpectedOff,
+        (None, None, Some(off)) => Some(MessageFacts {
+            moment: Happening::ExpectedOff,
             clock: off,
         }),
         (None, None, None) => None,
     }
 }
 
-fn told_by_arrival(touchdown: Clock, on: Option<Clock>) -> Told
-    ensures is { result ≡ told_by_arrival (touchdown, on) }
+fn facts_of_arrival(touchdown: Clock, on: Option<Clock>) -> MessageFacts
+    ensures is { result ≡ facts_of_arrival (touchdown, on) }
 {
     match on {
-        Some(on) => Told {
-            moment: Moment::OnBlock,
+        Some(on) => MessageFacts {
+            moment: Happening::OnBlock,
             clock: on,
         },
-        None => Told {
-            moment: Moment::Touchdown,
+        None => MessageFacts {
+            moment: Happening::Touchdown,
             clock: touchdown,
         },
     }
 }
 
-fn told_elsewhere(airport: &Airport, message: &Mvt) -> Option<Told>
+fn facts_elsewhere(airport: &Airport, message: &Mvt) -> Option<MessageFacts>
     requires readable { IsReadable message.now }
-    ensures is { result ≡ told_elsewhere airport.now message.now }
+    ensures is { result ≡ facts_elsewhere airport.now message.now }
     ensures minute { IfSome result (λ told. told.clock.minute < 1440) }
 {
     match message.ea {
-        Some((touchdown, station)) if station.is_same(&airport.parts().station) => Some(Told {
-            moment: Moment::Touchdown,
-            clock: touchdown,
-        }),
+        Some((touchdown, station)) if station.is_same(&airport.parts().station) => Some(
+            MessageFacts {
+                moment: Happening::Touchdown,
+                clock: touchdown,
+            },
+        ),
         _ => None,
     }
 }
@@ -146,7 +148,7 @@ fn told_elsewhere(airport: &Airport, message: &Mvt) -> Option<Told>
 fn visit_meant<'a>(
     airport: &Airport,
     visits: &'a [Visit],
-    moment: Moment,
+    moment: Happening,
     message: &Mvt,
 ) -> Option<&'a Visit>
     requires each { All (IsWellFormed airport.now) visits.now }
@@ -160,7 +162,7 @@ fn visit_meant<'a>(
 
 fn first_meant<'a>(
     visits: &'a [Visit],
-    moment: Moment,
+    moment: Happening,
     flight: &Flight,
     day: u32,
 ) -> Option<&'a Visit>
@@ -171,10 +173,10 @@ fn first_meant<'a>(
         .find(|visit| is_meant(moment, flight, day, visit))
 }
 
-fn is_meant(moment: Moment, flight: &Flight, day: u32, visit: &Visit) -> bool
+fn is_meant(moment: Happening, flight: &Flight, day: u32, visit: &Visit) -> bool
     ensures is { result ≡ is_meant moment flight.now day visit.now }
 {
-    is_live(visit) && is_by(key_of(moment, visit), flight, day)
+    is_live(visit) && is_by(flight_key(moment, visit), flight, day)
 }
 
 // Whether there is a key, and it is of this flight and this day.
@@ -187,12 +189,12 @@ fn is_by(key: Option<Key>, flight: &Flight, day: u32) -> bool
     }
 }
 
-fn key_of(moment: Moment, visit: &Visit) -> Option<Key>
-    ensures is { result ≡ key_of moment visit.now }
+fn flight_key(moment: Happening, visit: &Visit) -> Option<Key>
+    ensures is { result ≡ flight_key moment visit.now }
 {
     match moment {
-        Moment::Touchdown | Moment::OnBlock => visit.arr,
-        Moment::ExpectedOff | Moment::OffBlock => visit.dep,
+        Happening::Touchdown | Happening::OnBlock => visit.arr,
+        Happening::ExpectedOff | Happening::OffBlock => visit.dep,
     }
 }
 
@@ -204,27 +206,27 @@ fn is_same_flight(flight: &Flight, other: &Flight) -> bool
         && flight.suffix == other.suffix
 }
 
-fn changed_by(airport: &Airport, told: &Told, visit: &Visit) -> Option<Visit>
+fn changed_by(airport: &Airport, told: &MessageFacts, visit: &Visit) -> Option<Visit>
     requires minute { told.now.clock.minute < 1440 }
     requires well_formed { IsWellFormed airport.now visit.now }
     requires live { visit.now.end ≡ Live }
     ensures is { result ≡ changed_by airport.now told.now visit.now }
     ensures well_formed { IfSome result (IsWellFormed airport.now) }
 {
-    let at = minute_of(airport, scheduled(told.moment, visit), &told.clock)?;
+    let at = plan_minute_of(airport, scheduled_minute(told.moment, visit), &told.clock)?;
     changed_at(airport, told.moment, at, visit)
 }
 
-fn scheduled(moment: Moment, visit: &Visit) -> Minute
-    ensures is { result ≡ scheduled moment visit.now }
+fn scheduled_minute(moment: Happening, visit: &Visit) -> Minute
+    ensures is { result ≡ scheduled_minute moment visit.now }
 {
     match moment {
-        Moment::Touchdown | Moment::OnBlock => visit.on,
-        Moment::ExpectedOff | Moment::OffBlock => visit.off,
+        Happening::Touchdown | Happening::OnBlock => visit.on,
+        Happening::ExpectedOff | Happening::OffBlock => visit.off,
     }
 }
 
-fn changed_at(airport: &Airport, moment: Moment, at: Minute, visit: &Visit) -> Option<Visit>
+fn changed_at(airport: &Airport, moment: Happening, at: Minute, visit: &Visit) -> Option<Visit>
     requires at { at < plan_end airport.now }
     requires well_formed { IsWellFormed airport.now visit.now }
     requires live { visit.now.end ≡ Live }
@@ -232,20 +234,20 @@ fn changed_at(airport: &Airport, moment: Moment, at: Minute, visit: &Visit) -> O
     ensures well_formed { IfSome result (IsWellFormed airport.now) }
 {
     match moment {
-        Moment::Touchdown => landed(airport, at, visit),
-        Moment::OnBlock => on_block_at(airport, at, visit),
-        Moment::ExpectedOff => Some(estimate_off(visit, airport, at)),
-        Moment::OffBlock => match depart(visit, at) {
+        Happening::Touchdown => visit_after_landing(airport, at, visit),
+        Happening::OnBlock => on_block_at(airport, at, visit),
+        Happening::ExpectedOff => Some(estimate_off(visit, airport, at)),
+        Happening::OffBlock => match depart(visit, at) {
             Ok(new) => Some(new),
             Err(_) => None,
         },
     }
 }
 
-fn landed(airport: &Airport, at: Minute, visit: &Visit) -> Option<Visit>
+fn visit_after_landing(airport: &Airport, at: Minute, visit: &Visit) -> Option<Visit>
     requires at { at < plan_end airport.now }
     requires well_formed { IsWellFormed airport.now visit.now }
-    ensures is { result ≡ landed airport.now at visit.now }
+    ensures is { result ≡ visit_after_landing airport.now at visit.now }
     ensures well_formed { IfSome result (IsWellFormed airport.now) }
 {
     let taxi_in = airport.parts().taxi_in;

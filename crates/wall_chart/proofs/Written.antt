@@ -9,7 +9,7 @@ use Rattle.apron_rules.specs.declared.parts.AirportParts.{AirportParts}
 use Rattle.apron_rules.specs.Neighbours.{first_stands}
 use Rattle.visit_book.specs.Slots.{slots_of}
 use Rattle.plan_core.specs.PlanState.{PlanState}
-use Rattle.wall_chart.specs.Chart.{alarm_lines, chart_text, first_line, part_lines, stand_lines, unplaced_lines}
+use Rattle.wall_chart.specs.Chart.{alarm_lines, chart_first_line, chart_text, part_lines, stand_lines, unplaced_lines}
 use Rattle.wall_chart.specs.Rows.{filled_up}
 
 -- what follows from the promise of a call that went well
@@ -48,7 +48,7 @@ stands_more f old before after n so_far then =
 
 -- the chart from its pieces
 pub whole : (airport : AirportParts) (plan : PlanState) (day : ℕ) (first stands parts unplaced alarmed all : List ℕ)
-    → first ≡ first_line airport plan.version day → stands ≡ first ++ stand_lines airport (slots_of airport plan.visits) day → parts ≡ stands ++ part_lines airport plan day
+    → first ≡ chart_first_line airport plan.version day → stands ≡ first ++ stand_lines airport (slots_of airport plan.visits) day → parts ≡ stands ++ part_lines airport plan day
     → unplaced ≡ parts ++ unplaced_lines airport plan day → alarmed ≡ unplaced ++ alarm_lines airport (slots_of airport plan.visits) day → all ≡ alarmed ++ codes "END\n"
     → all ≡ chart_text airport plan day
 unfolding chart_text

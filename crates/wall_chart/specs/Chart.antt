@@ -9,16 +9,16 @@ use Rattle.plan_core.specs.PlanState.{PlanState}
 use Rattle.wall_chart.specs.Alarms.{alarm_line, alarms}
 use Rattle.wall_chart.specs.Cells.{stand_line}
 use Rattle.wall_chart.specs.Parts.{part_line, parts_of_day}
-use Rattle.wall_chart.specs.Times.{date_text}
+use Rattle.wall_chart.specs.Times.{plan_date_text}
 use Rattle.wall_chart.specs.Unplaced.{unplaced_line, unplaced_on}
 
 -- STAND CHART STATION DATE
 abbrev pub title_text : AirportParts → ℕ → List ℕ
-title_text airport day = codes "STAND CHART " ++ airport.station ++ codes " " ++ date_text airport day
+title_text airport day = codes "STAND CHART " ++ airport.station ++ codes " " ++ plan_date_text airport day
 
 -- the title, and VERSION N
-abbrev pub first_line : AirportParts → ℕ → ℕ → List ℕ
-first_line airport version day = title_text airport day ++ codes " VERSION " ++ decimal version ++ codes "\n"
+abbrev pub chart_first_line : AirportParts → ℕ → ℕ → List ℕ
+chart_first_line airport version day = title_text airport day ++ codes " VERSION " ++ decimal version ++ codes "\n"
 
 -- a line for each stand, in order
 abbrev pub stand_lines : AirportParts → List Slot → ℕ → List ℕ
@@ -39,7 +39,7 @@ alarm_lines airport slots day = codes "ALARMS\n" ++ flat_map alarm_line (alarms 
 -- the chart of a day of the plan
 unfoldable pub chart_text : AirportParts → PlanState → ℕ → List ℕ
 chart_text airport plan day =
-    first_line airport plan.version day
+    chart_first_line airport plan.version day
     ++ stand_lines airport (slots_of airport plan.visits) day
     ++ part_lines airport plan day
     ++ unplaced_lines airport plan day

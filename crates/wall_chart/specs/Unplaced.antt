@@ -11,13 +11,13 @@ use Rattle.plan_core.specs.PlanState.{PlanState}
 use Rattle.desk_words.specs.PartObjects.{rule_word}
 use Rattle.desk_words.specs.declared.replies.PartRow.{PartRow}
 use Rattle.plan_lists.specs.OfDay.{is_of_day}
-use Rattle.plan_lists.specs.Unplaced.{unplaced}
+use Rattle.plan_lists.specs.Unplaced.{unplaced_parts}
 use Rattle.wall_chart.specs.Rows.{part_text, row_text}
 use Rattle.wall_chart.specs.Times.{time_text}
 
 -- the parts of live visits that wait for a stand and have a minute of the day, by rank
 abbrev pub unplaced_on : PlanState → ℕ → List PartRow
-unplaced_on plan day = filter (is_of_day day) (unplaced plan)
+unplaced_on plan day = filter (is_of_day day) (unplaced_parts plan)
 
 -- what took the stand, and in which entry
 abbrev pub blocker_text : Bump → List ℕ

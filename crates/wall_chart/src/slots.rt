@@ -61,7 +61,7 @@ fn push_slots_of_visit(
 {
     let parts = visit.parts.as_slice();
     for index in 0..parts.len() {
-        push_some(
+        push_slot(
             slots,
             slot_of(airport, visit, index as u8 + 1, &parts[index]),
         )?;
@@ -69,7 +69,7 @@ fn push_slots_of_visit(
     Ok(())
 }
 
-fn push_some(slots: &mut Vec<Slot>, slot: Option<Slot>) -> Result<(), Memory>
+fn push_slot(slots: &mut Vec<Slot>, slot: Option<Slot>) -> Result<(), Memory>
     ensures ok { OnOk result (slots.new.items ≡ slots.old.items ++ option_to_list slot) }
 {
     if let Some(slot) = slot {

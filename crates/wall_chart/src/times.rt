@@ -3,7 +3,7 @@ ghost use Rattle.std.specs.Prelude.{◌≡◌, ◌≤◌, ◌<◌, ◌*◌, ◌+
 ghost use Rattle.apron_rules.specs.declared.limits.TheConstants.{MAX_DAYS};
 ghost use Rattle.mvt_grammar.specs.Canonical.{two_text};
 ghost use Rattle.plan_lists.specs.Days.{day_start};
-ghost use Rattle.wall_chart.specs.Times.{clock_text, span_text, time_text};
+ghost use Rattle.wall_chart.specs.Times.{hour_and_minute, span_text, time_text};
 
 use apron_base::{Memory, Minute};
 use itoa::Buffer;
@@ -49,9 +49,9 @@ pub(crate) fn push_two(text: &mut Vec<u8>, number: u32) -> Result<(), Memory>
     Ok(())
 }
 
-fn push_clock(text: &mut Vec<u8>, minute: u32) -> Result<(), Memory>
+fn push_hour_and_minute(text: &mut Vec<u8>, minute: u32) -> Result<(), Memory>
     requires small { minute < 1440 }
-    ensures text { OnOk result (text.new.items ≡ text.old.items ++ clock_text minute) }
+    ensures text { OnOk result (text.new.items ≡ text.old.items ++ hour_and_minute minute) }
 {
     push_two(text, minute / 60)?;
     push_two(text, minute % 60)
@@ -64,7 +64,7 @@ pub fn push_time(text: &mut Vec<u8>, minute: Minute) -> Result<(), Memory>
 {
     push_number(text, minute / DAY_LENGTH + 1)?;
     text.push(b'/')?;
-    push_clock(text, minute % DAY_LENGTH)
+    push_hour_and_minute(text, minute % DAY_LENGTH)
 }
 
 /// Writes two minutes at the end, the first to the second.

@@ -9,7 +9,7 @@ use apron_base::Memory;
 use apron_rules::AirportParts;
 use desk_words::replies::PartRow;
 use plan_core::Plan;
-use plan_lists::{is_of_day, unplaced};
+use plan_lists::{is_of_day, unplaced_parts};
 use std::alloc::Global;
 use visit_book::{Bump, Place};
 
@@ -36,7 +36,7 @@ fn unplaced_on(alloc: Global, plan: &Plan, day: u32) -> Result<Vec<PartRow>, Mem
     requires first { 1 ≤ day }
     ensures are { IfOk result (λ rows. rows.items ≡ unplaced_on plan.now.plan day) }
 {
-    let mut rows = unplaced(alloc, plan)?.into_vec();
+    let mut rows = unplaced_parts(alloc, plan)?.into_vec();
     rows.retain(|row| is_of_day(day, row));
     Ok(rows)
 }

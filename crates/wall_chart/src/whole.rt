@@ -1,7 +1,7 @@
 // The wall chart of a day.
 ghost use Rattle.std.specs.Prelude.{◌≡◌, ◌≤◌, ◌<◌, ◌++◌, IfOk, OnOk};
 ghost use Rattle.apron_rules.specs.Rules.{IsAirport};
-ghost use Rattle.wall_chart.specs.Chart.{chart_text, first_line, title_text};
+ghost use Rattle.wall_chart.specs.Chart.{chart_first_line, chart_text, title_text};
 
 use crate::alarms::push_alarm_lines;
 use crate::cells::push_stand_lines;
@@ -48,7 +48,7 @@ fn chart_from<L: Ledger>(
     let parts = airport.parts();
     let mut steps = Steps::<L>::new(blank);
     let mut text = Vec::new(alloc);
-    push_first_line(&mut text, parts, plan.version(), day)?;
+    push_chart_first_line(&mut text, parts, plan.version(), day)?;
     push_stand_lines(alloc, &mut text, parts, plan, day, &mut steps)?;
     push_part_lines(alloc, &mut text, airport, plan, day)?;
     push_unplaced_lines(alloc, &mut text, parts, plan, day)?;
@@ -57,7 +57,7 @@ fn chart_from<L: Ledger>(
     Ok(Listed::from_vec(text))
 }
 
-fn push_first_line(
+fn push_chart_first_line(
     text: &mut Vec<u8>,
     airport: &AirportParts,
     version: u32,
@@ -65,7 +65,7 @@ fn push_first_line(
 ) -> Result<(), Memory>
     requires airport { IsAirport airport.now }
     requires day { day ≤ airport.now.days }
-    ensures text { OnOk result (text.new.items ≡ text.old.items ++ first_line airport.now version day) }
+    ensures text { OnOk result (text.new.items ≡ text.old.items ++ chart_first_line airport.now version day) }
 {
     push_title(text, airport, day)?;
     text.extend_from_slice(b" VERSION ")?;

@@ -12,10 +12,10 @@ use Rattle.desk_words.specs.declared.asks.Entry.{Entry}
 use Rattle.desk_words.specs.declared.asks.What.{What}
 use Rattle.desk_words.specs.declared.asks.What.TheVariants.{Change, Version as AskVersion, Visit as AskVisit, Plan as AskPlan, Unplaced as AskUnplaced, Chart as AskChart, Entry as AskEntry, Airport as AskAirport, Day as AskDay}
 use Rattle.desk_words.specs.declared.replies.Reply.{Reply}
-use Rattle.desk_words.specs.declared.replies.Told.TheVariants.{Ahead}
-use Rattle.history_core.specs.Answer.{ActsAs, Given, Gives, Replies, Sought, added, changes, keeper_fault, no_memory, replied, sought, sought_of, told}
+use Rattle.desk_words.specs.declared.replies.ReplyBody.TheVariants.{Ahead}
+use Rattle.history_core.specs.Answer.{ActsAs, Given, GivesAnswer, Replies, Sought, added_entries, ask_outcome, changes, keeper_fault, no_memory, replied, sought_of, told}
 use Rattle.history_core.specs.History.{call_of, replay}
-use Rattle.history_core.specs.Steps.{IsTaken, Stepped, Steps, accepted, ahead, full, refused, repeated}
+use Rattle.history_core.specs.Steps.{IsTaken, Stepped, TakenAs, accepted, ahead, full, refused, repeated}
 
 -- a history with one more entry, of a command that was asked for and is taken
 pub record HasGrown (airport : AirportParts) (before : List Entry) (call : ℕ) (what : What) (after : List Entry) : Type 0 where
@@ -47,7 +47,7 @@ asked_if plan history what command false is = asked_of plan history what command
 
 -- the entries after a step
 after_step : (plan : PlanState) (before : List Entry) (call : ℕ) (command : Command) (stepped : Stepped) (after : List Entry)
-    → Steps plan (length before) command stepped → after ≡ before ++ added call command stepped
+    → TakenAs plan (length before) command stepped → after ≡ before ++ added_entries call command stepped
     → (after ≡ before) ⊎ (IsTaken plan command × (after ≡ with_last (record { call = call; command = command }) before))
 after_step plan before call command accepted after steps is = inr (steps.0, is)
 after_step plan before call command ahead after steps is = inl (is ∙ append-nil before)
@@ -56,7 +56,7 @@ after_step plan before call command (refused why) after steps is = inl (is ∙ a
 after_step plan before call command full after steps is = inl (is ∙ append-nil before)
 
 module _ (airport : AirportParts) (before : List Entry) (call : ℕ) (ask : Ask) (after : List Entry) where
-  after_reply : (asked : Sought) (reply : Reply) → sought (replay airport before) before ask ≡ asked
+  after_reply : (asked : Sought) (reply : Reply) → ask_outcome (replay airport before) before ask ≡ asked
       → Replies (replay airport before) before call asked reply after → Leaves airport before call ask.what after
   after_reply (told what) reply is replies = inl replies.1
   after_reply (changes command) reply is (stepped, steps, reply_is, after_is) = ⊎_elim
@@ -69,8 +69,8 @@ module _ (airport : AirportParts) (before : List Entry) (call : ℕ) (ask : Ask)
       }))
       (after_step (replay airport before) before call command stepped after steps after_is)
 
-  after_given : (given : Given) → Gives airport before call ask given after → Leaves airport before call ask.what after
-  after_given (replied reply) gives = after_reply (sought (replay airport before) before ask) reply refl gives
+  after_given : (given : Given) → GivesAnswer airport before call ask given after → Leaves airport before call ask.what after
+  after_given (replied reply) gives = after_reply (ask_outcome (replay airport before) before ask) reply refl gives
   after_given no_memory gives = inl gives
   after_given keeper_fault gives = inl gives.1
 

@@ -15,11 +15,11 @@ use Rattle.desk_words.specs.declared.asks.Command.{Command}
 use Rattle.desk_words.specs.declared.asks.Entry.{Entry}
 use Rattle.desk_words.specs.declared.asks.What.TheVariants.{Change}
 use Rattle.desk_words.specs.declared.replies.Reply.{Reply}
-use Rattle.desk_words.specs.declared.replies.Told.TheVariants.{Ahead}
-use Rattle.history_core.specs.Answer.{ActsAs, Given, Gives, Replies, added, changes, keeper_fault, no_memory, replied, shown, told}
+use Rattle.desk_words.specs.declared.replies.ReplyBody.TheVariants.{Ahead}
+use Rattle.history_core.specs.Answer.{ActsAs, Given, GivesAnswer, Replies, acted_from, added_entries, changes, keeper_fault, no_memory, replied, told}
 use Rattle.history_core.specs.History.{IsLegal, call_limit, call_of, replay}
 use Rattle.history_core.specs.Opening.{next_after, next_from}
-use Rattle.history_core.specs.Steps.{Stepped, Steps, accepted, ahead, full, refused, repeated, stepped_reply}
+use Rattle.history_core.specs.Steps.{Stepped, TakenAs, accepted, ahead, full, refused, repeated, stepped_reply}
 use Rattle.history_core.proofs.Legal.{front_legal}
 use Rattle.history_core.proofs.Openings.{answered_is_not_next, called_too_early}
 use Rattle.history_core.proofs.Replay.{taken_of}
@@ -43,14 +43,14 @@ module _ (airport : AirportParts) (before : List Entry) (entry : Entry) (legal :
       (cases_lt entry.call (next_from 1 before))
 
   module _ (after : List Entry) where
-    not_answered : (stepped : Stepped) → stepped ≢ accepted → Steps (replay airport before) (length before) entry.command stepped → after ≡ with_last entry before
+    not_answered : (stepped : Stepped) → stepped ≢ accepted → TakenAs (replay airport before) (length before) entry.command stepped → after ≡ with_last entry before
     not_answered stepped other steps = absurd (answered_is_not_next airport (replay airport before) before (next_after before) entry
         (stepped_reply (replay airport before) entry.command stepped)
         (record { legal = front_legal airport before (entry ∷ []) legal; plan_is = refl; next_is = refl })
         (record { stepped = stepped; steps = steps; other = other; is = refl }) legal)
 
-    after_step : (stepped : Stepped) → Steps (replay airport before) (length before) entry.command stepped
-        → after ≡ before ++ added entry.call entry.command stepped → after ≡ with_last entry before
+    after_step : (stepped : Stepped) → TakenAs (replay airport before) (length before) entry.command stepped
+        → after ≡ before ++ added_entries entry.call entry.command stepped → after ≡ with_last entry before
     after_step accepted steps is = is
     after_step ahead steps is = not_answered ahead (λ same. absurd (cc)) steps
     after_step (repeated number) steps is = not_answered (repeated number) (λ same. absurd (cc)) steps
@@ -62,8 +62,8 @@ module _ (airport : AirportParts) (before : List Entry) (entry : Entry) (legal :
     after_reply true reply is replies = absurd (cc)
     after_reply false reply is (stepped, steps, reply_is, after_is) = after_step stepped steps after_is
 
-    after_given : (given : Given) (bytes : List ℕ) → Replied bytes ≡ shown airport given
-        → Gives airport before entry.call (record { seen = 0; what = Change entry.command }) given after → after ≡ with_last entry before
+    after_given : (given : Given) (bytes : List ℕ) → Replied bytes ≡ acted_from airport given
+        → GivesAnswer airport before entry.call (record { seen = 0; what = Change entry.command }) given after → after ≡ with_last entry before
     after_given (replied reply) bytes is gives =
         after_reply (nat_lt (replay airport before).version 0) reply (grind (arith, nat_tests)) gives
     after_given no_memory bytes is gives = absurd (cc)

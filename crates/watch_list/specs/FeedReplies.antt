@@ -7,8 +7,8 @@ use Rattle.apron_rules.specs.declared.parts.AirportParts.{AirportParts}
 use Rattle.desk_words.specs.FaultObjects.{refused_data}
 use Rattle.desk_words.specs.PartObjects.{part_data, rule_word, stand_data, whole}
 use Rattle.desk_words.specs.Texts.{json_media, text_of, version_line}
-use Rattle.watch_list.specs.declared.feed_words.Fed.{Fed}
-use Rattle.watch_list.specs.declared.feed_words.Fed.TheVariants.{Ahead, NoWatch, Notes}
+use Rattle.watch_list.specs.declared.feed_words.FeedOutcome.{FeedOutcome}
+use Rattle.watch_list.specs.declared.feed_words.FeedOutcome.TheVariants.{Ahead, NoWatch, Notes}
 use Rattle.watch_list.specs.declared.note.Note.{Note}
 
 -- {"blocker":PART,"class":C,"entry":N,"minute":M,"part":PART,"rule":WORD,"stand":STAND}
@@ -29,17 +29,17 @@ notes_data airport notes version =
     (member (codes "version") (whole version) no_members))
 
 -- the body of what a feed comes to, in a reply that shows this version
-abbrev pub fed_data : AirportParts → ℕ → Fed → Data
+abbrev pub fed_data : AirportParts → ℕ → FeedOutcome → Data
 fed_data airport version Ahead = refused_data (codes "ahead") version
 fed_data airport version NoWatch = refused_data (codes "watch") version
 fed_data airport version (Notes notes) = notes_data airport notes version
 
 -- the code for what a feed comes to
-abbrev pub fed_code : Fed → ℕ
+abbrev pub fed_code : FeedOutcome → ℕ
 fed_code Ahead = 409
 fed_code NoWatch = 404
 fed_code (Notes notes) = 200
 
 -- a reply's whole text
-unfoldable pub fed_text : AirportParts → ℕ → Fed → List ℕ
+unfoldable pub fed_text : AirportParts → ℕ → FeedOutcome → List ℕ
 fed_text airport version fed = text_of (fed_code fed) json_media (version_line version ∷ []) (compact_text (fed_data airport version fed))

@@ -7,11 +7,11 @@ use Rattle.apron_base.specs.declared.outside.Acted.TheVariants.{Reply, Memory}
 use Rattle.desk_words.specs.declared.asks.Entry.{Entry}
 use Rattle.desk_words.specs.declared.asks.What.TheVariants.{Change}
 use Rattle.history_core.specs.Answer.{ActsLegally}
-use Rattle.history_core.specs.AtRisk.{entry_at_risk}
+use Rattle.history_core.specs.AtRisk.{read_entry_at_risk}
 use Rattle.history_core.specs.Board.{BoardHeld}
 use Rattle.history_core.specs.History.{IsAskOf, IsLegal, replay}
-use Rattle.watch_list.specs.declared.feed_words.Fed.{Fed}
-use Rattle.watch_list.specs.declared.feed_words.Fed.TheVariants.{Ahead, NoWatch, Notes}
+use Rattle.watch_list.specs.declared.feed_words.FeedOutcome.{FeedOutcome}
+use Rattle.watch_list.specs.declared.feed_words.FeedOutcome.TheVariants.{Ahead, NoWatch, Notes}
 use Rattle.watch_list.specs.declared.note.Note.{Note}
 use Rattle.watch_list.specs.declared.watch.Watched.{Watched}
 use Rattle.watch_list.specs.declared.watch_asks.WatchAsk.{WatchAsk}
@@ -36,7 +36,7 @@ abbrev pub watch_state : {K R : Type 0} → (K → KeeperState) → WatchHeld K 
 watch_state tells held = record {
   fixed = watch_fixed held;
   history = held.board.history;
-  at_risk = entry_at_risk held.board.airport (tells held.board.keeper);
+  at_risk = read_entry_at_risk held.board.airport (tells held.board.keeper);
   next = held.next;
   faults = (tells held.board.keeper).faults;
 }
@@ -52,27 +52,27 @@ CanAdd (Plain ask) entry = ask.what ≡ Change entry.command
 CanAdd (Feed seen watch after) entry = ⊥
 
 -- a feed: the greatest version that was seen, the name of the watch, and the entry after which its notes are wanted
-pub record FeedAsk : Type 0 where
+pub record WatchFeedAsk : Type 0 where
   pub seen : ℕ
   pub watch : List ℕ
   pub after : ℕ
 
 -- the notes after an entry that the watch tells of, or that there is no watch
-abbrev pub fed_by : {R : Type 0} → (R → Note → Bool) → ℕ → List Note → Option (Watched R) → Fed
+abbrev pub fed_by : {R : Type 0} → (R → Note → Bool) → ℕ → List Note → Option (Watched R) → FeedOutcome
 fed_by tells after notes None = NoWatch
 fed_by tells after notes (Some watch) = Notes (feed (tells watch.stated) after notes)
 
 -- what a feed comes to at a history: it is ahead of the version, or is of the watch of its name
-abbrev pub fed : {R : Type 0} → (R → Note → Bool) → WatchFixed R → List Entry → FeedAsk → Fed
-fed tells fixed history ask =
+abbrev pub feed_outcome : {R : Type 0} → (R → Note → Bool) → WatchFixed R → List Entry → WatchFeedAsk → FeedOutcome
+feed_outcome tells fixed history ask =
     let version = (replay fixed.airport history).version in
     if nat_lt version ask.seen || nat_lt version ask.after then Ahead
     else fed_by tells ask.after (notes_of fixed.airport history) (watch_named fixed.watches ask.watch)
 
 -- the reply to a feed at a history
-abbrev pub feed_reply : {R : Type 0} → (R → Note → Bool) → WatchFixed R → List Entry → FeedAsk → List ℕ
+abbrev pub feed_reply : {R : Type 0} → (R → Note → Bool) → WatchFixed R → List Entry → WatchFeedAsk → List ℕ
 feed_reply tells fixed history ask =
-    fed_text fixed.airport (replay fixed.airport history).version (fed tells fixed history ask)
+    fed_text fixed.airport (replay fixed.airport history).version (feed_outcome tells fixed history ask)
 
 -- the answer is this reply, or there is no memory
 abbrev pub IsReplyOrMemory : List ℕ → Acted → Type 0
@@ -81,7 +81,7 @@ IsReplyOrMemory text Memory = Unit {0}
 IsReplyOrMemory text _ = ⊥
 
 -- a feed found a legal history and left it
-pub record FeedsLegally {R : Type 0} (tells : R → Note → Bool) (fixed : WatchFixed R) (before : List Entry) (ask : FeedAsk) (acted : Acted)
+pub record FindsLegalHistory {R : Type 0} (tells : R → Note → Bool) (fixed : WatchFixed R) (before : List Entry) (ask : WatchFeedAsk) (acted : Acted)
     (after : List Entry) : Type 0 where
   pub found : IsLegal fixed.airport before
   pub acts : IsReplyOrMemory (feed_reply tells fixed before ask) acted
@@ -91,4 +91,4 @@ pub record FeedsLegally {R : Type 0} (tells : R → Note → Bool) (fixed : Watc
 abbrev pub WatchAnswers : {R : Type 0} → (R → Note → Bool) → WatchFixed R → List Entry → ℕ → WatchAsk → Acted → List Entry → Type 0
 WatchAnswers tells fixed before call (Plain ask) acted after = ActsLegally fixed.airport before call ask acted after
 WatchAnswers tells fixed before call (Feed seen watch entry) acted after =
-    FeedsLegally tells fixed before (record { seen = seen; watch = watch; after = entry }) acted after
+    FindsLegalHistory tells fixed before (record { seen = seen; watch = watch; after = entry }) acted after

@@ -19,36 +19,36 @@ shows shown note =
     nat_le note.class shown.top_class && is_at shown.stand note.stand && nat_le shown.from note.minute && nat_lt note.minute shown.until
 
 -- the watch has this name
-abbrev pub is_named : {R : Type 0} → List ℕ → Watched R → Bool
-is_named name watch = bytes_eq name watch.name
+abbrev pub is_watch_named : {R : Type 0} → List ℕ → Watched R → Bool
+is_watch_named name watch = bytes_eq name watch.name
 
 -- the watch of a name
 abbrev pub watch_named : {R : Type 0} → List (Watched R) → List ℕ → Option (Watched R)
-watch_named watches name = find (is_named name) watches
+watch_named watches name = find (is_watch_named name) watches
 
 -- the most watches of a list
 abbrev pub most_watches : ℕ
 most_watches = 16
 
 -- no two watches have one name
-abbrev pub HaveDifferentNames : {R : Type 0} → List (Watched R) → Type 0
-HaveDifferentNames [] = Unit {0}
-HaveDifferentNames (watch ∷ watches) = (watch_named watches watch.name ≡ None) × HaveDifferentNames watches
+abbrev pub WatchesHaveDifferentNames : {R : Type 0} → List (Watched R) → Type 0
+WatchesHaveDifferentNames [] = Unit {0}
+WatchesHaveDifferentNames (watch ∷ watches) = (watch_named watches watch.name ≡ None) × WatchesHaveDifferentNames watches
 
 -- there are not too many watches, and each has a name of its own
 pub record AreWatches {R : Type 0} (watches : List (Watched R)) : Type 0 where
   pub few : length watches ≤ most_watches
-  pub named : HaveDifferentNames watches
+  pub named : WatchesHaveDifferentNames watches
 
 -- no watch has the name of this one, and there are not too many
-abbrev pub HasPlace : {R : Type 0} → List (Watched R) → Watched R → Type 0
-HasPlace watches watch = (watch_named watches watch.name ≡ None) × (length watches < most_watches)
+abbrev pub CanAddWatch : {R : Type 0} → List (Watched R) → Watched R → Type 0
+CanAddWatch watches watch = (watch_named watches watch.name ≡ None) × (length watches < most_watches)
 
 -- why the watch is not put to these: its name is taken; or it is not, and they are full; or there is a place, but no memory
-abbrev pub IsRefused : {R : Type 0} → List (Watched R) → Watched R → WatchFault → Type 0
-IsRefused watches watch Taken = IsSome (watch_named watches watch.name)
-IsRefused watches watch Full = (watch_named watches watch.name ≡ None) × (length watches ≡ most_watches)
-IsRefused watches watch Memory = HasPlace watches watch
+abbrev pub IsWatchRefused : {R : Type 0} → List (Watched R) → Watched R → WatchFault → Type 0
+IsWatchRefused watches watch Taken = IsSome (watch_named watches watch.name)
+IsWatchRefused watches watch Full = (watch_named watches watch.name ≡ None) × (length watches ≡ most_watches)
+IsWatchRefused watches watch Memory = CanAddWatch watches watch
 
 -- the note is of an entry after this one
 abbrev pub is_later : ℕ → Note → Bool

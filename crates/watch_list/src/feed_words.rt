@@ -23,7 +23,7 @@ const MOST_OTHER: usize = 64;
 
 /// What a feed comes to.
 #[derive(Debug, Drop)]
-pub(crate) enum Fed {
+pub(crate) enum FeedOutcome {
     /// A later version or entry was seen than the plan has.
     Ahead,
     /// No watch has the name.
@@ -38,7 +38,7 @@ pub(crate) fn fed_bytes(
     alloc: Global,
     airport: &Airport,
     version: u32,
-    fed: &Fed,
+    fed: &FeedOutcome,
 ) -> Result<Listed<u8>, Memory>
     ensures text { IfOk result (λ bytes. bytes ≡ fed_text airport.now version fed.now) }
 {
@@ -46,13 +46,13 @@ pub(crate) fn fed_bytes(
     text_of(alloc, fed_code(fed), JSON, version, body.as_slice())
 }
 
-fn fed_code(fed: &Fed) -> StatusCode
+fn fed_code(fed: &FeedOutcome) -> StatusCode
     ensures is { result ≡ fed_code fed.now }
 {
     match fed {
-        Fed::Ahead => StatusCode::CONFLICT,
-        Fed::NoWatch => StatusCode::NOT_FOUND,
-        Fed::Notes { .. } => StatusCode::OK,
+        FeedOutcome::Ahead => StatusCode::CONFLICT,
+        FeedOutcome::NoWatch => StatusCode::NOT_FOUND,
+        FeedOutcome::Notes { .. } => StatusCode::OK,
     }
 }
 
@@ -60,7 +60,7 @@ fn fed_body(
     alloc: Global,
     airport: &AirportParts,
     version: u32,
-    fed: &Fed,
+    fed: &FeedOutcome,
 ) -> Result<Vec<u8>, Memory>
     ensures text { IfOk result
         (λ body. body.items ≡ compact_text (fed_data airport.now version fed.now)) }
@@ -71,10 +71,10 @@ fn fed_body(
 }
 
 // Bytes in which each body is written without asking for memory again.
-fn room_for(fed: &Fed) -> usize {
+fn room_for(fed: &FeedOutcome) -> usize {
     let listed = match fed {
-        Fed::Notes { notes } => notes.as_slice().len().saturating_mul(MOST_NOTE),
-        Fed::Ahead | Fed::NoWatch => 0,
+        FeedOutcome::Notes { notes } => notes.as_slice().len().saturating_mul(MOST_NOTE),
+        FeedOutcome::Ahead | FeedOutcome::NoWatch => 0,
     };
     listed.saturating_add(MOST_OTHER)
 }
@@ -83,15 +83,15 @@ fn push_fed(
     bytes: &mut Vec<u8>,
     airport: &AirportParts,
     version: u32,
-    fed: &Fed,
+    fed: &FeedOutcome,
 ) -> Result<(), Memory>
     ensures text { OnOk result
         (bytes.new.items ≡ bytes.old.items ++ compact_text (fed_data airport.now version fed.now)) }
 {
     match fed {
-        Fed::Ahead => push_refused(bytes, b"ahead", version),
-        Fed::NoWatch => push_refused(bytes, b"watch", version),
-        Fed::Notes { notes } => push_notes(bytes, airport, notes.as_slice(), version),
+        FeedOutcome::Ahead => push_refused(bytes, b"ahead", version),
+        FeedOutcome::NoWatch => push_refused(bytes, b"watch", version),
+        FeedOutcome::Notes { notes } => push_notes(bytes, airport, notes.as_slice(), version),
     }
 }
 

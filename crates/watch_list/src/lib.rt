@@ -2,7 +2,7 @@
 #![tactic(auto)]
 
 mod entry_notes;
-mod fed;
+mod feed;
 mod feed_words;
 mod later;
 mod note;
@@ -12,7 +12,7 @@ mod watch_asks;
 mod watch_board;
 mod watches;
 
-pub use fed::feed;
+pub use feed::feed;
 pub use note::{Note, Shown, Stated};
 pub use noted_board::notes_of;
 pub use watch::{NoteTest, TestBy, Watch, Watched};

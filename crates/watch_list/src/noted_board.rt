@@ -2,14 +2,14 @@
 ghost use Rattle.std.specs.Prelude.{◌≡◌, ◌≤◌, ◌<◌, ◌+◌, ◌++◌, ◌&&◌, [], length, None, IfErr, IfOk, IfSome, OnOk, if◌then◌else◌};
 ghost use Rattle.apron_base.specs.Counts.{Counts};
 ghost use Rattle.apron_base.specs.Keeper.{with_last};
-ghost use Rattle.apron_base.specs.Machine.{is_fault, standing};
+ghost use Rattle.apron_base.specs.Machine.{history_at_risk_of, is_fault};
 ghost use Rattle.plan_core.specs.PlanState.{IsPlan};
 ghost use Rattle.history_core.specs.Answer.{ActsAs};
 ghost use Rattle.history_core.specs.AtRisk.{LeavesAtRisk};
 ghost use Rattle.history_core.specs.Board.{entry_texts, machine_state};
 ghost use Rattle.history_core.specs.Bumped.{last_bumped};
 ghost use Rattle.history_core.specs.History.{IsAskOf, IsLegal, call_limit};
-ghost use Rattle.history_core.specs.Opening.{CannotOpen, Opens};
+ghost use Rattle.history_core.specs.Opening.{CannotOpen, OpensBoard};
 ghost use Rattle.watch_list.specs.HistoryNotes.{HasNoteRoom, last_notes, may_bump, notes_of};
 ghost use Rattle.watch_list.specs.Notes.{notes_by};
 
@@ -65,7 +65,7 @@ impl<'a, K: Keeper> NotedBoard<'a, K> {
         requires entries { IfSome (K.state keeper).entries (λ kept. kept ≡ entries.items) }
         requires number { (K.state keeper).number ≡ length entries.items }
         requires at_risk { (K.state keeper).at_risk ≡ None }
-        ensures opened { IfOk result (Opens airport.entry.now keeper entries.items) }
+        ensures opened { IfOk result (OpensBoard airport.entry.now keeper entries.items) }
         ensures refused { IfErr result (λ refusal. CannotOpen airport.entry.now entries.items refusal.0) }
         ensures back { IfErr result (λ refusal. refusal.1 ≡ keeper) }
     {
@@ -107,7 +107,7 @@ impl<'a, K: Keeper> NotedBoard<'a, K> {
         ensures found { IsLegal self.old.airport self.old.history }
         ensures legal { IsLegal self.new.airport self.new.history }
         ensures faults { Counts (is_fault result) (K.state self.old.keeper).faults (K.state self.new.keeper).faults }
-        ensures at_risk { LeavesAtRisk (standing (machine_state K.state self.old)) call ask.now.what (is_fault result) (standing (machine_state K.state self.new)) }
+        ensures at_risk { LeavesAtRisk (history_at_risk_of (machine_state K.state self.old)) call ask.now.what (is_fault result) (history_at_risk_of (machine_state K.state self.new)) }
     {
         let entries = self.board.history().len();
         if make_room(&mut self.notes, self.board.plan(), &ask.what).is_err() {

@@ -2,17 +2,17 @@
 ghost use Rattle.std.specs.Prelude.{◌≡◌, ◌≤◌, ◌<◌, ◌+◌, length, None, IfErr, IfOk, IfSome};
 ghost use Rattle.apron_base.specs.Counts.{Counts};
 ghost use Rattle.apron_base.specs.Histories.{Rises};
-ghost use Rattle.apron_base.specs.Machine.{is_fault, standing};
+ghost use Rattle.apron_base.specs.Machine.{history_at_risk_of, is_fault};
 ghost use Rattle.history_core.specs.Answer.{ActsAs};
 ghost use Rattle.history_core.specs.AtRisk.{LeavesAtRisk};
 ghost use Rattle.history_core.specs.Board.{machine_state};
 ghost use Rattle.history_core.specs.History.{IsAskOf, IsLegal, call_limit, call_of, replay};
-ghost use Rattle.history_core.specs.Opening.{CannotOpen, Opens};
+ghost use Rattle.history_core.specs.Opening.{CannotOpen, OpensBoard};
 ghost use Rattle.watch_list.specs.HistoryNotes.{notes_of};
-ghost use Rattle.watch_list.specs.WatchBoards.{fed, feed_reply, watch_fixed};
+ghost use Rattle.watch_list.specs.WatchBoards.{feed_outcome, feed_reply, watch_fixed};
 
-use crate::fed::feed;
-use crate::feed_words::{Fed, fed_bytes};
+use crate::feed::feed;
+use crate::feed_words::{FeedOutcome, fed_bytes};
 use crate::later::later_notes;
 use crate::note::{Note, Stated};
 use crate::noted_board::{NotedBoard, notes_of};
@@ -80,7 +80,7 @@ impl<'w, 'a, K: Keeper, R: Stated, T: NoteTest> WatchBoard<'w, 'a, K, R, T> {
         requires entries { IfSome (K.state keeper).entries (λ kept. kept ≡ entries.items) }
         requires number { (K.state keeper).number ≡ length entries.items }
         requires at_risk { (K.state keeper).at_risk ≡ None }
-        ensures opened { IfOk result (λ made. Opens airport.entry.now keeper entries.items made.board) }
+        ensures opened { IfOk result (λ made. OpensBoard airport.entry.now keeper entries.items made.board) }
         ensures watches { IfOk result (λ made. made.watches ≡ watches.entry.now) }
         ensures next { IfOk result (λ made. made.next ≡ made.board.next) }
         ensures refused { IfErr result (λ refusal. CannotOpen airport.entry.now entries.items refusal.0) }
@@ -148,8 +148,8 @@ impl<'w, 'a, K: Keeper, R: Stated, T: NoteTest> WatchBoard<'w, 'a, K, R, T> {
         ensures found { IsLegal self.old.board.airport self.old.board.history }
         ensures legal { IsLegal self.new.board.airport self.new.board.history }
         ensures faults { Counts (is_fault result) (K.state self.old.board.keeper).faults (K.state self.new.board.keeper).faults }
-        ensures at_risk { LeavesAtRisk (standing (machine_state K.state self.old.board)) call ask.now.what (is_fault result)
-            (standing (machine_state K.state self.new.board)) }
+        ensures at_risk { LeavesAtRisk (history_at_risk_of (machine_state K.state self.old.board)) call ask.now.what (is_fault result)
+            (history_at_risk_of (machine_state K.state self.new.board)) }
     {
         self.next = call + 1;
         self.noted.ask(alloc, call, ask)
@@ -171,37 +171,37 @@ impl<'w, 'a, K: Keeper, R: Stated, T: NoteTest> WatchBoard<'w, 'a, K, R, T> {
         // It has a legal history.
         let _history = board.history();
         let version = board.plan().version();
-        let fed = self.fed(alloc, version, seen, watch, after)?;
+        let fed = self.feed_outcome(alloc, version, seen, watch, after)?;
         fed_bytes(alloc, board.airport(), version, &fed)
     }
 
     // What a feed comes to at a plan of this version.
-    fn fed(
+    fn feed_outcome(
         &self,
         alloc: Global,
         version: u32,
         seen: u32,
         watch: &Name,
         after: u32,
-    ) -> Result<Fed, Memory>
+    ) -> Result<FeedOutcome, Memory>
         requires version { version ≡ (replay self.now.board.airport self.now.board.history).version }
         ensures is { IfOk result (λ made. made
-            ≡ fed R.tells (watch_fixed self.now) self.now.board.history (record { seen = seen; watch = watch.now; after = after })) }
+            ≡ feed_outcome R.tells (watch_fixed self.now) self.now.board.history (record { seen = seen; watch = watch.now; after = after })) }
     {
         if seen > version || after > version {
-            return Ok(Fed::Ahead);
+            return Ok(FeedOutcome::Ahead);
         }
         let Some(watch) = self.watches.find(watch) else {
-            return Ok(Fed::NoWatch);
+            return Ok(FeedOutcome::NoWatch);
         };
         let notes = feed(alloc, later_notes(self.noted.notes(), after), watch, after)?;
-        Ok(Fed::Notes {
+        Ok(FeedOutcome::Notes {
             notes: Listed::from_vec(notes),
         })
     }
 }
 
-fn acted_of(reply: Result<Listed<u8>, Memory>) -> Acted
+fn acted_with_reply(reply: Result<Listed<u8>, Memory>) -> Acted
     ensures is { IfOk reply (λ bytes. result ≡ Acted.Reply bytes) }
     ensures memory { IfErr reply (λ why. result ≡ Acted.Memory) }
 {
@@ -245,7 +245,7 @@ impl<'w, 'a, K: Keeper, R: Stated, T: NoteTest> Machine for WatchBoard<'w, 'a, K
             WatchAsk::Feed { seen, watch, after } => {
                 let reply = self.feed_reply(alloc, *seen, watch, *after);
                 self.next = call + 1;
-                acted_of(reply)
+                acted_with_reply(reply)
             }
         }
     }

@@ -2,7 +2,7 @@
 ghost use Rattle.std.specs.Prelude.{◌≡◌, [], IfErr, IfOk, OnErr, OnOk};
 ghost use Rattle.std.specs.Option.{option_copied};
 ghost use Rattle.apron_base.specs.Keeper.{with_last};
-ghost use Rattle.watch_list.specs.Watches.{AreWatches, HasPlace, IsRefused, most_watches, watch_named};
+ghost use Rattle.watch_list.specs.Watches.{AreWatches, CanAddWatch, IsWatchRefused, most_watches, watch_named};
 
 use crate::note::Stated;
 use crate::watch::{NoteTest, Watch};
@@ -73,8 +73,8 @@ impl<R: Stated, T: NoteTest> Watches<R, T> {
     /// Puts the watch last. At `Err` it comes back with the first cause that holds, and the list is as it was.
     pub fn add(&mut self, watch: Watch<R, T>) -> Result<(), (WatchFault, Watch<R, T>)>
         ensures last { OnOk result (self.new ≡ with_last watch self.old) }
-        ensures place { OnOk result (HasPlace self.old watch) }
-        ensures refused { IfErr result (λ refusal. IsRefused self.old watch refusal.0) }
+        ensures place { OnOk result (CanAddWatch self.old watch) }
+        ensures refused { IfErr result (λ refusal. IsWatchRefused self.old watch refusal.0) }
         ensures back { IfErr result (λ refusal. refusal.1 ≡ watch) }
         ensures same { OnErr result (self.new ≡ self.old) }
     {

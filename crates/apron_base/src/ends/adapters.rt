@@ -14,12 +14,12 @@ const MOST_RETRIES: u32 = 1_000;
 /// Any reader as a source. It exposes what is left if the reader does, and counts each error. A
 /// read that a signal interrupted is made again and is no error.
 #[derive(Drop)]
-pub struct Reading<R> {
+pub struct ReaderSource<R> {
     inner: R,
     faults: u64,
 }
 
-impl<R> Model for Reading<R> {
+impl<R> Model for ReaderSource<R> {
     ghost use Rattle.apron_base.specs.ListEnds.{Adapted};
 
     ghost Value = { Adapted R };
@@ -27,16 +27,16 @@ impl<R> Model for Reading<R> {
     ghost view = { λ s. record { inner = s.inner; faults = s.faults } };
 }
 
-impl<R> Reading<R> {
+impl<R> ReaderSource<R> {
     /// The reader. No read of it has failed yet.
     pub fn new(inner: R) -> Self
         ensures is { result ≡ record { inner = inner; faults = 0 } }
     {
-        Reading { inner, faults: 0 }
+        ReaderSource { inner, faults: 0 }
     }
 }
 
-impl<R: Read> Source for Reading<R> {
+impl<R: Read> Source for ReaderSource<R> {
     ghost state = { λ s. record { left = R.remaining s.inner; faults = s.faults } };
 
     fn read(&mut self, into: &mut [u8]) -> Result<usize, Failed> {
@@ -68,12 +68,12 @@ fn read_some<R: Read>(inner: &mut R, into: &mut [u8]) -> io::Result<usize>
 /// is also an error if a write takes nothing of a piece that isn't empty. Each piece is flushed. A
 /// write or flush that a signal interrupted is made again and is no error.
 #[derive(Drop)]
-pub struct Writing<W> {
+pub struct WriterSink<W> {
     inner: W,
     faults: u64,
 }
 
-impl<W> Model for Writing<W> {
+impl<W> Model for WriterSink<W> {
     ghost use Rattle.apron_base.specs.ListEnds.{Adapted};
 
     ghost Value = { Adapted W };
@@ -81,16 +81,16 @@ impl<W> Model for Writing<W> {
     ghost view = { λ s. record { inner = s.inner; faults = s.faults } };
 }
 
-impl<W> Writing<W> {
+impl<W> WriterSink<W> {
     /// The writer. No write to it has failed yet.
     pub fn new(inner: W) -> Self
         ensures is { result ≡ record { inner = inner; faults = 0 } }
     {
-        Writing { inner, faults: 0 }
+        WriterSink { inner, faults: 0 }
     }
 }
 
-impl<W: Write> Sink for Writing<W> {
+impl<W: Write> Sink for WriterSink<W> {
     ghost state = { λ s. record { told = W.contents s.inner; faults = s.faults } };
 
     fn put(&mut self, piece: &[u8]) -> Result<(), Failed> {

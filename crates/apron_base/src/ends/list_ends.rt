@@ -3,10 +3,10 @@
 ghost use Rattle.std.specs.Prelude.{◌≡◌, ◌-◌, ◌<◌, ◌≤◌, ◌++◌, [], Some, None, take, length, min, is_err, slice_get, OnErr, IfOk, IsOk, OnOk};
 ghost use Rattle.std.specs.Io.{ReadsAtMost};
 ghost use Rattle.apron_base.specs.Ends.{Puts, Reads};
-ghost use Rattle.apron_base.specs.Fails.{called, fails_from, is_to_fail};
+ghost use Rattle.apron_base.specs.Fails.{fails_after_count, fails_from, is_to_fail};
 ghost use Rattle.apron_base.specs.ListEnds.{after_piece, next_length, null_sink_state, refuses_put, sink_state, source_state, steady_source_state, within_size};
 
-use crate::fails::Fails;
+use crate::fails::FailingCalls;
 use crate::{Failed, Sink, Source};
 use std::alloc::{AllocError, Global};
 use std::marker::Model;
@@ -87,7 +87,7 @@ fn copy_front(into: &mut [u8], from: &[u8])
 #[derive(Drop)]
 pub struct ListSource {
     pieces: Pieces,
-    fails: Fails,
+    fails: FailingCalls,
 }
 
 impl Model for ListSource {
@@ -108,7 +108,7 @@ impl ListSource {
     {
         ListSource {
             pieces: Pieces::new(bytes, pieces),
-            fails: Fails::new(fails),
+            fails: FailingCalls::new(fails),
         }
     }
 }
@@ -123,7 +123,7 @@ impl Source for ListSource {
 
         // Exactly the given calls fail, and each piece has its size.
         ensures refused { is_err result ≡ is_to_fail self.old.fails }
-        ensures called { self.new.fails ≡ called (is_err result) self.old.fails }
+        ensures called { self.new.fails ≡ fails_after_count (is_err result) self.old.fails }
         ensures size { IfOk result (λ count. count ≡ next_length self.old.pieces (length into.new)) }
         ensures ok { IfOk result (λ count. self.new.pieces ≡ after_piece self.old.pieces count) }
         ensures err { OnErr result (self.new.pieces ≡ self.old.pieces) }
@@ -182,7 +182,7 @@ impl Source for SteadySource {
 pub struct ListSink {
     bytes: Vec<u8>,
     room: usize,
-    fails: Fails,
+    fails: FailingCalls,
 }
 
 impl Model for ListSink {
@@ -206,7 +206,7 @@ impl ListSink {
         Ok(ListSink {
             bytes: Vec::with_capacity(alloc, room)?,
             room,
-            fails: Fails::new(fails),
+            fails: FailingCalls::new(fails),
         })
     }
 
@@ -226,7 +226,7 @@ impl Sink for ListSink {
 
         // Exactly the given calls, and those that exceed the room, fail; they write nothing.
         ensures refused { is_err result ≡ refuses_put self.old (length piece.now) }
-        ensures called { self.new.fails ≡ called (is_err result) self.old.fails }
+        ensures called { self.new.fails ≡ fails_after_count (is_err result) self.old.fails }
         ensures room { OnOk result (self.new.room ≡ self.old.room - length piece.now) }
         ensures err { OnErr result (self.new ≡ record self.old { fails = self.new.fails }) }
     {

@@ -1,10 +1,10 @@
 // Keepers in memory, for tests: one with calls that fail on command, and one that never fails.
 ghost use Rattle.std.specs.Prelude.{◌≡◌, ◌≤◌, ◌<◌, length, is_err, OnOk, OnErr, IsOk};
-ghost use Rattle.apron_base.specs.Fails.{called, fails_from, is_to_fail};
+ghost use Rattle.apron_base.specs.Fails.{fails_after_count, fails_from, is_to_fail};
 ghost use Rattle.apron_base.specs.Keeper.{AddsEntry, FailsToAdd, with_last};
 ghost use Rattle.apron_base.specs.ListKeeper.{keeper_state, steady_keeper_state};
 
-use crate::fails::Fails;
+use crate::fails::FailingCalls;
 use crate::{Failed, Keeper, Listed, MAX_ENTRIES, MAX_ENTRY, Memory};
 use std::alloc::Global;
 use std::marker::Model;
@@ -70,7 +70,7 @@ impl Entries {
 #[derive(Drop)]
 pub struct ListKeeper {
     entries: Entries,
-    fails: Fails,
+    fails: FailingCalls,
 }
 
 impl Model for ListKeeper {
@@ -90,7 +90,7 @@ impl ListKeeper {
     {
         ListKeeper {
             entries: Entries::new(alloc, entries),
-            fails: Fails::new(fails),
+            fails: FailingCalls::new(fails),
         }
     }
 
@@ -119,7 +119,7 @@ impl Keeper for ListKeeper {
 
         // Exactly the given calls fail.
         ensures refused { is_err result ≡ is_to_fail self.old.fails }
-        ensures called { self.new.fails ≡ called (is_err result) self.old.fails }
+        ensures called { self.new.fails ≡ fails_after_count (is_err result) self.old.fails }
     {
         if self.fails.is_next() {
             return Err(self.fails.fail());

@@ -1,10 +1,10 @@
 // A listener in memory, for tests, with calls that fail on command.
 ghost use Rattle.std.specs.Prelude.{◌≡◌, [], is_err, IfOk};
-ghost use Rattle.apron_base.specs.Fails.{called, fails_from};
+ghost use Rattle.apron_base.specs.Fails.{fails_after_count, fails_from};
 ghost use Rattle.apron_base.specs.Listener.{Accepts};
-ghost use Rattle.apron_base.specs.ListListener.{listener_state, refuses_accept};
+ghost use Rattle.apron_base.specs.ListListener.{list_listener_state, refuses_accept};
 
-use crate::fails::Fails;
+use crate::fails::FailingCalls;
 use crate::{Failed, Finished, Listener, Outcome, Sink, Source};
 use std::alloc::{AllocError, Global};
 use std::collections::VecDeque;
@@ -18,7 +18,7 @@ pub struct ListListener<I, O> {
     to_come: VecDeque<(I, O)>,
     finished: Vec<Finished<I, O>>,
     accepted: u64,
-    fails: Fails,
+    fails: FailingCalls,
 }
 
 impl<I, O> Model for ListListener<I, O> {
@@ -42,7 +42,7 @@ impl<I: Drop, O: Drop> ListListener<I, O> {
             finished: Vec::with_capacity(alloc, to_come.len())?,
             to_come: VecDeque::from(to_come),
             accepted: 0,
-            fails: Fails::new(fails),
+            fails: FailingCalls::new(fails),
         })
     }
 
@@ -59,14 +59,14 @@ impl<I: Source + Drop, O: Sink + Drop> Listener for ListListener<I, O> {
 
     type Out = O;
 
-    ghost state = { listener_state };
+    ghost state = { list_listener_state };
 
     fn accept<R: Wait>(&mut self, _rt: &R) -> Result<(I, O), Failed>
-        ensures accepts { Accepts (listener_state self.old) (listener_state self.new) result }
+        ensures accepts { Accepts (list_listener_state self.old) (list_listener_state self.new) result }
 
         // Exactly the given calls, and those with no connection to come, fail.
         ensures refused { is_err result ≡ refuses_accept self.old }
-        ensures called { self.new.fails ≡ called (is_err result) self.old.fails }
+        ensures called { self.new.fails ≡ fails_after_count (is_err result) self.old.fails }
     {
         if self.fails.is_next() {
             return Err(self.fails.fail());

@@ -1,17 +1,17 @@
 // Shelves in memory, for tests: one with calls that fail on command, and one that never fails.
 ghost use Rattle.std.specs.Prelude.{◌≡◌, ◌≢◌, ◌≤◌, ◌<◌, Err, IfOk, length, option_copied, vec_len};
-ghost use Rattle.apron_base.specs.Fails.{called, fails_from};
-ghost use Rattle.apron_base.specs.Shelf.{Gives, is_failed};
-ghost use Rattle.apron_base.specs.MapShelf.{bytes_or_empty, kept_of, refuses_read, shelf_state, steady_shelf_state};
+ghost use Rattle.apron_base.specs.Fails.{fails_after_count, fails_from};
+ghost use Rattle.apron_base.specs.Shelf.{GivesFile, is_failed};
+ghost use Rattle.apron_base.specs.MapShelf.{bytes_or_empty, file_named, refuses_read, shelf_state, steady_shelf_state};
 
-use crate::fails::Fails;
+use crate::fails::FailingCalls;
 use crate::{Listed, Shelf, ShelfFault, Word};
 use std::alloc::Global;
 use std::marker::Model;
 
 /// A file of a shelf in memory.
 #[derive(Drop)]
-pub struct Kept {
+pub struct ShelfFile {
     pub name: Word,
     pub bytes: Listed<u8>,
 }
@@ -21,8 +21,8 @@ pub struct Kept {
 /// read.
 #[derive(Drop)]
 pub struct MapShelf {
-    files: Listed<Kept>,
-    fails: Fails,
+    files: Listed<ShelfFile>,
+    fails: FailingCalls,
     read: u64,
 }
 
@@ -36,12 +36,12 @@ impl Model for MapShelf {
 
 impl MapShelf {
     /// `fails` are the numbers of the calls that fail, from 0, in any order.
-    pub fn new(files: Vec<Kept>, fails: Vec<u64>) -> Self
+    pub fn new(files: Vec<ShelfFile>, fails: Vec<u64>) -> Self
         ensures is { result ≡ record { files = files.items; fails = fails_from fails.items; read = 0 } }
     {
         MapShelf {
             files: Listed::from_vec(files),
-            fails: Fails::new(fails),
+            fails: FailingCalls::new(fails),
             read: 0,
         }
     }
@@ -51,22 +51,22 @@ impl Shelf for MapShelf {
     ghost state = { shelf_state };
 
     fn read_file(&mut self, alloc: Global, name: &str, limit: u32) -> Result<Vec<u8>, ShelfFault>
-        ensures gives { Gives (shelf_state self.old) (shelf_state self.new) name.now limit result }
+        ensures gives { GivesFile (shelf_state self.old) (shelf_state self.new) name.now limit result }
 
         // Exactly the given calls, and those with a name that it doesn't hold, fail.
         ensures refused { is_failed result ≡ refuses_read self.old name.now }
-        ensures called { self.new.fails ≡ called (is_failed result) self.old.fails }
+        ensures called { self.new.fails ≡ fails_after_count (is_failed result) self.old.fails }
         ensures files { self.new.files ≡ self.old.files }
     {
         if self.fails.is_next() {
             let _ = self.fails.fail();
             return Err(ShelfFault::Failed);
         }
-        let Some(kept) = kept_of(self.files.as_slice(), name) else {
+        let Some(kept) = file_named(self.files.as_slice(), name) else {
             let _ = self.fails.fail();
             return Err(ShelfFault::Failed);
         };
-        let copy = copy_of(alloc, kept.bytes.as_slice(), limit)?;
+        let copy = copy_up_to(alloc, kept.bytes.as_slice(), limit)?;
         self.read = self.read.saturating_add(copy.len() as u64);
         Ok(copy)
     }
@@ -76,7 +76,7 @@ impl Shelf for MapShelf {
 /// file; of two files of one name it has the first. Contracts see the files and the bytes read.
 #[derive(Drop)]
 pub struct SteadyShelf {
-    files: Listed<Kept>,
+    files: Listed<ShelfFile>,
     read: u64,
 }
 
@@ -90,7 +90,7 @@ impl Model for SteadyShelf {
 
 impl SteadyShelf {
     /// The shelf of these files. None has been asked for yet.
-    pub fn new(files: Vec<Kept>) -> Self
+    pub fn new(files: Vec<ShelfFile>) -> Self
         ensures is { result ≡ record { files = files.items; read = 0 } }
     {
         SteadyShelf {
@@ -104,34 +104,34 @@ impl Shelf for SteadyShelf {
     ghost state = { steady_shelf_state };
 
     fn read_file(&mut self, alloc: Global, name: &str, limit: u32) -> Result<Vec<u8>, ShelfFault>
-        ensures gives { Gives (steady_shelf_state self.old) (steady_shelf_state self.new) name.now limit result }
+        ensures gives { GivesFile (steady_shelf_state self.old) (steady_shelf_state self.new) name.now limit result }
         ensures never_fails { result ≢ Err ShelfFault.Failed }
     {
-        let copy = copy_or_empty(alloc, kept_of(self.files.as_slice(), name), limit)?;
+        let copy = copy_or_empty(alloc, file_named(self.files.as_slice(), name), limit)?;
         self.read = self.read.saturating_add(copy.len() as u64);
         Ok(copy)
     }
 }
 
-fn kept_of<'a>(files: &'a [Kept], name: &str) -> Option<&'a Kept>
-    ensures first { option_copied result ≡ kept_of files.now name.now }
+fn file_named<'a>(files: &'a [ShelfFile], name: &str) -> Option<&'a ShelfFile>
+    ensures first { option_copied result ≡ file_named files.now name.now }
 {
     files.iter().find(|kept| kept.name.text() == name)
 }
 
-fn copy_or_empty(alloc: Global, kept: Option<&Kept>, limit: u32) -> Result<Vec<u8>, ShelfFault>
+fn copy_or_empty(alloc: Global, kept: Option<&ShelfFile>, limit: u32) -> Result<Vec<u8>, ShelfFault>
     ensures whole { IfOk result (λ v. v.items ≡ bytes_or_empty (option_copied kept.entry)) }
     ensures within { IfOk result (λ v. vec_len v ≤ limit) }
     ensures too_long { result ≡ Err ShelfFault.TooLong → limit < length (bytes_or_empty (option_copied kept.entry)) }
     ensures never_fails { result ≢ Err ShelfFault.Failed }
 {
     match kept {
-        Some(kept) => copy_of(alloc, kept.bytes.as_slice(), limit),
+        Some(kept) => copy_up_to(alloc, kept.bytes.as_slice(), limit),
         None => Ok(Vec::new(alloc)),
     }
 }
 
-fn copy_of(alloc: Global, bytes: &[u8], limit: u32) -> Result<Vec<u8>, ShelfFault>
+fn copy_up_to(alloc: Global, bytes: &[u8], limit: u32) -> Result<Vec<u8>, ShelfFault>
     ensures whole { IfOk result (λ v. v.items ≡ bytes.now) }
     ensures within { IfOk result (λ v. vec_len v ≤ limit) }
     ensures too_long { result ≡ Err ShelfFault.TooLong → limit < length bytes.now }

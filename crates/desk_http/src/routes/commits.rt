@@ -4,7 +4,7 @@ ghost use Rattle.history_core.specs.History.{IsWhatOf};
 ghost use Rattle.visit_book.specs.Edits.{IsEditOf};
 ghost use Rattle.desk_bodies.specs.CommitsShown.{edit_shown};
 ghost use Rattle.desk_http.specs.CommitsRoute.{commit_asked as commit_asked_lem, edit_named as edit_named_lem, edits_named as edits_named_lem};
-ghost use Rattle.desk_http.specs.Finding.{Finds};
+ghost use Rattle.desk_http.specs.Finding.{FindsOrReplies};
 
 use super::Unasked;
 use crate::names::stand_named;
@@ -12,13 +12,13 @@ use apron_base::{Listed, VisitNo};
 use apron_rules::Airport;
 use desk_bodies::{EditText, MAX_EDITS, read_commit};
 use desk_words::asks::{Command, What};
-use desk_words::early::Early;
+use desk_words::early::EarlyReply;
 use std::alloc::Global;
 use visit_book::Edit;
 
 /// What is asked with this body.
 pub(crate) fn commit_asked(alloc: Global, airport: &Airport, body: &[u8]) -> Result<What, Unasked>
-    ensures asked { Finds (commit_asked_lem airport.now body.now) result }
+    ensures asked { FindsOrReplies (commit_asked_lem airport.now body.now) result }
     ensures valid { IfOk result (IsWhatOf airport.now) }
 {
     let commit = read_commit(alloc, body)?;
@@ -38,7 +38,7 @@ fn edits_named(
     texts: &[EditText],
 ) -> Result<Listed<Edit>, Unasked>
     requires few { length texts.now ≤ MAX_EDITS }
-    ensures named { Finds (edits_named_lem airport.now 1 (map edit_shown texts.now)) result }
+    ensures named { FindsOrReplies (edits_named_lem airport.now 1 (map edit_shown texts.now)) result }
     ensures stands { IfOk result (All (IsEditOf airport.now)) }
     ensures count { IfOk result (λ edits. length edits ≡ length texts.now) }
 {
@@ -51,14 +51,14 @@ fn edits_named(
     Ok(edits)
 }
 
-fn edit_named(airport: &Airport, number: u8, text: &EditText) -> Result<Edit, Early>
+fn edit_named(airport: &Airport, number: u8, text: &EditText) -> Result<Edit, EarlyReply>
     ensures named { result ≡ edit_named_lem airport.now number (edit_shown text.now) }
     ensures stand { IfOk result (IsEditOf airport.now) }
 {
     match text {
         EditText::Put { visit, part, stand } => {
             let Some(stand) = stand_named(airport, stand.as_bytes()) else {
-                return Err(Early::BadStand { edit: number });
+                return Err(EarlyReply::BadStand { edit: number });
             };
             Ok(Edit::Put {
                 visit: VisitNo(*visit),

@@ -4,21 +4,21 @@ ghost use Rattle.desk_http.specs.DaysRoute.{day_asked as day_asked_lem, is_day a
 
 use apron_rules::Airport;
 use desk_words::asks::What;
-use desk_words::early::Early;
+use desk_words::early::EarlyReply;
 
 /// What is asked of a day, counted from 1, if the plan has it.
-pub(crate) fn day_asked(airport: &Airport, day: u32, asked: What) -> Result<What, Early>
+pub(crate) fn day_asked(airport: &Airport, day: u32, asked: What) -> Result<What, EarlyReply>
     ensures is { result ≡ day_asked_lem airport.now day asked }
     ensures first { OnOk result (1 ≤ day) }
     ensures last { OnOk result (day ≤ airport.now.days) }
 {
-    if !is_day(airport, day) {
-        return Err(Early::NoDay);
+    if !is_plan_day(airport, day) {
+        return Err(EarlyReply::NoDay);
     }
     Ok(asked)
 }
 
-fn is_day(airport: &Airport, day: u32) -> bool
+fn is_plan_day(airport: &Airport, day: u32) -> bool
     ensures is { result ≡ is_day_lem airport.now day }
 {
     1 <= day && day <= airport.parts().days

@@ -6,16 +6,16 @@ ghost use Rattle.desk_http.specs.MessagesRoute.{message_asked as message_asked_l
 
 use apron_base::Name;
 use desk_words::asks::{Command, What};
-use desk_words::early::Early;
+use desk_words::early::EarlyReply;
 use mvt_grammar::read_mvt;
 
 /// What the desk asks with this body, which is a text and no JSON. It takes no memory.
-pub(crate) fn message_asked(desk: Name, body: &[u8]) -> Result<What, Early>
+pub(crate) fn message_asked(desk: Name, body: &[u8]) -> Result<What, EarlyReply>
     ensures asked { result ≡ message_asked_lem desk body.now }
     ensures valid { (airport : AirportParts) → IfOk result (IsWhatOf airport) }
 {
     match read_mvt(body) {
         Ok(message) => Ok(What::Change(Command::Message { desk, message })),
-        Err(fault) => Err(Early::NotMvt(fault)),
+        Err(fault) => Err(EarlyReply::NotMvt(fault)),
     }
 }

@@ -4,7 +4,7 @@ ghost use Rattle.apron_rules.specs.declared.parts.AirportParts.{AirportParts};
 ghost use Rattle.history_core.specs.History.{IsWhatOf};
 ghost use Rattle.visit_book.specs.Reports.{IsEventOf};
 ghost use Rattle.desk_bodies.specs.ReportsShown.{event_shown};
-ghost use Rattle.desk_http.specs.Finding.{Finds};
+ghost use Rattle.desk_http.specs.Finding.{FindsOrReplies};
 ghost use Rattle.desk_http.specs.ReportsRoute.{cancel_asked as cancel_asked_lem, event_named as event_named_lem, report_asked as report_asked_lem};
 
 use super::Unasked;
@@ -13,7 +13,7 @@ use apron_base::{Name, VisitNo};
 use apron_rules::Airport;
 use desk_bodies::{EventText, read_cancel, read_report};
 use desk_words::asks::{Command, What};
-use desk_words::early::Early;
+use desk_words::early::EarlyReply;
 use std::alloc::Global;
 use visit_book::Event;
 
@@ -24,7 +24,7 @@ pub(crate) fn report_asked(
     desk: Name,
     body: &[u8],
 ) -> Result<What, Unasked>
-    ensures asked { Finds (report_asked_lem airport.now desk body.now) result }
+    ensures asked { FindsOrReplies (report_asked_lem airport.now desk body.now) result }
     ensures valid { IfOk result (IsWhatOf airport.now) }
 {
     let report = read_report(alloc, body)?;
@@ -37,7 +37,7 @@ pub(crate) fn report_asked(
 }
 
 // What happened, the stand by number.
-fn event_named(airport: &Airport, text: &EventText) -> Result<Event, Early>
+fn event_named(airport: &Airport, text: &EventText) -> Result<Event, EarlyReply>
     ensures named { result ≡ event_named_lem airport.now (event_shown text.now) }
     ensures stand { IfOk result (IsEventOf airport.now) }
 {
@@ -48,7 +48,7 @@ fn event_named(airport: &Airport, text: &EventText) -> Result<Event, Early>
             minute,
         } => {
             let Some(stand) = stand_named(airport, stand.as_bytes()) else {
-                return Err(Early::NoStand);
+                return Err(EarlyReply::NoStand);
             };
             Ok(Event::On {
                 part: *part,
@@ -62,7 +62,7 @@ fn event_named(airport: &Airport, text: &EventText) -> Result<Event, Early>
 
 /// What is asked with the body of a cancel.
 pub(crate) fn cancel_asked(alloc: Global, body: &[u8]) -> Result<What, Unasked>
-    ensures asked { Finds (cancel_asked_lem body.now) result }
+    ensures asked { FindsOrReplies (cancel_asked_lem body.now) result }
     ensures valid { (airport : AirportParts) → IfOk result (IsWhatOf airport) }
 {
     let visit = read_cancel(alloc, body)?;

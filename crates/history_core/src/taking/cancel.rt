@@ -2,11 +2,11 @@
 ghost use Rattle.std.specs.Prelude.{◌≡◌, IfOk};
 ghost use Rattle.desk_words.specs.declared.asks.Command.TheVariants.{Cancel};
 ghost use Rattle.history_core.specs.Steps.{cancellable};
-ghost use Rattle.history_core.specs.Taking.{Finds};
+ghost use Rattle.history_core.specs.Taking.{ComesTo};
 
-use super::{Taken, answered, takes_entry, told_of};
+use super::{Taken, answer_unchanged, taken_with_body, takes_entry};
 use apron_base::{Memory, VisitNo};
-use desk_words::replies::{Denial, Told};
+use desk_words::replies::{Denial, ReplyBody};
 use plan_core::Plan;
 use std::alloc::Global;
 use visit_book::{Visit, is_live};
@@ -20,17 +20,17 @@ pub(super) fn take_cancel(
     number: VisitNo,
 ) -> Result<Taken, Memory>
     requires entries { plan.now.plan.version ≡ entries }
-    ensures finds { IfOk result (Finds plan.now.plan entries (Cancel number)) }
+    ensures finds { IfOk result (ComesTo plan.now.plan entries (Cancel number)) }
 {
     let visit = match cancellable(plan, number) {
         Ok(visit) => visit,
-        Err(why) => return Ok(answered(plan, Told::Denied(why))),
+        Err(why) => return Ok(answer_unchanged(plan, ReplyBody::Denied(why))),
     };
     if !takes_entry(entries) {
-        return Ok(answered(plan, Told::Full));
+        return Ok(answer_unchanged(plan, ReplyBody::Full));
     }
     let change = plan.cancel(alloc, &visit)?;
-    Ok(told_of(change, Told::Cancelled))
+    Ok(taken_with_body(change, ReplyBody::Cancelled))
 }
 
 // The visit of this number if it can be cancelled, or why not.

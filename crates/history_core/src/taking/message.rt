@@ -6,14 +6,14 @@ ghost use Rattle.visit_book.specs.Numbers.{IsNumbered};
 ghost use Rattle.visit_effects.specs.Effects.{live_of};
 ghost use Rattle.desk_words.specs.declared.asks.Command.TheVariants.{Message};
 ghost use Rattle.bump_core.specs.Settled.{IsChanged};
-ghost use Rattle.history_core.specs.Steps.{changed_by};
-ghost use Rattle.history_core.specs.Taking.{Finds};
+ghost use Rattle.history_core.specs.Steps.{visit_after_message};
+ghost use Rattle.history_core.specs.Taking.{ComesTo};
 
-use super::settling::settled;
-use super::{Taken, answered, takes_entry, told_of};
+use super::settling::settle_changed;
+use super::{Taken, answer_unchanged, taken_with_body, takes_entry};
 use apron_base::{Memory, VisitNo};
 use apron_rules::Airport;
-use desk_words::replies::Told;
+use desk_words::replies::ReplyBody;
 use mvt_grammar::Mvt;
 use plan_core::Plan;
 use std::alloc::Global;
@@ -34,23 +34,23 @@ pub(super) fn take_message(
     requires numbered { IsNumbered plan.now.plan.visits }
     requires entries { plan.now.plan.version ≡ entries }
     ensures finds { (desk : List ℕ)
-        → IfOk result (Finds plan.now.plan entries (Message desk message.now)) }
+        → IfOk result (ComesTo plan.now.plan entries (Message desk message.now)) }
 {
-    let changed = changed_by(airport, plan, message);
+    let changed = visit_after_message(airport, plan, message);
     if !takes_entry(entries) {
-        return Ok(answered(plan, Told::Full));
+        return Ok(answer_unchanged(plan, ReplyBody::Full));
     }
-    let (change, bumped) = settled(alloc, airport, plan, changed.as_ref())?;
-    let visit = number_of(changed.as_ref());
-    Ok(told_of(change, Told::Message { bumped, visit }))
+    let (change, bumped) = settle_changed(alloc, airport, plan, changed.as_ref())?;
+    let visit = number_of_visit(changed.as_ref());
+    Ok(taken_with_body(change, ReplyBody::Message { bumped, visit }))
 }
 
 // The visit that the message is about, as the message changes it; `None` if it does nothing.
-fn changed_by(airport: &Airport, plan: &Plan, message: &Mvt) -> Option<Visit>
+fn visit_after_message(airport: &Airport, plan: &Plan, message: &Mvt) -> Option<Visit>
     requires airport { airport.now ≡ plan.now.plan.airport }
     requires readable { IsReadable message.now }
     requires numbered { IsNumbered plan.now.plan.visits }
-    ensures is { result ≡ changed_by plan.now.plan message.now }
+    ensures is { result ≡ visit_after_message plan.now.plan message.now }
     ensures changed { IfSome result (IsChanged plan.now.plan) }
 {
     // What holds of every plan shows that its visits are well formed.
@@ -70,7 +70,7 @@ fn live_of<'p>(plan: &'p Plan, movement: &Movement) -> Option<&'p Visit>
     }
 }
 
-fn number_of(visit: Option<&Visit>) -> Option<VisitNo>
+fn number_of_visit(visit: Option<&Visit>) -> Option<VisitNo>
     ensures is { result ≡ option_map (λ visit. visit.number) (option_copied visit.entry) }
 {
     match visit {

@@ -3,14 +3,14 @@ ghost use Rattle.std.specs.Prelude.{◌≡◌, IfOk, List, ℕ};
 ghost use Rattle.visit_book.specs.Reports.{IsEventOf};
 ghost use Rattle.desk_words.specs.declared.asks.Command.TheVariants.{Report};
 ghost use Rattle.bump_core.specs.Settled.{IsChanged};
-ghost use Rattle.history_core.specs.Steps.{denial_of, reported};
-ghost use Rattle.history_core.specs.Taking.{Finds};
+ghost use Rattle.history_core.specs.Steps.{denial_of, visit_after_report};
+ghost use Rattle.history_core.specs.Taking.{ComesTo};
 
-use super::settling::settled;
-use super::{Taken, answered, takes_entry, told_of};
+use super::settling::settle_changed;
+use super::{Taken, answer_unchanged, taken_with_body, takes_entry};
 use apron_base::{Memory, VisitNo};
 use apron_rules::Airport;
-use desk_words::replies::{Denial, Told};
+use desk_words::replies::{Denial, ReplyBody};
 use plan_core::Plan;
 use std::alloc::Global;
 use visit_book::{Event, ReportFault, Visit, report};
@@ -29,24 +29,29 @@ pub(super) fn take_report(
     requires event { IsEventOf airport.now event.now }
     requires entries { plan.now.plan.version ≡ entries }
     ensures finds { (desk : List ℕ)
-        → IfOk result (Finds plan.now.plan entries (Report desk number event.now)) }
+        → IfOk result (ComesTo plan.now.plan entries (Report desk number event.now)) }
 {
-    let visit = match reported(airport, plan, number, event) {
+    let visit = match visit_after_report(airport, plan, number, event) {
         Ok(visit) => visit,
-        Err(why) => return Ok(answered(plan, Told::Denied(why))),
+        Err(why) => return Ok(answer_unchanged(plan, ReplyBody::Denied(why))),
     };
     if !takes_entry(entries) {
-        return Ok(answered(plan, Told::Full));
+        return Ok(answer_unchanged(plan, ReplyBody::Full));
     }
-    let (change, bumped) = settled(alloc, airport, plan, Some(&visit))?;
-    Ok(told_of(change, Told::Reported { bumped }))
+    let (change, bumped) = settle_changed(alloc, airport, plan, Some(&visit))?;
+    Ok(taken_with_body(change, ReplyBody::Reported { bumped }))
 }
 
 // What the event makes of the plan's visit of this number, or why its report is refused.
-fn reported(airport: &Airport, plan: &Plan, number: VisitNo, event: &Event) -> Result<Visit, Denial>
+fn visit_after_report(
+    airport: &Airport,
+    plan: &Plan,
+    number: VisitNo,
+    event: &Event,
+) -> Result<Visit, Denial>
     requires airport { airport.now ≡ plan.now.plan.airport }
     requires event { IsEventOf airport.now event.now }
-    ensures is { result ≡ reported plan.now.plan number event.now }
+    ensures is { result ≡ visit_after_report plan.now.plan number event.now }
     ensures changed { IfOk result (IsChanged plan.now.plan) }
 {
     // What holds of every plan shows that its visits are well formed.

@@ -1,7 +1,7 @@
 // Settles a plan by its next entry, which says what happened.
 ghost use Rattle.std.specs.Prelude.{◌≡◌, ◌<◌, ◌+◌, IfOk, IfSome};
 ghost use Rattle.std.specs.Option.{option_copied};
-ghost use Rattle.plan_core.specs.PlanState.{IsInstallable, installed, version_limit};
+ghost use Rattle.plan_core.specs.PlanState.{IsInstallable, plan_after_change, version_limit};
 ghost use Rattle.bump_core.specs.Bumped.{bumped_by};
 ghost use Rattle.bump_core.specs.Settled.{IsChanged, with_settled};
 
@@ -16,7 +16,7 @@ use visit_book::Visit;
 
 /// The change of the plan's next entry: it puts in the changed visit, if there is one, and the
 /// parts that lose their stands by it, in order of visit and part. `Err` if there is no memory.
-pub(super) fn settled(
+pub(super) fn settle_changed(
     alloc: Global,
     airport: &Airport,
     plan: &Plan,
@@ -24,7 +24,7 @@ pub(super) fn settled(
 ) -> Result<(Change, Listed<PartId>), Memory>
     requires airport { airport.now ≡ plan.now.plan.airport }
     requires changed { IfSome changed (λ visit. IsChanged plan.now.plan visit.now) }
-    ensures makes { IfOk result (λ made. installed plan.now.plan made.0 ≡ with_settled plan.now.plan (option_copied changed.entry)) }
+    ensures makes { IfOk result (λ made. plan_after_change plan.now.plan made.0 ≡ with_settled plan.now.plan (option_copied changed.entry)) }
     ensures fits { IfOk result (λ made. plan.now.plan.version + 1 < version_limit → IsInstallable plan.now.plan made.0) }
     ensures bumped { IfOk result (λ made. made.1
         ≡ bumped_by (plan.now.plan.version + 1) (with_settled plan.now.plan (option_copied changed.entry)).visits) }
@@ -43,7 +43,7 @@ fn settle_uncounted(
 ) -> Result<Change, Memory>
     requires airport { airport.now ≡ plan.now.plan.airport }
     requires changed { IfSome changed (λ visit. IsChanged plan.now.plan visit.now) }
-    ensures makes { IfOk result (λ change. installed plan.now.plan change ≡ with_settled plan.now.plan (option_copied changed.entry)) }
+    ensures makes { IfOk result (λ change. plan_after_change plan.now.plan change ≡ with_settled plan.now.plan (option_copied changed.entry)) }
     ensures fits { IfOk result (λ change. plan.now.plan.version + 1 < version_limit → IsInstallable plan.now.plan change) }
     ensures bumped { IfOk result (λ change. bumped_by (plan.now.plan.version + 1) change.visits
         ≡ bumped_by (plan.now.plan.version + 1) (with_settled plan.now.plan (option_copied changed.entry)).visits) }
@@ -63,7 +63,7 @@ fn settle_from<L: Ledger>(
     requires name { blank.name ≡ L.name }
     requires parts { blank.parts ≡ L.parts }
     requires open { 0 < L.parts }
-    ensures makes { IfOk result (λ change. installed plan.now.plan change ≡ with_settled plan.now.plan (option_copied changed.entry)) }
+    ensures makes { IfOk result (λ change. plan_after_change plan.now.plan change ≡ with_settled plan.now.plan (option_copied changed.entry)) }
     ensures fits { IfOk result (λ change. plan.now.plan.version + 1 < version_limit → IsInstallable plan.now.plan change) }
     ensures bumped { IfOk result (λ change. bumped_by (plan.now.plan.version + 1) change.visits
         ≡ bumped_by (plan.now.plan.version + 1) (with_settled plan.now.plan (option_copied changed.entry)).visits) }

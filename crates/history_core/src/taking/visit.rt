@@ -4,12 +4,12 @@ ghost use Rattle.visit_book.specs.NewVisits.{IsNewVisitOf, added_visit, new_of};
 ghost use Rattle.visit_book.specs.WellFormed.{IsWellFormed};
 ghost use Rattle.desk_words.specs.Commands.{IsCommandOf};
 ghost use Rattle.desk_words.specs.declared.asks.Command.TheVariants.{AddVisit};
-ghost use Rattle.history_core.specs.Taking.{Finds};
+ghost use Rattle.history_core.specs.Taking.{ComesTo};
 
 use super::{Taken, takes_entry};
 use apron_base::{Memory, VisitNo};
 use apron_rules::Airport;
-use desk_words::replies::{Reply, Told};
+use desk_words::replies::{Reply, ReplyBody};
 use plan_core::{Change, MAX_VISITS, Plan};
 use std::alloc::Global;
 use visit_book::{NewVisit, Visit, added_visit, new_of};
@@ -25,7 +25,7 @@ pub(super) fn take_visit(
     requires airport { airport.now ≡ plan.now.plan.airport }
     requires valid { IsCommandOf airport.now (AddVisit new.now) }
     requires entries { plan.now.plan.version ≡ entries }
-    ensures finds { IfOk result (Finds plan.now.plan entries (AddVisit new.now)) }
+    ensures finds { IfOk result (ComesTo plan.now.plan entries (AddVisit new.now)) }
 {
     let version = plan.version();
     if let Some(visit) = plan.visit_named(&new.name) {
@@ -38,22 +38,22 @@ pub(super) fn take_visit(
     if !takes_entry(entries) || visits >= MAX_VISITS as usize {
         return Ok(Taken::Answered(Reply {
             version,
-            told: Told::Full,
+            told: ReplyBody::Full,
         }));
     }
     let number = VisitNo(visits as u32 + 1);
     let visit = well_formed_visit(airport, number, version + 1, new);
     let change = plan.add(alloc, visit)?;
-    Ok(added(change, number))
+    Ok(taken_visit(change, number))
 }
 
-fn added(change: Change, visit: VisitNo) -> Taken
-    ensures is { result ≡ Taken.Accepted change (record { version = change.version; told = Told.Added change.version visit }) }
+fn taken_visit(change: Change, visit: VisitNo) -> Taken
+    ensures is { result ≡ Taken.Accepted change (record { version = change.version; told = ReplyBody.Added change.version visit }) }
 {
     let entry = change.version();
     let reply = Reply {
         version: entry,
-        told: Told::Added { entry, visit },
+        told: ReplyBody::Added { entry, visit },
     };
     Taken::Accepted(change, reply)
 }
@@ -71,17 +71,17 @@ fn well_formed_visit(airport: &Airport, number: VisitNo, version: u32, new: &New
 }
 
 // What the reply says if a visit already has the name of the one to be added.
-fn told_of_same_name(new: &NewVisit, visit: &Visit) -> Told
-    ensures same { new_of visit.now ≡ new.now → result ≡ Told.Added visit.now.added visit.now.number }
-    ensures other { new_of visit.now ≢ new.now → result ≡ Told.OtherName visit.now.number }
+fn told_of_same_name(new: &NewVisit, visit: &Visit) -> ReplyBody
+    ensures same { new_of visit.now ≡ new.now → result ≡ ReplyBody.Added visit.now.added visit.now.number }
+    ensures other { new_of visit.now ≢ new.now → result ≡ ReplyBody.OtherName visit.now.number }
 {
     if new_of(visit) == *new {
-        Told::Added {
+        ReplyBody::Added {
             entry: visit.added,
             visit: visit.number,
         }
     } else {
-        Told::OtherName {
+        ReplyBody::OtherName {
             visit: visit.number,
         }
     }

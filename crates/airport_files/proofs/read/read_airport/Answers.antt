@@ -27,4 +27,4 @@ returns-in_err-rows c =
 
 pub returns : goal.returns
 unfolding meaning
-returns c = record { value = rw (c.in_ok-layout.ensures.layout, c.in_ok-rows.ensures.value, ← c.parts_of.ensures.value) c.made_of.ensures.value }
+returns c = record { value = rw (c.in_ok-layout.ensures.layout, c.in_ok-rows.ensures.value, ← c.airport_parts.ensures.value) c.airport_of_parts.ensures.value }

@@ -3,13 +3,13 @@ use Rattle.apron_check.specs.Lines.{fault_text}
 use Rattle.apron_check.proofs.Puts.{cut_more, puts_both, puts_cut}
 use Rattle.apron_check.proofs.line.put_fault.Goals as goal
 
-pub returns-in_err-put_text : goal.returns-in_err-put_text
-returns-in_err-put_text g c =
+pub returns-in_err-put_fault_text : goal.returns-in_err-put_fault_text
+returns-in_err-put_fault_text g c =
     let old = g.W.Sink.state c.args.sink.now in
-    let new = g.W.Sink.state c.put_text.new.sink in
-    record { puts = puts_cut old new c.from_residual.result _ c.from_residual.ensures.0 (cut_more old new (fault_text c.args.fault.now) (10 ∷ []) c.in_err-put_text.ensures.puts) }
+    let new = g.W.Sink.state c.put_fault_text.new.sink in
+    record { puts = puts_cut old new c.from_residual.result _ c.from_residual.ensures.0 (cut_more old new (fault_text c.args.fault.now) (10 ∷ []) c.in_err-put_fault_text.ensures.puts) }
 
 pub returns : goal.returns
 returns g c = record {
-  puts = puts_both (g.W.Sink.state c.args.sink.now) (g.W.Sink.state c.put_text.new.sink) (g.W.Sink.state c.put.new.self) c.put.result (fault_text c.args.fault.now) (10 ∷ []) c.in_ok-put_text.ensures.puts c.put.ensures.puts;
+  puts = puts_both (g.W.Sink.state c.args.sink.now) (g.W.Sink.state c.put_fault_text.new.sink) (g.W.Sink.state c.put.new.self) c.put.result (fault_text c.args.fault.now) (10 ∷ []) c.in_ok-put_fault_text.ensures.puts c.put.ensures.puts;
 }

@@ -9,7 +9,7 @@ returns-in_default-place-clause-added c s s2 k l = added_none c.args.stands.now 
 
 pub returns-clause-added : goal.returns-clause-added
 returns-clause-added c =
-    on_ok_weaker c.add-2.result (λ added s s2 k l.
-    added (is_barred s2 k l) s ∙ rw (c.in_ok-add.ensures.added (is_barred s2 k l) s) (
+    on_ok_weaker c.add_pair-2.result (λ added s s2 k l.
+    added (is_barred s2 k l) s ∙ rw (c.in_ok-add_pair.ensures.added (is_barred s2 k l) s) (
     added_both c.args.stands.now c.args.row.now c.in-Some.a c.in-Some-place.b _ (sym c.place.ensures.place ∙ c.in-Some.is) (sym c.place-2.ensures.place ∙ c.in-Some-place.is) s s2 k l
-    )) c.add-2.ensures.added
+    )) c.add_pair-2.ensures.added

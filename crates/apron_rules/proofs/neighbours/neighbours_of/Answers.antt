@@ -6,8 +6,8 @@ use Rattle.apron_rules.proofs.neighbours.neighbours_of.Goals as goal
 
 pub loop-other-preserved : goal.loop-other-preserved
 loop-other-preserved c =
-    neighbours_next c.args.parts.now c.args.stand _ c.args.widest c.loop-other.other c.loop-other.neighbours c.push_if.new.neighbours c.breaks_by_place-rule.result
-    c.requires.linked.airport.faultless c.requires.widest refl c.breaks_by_place-rule.ensures.is (rw c.is_some.ensures at c.in_ok-push_if.ensures.ok) c.loop-other.invariant
+    neighbours_next c.args.parts.now c.args.stand _ c.args.widest c.loop-other.other c.loop-other.neighbours c.push_neighbour_if.new.neighbours c.breaks_by_place-rule.result
+    c.requires.linked.airport.faultless c.requires.widest refl c.breaks_by_place-rule.ensures.is (rw c.is_some.ensures at c.in_ok-push_neighbour_if.ensures.ok) c.loop-other.invariant
 
 pub returns-clause-neighbours : goal.returns-clause-neighbours
 returns-clause-neighbours c =

@@ -1,5 +1,5 @@
 use Rattle.std.proofs.Common.{ℕ, List, Ok, refl, sym, ap, subst}
-use Rattle.history_core.specs.AtRisk.{entry_at_risk}
+use Rattle.history_core.specs.AtRisk.{read_entry_at_risk}
 use Rattle.apron_run.specs.Crash.{MeetsImportLeaving}
 use Rattle.apron_run.specs.Import.{ImportsSeason, Stores, stores_at}
 use Rattle.apron_run.specs.Journal.{KeepsHistory, journal_tells}
@@ -19,9 +19,9 @@ returns g c =
     c.add_season-imported.result c.in-Ok.ensures.opened c.add_season-imported.ensures.adds c.add_season-imported.ensures.airport c.close_board.ensures.legal
     (sym (ap (λ d. (g.D.Disk.state d).faults) c.close_board.ensures.disk))
     (subst (λ (digests : List ℕ). KeepsHistory (record { airport = left.airport; digests = digests }) left.history
-    (entry_at_risk left.airport (journal_tells g.D.Disk.state left.keeper)) after.disk) (sym c.requires.digests) c.close_board.ensures.keeps) in
+    (read_entry_at_risk left.airport (journal_tells g.D.Disk.state left.keeper)) after.disk) (sym c.requires.digests) c.close_board.ensures.keeps) in
     let survives : Survives c.args.files.now.digests imports.left.history imports.left.at_risk disk =
-    subst (λ (digests : List ℕ). Survives digests left.history (entry_at_risk left.airport (journal_tells g.D.Disk.state left.keeper)) disk)
+    subst (λ (digests : List ℕ). Survives digests left.history (read_entry_at_risk left.airport (journal_tells g.D.Disk.state left.keeper)) disk)
     (sym c.requires.digests) c.close_board.ensures.survives in
     record {
       meets = subst (λ (season : List ℕ). MeetsImportLeaving disk c.args.files.now season before after (Ok c.add_season-imported.result)) c.text.ensures.text (imports, survives);

@@ -2,7 +2,7 @@ use Rattle.std.proofs.Common.{◌≡◌, ◌∙◌, ℕ, false, Result, Ok, Err,
 use Rattle.apron_base.specs.Ends.{Puts, SinkState}
 use Rattle.apron_run.specs.Imported.{TellsImported, imported_line, status_of_imported}
 use Rattle.apron_run.specs.Print.{Writes}
-use Rattle.apron_run.specs.Statuses.{code_of}
+use Rattle.apron_run.specs.Statuses.{exit_code}
 use Rattle.apron_run.specs.Words.{ends_before_import}
 use Rattle.apron_run.specs.declared.imported.Imported.{Imported}
 use Rattle.apron_run.specs.declared.imported.Imported.TheVariants.{Whole, Spent, Memory}
@@ -23,7 +23,7 @@ line_told Spent before after result whole spent puts = absurd (spent refl)
 line_told imported before after result whole spent puts = puts_told imported (status_of_imported imported) before after result puts
 
 -- an import came to its journal
-comes_by : (imported : Imported) → ends_before_import (code_of (status_of_imported imported)) ≡ false
+comes_by : (imported : Imported) → ends_before_import (exit_code (status_of_imported imported)) ≡ false
 comes_by Memory = refl
 comes_by imported = refl
 
@@ -36,5 +36,5 @@ returns-in_default g c =
     record {
       tells = subst (λ (s : Status). TellsImported imported before after s) (sym is)
           (line_told imported before after c.put_imported-in_default.result c.in_default.not-Whole c.in_default.not-Spent c.put_imported-in_default.ensures.puts);
-      comes = ap (λ (s : Status). ends_before_import (code_of s)) is ∙ comes_by imported;
+      comes = ap (λ (s : Status). ends_before_import (exit_code s)) is ∙ comes_by imported;
     }

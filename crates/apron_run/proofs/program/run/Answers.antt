@@ -7,7 +7,7 @@ use Rattle.apron_run.specs.Crash.{CrashesAs}
 use Rattle.apron_run.specs.Headline.{TellsHeadline}
 use Rattle.apron_run.specs.Run.{RunsAs}
 use Rattle.apron_run.specs.Survival.{DiskStates}
-use Rattle.apron_run.specs.Words.{asked_by, desk}
+use Rattle.apron_run.specs.Words.{desk, subcommand_of}
 use Rattle.apron_run.specs.World.{World, world_at}
 use Rattle.apron_run.proofs.program.run.Goals as goal
 
@@ -20,7 +20,7 @@ returns-clause-headline g c =
     let before : World = world_at (g.F.Shelf.state c.args.shelf.now) (g.S.Source.state c.args.source.now) (g.W.Sink.state c.args.sink.now) (g.D.Disk.state c.args.disk.now) in
     let after : World = world_at (g.F.Shelf.state c.run_with.new.shelf) (g.S.Source.state c.run_with.new.source) (g.W.Sink.state c.run_with.new.sink)
     (g.D.Disk.state c.run_with.new.disk) in
-    of_none (λ feeds. (airport types : List ℕ) → asked_by c.args.words.now ≡ desk airport types → TellsHeadline feeds airport types before after c.run_with.result)
+    of_none (λ feeds. (airport types : List ℕ) → subcommand_of c.args.words.now ≡ desk airport types → TellsHeadline feeds airport types before after c.run_with.result)
     c.none-watches.result c.none-watches.ensures.none c.run_with.ensures.headline
 
 pub returns-clause-runs : goal.returns-clause-runs
@@ -28,7 +28,7 @@ returns-clause-runs g c =
     let before : World = world_at (g.F.Shelf.state c.args.shelf.now) (g.S.Source.state c.args.source.now) (g.W.Sink.state c.args.sink.now) (g.D.Disk.state c.args.disk.now) in
     let after : World = world_at (g.F.Shelf.state c.run_with.new.shelf) (g.S.Source.state c.run_with.new.source) (g.W.Sink.state c.run_with.new.sink)
     (g.D.Disk.state c.run_with.new.disk) in
-    of_none (λ feeds. RunsAs feeds (asked_by c.args.words.now) before after c.run_with.result) c.none-watches.result c.none-watches.ensures.none c.run_with.ensures.runs
+    of_none (λ feeds. RunsAs feeds (subcommand_of c.args.words.now) before after c.run_with.result) c.none-watches.result c.none-watches.ensures.none c.run_with.ensures.runs
 
 pub returns-clause-crash : goal.returns-clause-crash
 returns-clause-crash g c =
@@ -36,4 +36,4 @@ returns-clause-crash g c =
     let after : World = world_at (g.F.Shelf.state c.run_with.new.shelf) (g.S.Source.state c.run_with.new.source) (g.W.Sink.state c.run_with.new.sink)
     (g.D.Disk.state c.run_with.new.disk) in
     let disk : DiskStates = record { before = g.D.Disk.state c.args.disk.now; after = g.D.Disk.state c.run_with.new.disk } in
-    of_none (λ feeds. CrashesAs feeds disk (asked_by c.args.words.now) before after c.run_with.result) c.none-watches.result c.none-watches.ensures.none c.run_with.ensures.crash
+    of_none (λ feeds. CrashesAs feeds disk (subcommand_of c.args.words.now) before after c.run_with.result) c.none-watches.result c.none-watches.ensures.none c.run_with.ensures.crash

@@ -2,7 +2,7 @@ use Rattle.std.proofs.Common.{◌≡◌, ◌∙◌, ◌<◌, ◌≤◌, ◌+◌,
 use Rattle.std.proofs.lemmas.List.{take_more}
 use Rattle.apron_rules.specs.declared.parts.AirportParts.{AirportParts}
 use Rattle.visit_book.specs.declared.visits.NewVisit.{NewVisit}
-use Rattle.apron_run.specs.Asking.{Meets, MeetsAll, Reached, Stops, reached, record_behind}
+use Rattle.apron_run.specs.Asking.{AsksOnce, MeetsAll, Reached, StopsImport, reached_by, record_behind}
 use Rattle.apron_run.proofs.Asking.{among_season, meets_push, one_counts}
 use Rattle.apron_run.proofs.season.ask_season.Goals as goal
 
@@ -24,14 +24,14 @@ pub returns-in-Err-clause-asks : goal.returns-in-Err-clause-asks
 returns-in-Err-clause-asks g c =
     let visits = c.args.visits.now in
     let airport = c.args.board.now.airport in
-    let before : Reached = reached g.K.Keeper.state c.args.board.now in
-    let at : Reached = reached g.K.Keeper.state c.loop-k.board in
-    let after : Reached = reached g.K.Keeper.state c.ask_visit.new.board in
+    let before : Reached = reached_by g.K.Keeper.state c.args.board.now in
+    let at : Reached = reached_by g.K.Keeper.state c.loop-k.board in
+    let after : Reached = reached_by g.K.Keeper.state c.ask_visit.new.board in
     let k = c.loop-k.k in
     let new = c.index-visits-k.result in
     let stop = c.in-Err.stop in
-    let stops : Stops airport (k + 2) at new after stop =
-    subst (λ (a : AirportParts). Stops a (k + 2) at new after stop) c.loop-k.invariant.airport c.in-Err.ensures.stops in
+    let stops : StopsImport airport (k + 2) at new after stop =
+    subst (λ (a : AirportParts). StopsImport a (k + 2) at new after stop) c.loop-k.invariant.airport c.in-Err.ensures.stops in
     among_season airport visits before after stop (record {
       front = take k visits;
       new = new;
@@ -39,19 +39,19 @@ returns-in-Err-clause-asks g c =
       are = parted_at visits k new c.loop-k-test.true c.index-visits-k.is;
       at = at;
       met = c.loop-k.invariant.met;
-      stops = subst (λ (n : ℕ). Stops airport n at new after stop) (numbered visits k c.loop-k-test.true) stops;
+      stops = subst (λ (n : ℕ). StopsImport airport n at new after stop) (numbered visits k c.loop-k-test.true) stops;
     })
 
 pub loop-k-preserved : goal.loop-k-preserved
 loop-k-preserved g c =
     let visits = c.args.visits.now in
     let airport = c.args.board.now.airport in
-    let before : Reached = reached g.K.Keeper.state c.args.board.now in
-    let mid : Reached = reached g.K.Keeper.state c.loop-k.board in
-    let after : Reached = reached g.K.Keeper.state c.ask_visit.new.board in
+    let before : Reached = reached_by g.K.Keeper.state c.args.board.now in
+    let mid : Reached = reached_by g.K.Keeper.state c.loop-k.board in
+    let after : Reached = reached_by g.K.Keeper.state c.ask_visit.new.board in
     let k = c.loop-k.k in
     let new = c.index-visits-k.result in
-    let one : Meets airport mid new after = subst (λ (a : AirportParts). Meets a mid new after) c.loop-k.invariant.airport c.in_default.ensures.met in
+    let one : AsksOnce airport mid new after = subst (λ (a : AirportParts). AsksOnce a mid new after) c.loop-k.invariant.airport c.in_default.ensures.met in
     let (more, most) = one_counts airport mid after new one in
     let grown : length before.history ≤ length mid.history = c.loop-k.invariant.grown in
     let few : length mid.history ≤ length before.history + k = c.loop-k.invariant.few in

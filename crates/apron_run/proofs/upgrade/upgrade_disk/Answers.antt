@@ -1,7 +1,7 @@
 use Rattle.std.proofs.Common.{◌≡◌, ◌∙◌, ℕ, List, Result, ap, false, length, subst, sym, true}
 use Rattle.std.specs.Prelude.{IfErr, OnOk, is_err}
 use Rattle.apron_base.specs.Counts.{Counts}
-use Rattle.journal_disk.specs.Disk.{Told}
+use Rattle.journal_disk.specs.Disk.{IfExposed}
 use Rattle.journal_disk.specs.Switch.{HasSwitched}
 use Rattle.journal_disk.specs.declared.upgrade.Found.TheVariants.{Old}
 use Rattle.journal_disk.specs.declared.fault.JournalFault.{JournalFault}
@@ -32,8 +32,8 @@ returns-in-Ok-switched g c =
     let (was, stays, still) : IsFound g.D.Disk.state files.digests c.args.disk (Old held) =
     subst (IsFound g.D.Disk.state files.digests c.args.disk) c.in-Ok-Old.field-0-is (old.opened, old.stays, old.counts) in
     let switch = c.switch-switched.ensures in
-    let done : Told opened (λ bytes. HasSwitched held.size new bytes after) =
-    subst (λ (r : Result (Unit {0}) JournalFault). OnOk r (Told opened (λ bytes. HasSwitched held.size new bytes after))) c.in-Ok-switched.is switch.switched in
+    let done : IfExposed opened (λ bytes. HasSwitched held.size new bytes after) =
+    subst (λ (r : Result (Unit {0}) JournalFault). OnOk r (IfExposed opened (λ bytes. HasSwitched held.size new bytes after))) c.in-Ok-switched.is switch.switched in
     let lifted : HasLifted files.airport held.entries new = subst (λ (es : List (List ℕ)). HasLifted files.airport es new) c.entries.ensures.entries
     (subst (λ (es : List (List ℕ)). HasLifted files.airport c.entries.result.now es) (sym c.as_slice.ensures.items) c.in-Ok.ensures.lifted) in
     let counts : Counts false opened.faults after.faults =

@@ -1,6 +1,6 @@
 use Rattle.std.proofs.Common.{rules, subst}
 use Rattle.apron_run.specs.UpgradeCrash.{UpgradesJournalLeaving}
-use Rattle.apron_run.specs.World.{outs_at}
+use Rattle.apron_run.specs.World.{sink_and_disk_at}
 use Rattle.apron_run.proofs.upgrade.upgrade_journal.Goals as goal
 
 pub returns-clause-upgrades : goal.returns-clause-upgrades
@@ -8,10 +8,10 @@ returns-clause-upgrades g c =
     let state = g.D.Disk.state in
     let old = state c.args.disk.now in
     let left = state c.upgrade_on-met.result.1.now in
-    let before = outs_at (g.W.Sink.state c.args.sink.now) old in
+    let before = sink_and_disk_at (g.W.Sink.state c.args.sink.now) old in
     let sink = g.W.Sink.state c.tell_upgrade.new.sink in
     let meets = c.upgrade_on-met.ensures.meets in
-    let told : UpgradesJournalLeaving (record { before = old; after = left }) c.args.files.now before (outs_at sink left) c.tell_upgrade.result =
+    let told : UpgradesJournalLeaving (record { before = old; after = left }) c.args.files.now before (sink_and_disk_at sink left) c.tell_upgrade.result =
     (record { met = c.upgrade_on-met.result.0; meets = meets.0; tells = c.tell_upgrade.ensures.tells }, meets.1) in
-    subst (λ d. UpgradesJournalLeaving (record { before = old; after = state d }) c.args.files.now before (outs_at sink (state d)) c.tell_upgrade.result)
+    subst (λ d. UpgradesJournalLeaving (record { before = old; after = state d }) c.args.files.now before (sink_and_disk_at sink (state d)) c.tell_upgrade.result)
     (search rules) told

@@ -2,7 +2,7 @@ use denote.Param.Send.{param_send}
 use Rattle.std.proofs.Common.{◌∙◌, ◌<◌, ℕ, List, IfOk, ap, map, subst, sym}
 use Rattle.std.proofs.lemmas.List.{length-map}
 use Rattle.std.proofs.lemmas.Result.{IfOk-weaker}
-use Rattle.history_core.specs.AtRisk.{entry_at_risk}
+use Rattle.history_core.specs.AtRisk.{read_entry_at_risk}
 use Rattle.history_core.specs.Board.{machine_state}
 use Rattle.watch_list.specs.declared.watch.Watched.{Watched}
 use Rattle.desk_turns.specs.Crew.{ServesBoard}
@@ -10,7 +10,7 @@ use Rattle.desk_turns.specs.Watched.{fed_sessions, feed_texts}
 use Rattle.journal_disk.specs.Disk.{Stays}
 use Rattle.apron_run.specs.Journal.{KeepsHistory, journal_tells}
 use Rattle.apron_run.specs.Survival.{Survives}
-use Rattle.apron_run.specs.World.{seen_of}
+use Rattle.apron_run.specs.World.{disk_seen}
 use Rattle.apron_run.proofs.Fronts.{stays_both}
 use Rattle.apron_serve.proofs.Crosses.{files_send}
 use Rattle.apron_serve.proofs.Desks.{desks_serve, of_err, opened_safe, turns_want_memory}
@@ -22,14 +22,14 @@ serve_watched-served-requires-send-K g c κs within =
     record { owned = sent.owned; leaving = (param_send 1 _ sent).leaving }
 
 pub serve_watched-served-requires-clause-at_risk : goal.serve_watched-served-requires-clause-at_risk
-serve_watched-served-requires-clause-at_risk g c κs within = opened_safe (journal_tells g.D.Disk.state) c.args.files.now (seen_of (g.D.Disk.state c.args.disk)) c.in-Ok.board.board c.in-Ok.ensures.opened
+serve_watched-served-requires-clause-at_risk g c κs within = opened_safe (journal_tells g.D.Disk.state) c.args.files.now (disk_seen (g.D.Disk.state c.args.disk)) c.in-Ok.board.board c.in-Ok.ensures.opened
 
 pub returns-in-Ok-served-clause-crash : goal.returns-in-Ok-served-clause-crash
 returns-in-Ok-served-clause-crash g c =
     let left = c.serve_watched-served.result.1 in (
       desks_serve (record { states = g.L.Workplace.states; feeds = feed_texts g.R.Stated.tells c.args.watches.now }) (journal_tells g.D.Disk.state) c.args.files.now c.args.task
-          (record { listeners = map g.L.Workplace.state c.args.listeners.now; screens = map g.L.Workplace.state c.args.screens.now; disk = seen_of (g.D.Disk.state c.args.disk) })
-          (record { listeners = map g.L.Workplace.state c.serve_watched-served.new.listeners; screens = map g.L.Workplace.state c.serve_watched-served.new.walls; disk = seen_of (g.D.Disk.state c.close_board-disk.result) })
+          (record { listeners = map g.L.Workplace.state c.args.listeners.now; screens = map g.L.Workplace.state c.args.screens.now; disk = disk_seen (g.D.Disk.state c.args.disk) })
+          (record { listeners = map g.L.Workplace.state c.serve_watched-served.new.listeners; screens = map g.L.Workplace.state c.serve_watched-served.new.walls; disk = disk_seen (g.D.Disk.state c.close_board-disk.result) })
           c.in-Ok.board.board c.serve_watched-served.result.1 c.serve_watched-served.result.0 c.in-Ok-served.ends c.served_end.result c.in-Ok.ensures.opened c.in-Ok-served.is
           (subst (λ (watches : List (Watched g.row.R.Denot)). IfOk c.serve_watched-served.result.0 (λ ends. ServesBoard g.L.Workplace.states
           (fed_sessions (feed_texts g.R.Stated.tells watches)) c.args.task.connections
@@ -39,11 +39,11 @@ returns-in-Ok-served-clause-crash g c =
           (IfOk-weaker c.serve_watched-served.result.0 _ _ (λ ended missed is.
           subst (λ (n : ℕ). 0 < n) (sym (length-map c.args.screens.now g.L.Workplace.state)) (missed is)) c.serve_watched-served.ensures.missed)
           c.served_end.ensures.is
-          (ap (λ d. (seen_of (g.D.Disk.state d)).faults) c.close_board-disk.ensures.disk)
+          (ap (λ d. (disk_seen (g.D.Disk.state d)).faults) c.close_board-disk.ensures.disk)
           (subst (λ (digests : List ℕ). KeepsHistory (record { airport = left.airport; digests = digests }) left.history
-          (entry_at_risk left.airport (journal_tells g.D.Disk.state left.keeper)) (seen_of (g.D.Disk.state c.close_board-disk.result)))
+          (read_entry_at_risk left.airport (journal_tells g.D.Disk.state left.keeper)) (disk_seen (g.D.Disk.state c.close_board-disk.result)))
           (sym c.requires.digests) c.close_board-disk.ensures.keeps),
-      subst (λ (digests : List ℕ). Survives digests left.history (entry_at_risk left.airport (journal_tells g.D.Disk.state left.keeper))
+      subst (λ (digests : List ℕ). Survives digests left.history (read_entry_at_risk left.airport (journal_tells g.D.Disk.state left.keeper))
           (record { before = g.N.OfFiles.begun; after = g.D.Disk.state c.close_board-disk.result })) (sym c.requires.digests) c.close_board-disk.ensures.survives,
     )
 
@@ -55,11 +55,11 @@ returns-in-Err-served-clause-crash g c =
     let refused = of_err c.serve_watched-served.result.0 c.in-Err-served.field-0 c.in-Err-served.is c.serve_watched-served.ensures.refused in
     let same = c.close_board-disk.ensures.disk ∙ ap (λ b. b.keeper.disk) refused.2 in (
       turns_want_memory (journal_tells g.D.Disk.state) c.args.files.now
-          (record { listeners = map g.L.Workplace.state c.args.listeners.now; screens = map g.L.Workplace.state c.args.screens.now; disk = seen_of (g.D.Disk.state c.args.disk) })
-          (record { listeners = map g.L.Workplace.state c.serve_watched-served.new.listeners; screens = map g.L.Workplace.state c.serve_watched-served.new.walls; disk = seen_of (g.D.Disk.state c.close_board-disk.result) })
+          (record { listeners = map g.L.Workplace.state c.args.listeners.now; screens = map g.L.Workplace.state c.args.screens.now; disk = disk_seen (g.D.Disk.state c.args.disk) })
+          (record { listeners = map g.L.Workplace.state c.serve_watched-served.new.listeners; screens = map g.L.Workplace.state c.serve_watched-served.new.walls; disk = disk_seen (g.D.Disk.state c.close_board-disk.result) })
           c.in-Ok.board.board c.in-Ok.ensures.opened (ap (map g.L.Workplace.state) refused.0) (ap (map g.L.Workplace.state) refused.1)
           (ap (λ d. (g.D.Disk.state d).contents) same ∙ c.in-Ok.ensures.stays.contents)
-          (ap (λ d. (seen_of (g.D.Disk.state d)).faults) same),
+          (ap (λ d. (disk_seen (g.D.Disk.state d)).faults) same),
       stays_both g.N.OfFiles.begun (g.D.Disk.state c.args.disk) (g.D.Disk.state c.close_board-disk.result) c.requires.begun
           (subst (λ d. Stays (g.D.Disk.state c.args.disk) (g.D.Disk.state d)) (sym same) c.in-Ok.ensures.stays),
     )

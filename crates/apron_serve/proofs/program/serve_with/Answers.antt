@@ -2,13 +2,13 @@ use Rattle.std.proofs.Common.{◌≡◌, ◌⊎◌, ◌∙◌, ◌<◌, List, []
 use Rattle.std.proofs.lemmas.List.{length-map}
 use Rattle.desk_turns.specs.Watched.{feed_texts}
 use Rattle.apron_run.specs.Run.{KeptUnless}
-use Rattle.apron_run.specs.Statuses.{code_of}
+use Rattle.apron_run.specs.Statuses.{exit_code}
 use Rattle.apron_run.specs.Survival.{DiskStates}
-use Rattle.apron_run.specs.World.{seen_of}
+use Rattle.apron_run.specs.World.{disk_seen}
 use Rattle.apron_run.specs.declared.status.Status.TheVariants.{Done, ListenerFault, Memory, Usage}
 use Rattle.apron_serve.specs.Board.{Service}
-use Rattle.apron_serve.specs.Complete.{IsComplete}
-use Rattle.apron_serve.specs.Crash.{CrashesAs}
+use Rattle.apron_serve.specs.Complete.{IsServeComplete}
+use Rattle.apron_serve.specs.Crash.{ServeCrashesAs}
 use Rattle.apron_serve.specs.Orders.{Order, order_of}
 use Rattle.apron_serve.specs.Serve.{HaveFinished, ServesAs, SomeFailed, has_served, is_order, is_screen_order}
 use Rattle.apron_serve.proofs.NoScreens.{as_many, no_screen_order, of_all}
@@ -32,32 +32,32 @@ returns g c =
     let empty : length left ≡ 0 = sym (length-map left state) ∙ (many ∙ (length-map front state ∙ none)) in
     let all : (P : List L → List L → List L → List L → Type 0) → P desks front served left → P c.args.listeners.now [] (left ++ served) [] =
     λ P holds. of_all P c.args.listeners.now front desks left served c.split_at_mut-none.ensures.value none empty holds in
-    let done = all (λ olds screens news left. (order : Order) → order_of words (length olds) (length screens) ≡ Some order → code ≡ code_of Done
+    let done = all (λ olds screens news left. (order : Order) → order_of words (length olds) (length screens) ≡ Some order → code ≡ exit_code Done
     → HaveFinished order.connections (map state olds) (map state news) × HaveFinished order.connections (map state screens) (map state left)) ensures.done in
     let finished = all (λ olds screens news left. (order : Order) → order_of words (length olds) (length screens) ≡ Some order
     → HaveFinished order.connections (map state olds) (map state news) → HaveFinished order.connections (map state screens) (map state left)
-    → (code ≡ code_of Done) ⊎ ((code ≡ code_of Memory) × (0 < length screens))) ensures.finished in
-    let failed = all (λ olds screens news left. code ≡ code_of ListenerFault
+    → (code ≡ exit_code Done) ⊎ ((code ≡ exit_code Memory) × (0 < length screens))) ensures.finished in
+    let failed = all (λ olds screens news left. code ≡ exit_code ListenerFault
     → SomeFailed (map state olds) (map state news) ⊎ SomeFailed (map state screens) (map state left)) ensures.failed in
-    let usage = all (λ olds screens news left. order_of words (length olds) (length screens) ≡ None → code ≡ code_of Usage) ensures.usage in
-    let usage_alone = all (λ olds screens news left. code ≡ code_of Usage
+    let usage = all (λ olds screens news left. order_of words (length olds) (length screens) ≡ None → code ≡ exit_code Usage) ensures.usage in
+    let usage_alone = all (λ olds screens news left. code ≡ exit_code Usage
     → (order_of words (length olds) (length screens) ≡ None) ⊎ (is_screen_order (order_of words (length olds) (length screens)) ≡ true)) ensures.usage_alone in
     record {
       headline = all (λ olds screens news left. ServesAs service (order_of words (length olds) (length screens))
-          (record { shelf = g.F.Shelf.state c.args.shelf.now; listeners = map g.L.Workplace.state olds; screens = map g.L.Workplace.state screens; sink = g.W.Sink.state c.args.sink.now; disk = seen_of (g.D.Disk.state c.args.disk) })
-          (record { shelf = g.F.Shelf.state c.serve_all.new.shelf; listeners = map g.L.Workplace.state news; screens = map g.L.Workplace.state left; sink = g.W.Sink.state c.serve_all.new.sink; disk = seen_of (g.D.Disk.state c.serve_all.result.1) }) code) ensures.headline;
+          (record { shelf = g.F.Shelf.state c.args.shelf.now; listeners = map g.L.Workplace.state olds; screens = map g.L.Workplace.state screens; sink = g.W.Sink.state c.args.sink.now; disk = disk_seen (g.D.Disk.state c.args.disk) })
+          (record { shelf = g.F.Shelf.state c.serve_all.new.shelf; listeners = map g.L.Workplace.state news; screens = map g.L.Workplace.state left; sink = g.W.Sink.state c.serve_all.new.sink; disk = disk_seen (g.D.Disk.state c.serve_all.result.1) }) code) ensures.headline;
       done = λ order is. (
         (λ zero. (done order is zero).0),
         (λ have. ⊎_elim (λ zero. zero) (λ missed. absurd (let some = missed.1 in omega (arith, some))) (finished order is have refl)),
       );
       failed = λ is. ⊎_elim (λ some. some) (λ none. absurd none) (failed is);
       usage = ((λ is. ⊎_elim (λ none. none) (λ some. absurd (no_screen_order words (length c.args.listeners.now) some)) (usage_alone is)), usage);
-      complete = all (λ olds screens news left. IsComplete (order_of words (length olds) (length screens))
-          (record { shelf = g.F.Shelf.state c.args.shelf.now; listeners = map g.L.Workplace.state olds; screens = map g.L.Workplace.state screens; sink = g.W.Sink.state c.args.sink.now; disk = seen_of (g.D.Disk.state c.args.disk) })
-          (record { shelf = g.F.Shelf.state c.serve_all.new.shelf; listeners = map g.L.Workplace.state news; screens = map g.L.Workplace.state left; sink = g.W.Sink.state c.serve_all.new.sink; disk = seen_of (g.D.Disk.state c.serve_all.result.1) }) code) ensures.complete;
-      crash = all (λ olds screens news left. CrashesAs service disk (order_of words (length olds) (length screens))
-          (record { shelf = g.F.Shelf.state c.args.shelf.now; listeners = map g.L.Workplace.state olds; screens = map g.L.Workplace.state screens; sink = g.W.Sink.state c.args.sink.now; disk = seen_of (g.D.Disk.state c.args.disk) })
-          (record { shelf = g.F.Shelf.state c.serve_all.new.shelf; listeners = map g.L.Workplace.state news; screens = map g.L.Workplace.state left; sink = g.W.Sink.state c.serve_all.new.sink; disk = seen_of (g.D.Disk.state c.serve_all.result.1) }) code) ensures.crash;
+      complete = all (λ olds screens news left. IsServeComplete (order_of words (length olds) (length screens))
+          (record { shelf = g.F.Shelf.state c.args.shelf.now; listeners = map g.L.Workplace.state olds; screens = map g.L.Workplace.state screens; sink = g.W.Sink.state c.args.sink.now; disk = disk_seen (g.D.Disk.state c.args.disk) })
+          (record { shelf = g.F.Shelf.state c.serve_all.new.shelf; listeners = map g.L.Workplace.state news; screens = map g.L.Workplace.state left; sink = g.W.Sink.state c.serve_all.new.sink; disk = disk_seen (g.D.Disk.state c.serve_all.result.1) }) code) ensures.complete;
+      crash = all (λ olds screens news left. ServeCrashesAs service disk (order_of words (length olds) (length screens))
+          (record { shelf = g.F.Shelf.state c.args.shelf.now; listeners = map g.L.Workplace.state olds; screens = map g.L.Workplace.state screens; sink = g.W.Sink.state c.args.sink.now; disk = disk_seen (g.D.Disk.state c.args.disk) })
+          (record { shelf = g.F.Shelf.state c.serve_all.new.shelf; listeners = map g.L.Workplace.state news; screens = map g.L.Workplace.state left; sink = g.W.Sink.state c.serve_all.new.sink; disk = disk_seen (g.D.Disk.state c.serve_all.result.1) }) code) ensures.crash;
       shelf_kept = all (λ olds screens news left. KeptUnless (is_order (order_of words (length olds) (length screens))) c.args.shelf.now c.serve_all.new.shelf)
           ensures.shelf_kept;
       listeners_kept = all (λ olds screens news left. KeptUnless (has_served (length screens) code) olds news) ensures.listeners_kept;

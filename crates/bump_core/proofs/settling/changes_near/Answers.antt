@@ -1,16 +1,16 @@
 use Rattle.std.proofs.Common.{◌≡◌, ◌∙◌, List, ap}
 use Rattle.std.proofs.lemmas.Result.{IfOk-weaker}
 use Rattle.visit_book.specs.declared.visits.Visit.{Visit}
-use Rattle.bump_core.specs.declared.ranks.Blocking.{Blocking}
-use Rattle.bump_core.specs.declared.ranks.Met.{Met}
-use Rattle.bump_core.specs.Lists.{against_others, against_own, changes_by, mets_of, other_blockings, own_blockings, visit_by}
+use Rattle.bump_core.specs.declared.ranks.Conflict.{Conflict}
+use Rattle.bump_core.specs.declared.ranks.KeptClash.{KeptClash}
+use Rattle.bump_core.specs.Lists.{against_others, against_own, changes_by, kept_clashes, other_conflicts, own_conflicts, visit_by}
 use Rattle.bump_core.proofs.settling.changes_near.Goals as goal
 
 pub returns-clause-ok : goal.returns-clause-ok
 returns-clause-ok g c =
-    let mets : List Met = mets_of c.args.airport.now c.args.visits.now c.args.changed.now in
-    let own : List Blocking = own_blockings c.args.airport.now c.args.visits.now c.args.changed.now in
-    let found : List Blocking = other_blockings c.args.airport.now c.args.visits.now c.args.changed.now in
+    let mets : List KeptClash = kept_clashes c.args.airport.now c.args.visits.now c.args.changed.now in
+    let own : List Conflict = own_conflicts c.args.airport.now c.args.visits.now c.args.changed.now in
+    let found : List Conflict = other_conflicts c.args.airport.now c.args.visits.now c.args.changed.now in
     let new : Visit = visit_by c.args.entry own c.args.changed.now in
     let own_is : c.in_ok-own.own ≡ own = c.in_ok-own.ensures.ok ∙ ap against_own (c.as_slice.ensures.items ∙ c.in_ok-mets.ensures.ok) in
     let found_is : c.in_ok-others.others ≡ found =

@@ -22,8 +22,8 @@ loop-other-init c = sym (append-nil c.args.clashes.now.items)
 
 pub loop-other-preserved : goal.loop-other-preserved
 loop-other-preserved c =
-    one_more (clash_within c.args.airport.now c.args.slot.now c.args.from (c.args.end - c.args.from)) c.args.clashes.now.items c.args.others.now c.loop-other.other-index _ c.loop-other.clashes.items c.push_some.new.clashes.items _ c.loop-other-test.true
-    c.loop-other.invariant c.clash_within.ensures.is c.in_ok-push_some.ensures.pushed
+    one_more (clash_within c.args.airport.now c.args.slot.now c.args.from (c.args.end - c.args.from)) c.args.clashes.now.items c.args.others.now c.loop-other.other-index _ c.loop-other.clashes.items c.push_found.new.clashes.items _ c.loop-other-test.true
+    c.loop-other.invariant c.clash_within.ensures.is c.in_ok-push_found.ensures.pushed
 
 pub returns : goal.returns
 returns c = record {

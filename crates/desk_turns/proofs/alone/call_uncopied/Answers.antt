@@ -10,7 +10,7 @@ returns-clause-shows g c = λ first ask begun.
     let laws = g.met.M.DeskMachine in
     let before = g.M.Machine.state c.args.machine.now in
     let after = g.M.Machine.state c.act_next.new.machine in
-    subst (λ answer. ShowsAsk AloneAsks (g.M.DeskMachine.airport before.fixed) (port_over first before) ask answer (port_over first after)) (sym c.uncopied.ensures.is)
+    subst (λ answer. ShowsAsk AloneAsks (g.M.DeskMachine.airport before.fixed) (port_over first before) ask answer (port_over first after)) (sym c.answer_if_uncopied.ensures.is)
     (shows_uncopied g.M.DeskMachine.airport g.M.Machine.adds g.M.Machine.answers g.M.Machine.number laws.numbers c.in-Ok.own before after first begun c.act_next.ensures.legal
     (λ fixed history call answer left acts. laws.answers_as fixed history call version_ask answer left
     (subst (λ own. g.M.Machine.answers fixed history call own answer left) c.in-Ok.ensures.same acts)) ask

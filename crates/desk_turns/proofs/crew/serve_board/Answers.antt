@@ -17,5 +17,5 @@ returns-in-Ok-clause-serves g c =
     (record { listeners = news; seat = last }) end) c.new-port.ensures.seat ended in
     let works = subst (λ board. WorkTogether g.W.Workplace.states (kinds board.start.fixed) c.args.connections (record { listeners = olds; seat = c.in-Ok.seat })
     (record { listeners = news; seat = last }) end) c.new-port.ensures.board begun in
-    serves g.W.Workplace.states kinds c.args.connections (g.M.Machine.state c.args.board) (g.M.Machine.state c.closed.result) c.in-Ok.turns c.in-Ok.seat last olds news end
-    c.in-Ok.ensures.ok works c.closed.ensures.closes c.closed.ensures.legal
+    serves g.W.Workplace.states kinds c.args.connections (g.M.Machine.state c.args.board) (g.M.Machine.state c.close_turns.result) c.in-Ok.turns c.in-Ok.seat last olds news end
+    c.in-Ok.ensures.ok works c.close_turns.ensures.closes c.close_turns.ensures.legal

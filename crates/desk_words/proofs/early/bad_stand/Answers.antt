@@ -5,6 +5,6 @@ use Rattle.desk_words.proofs.early.bad_stand.Goals as goal
 
 pub returns : goal.returns
 returns c = record {
-  text = c.numbered.ensures.text 422 unprocessable
+  text = c.reply_with_number.ensures.text 422 unprocessable
       ∙ (ap (λ (edit : ℕ). text_of 422 json_media [] (stand_body edit)) c.from.ensures ∙ stand_text c.args.edit);
 }

@@ -2,7 +2,7 @@ use Rattle.std.proofs.Common.{◌∙◌, ap, sym}
 use Rattle.std.specs.Fmt.{digits}
 use Rattle.serde_json.proofs.OnLiterals.{serde_json_on_literals}
 use Rattle.desk_words.specs.Early.{early_text}
-use Rattle.desk_words.specs.declared.early.Early.TheVariants.{NotMvt}
+use Rattle.desk_words.specs.declared.early.EarlyReply.TheVariants.{NotMvt}
 use Rattle.desk_words.proofs.Numbered.{bad_request, element_text, twice_text}
 use Rattle.desk_words.proofs.early.not_mvt.Goals as goal
 
@@ -20,10 +20,10 @@ returns-in-BadFlightLine c = record { text = c.of-in-BadFlightLine.ensures.bytes
 
 pub returns-in-BadElement : goal.returns-in-BadElement
 returns-in-BadElement c = record {
-  text = c.numbered.ensures.text 400 bad_request ∙ element_text c.in-BadElement.place ∙ ap (λ fault. early_text (NotMvt fault)) (sym c.in-BadElement.is);
+  text = c.reply_with_number.ensures.text 400 bad_request ∙ element_text c.in-BadElement.place ∙ ap (λ fault. early_text (NotMvt fault)) (sym c.in-BadElement.is);
 }
 
 pub returns-in-Twice : goal.returns-in-Twice
 returns-in-Twice c = record {
-  text = c.numbered-in-Twice.ensures.text 400 bad_request ∙ twice_text c.in-Twice.place ∙ ap (λ fault. early_text (NotMvt fault)) (sym c.in-Twice.is);
+  text = c.reply_with_number-in-Twice.ensures.text 400 bad_request ∙ twice_text c.in-Twice.place ∙ ap (λ fault. early_text (NotMvt fault)) (sym c.in-Twice.is);
 }

@@ -1,5 +1,5 @@
 use Rattle.std.proofs.Common.{sym, ◌∙◌, arith}
-use Rattle.entry_bytes.specs.Former.{former_decoded}
+use Rattle.entry_bytes.specs.Former.{decode_former_entry}
 use Rattle.entry_bytes.proofs.CommandsOf.{command_of}
 use Rattle.entry_bytes.proofs.EntriesSpelt.{near_of}
 use Rattle.entry_bytes.proofs.FormerSpelt.{former_entry_is_spelt, former_fault_is_near}
@@ -10,9 +10,9 @@ encode_entry-requires c =
     let is = former_entry_is_spelt c.args.airport.now c.args.bytes.now c.in-Ok.entry (λ i. omega (arith, c.type_inv.bytes i)) c.in-Ok.ensures.is in
     record { call = is.1.call; command = command_of c.args.airport.now c.in-Ok.entry.command is.1.command }
 
-pub fault_of-requires : goal.fault_of-requires
-fault_of-requires c = record {
-  near = near_of (former_decoded c.args.airport.now c.args.bytes.now) c.in-Err.fault
+pub entry_fault-requires : goal.entry_fault-requires
+entry_fault-requires c = record {
+  near = near_of (decode_former_entry c.args.airport.now c.args.bytes.now) c.in-Err.fault
       (λ found e. former_fault_is_near c.args.airport.now c.args.bytes.now found (λ i. omega (arith, c.type_inv.bytes i)) e) c.in-Err.ensures.is;
 }
 

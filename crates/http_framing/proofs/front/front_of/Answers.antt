@@ -33,8 +33,8 @@ returns-in-Err c = record { is = IsMalformed-fields c.args.bytes.now _ _ c.in-Wh
 
 pub returns-then-length-behind : goal.returns-then-length-behind
 returns-then-length-behind c = record {
-  is = IsFront-whole c.args.bytes.now _ _ _ c.in-Whole.spans c.in-Ok.length c.parts_of.result c.window_of-window.ensures.value
-      (part_behind c.args.bytes.now c.in-Whole.spans.len) c.in-Whole.ensures.is c.in-Ok.ensures.value c.if-length-behind.true c.parts_of.ensures.parts;
+  is = IsFront-whole c.args.bytes.now _ _ _ c.in-Whole.spans c.in-Ok.length c.request_parts.result c.window_of-window.ensures.value
+      (part_behind c.args.bytes.now c.in-Whole.spans.len) c.in-Whole.ensures.is c.in-Ok.ensures.value c.if-length-behind.true c.request_parts.ensures.parts;
 }
 
 pub returns-else-length-behind : goal.returns-else-length-behind

@@ -1,6 +1,6 @@
 use Rattle.std.proofs.Common.{◌∙◌, ap}
 use Rattle.std.specs.Option.{option_map}
-use Rattle.journal_disk.specs.Disk.{written}
+use Rattle.journal_disk.specs.Disk.{with_piece_at}
 use Rattle.journal_disk.proofs.Moments.{goes_synced}
 use Rattle.journal_disk.proofs.Tells.{on_ok}
 use Rattle.journal_disk.proofs.gates.write_safely.Goals as goal
@@ -9,4 +9,4 @@ pub returns-clause-crash : goal.returns-clause-crash
 returns-clause-crash g c = goes_synced _ _ _ _ _ c.write_at.ensures.crash c.sync.ensures.stays.crash
 
 pub returns-clause-safe : goal.returns-clause-safe
-returns-clause-safe g c = on_ok c.sync.result c.sync.ensures.durable (λ safe bytes is. safe _ (c.in_ok-write_at.ensures.written ∙ ap (option_map (written c.args.at c.args.piece.now)) is))
+returns-clause-safe g c = on_ok c.sync.result c.sync.ensures.durable (λ safe bytes is. safe _ (c.in_ok-write_at.ensures.written ∙ ap (option_map (with_piece_at c.args.at c.args.piece.now)) is))

@@ -3,7 +3,7 @@ use Rattle.journal_disk.specs.Entries.{entries_from}
 use Rattle.journal_disk.specs.Faults.{OldTextFails}
 use Rattle.journal_disk.specs.Header.{as_old, is_new, or_bad_record}
 use Rattle.journal_disk.specs.Limits.{first_gate, most_entries}
-use Rattle.journal_disk.specs.Opening.{IsRead}
+use Rattle.journal_disk.specs.Opening.{IsReadJournal}
 use Rattle.std.proofs.lemmas.List.{take_rest}
 use Rattle.journal_disk.proofs.Fronts.{header_tested, old_opening}
 use Rattle.journal_disk.proofs.OpenedTexts.{old_records_fail}
@@ -33,5 +33,5 @@ returns-clause-whole c =
     let old : is_new text ≡ false = search rules in
     let magic = header_tested c.args.digests.now text c.in_ok-test_header.ensures.passed in
     let long : first_gate ≤ length text = omega (arith, c.in_ok-test_header.ensures.long) in
-    let read : IsRead (drop first_gate text) c.in_ok-records.records.entries.items c.in_ok-records.records.length = rw (← take_rest text first_gate) c.in_ok-records.ensures.whole in
+    let read : IsReadJournal (drop first_gate text) c.in_ok-records.records.entries.items c.in_ok-records.records.length = rw (← take_rest text first_gate) c.in_ok-records.ensures.whole in
     old_part text c.in_ok-records.records.entries.items c.in_ok-records.records.length long magic old read

@@ -4,7 +4,7 @@ use Rattle.journal_disk.specs.Entries.{entries_from, part_length}
 use Rattle.journal_disk.specs.Faults.{TextFails}
 use Rattle.journal_disk.specs.Header.{behind_part, is_new, or_bad_record}
 use Rattle.journal_disk.specs.Limits.{first_gate, most_entries}
-use Rattle.journal_disk.specs.Opening.{IsPassed, IsRead}
+use Rattle.journal_disk.specs.Opening.{IsPassed, IsReadJournal}
 use Rattle.std.proofs.lemmas.List.{take_rest}
 use Rattle.journal_disk.proofs.Fronts.{header_tested, new_opening, not_passed}
 use Rattle.journal_disk.proofs.OpenedTexts.{records_fail}
@@ -48,5 +48,5 @@ returns-clause-whole c =
     let magic = header_tested c.args.digests.now text c.in_ok-test_header.ensures.passed in
     let long : first_gate ≤ length text = omega (arith, c.in_ok-test_header.ensures.long) in
     let old : IsPassed (drop first_gate text) c.in-Some.size = rw (← take_rest text first_gate) c.in-Some.ensures.whole in
-    let read : IsRead (drop (behind_part c.in-Some.size) text) c.in_ok-records.records.entries.items c.in_ok-records.records.length = rw (← take_rest text (behind_part c.in-Some.size)) c.in_ok-records.ensures.whole in
+    let read : IsReadJournal (drop (behind_part c.in-Some.size) text) c.in_ok-records.records.entries.items c.in_ok-records.records.length = rw (← take_rest text (behind_part c.in-Some.size)) c.in_ok-records.ensures.whole in
     new_part text c.in-Some.size c.in_ok-records.records.entries.items c.in_ok-records.records.length long magic new old read

@@ -1,8 +1,8 @@
 use Rattle.std.proofs.Common.{rules, ◌≡◌, ◌∙◌, ◌≤◌, ◌<◌, ◌∷◌, [], length, take, get_or, sym, ap, arith}
 use Rattle.std.proofs.lemmas.List.{get_or_read}
 use Rattle.std.specs.Option.{option_map}
-use Rattle.journal_disk.specs.Disk.{written}
-use Rattle.journal_disk.specs.Entries.{records, sized}
+use Rattle.journal_disk.specs.Disk.{with_piece_at}
+use Rattle.journal_disk.specs.Entries.{records, with_length}
 use Rattle.journal_disk.proofs.Tells.{between_any}
 use Rattle.journal_disk.proofs.Writes.{both_put, every_at, goes_further, next_length, next_record}
 use Rattle.journal_disk.proofs.parts.put_records.Goals as goal
@@ -23,11 +23,11 @@ loop-entry-preserved g c =
     let most : length entry ≤ 1024 = omega (arith, ap length is, size.1) in
     let long : c.len.result ≡ length entry = search rules in
     let more = next_length entries i entry below is in
-    let put = both_put c.args.at c.loop-entry.end (records (take i entries)) (1 ∷ sized entry) _ _ _ so_far.end c.requires.inside so_far.put c.in_ok-put_record.ensures.put in
+    let put = both_put c.args.at c.loop-entry.end (records (take i entries)) (1 ∷ with_length entry) _ _ _ so_far.end c.requires.inside so_far.put c.in_ok-put_record.ensures.put in
     record {
       tells = between_any _ _ _ so_far.tells c.put_record.ensures.tells;
       crash = goes_further c.args.at c.loop-entry.end (omega (arith, so_far.end)) _ _ _ so_far.crash c.put_record.ensures.crash;
-      put = put ∙ ap (λ p. option_map (written c.args.at p) (g.D.Disk.state c.args.disk.now).contents) (sym (next_record entries i entry below is));
+      put = put ∙ ap (λ p. option_map (with_piece_at c.args.at p) (g.D.Disk.state c.args.disk.now).contents) (sym (next_record entries i entry below is));
       end = omega (arith, so_far.end, long, more);
       room = omega (arith, so_far.room, long, most, below);
       counts = c.in_ok-put_record.ensures.counts ∙ so_far.counts;

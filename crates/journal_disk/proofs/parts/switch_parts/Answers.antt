@@ -1,7 +1,7 @@
 use Rattle.std.proofs.Common.{arith, ◌∷◌, []}
-use Rattle.journal_disk.specs.Disk.{written}
+use Rattle.journal_disk.specs.Disk.{with_piece_at}
 use Rattle.journal_disk.specs.Header.{behind_part}
-use Rattle.journal_disk.specs.Switch.{part_of}
+use Rattle.journal_disk.specs.Switch.{new_part}
 use Rattle.journal_disk.proofs.Moments.{passes_both}
 use Rattle.journal_disk.proofs.Switching.{switching, writing}
 use Rattle.journal_disk.proofs.Tells.{between_any, on_ok}
@@ -15,9 +15,9 @@ returns-in_err-write_part-clause-crash g c = λ bytes is safe.
 pub write_safely-requires : goal.write_safely-requires
 write_safely-requires g c =
     let first = behind_part c.args.size in
-    let part = part_of c.args.entries.now in
+    let part = new_part c.args.entries.now in
     record {
-      inside = then_inside 5 (50 ∷ []) (g.D.Disk.state c.args.disk.now).contents (g.D.Disk.state c.write_part.new.disk) (written first part) c.write_part.ensures.tells (g.met.D.Disk.reads c.write_part.new.disk) c.in_ok-write_part.ensures.safe
+      inside = then_inside 5 (50 ∷ []) (g.D.Disk.state c.args.disk.now).contents (g.D.Disk.state c.write_part.new.disk) (with_piece_at first part) c.write_part.ensures.tells (g.met.D.Disk.reads c.write_part.new.disk) c.in_ok-write_part.ensures.safe
           (λ bytes is. omega (arith, written_length first part bytes (c.requires.inside bytes is)));
     }
 
@@ -35,6 +35,6 @@ returns-clause-crash g c = λ bytes is safe.
 pub returns-clause-switched : goal.returns-clause-switched
 returns-clause-switched g c =
     let first = behind_part c.args.size in
-    let part = part_of c.args.entries.now in
+    let part = new_part c.args.entries.now in
     on_ok c.write_safely.result c.write_safely.ensures.safe (λ safe.
-    then_safe 5 (50 ∷ []) (g.D.Disk.state c.args.disk.now).contents (g.D.Disk.state c.write_part.new.disk) (written first part) c.write_part.ensures.tells (g.met.D.Disk.reads c.write_part.new.disk) c.in_ok-write_part.ensures.safe (g.D.Disk.state c.write_safely.new.disk) safe)
+    then_safe 5 (50 ∷ []) (g.D.Disk.state c.args.disk.now).contents (g.D.Disk.state c.write_part.new.disk) (with_piece_at first part) c.write_part.ensures.tells (g.met.D.Disk.reads c.write_part.new.disk) c.in_ok-write_part.ensures.safe (g.D.Disk.state c.write_safely.new.disk) safe)

@@ -6,5 +6,5 @@ use Rattle.plan_core.proofs.cancelling.all_lifted.Goals as goal
 pub loop-index-preserved : goal.loop-index-preserved
 loop-index-preserved c =
     let inside : c.loop-index.index < length c.args.parts = omega arith in
-    lifted_next c.loop-index.index c.args.parts c.loop-index.made c.with-made.result c.as_slice.result.now no_part c.lifted.result c.as_slice.ensures.is inside
-    c.loop-index.invariant c.lifted.ensures.is c.with-made.ensures.is
+    lifted_next c.loop-index.index c.args.parts c.loop-index.made c.with-made.result c.as_slice.result.now no_part c.lifted_part.result c.as_slice.ensures.is inside
+    c.loop-index.invariant c.lifted_part.ensures.is c.with-made.ensures.is

@@ -19,7 +19,7 @@ returns-in_default-clause-value c s left reading =
     let (t, rest, at, walked) = c.loop-k.invariant.read s left reading in
     let found = rw c.if-not-branch.false at (c.in_ok-read_row.ensures.ok t rest at) in
     let (p, next, fields, after) = found-some (λ (b : Bor (List ℕ)). Some b.now) c.read_row.new.rdr _ _ found in
-    let bad = rw fields at (sym c.visit_of.ensures.value ∙ c.in_default.is) in
+    let bad = rw fields at (sym c.visit_of_record.ensures.value ∙ c.in_default.is) in
     sym walked ∙ step-bad airport (c.loop-k.k + 2) (c.args.turns - c.loop-k.k) (c.args.turns - (c.loop-k.k + 1)) t rest p c.loop-k.visits (omega arith) next bad
 
 pub returns-clause-value : goal.returns-clause-value
@@ -32,7 +32,7 @@ pub loop-k-preserved : goal.loop-k-preserved
 loop-k-preserved c =
     let airport = c.args.airport.now in
     let items = from_ok c.push.result _ (sym c.is_err.ensures.value ∙ c.if-is_err.false) c.push.ensures.ok in
-    let good = sym c.visit_of.ensures.value ∙ c.in-Some.is in
+    let good = sym c.visit_of_record.ensures.value ∙ c.in-Some.is in
     record {
       read = λ s left reading.
           let (t, rest, at, walked) = c.loop-k.invariant.read s left reading in

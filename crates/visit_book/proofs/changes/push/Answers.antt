@@ -14,10 +14,10 @@ returns-clause-is c =
     let next : c.args.part ≡ suc place = omega (arith, c.requires.least) in
     let tow : c.parts.result.now.tow ≡ c.args.airport.now.tow = ap (λ (a : AirportParts). a.tow) c.parts.ensures.value in
     let parts = push_made c.args.airport.now.tow (least_of c.args.airport.now c.args.visit.now.kind) c.args.from c.args.part place
-    (c.starting-first.result.to + c.parts.result.now.tow) c.args.visit.now.parts c.with.result c.push_behind-pushed.result
-    (slice_index_or c.as_slice.result.now place no_part) c.starting-first.result next
+    (c.part_from-first.result.to + c.parts.result.now.tow) c.args.visit.now.parts c.with.result c.push_behind-pushed.result
+    (slice_index_or c.as_slice.result.now place no_part) c.part_from-first.result next
     (found_in c.args.visit.now.parts c.as_slice.result.now place c.as_slice.ensures.is (omega (arith, c.requires.least, c.requires.most)))
-    (rw c.least_of.ensures.is at c.starting-first.ensures.is) (ap (λ minutes. c.starting-first.result.to + minutes) tow) c.push_behind-pushed.ensures.is
+    (rw c.least_of.ensures.is at c.part_from-first.ensures.is) (ap (λ minutes. c.part_from-first.result.to + minutes) tow) c.push_behind-pushed.ensures.is
     c.with.ensures.is in
     c.with_parts.ensures.is ∙ ap (with_parts c.args.visit.now) parts
 

@@ -7,5 +7,5 @@ use Rattle.wall_chart.proofs.unplaced.unplaced_on.Goals as goal
 pub returns : goal.returns
 returns c = record {
   are = filter_same _ (is_of_day c.args.day) _ (λ x b f' k. search rules) _ _ c.retain.ensures.filtered
-      ∙ ap (filter (is_of_day c.args.day)) (c.into_vec-rows.ensures.items ∙ c.in_ok-unplaced.ensures.unplaced);
+      ∙ ap (filter (is_of_day c.args.day)) (c.into_vec-rows.ensures.items ∙ c.in_ok-unplaced_parts.ensures.unplaced);
 }

@@ -1,5 +1,5 @@
 use Rattle.std.proofs.Common.{◌≡◌, ◌<◌, ◌≤◌, ◌+◌, ◌∙◌, ap, arith, subst}
-use Rattle.apron_base.specs.Machine.{is_fault, standing}
+use Rattle.apron_base.specs.Machine.{history_at_risk_of, is_fault}
 use Rattle.history_core.specs.Answer.{ActsAs}
 use Rattle.history_core.specs.AtRisk.{LeavesAtRisk}
 use Rattle.history_core.specs.Board.{machine_state}
@@ -19,8 +19,8 @@ returns-clause-shows g c =
     let acts : ActsAs before.airport before.history before.next c.args.ask.now c.ask.result after.history =
     subst (λ n. ActsAs before.airport before.history n c.args.ask.now c.ask.result after.history) call c.ask.ensures.acts in
     let tells = g.K.Keeper.state in
-    let risk : LeavesAtRisk (standing (machine_state tells before)) before.next c.args.ask.now.what (is_fault c.ask.result) (standing (machine_state tells after)) =
-    subst (λ n. LeavesAtRisk (standing (machine_state tells before)) n c.args.ask.now.what (is_fault c.ask.result) (standing (machine_state tells after))) call c.ask.ensures.at_risk in
+    let risk : LeavesAtRisk (history_at_risk_of (machine_state tells before)) before.next c.args.ask.now.what (is_fault c.ask.result) (history_at_risk_of (machine_state tells after)) =
+    subst (λ n. LeavesAtRisk (history_at_risk_of (machine_state tells before)) n c.args.ask.now.what (is_fault c.ask.result) (history_at_risk_of (machine_state tells after))) call c.ask.ensures.at_risk in
     subst (λ (a : AloneHeld g.row.K.Denot). ShowsAsk AloneAsks a.board.airport (alone_port tells a) c.args.ask.now c.ask.result
     (alone_port tells (record { board = after; first = c.self.inside.first })))
     c.self.view_is

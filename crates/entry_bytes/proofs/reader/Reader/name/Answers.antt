@@ -1,6 +1,6 @@
 use Rattle.std.proofs.Common.{Some, None, Err, ap, sym, ◌∙◌}
 use Rattle.entry_bytes.specs.declared.faults.EntryFault.TheVariants.{BadField}
-use Rattle.entry_bytes.specs.Readings.{Left}
+use Rattle.entry_bytes.specs.Readings.{RestOfEntry}
 use Rattle.entry_bytes.proofs.Fields.{named}
 use Rattle.entry_bytes.proofs.reader.Reader.name.Goals as goal
 
@@ -9,5 +9,5 @@ returns-in-Some c = record { is = named c.args.self.now c.text.new.self c.in_ok-
 
 pub returns-in-None : goal.returns-in-None
 returns-in-None c = record {
-  is = named c.args.self.now c.text.new.self c.in_ok-text.text.now None c.in_ok-text.ensures.is c.in-None.ensures.form ∙ ap (λ (l : Left). Err (BadField l.at)) (sym c.self.view_is);
+  is = named c.args.self.now c.text.new.self c.in_ok-text.text.now None c.in_ok-text.ensures.is c.in-None.ensures.form ∙ ap (λ (l : RestOfEntry). Err (BadField l.at)) (sym c.self.view_is);
 }

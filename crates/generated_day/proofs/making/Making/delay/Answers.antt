@@ -2,7 +2,7 @@ use Rattle.std.proofs.Common.{◌≡◌, ◌+◌, codes, length, true, false, ap
 use Rattle.std.proofs.lemmas.Bool.{le-ltb, lt-ltb}
 use Rattle.bump_core.specs.Bumped.{bumped_by}
 use Rattle.generated_day.specs.Days.{count_bumped, is_accepted, plan_of}
-use Rattle.generated_day.specs.Makings.{day_of}
+use Rattle.generated_day.specs.Makings.{day_so_far}
 use Rattle.generated_day.proofs.Steps.{delayed-by}
 use Rattle.generated_day.proofs.Bumped.{message_counts, message_counts_none}
 use Rattle.generated_day.proofs.making.Making.delay.Goals as goal
@@ -10,9 +10,9 @@ use Rattle.generated_day.proofs.making.Making.delay.Goals as goal
 pub returns-in_ok-self : goal.returns-in_ok-self
 returns-in_ok-self c =
     let now = c.args.self.now in
-    let day = day_of now in
+    let day = day_so_far now in
     let after = c.ask.new.self in
-    let asked = day_of after in
+    let asked = day_so_far after in
     let message = c.estimate-message.result in
     let (reply, made) = c.in_ok-ask.ensures.asked in
     let is = rw c.literal.ensures.text at made in
@@ -27,9 +27,9 @@ returns-in_ok-self c =
 
 pub returns-else-before-history : goal.returns-else-before-history
 returns-else-before-history c =
-    let day = day_of c.args.self.now in
+    let day = day_so_far c.args.self.now in
     let after = c.ask.new.self in
-    let asked = day_of after in
+    let asked = day_so_far after in
     let message = c.estimate-message.result in
     let (reply, made) = c.in_ok-ask.ensures.asked in
     let is = rw c.literal.ensures.text at made in

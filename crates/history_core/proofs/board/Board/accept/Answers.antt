@@ -1,11 +1,11 @@
 use Rattle.std.proofs.Common.{◌≡◌, ◌∙◌, ◌++◌, ◌∷◌, [], Ok, ap, refl, sym, subst}
 use Rattle.apron_base.specs.Keeper.{AddsEntry, FailsToAdd}
-use Rattle.plan_core.specs.PlanState.{PlanState, installed}
+use Rattle.plan_core.specs.PlanState.{PlanState, plan_after_change}
 use Rattle.desk_words.specs.Commands.{IsCommandOf}
 use Rattle.desk_words.specs.declared.asks.Command.{Command}
 use Rattle.desk_words.specs.declared.asks.Entry.{Entry}
 use Rattle.desk_words.specs.declared.replies.Reply.{Reply}
-use Rattle.entry_bytes.specs.Entries.{decoded, entry_text}
+use Rattle.entry_bytes.specs.Entries.{decode_entry, entry_text}
 use Rattle.history_core.specs.Answer.{is_keeper_fault}
 use Rattle.history_core.specs.Board.{BoardHeld}
 use Rattle.history_core.specs.Bumped.{bumped_in, last_bumped}
@@ -27,7 +27,7 @@ invariant_of-self-in_err-append g c =
     let next = subst (λ (b : BoardHeld g.row.K.Denot). IsNext b entry) (sym c.self.view_is) asked in
     let text : c.as_slice.result.now ≡ entry_text entry =
     c.as_slice.ensures.items ∙ (c.in_ok-text.ensures.text ∙ ap (λ (command : Command). entry_text (record { call = c.args.call; command = command })) c.in_ok-copy.ensures.same) in
-    let read : decoded inside.airport.now (entry_text entry) ≡ Ok entry =
+    let read : decode_entry inside.airport.now (entry_text entry) ≡ Ok entry =
     read_as inside.airport.now c.args.call c.args.command.now _ _ c.in_ok-copy.ensures.same c.in_ok-text.ensures.text c.in_ok-text.ensures.read_back next.valid in
     board_failed inside.plan.plan c.make_room.new.plan.plan inside.bumped (tells inside.keeper) (tells c.ready.new.self) (tells c.append.new.self) board c.append.new.self
     c.make_room.new.history.items entry c.self.invariant next read c.ready.ensures.kept
@@ -43,12 +43,12 @@ invariant_of-self-2 g c =
     let next = subst (λ (b : BoardHeld g.row.K.Denot). IsNext b entry) (sym c.self.view_is) asked in
     let text : c.as_slice.result.now ≡ entry_text entry =
     c.as_slice.ensures.items ∙ (c.in_ok-text.ensures.text ∙ ap (λ (command : Command). entry_text (record { call = c.args.call; command = command })) c.in_ok-copy.ensures.same) in
-    let read : decoded inside.airport.now (entry_text entry) ≡ Ok entry =
+    let read : decode_entry inside.airport.now (entry_text entry) ≡ Ok entry =
     read_as inside.airport.now c.args.call c.args.command.now _ _ c.in_ok-copy.ensures.same c.in_ok-text.ensures.text c.in_ok-text.ensures.read_back next.valid in
-    let makes = subst (λ (b : BoardHeld g.row.K.Denot). installed (replay b.airport b.history) c.args.change ≡ after_command (replay b.airport b.history) c.args.command.now)
+    let makes = subst (λ (b : BoardHeld g.row.K.Denot). plan_after_change (replay b.airport b.history) c.args.change ≡ after_command (replay b.airport b.history) c.args.command.now)
     (sym c.self.view_is) c.requires.change.makes in
     let made : c.install.new.self.plan ≡ after_command (replay inside.airport.now inside.history.items) c.args.command.now =
-    c.install.ensures.plan ∙ (ap (λ (p : PlanState). installed p c.args.change) (c.make_room.ensures.plan ∙ c.self.invariant.plan_is) ∙ makes) in
+    c.install.ensures.plan ∙ (ap (λ (p : PlanState). plan_after_change p c.args.change) (c.make_room.ensures.plan ∙ c.self.invariant.plan_is) ∙ makes) in
     let items : c.push_reserved.new.self.items ≡ inside.history.items ++ entry ∷ [] =
     c.push_reserved.ensures.items ∙ rw (c.make_room.ensures.entries, c.in_ok-copy.ensures.same) refl in
     let told = subst (λ (b : BoardHeld g.row.K.Denot). c.args.reply ≡ stepped_reply (replay b.airport b.history) c.args.command.now accepted)
@@ -80,7 +80,7 @@ returns-in_err-append-clause-at_risk g c =
     let tells = g.K.Keeper.state in
     let entry : Entry = record { call = c.args.call; command = c.args.command.now } in
     let valid = subst (λ (b : BoardHeld g.row.K.Denot). IsCommandOf b.airport c.args.command.now) (sym c.self.view_is) c.requires.valid in
-    let read : decoded inside.airport.now (entry_text entry) ≡ Ok entry =
+    let read : decode_entry inside.airport.now (entry_text entry) ≡ Ok entry =
     read_as inside.airport.now c.args.call c.args.command.now _ _ c.in_ok-copy.ensures.same c.in_ok-text.ensures.text c.in_ok-text.ensures.read_back valid in
     let text : c.as_slice.result.now ≡ entry_text entry =
     c.as_slice.ensures.items ∙ (c.in_ok-text.ensures.text ∙ ap (λ (command : Command). entry_text (record { call = c.args.call; command = command })) c.in_ok-copy.ensures.same) in

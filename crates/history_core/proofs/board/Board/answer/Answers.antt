@@ -6,8 +6,8 @@ use Rattle.history_core.proofs.Replay.{replay-airport}
 use Rattle.history_core.proofs.Texts.{visit_tellable}
 use Rattle.history_core.proofs.board.Board.answer.Goals as goal
 
-pub tell-requires-in-Visit : goal.tell-requires-in-Visit
-tell-requires-in-Visit g c =
+pub reply_with-requires-in-Visit : goal.reply_with-requires-in-Visit
+reply_with-requires-in-Visit g c =
     let inside = c.self.inside in
     record {
       tellable = subst IsTellable (sym (c.visit_told.ensures.is ∙ ap visit_told c.visit.ensures.is))

@@ -1,12 +1,12 @@
 use Rattle.std.proofs.Common.{◌≡◌, ◌∙◌, ◌<◌, ◌+◌, ℕ, length, ap, refl, sym, subst}
 use Rattle.apron_base.specs.Keeper.{with_last}
-use Rattle.plan_core.specs.PlanState.{PlanState, installed}
+use Rattle.plan_core.specs.PlanState.{PlanState, plan_after_change}
 use Rattle.desk_words.specs.declared.replies.Reply.{Reply}
 use Rattle.history_core.specs.declared.opening.OpenFault.TheVariants.{WrongEntry}
 use Rattle.history_core.specs.Bumped.{bumped_in}
 use Rattle.history_core.specs.Opening.{IsNotNext, OpeningHeld, not_read}
 use Rattle.history_core.specs.Steps.{after_command}
-use Rattle.history_core.specs.Taking.{Finds}
+use Rattle.history_core.specs.Taking.{ComesTo}
 use Rattle.history_core.specs.declared.taking.Taken.{Taken}
 use Rattle.history_core.specs.declared.taking.Taken.TheVariants.{Accepted, Answered}
 use Rattle.history_core.proofs.Boards.{plan_airport, plan_numbered, plan_version}
@@ -39,18 +39,18 @@ returns-then-entry-self-clause-refused c =
     λ back. rw (← c.self.view_is)
     (stops_there held inside.plan.plan inside.bumped inside.next c.args.bytes.now (WrongEntry (c.version-number.result + 1)) c.self.invariant why back)
 
-pub take-requires-clause-airport : goal.take-requires-clause-airport
-take-requires-clause-airport c =
+pub take_command-requires-clause-airport : goal.take_command-requires-clause-airport
+take_command-requires-clause-airport c =
     let inside = c.self.inside in
     sym (plan_airport inside.airport.now inside.history.items inside.plan.plan c.self.invariant.past.plan_is)
 
-pub take-requires-clause-numbered : goal.take-requires-clause-numbered
-take-requires-clause-numbered c =
+pub take_command-requires-clause-numbered : goal.take_command-requires-clause-numbered
+take_command-requires-clause-numbered c =
     let inside = c.self.inside in
     plan_numbered inside.airport.now inside.history.items inside.plan.plan c.self.invariant.past.plan_is c.self.invariant.past.legal
 
-pub take-requires-clause-entries : goal.take-requires-clause-entries
-take-requires-clause-entries c =
+pub take_command-requires-clause-entries : goal.take_command-requires-clause-entries
+take_command-requires-clause-entries c =
     let inside = c.self.inside in
     plan_version inside.airport.now inside.history.items inside.plan.plan c.self.invariant.past.plan_is c.self.invariant.past.legal
     ∙ sym (ap length c.as_slice-entries.ensures.value)
@@ -61,10 +61,10 @@ invariant_of-self-in-Accepted c =
     let held : OpeningHeld = record { airport = inside.airport.now; history = inside.history.items } in
     let plan = inside.plan.plan in
     let entry = c.in-Ok.entry in
-    let found = subst (λ (t : Taken). Finds plan (length c.as_slice-entries.result.now) entry.command t) c.in-Accepted.is c.in_ok-change.ensures.finds in
-    let counted = subst (λ (n : ℕ). Finds plan n entry.command (Accepted c.in-Accepted.change c.in-Accepted.reply)) (ap length c.as_slice-entries.ensures.value) found in
+    let found = subst (λ (t : Taken). ComesTo plan (length c.as_slice-entries.result.now) entry.command t) c.in-Accepted.is c.in_ok-change.ensures.finds in
+    let counted = subst (λ (n : ℕ). ComesTo plan n entry.command (Accepted c.in-Accepted.change c.in-Accepted.reply)) (ap length c.as_slice-entries.ensures.value) found in
     let made : c.install.new.self.plan ≡ after_command plan entry.command =
-    c.install.ensures.plan ∙ (ap (λ (p : PlanState). installed p c.in-Accepted.change) c.make_room.ensures.plan ∙ counted.1.makes) in
+    c.install.ensures.plan ∙ (ap (λ (p : PlanState). plan_after_change p c.in-Accepted.change) c.make_room.ensures.plan ∙ counted.1.makes) in
     let items : c.push_reserved.new.self.items ≡ with_last entry inside.history.items = c.push_reserved.ensures.items ∙ rw c.make_room.ensures.entries refl in
     opening_pushed held plan c.install.new.self.plan inside.bumped c.bumped_in.result inside.next entry c.args.bytes.now c.push_reserved.new.self.items
     c.self.invariant c.in-Ok.ensures.entry.command counted.0 c.if-entry-self.false c.in-Ok.ensures.entry.call made items
@@ -77,8 +77,8 @@ returns-in-Answered-clause-refused c =
     let held : OpeningHeld = record { airport = inside.airport.now; history = inside.history.items } in
     let plan = inside.plan.plan in
     let entry = c.in-Ok.entry in
-    let found = subst (λ (t : Taken). Finds plan (length c.as_slice-entries.result.now) entry.command t) c.in-Answered.is c.in_ok-change.ensures.finds in
-    let counted = subst (λ (n : ℕ). Finds plan n entry.command (Answered c.in-Answered.field-0)) (ap length c.as_slice-entries.ensures.value) found in
+    let found = subst (λ (t : Taken). ComesTo plan (length c.as_slice-entries.result.now) entry.command t) c.in-Answered.is c.in_ok-change.ensures.finds in
+    let counted = subst (λ (n : ℕ). ComesTo plan n entry.command (Answered c.in-Answered.field-0)) (ap length c.as_slice-entries.ensures.value) found in
     let why : IsNotNext inside.airport.now inside.history.items c.args.bytes.now (WrongEntry (c.version-number.result + 1)) = (
       past_counted inside.airport.now plan inside.history.items inside.next c.version-number.result c.self.invariant.past c.version-number.ensures.value,
       (

@@ -1,7 +1,7 @@
 use Rattle.std.proofs.Common.{◌∙◌, ◌≤◌, arith, sym, subst}
-use Rattle.desk_words.specs.declared.replies.Told.{Told}
+use Rattle.desk_words.specs.declared.replies.ReplyBody.{ReplyBody}
 use Rattle.history_core.specs.Steps.{TakesEntry}
-use Rattle.history_core.specs.Taking.{Finds, IsAnswered, commit_of}
+use Rattle.history_core.specs.Taking.{ComesTo, IsAnswered, commit_command}
 use Rattle.history_core.proofs.Takings.{committed_finds, refused_answered, repeated_answered}
 use Rattle.history_core.proofs.taking.commit.take_commit.Goals as goal
 
@@ -22,7 +22,7 @@ returns-in_ok-refusal-in-Err c =
     let answered = refused_answered plan c.args.entries draft.desk.now draft.number draft.base draft.edits.now c.in-Err.fault c.version-version.result over
     (sym c.draft.ensures.version ∙ c.in_default.is) c.in-Err.ensures.err told.1 c.version-version.ensures.value in
     record {
-      finds = subst (λ (t : Told). IsAnswered plan c.args.entries (commit_of draft) (record { version = c.version-version.result; told = t })) (sym told.0) answered;
+      finds = subst (λ (t : ReplyBody). IsAnswered plan c.args.entries (commit_command draft) (record { version = c.version-version.result; told = t })) (sym told.0) answered;
     }
 
 pub returns-in-Ok-2 : goal.returns-in-Ok-2
@@ -32,7 +32,7 @@ returns-in-Ok-2 c =
     let over : draft.base ≤ plan.version = omega (arith, c.if-draft-version.false, c.version-version.ensures.value) in
     let place : TakesEntry c.args.entries = c.takes_entry.ensures.is.0 c.if-not-takes_entry.false in
     record {
-      finds = subst (Finds plan c.args.entries (commit_of draft)) (sym c.committed.ensures.is)
+      finds = subst (ComesTo plan c.args.entries (commit_command draft)) (sym c.taken_commit.ensures.is)
           (committed_finds plan c.args.entries draft.desk.now draft.number draft.base draft.edits.now c.in-Ok.field-0 c.requires.numbered c.requires.entries over
           (sym c.draft.ensures.version ∙ c.in_default.is) place c.in-Ok.ensures.ok c.in-Ok.ensures.fits);
     }

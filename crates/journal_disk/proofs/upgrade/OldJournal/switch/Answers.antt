@@ -1,4 +1,4 @@
-use Rattle.journal_disk.specs.Disk.{Told}
+use Rattle.journal_disk.specs.Disk.{IfExposed}
 use Rattle.journal_disk.specs.Switch.{HasSwitched, IsEither, IsSwitching, SwitchesSafely}
 use Rattle.journal_disk.proofs.Moments.{since_map}
 use Rattle.journal_disk.proofs.Switching.{either_is, has_switched}
@@ -25,7 +25,7 @@ returns-in-Ok-clause-switched g c =
     let old = c.self.inside.entries.items in
     let new = c.args.entries.now in
     let now = g.D.Disk.state c.switch_parts.new.disk in
-    let switched : Told (g.D.Disk.state c.self.inside.disk) (λ bytes. HasSwitched size new bytes now) = λ bytes is.
+    let switched : IfExposed (g.D.Disk.state c.self.inside.disk) (λ bytes. HasSwitched size new bytes now) = λ bytes is.
     has_switched size old bytes (c.self.invariant.part bytes is) new c.requires.sizes c.requires.few now (c.in-Ok.ensures.switched bytes is) in
     rw (← c.self.view_is) switched
 

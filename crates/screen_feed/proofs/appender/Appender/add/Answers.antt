@@ -1,6 +1,6 @@
 use Rattle.std.proofs.Common.{◌≡◌, ◌∷◌, [], ap, arith, length, length-append, sym, true, ◌∙◌, None, Some}
 use Rattle.screen_feed.specs.Logs.{begun_after, named_after}
-use Rattle.screen_feed.specs.Rules.{head_of}
+use Rattle.screen_feed.specs.Rules.{entry_word}
 use Rattle.screen_feed.proofs.Adding.{adds_moves}
 use Rattle.screen_feed.proofs.Cells.{named_push}
 use Rattle.screen_feed.proofs.appender.Appender.add.Goals as goal
@@ -27,7 +27,7 @@ invariant_of-self c =
     let found = c.compare_exchange.ensures in
     let ask = c.plain-offer.result.ask in
     let next = c.new_pen-next.ensures in record {
-      head_is = c.self.invariant.head_is ∙ ap head_of (sym found.0);
+      head_is = c.self.invariant.head_is ∙ ap entry_word (sym found.0);
       pen_is = record {
         book_is = next.book ∙ sym found.0;
         right_is = next.right;

@@ -1,6 +1,6 @@
 use Rattle.std.proofs.Common.{◌≤◌, List, ap, arith, inl, inr, length, refl, subst, ◌∙◌}
 use mathlib.Core.List.{IsPrefix}
-use Rattle.screen_feed.specs.declared.book.Entry.{Entry}
+use Rattle.screen_feed.specs.declared.book.SheetEntry.{SheetEntry}
 use Rattle.screen_feed.specs.Logs.{shown_in}
 use Rattle.screen_feed.specs.Sheets.{Begins, SheetState}
 use Rattle.screen_feed.proofs.Fronts.{prefix_shorter}
@@ -14,7 +14,7 @@ returns-then-round-self c =
     let mine = c.self.inside.told.log in
     let theirs = c.told.inside.seen.log in
     let told = ap (λ t. t.sheets) c.told.view_is in
-    let before : IsPrefix mine both = subst (λ (l : List Entry). IsPrefix l both) (ap (λ s. s.log) c.again-both.ensures) c.learn.ensures.2 in
+    let before : IsPrefix mine both = subst (λ (l : List SheetEntry). IsPrefix l both) (ap (λ s. s.log) c.again-both.ensures) c.learn.ensures.2 in
     let less : length mine ≤ length theirs = omega (arith, c.self.invariant.1, c.told.invariant, c.if-round-self.true) in
     let longer : Begins (shown_in theirs) (shown_in mine) = begins_shown mine theirs (prefix_shorter mine theirs both before c.learn.ensures.3 less) in record {
       learned = record {
@@ -32,7 +32,7 @@ returns-else-round-self c =
     let both = c.learn.new.self.log in
     let mine = c.self.inside.told.log in
     let theirs = c.told.inside.seen.log in
-    let before : IsPrefix mine both = subst (λ (l : List Entry). IsPrefix l both) (ap (λ s. s.log) c.again-both.ensures) c.learn.ensures.2 in
+    let before : IsPrefix mine both = subst (λ (l : List SheetEntry). IsPrefix l both) (ap (λ s. s.log) c.again-both.ensures) c.learn.ensures.2 in
     let less : length theirs ≤ length mine = omega (arith, c.self.invariant.1, c.told.invariant, c.if-round-self.false) in
     let longer : Begins (shown_in mine) (shown_in theirs) = begins_shown theirs mine (prefix_shorter theirs mine both c.learn.ensures.3 before less) in record {
       learned = record {

@@ -19,8 +19,8 @@ of-charts-requires g c =
       airport = c.airport.ensures.value ∙ sym (ap (λ (plan : PlanState). plan.airport) c.plan.ensures.replay ∙ replay-airport board.airport board.history);
     }
 
-pub show_all-self-inside-requires : goal.show_all-self-inside-requires
-show_all-self-inside-requires g c =
+pub show_on_all-self-inside-requires : goal.show_on_all-self-inside-requires
+show_on_all-self-inside-requires g c =
     let before = c.self.inside.board.board in
     let after = c.act-acted.new.self.board in
     let acts = c.act-acted.ensures.acts in
@@ -44,14 +44,14 @@ invariant_of-self g c =
     subst (λ (held : BoardHeld g.row.K.Denot). IsLegal held.airport held.history) c.board-board.ensures.value c.history-history.ensures.legal in
     let is : c.of-charts.result ≡ replay after.airport after.history =
     c.of-charts.ensures.plan ∙ (c.plan.ensures.replay ∙ ap (λ (held : BoardHeld g.row.K.Denot). replay held.airport held.history) c.board-board.ensures.value) in
-    let left = c.show_all-self-inside.new.writers in
+    let left = c.show_on_all-self-inside.new.writers in
     let long : length left ≡ c.self.inside.writers.len =
-    AllZip-long (IsShown c.of-charts.result) c.as_mut_slice.result.now left c.show_all-self-inside.ensures.shown ∙ c.as_mut_slice.ensures.len in
+    AllZip-long (IsShown c.of-charts.result) c.as_mut_slice.result.now left c.show_on_all-self-inside.ensures.shown ∙ c.as_mut_slice.ensures.len in
     let items = sym (with_items_is c.self.inside.writers left long) in record {
       writers = subst (Every (IsWriterOf after.airport after.history)) items
           (shown_now before.airport after.airport before.history after.history c.of-charts.result same
           (goes_on c.args.call c.act-acted.result before.history after.history acts.history) legal is
-          c.self.inside.writers.items c.as_mut_slice.result.now left c.as_mut_slice.ensures.value c.self.invariant.writers c.show_all-self-inside.ensures.shown);
-      missed = subst (λ (list : List WriterState). (c.show_all-self-inside.result ≡ false) ↔ Every (ShowsVersion (replay after.airport after.history).version) list) items
-          (subst (λ (plan : PlanState). (c.show_all-self-inside.result ≡ false) ↔ Every (ShowsVersion plan.version) left) is c.show_all-self-inside.ensures.missed);
+          c.self.inside.writers.items c.as_mut_slice.result.now left c.as_mut_slice.ensures.value c.self.invariant.writers c.show_on_all-self-inside.ensures.shown);
+      missed = subst (λ (list : List WriterState). (c.show_on_all-self-inside.result ≡ false) ↔ Every (ShowsVersion (replay after.airport after.history).version) list) items
+          (subst (λ (plan : PlanState). (c.show_on_all-self-inside.result ≡ false) ↔ Every (ShowsVersion plan.version) left) is c.show_on_all-self-inside.ensures.missed);
     }

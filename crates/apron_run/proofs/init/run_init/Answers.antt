@@ -1,0 +1,10 @@
+use Rattle.std.proofs.Common.{refl, rules, Ok, Err}
+use Rattle.apron_run.proofs.Fronts.{stays_same}
+use Rattle.apron_run.proofs.init.run_init.Goals as goal
+
+pub returns-in-Ok-clause-inits : goal.returns-in-Ok-clause-inits
+returns-in-Ok-clause-inits g c = (Ok c.in-Ok.files, search rules, c.make_journal.ensures.makes)
+
+pub returns-in-Err-clause-inits : goal.returns-in-Err-clause-inits
+returns-in-Err-clause-inits g c =
+    (Err c.in-Err.fault, search rules, ((refl, c.print_fault.ensures.tells), stays_same (g.D.Disk.state c.args.disk.now)))

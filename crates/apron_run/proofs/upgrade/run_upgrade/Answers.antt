@@ -1,0 +1,10 @@
+use Rattle.std.proofs.Common.{refl, rules, Ok, Err}
+use Rattle.apron_run.proofs.Fronts.{stays_same}
+use Rattle.apron_run.proofs.upgrade.run_upgrade.Goals as goal
+
+pub returns-in-Ok-clause-upgrades : goal.returns-in-Ok-clause-upgrades
+returns-in-Ok-clause-upgrades g c = (Ok c.in-Ok.files, search rules, c.upgrade_journal.ensures.upgrades)
+
+pub returns-in-Err-clause-upgrades : goal.returns-in-Err-clause-upgrades
+returns-in-Err-clause-upgrades g c =
+    (Err c.in-Err.fault, search rules, ((refl, c.print_fault.ensures.tells), stays_same (g.D.Disk.state c.args.disk.now)))

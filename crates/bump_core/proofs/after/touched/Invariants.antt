@@ -1,6 +1,0 @@
-use Rattle.std.proofs.Common.{◌≡◌, take}
-use Rattle.bump_core.specs.Lists.{touched}
-use Rattle.bump_core.proofs.after.touched.Given as goal
-
-abbrev pub invariant-loop-blocking : goal.invariant-loop-blocking
-invariant-loop-blocking l = l.some.items ≡ touched (take l.blocking-index l.blockings) l.fn.changed l.visits

@@ -1,8 +1,0 @@
-use Rattle.std.proofs.Common.{◌∙◌}
-use Rattle.bump_core.proofs.Called.{own_slots}
-use Rattle.bump_core.proofs.settling.mets_of.Goals as goal
-
-pub push_met_by-requires-clause-own : goal.push_met_by-requires-clause-own
-push_met_by-requires-clause-own g c =
-    own_slots c.args.airport.now c.args.changed.now c.as_slice-own-items.result.now c.requires.valid (c.as_slice-own-items.ensures.items ∙ c.in_ok-owns.ensures.ok)
-    c.loop-own.own-index _ c.loop-own-test.true

@@ -1,7 +1,0 @@
-//! What tests give a run of the program: the two files of the demo airport, the first requests of a
-//! desk with their replies, words, files on a shelf, and the room of a disk.
-#![tactic(auto)]
-
-mod inputs;
-
-pub use inputs::{ADDED, AIRPORT, FIRST, ROOM, STANDS, TYPES, kept, words};

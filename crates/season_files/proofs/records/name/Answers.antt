@@ -1,5 +1,0 @@
-use Rattle.season_files.proofs.Numbers.{named}
-use Rattle.season_files.proofs.records.name.Goals as goal
-
-pub returns : goal.returns
-returns c = record { value = named c.args.text.now _ c.new.ensures.form }

@@ -1,0 +1,85 @@
+// Files in memory, and those of the system.
+use apron_base::{Listed, MapShelf, Memory, Shelf, ShelfFault, ShelfFile, SteadyShelf, Word};
+use host_files::FileShelf;
+use std::alloc::Global;
+use std::fs;
+use std::test::Fail;
+
+// One file, of three bytes.
+fn one_file(alloc: Global) -> Result<Vec<ShelfFile>, Memory> {
+    let kept = ShelfFile {
+        name: Word::new(alloc, "a")?,
+        bytes: Listed::from_vec(Vec::from_slice(alloc, b"abc")?),
+    };
+    let mut files = Vec::new(alloc);
+    files.push(kept)?;
+    Ok(files)
+}
+
+// The length of a file as it is read.
+fn length<S: Shelf>(
+    alloc: Global,
+    shelf: &mut S,
+    name: &str,
+    limit: u32,
+) -> Result<usize, ShelfFault> {
+    match shelf.read_file(alloc, name, limit) {
+        Ok(bytes) => Ok(bytes.len()),
+        Err(fault) => Err(fault),
+    }
+}
+
+// A file's name, the most bytes that are asked for, and how many it has.
+type ShelfRead = (&'static str, u32, Result<usize, ShelfFault>);
+
+const TOLD: [ShelfRead; 4] = [
+    ("a", 3, Ok(3)),
+    ("a", 3, Err(ShelfFault::Failed)),
+    ("a", 2, Err(ShelfFault::TooLong)),
+    ("b", 2, Err(ShelfFault::Failed)),
+];
+
+#[test]
+fn a_shelf_fails_as_told(rt: HostRuntime) -> Result<(), Fail> {
+    let alloc = rt.alloc();
+    let mut shelf = MapShelf::new(one_file(alloc)?, Vec::from_slice(alloc, &[1])?);
+    for (name, limit, want) in TOLD {
+        assert_eq!(rt; length(alloc, &mut shelf, name, limit), want);
+    }
+    Ok(())
+}
+
+const STEADY: [ShelfRead; 3] = [
+    ("a", 3, Ok(3)),
+    ("a", 2, Err(ShelfFault::TooLong)),
+    ("b", 0, Ok(0)),
+];
+
+#[test]
+fn a_steady_shelf_has_an_empty_file_under_each_other_name(rt: HostRuntime) -> Result<(), Fail> {
+    let alloc = rt.alloc();
+    let mut shelf = SteadyShelf::new(one_file(alloc)?);
+    for (name, limit, want) in STEADY {
+        assert_eq!(rt; length(alloc, &mut shelf, name, limit), want);
+    }
+    Ok(())
+}
+
+const SYSTEM: [ShelfRead; 5] = [
+    ("five", 5, Ok(5)),
+    ("five", 4, Err(ShelfFault::TooLong)),
+    ("none", 5, Err(ShelfFault::Failed)),
+    (".", 5, Err(ShelfFault::Failed)),
+    ("five", 6, Ok(5)),
+];
+
+#[test]
+fn files_are_read_up_to_their_limit(rt: HostRuntime) -> Result<(), Fail> {
+    fs::write(&rt, "five", b"abcde")?;
+    let mut shelf = FileShelf::new(&rt);
+    for (name, limit, want) in SYSTEM {
+        assert_eq!(rt; length(rt.alloc(), &mut shelf, name, limit), want);
+    }
+    fs::remove_file(&rt, "five")?;
+    Ok(())
+}

@@ -1,0 +1,227 @@
+// The rules of stands on one frontage, at their bounds.
+ghost use Rattle.std.specs.Prelude.{◌≡◌, ◌<◌, IfSome, length, nat_lt};
+
+use apron_base::{Letter, Listed, Name, StandNo, TypeNo};
+use apron_rules::{
+    Airport, AirportParts, Frontage, PairRow, Rule, StandRow, TypeRow, UnfitBy, Wing,
+};
+use std::alloc::Global;
+use std::test::Fail;
+use test_airports::{airport_of, empty_parts};
+
+mod dates;
+mod folding;
+mod phases;
+mod stays;
+
+const NARROW: u16 = 0;
+
+const WIDE: u16 = 1;
+
+fn stand(name: &[u8], centre: u32, letter: Letter, half_of: Option<Name>) -> Option<StandRow> {
+    Some(StandRow {
+        name: Name::new(name)?,
+        frontage: Name::new(b"F")?,
+        centre,
+        letter,
+        buffer: 10,
+        half_of,
+    })
+}
+
+// Two pairs of stands, 4,029 and 4,030 cm apart; a whole stand with two halves 4,030 cm apart; two
+// stands with a restriction; two stands with an object beside each.
+fn stands() -> Option<[StandRow; 10]> {
+    let whole = Name::new(b"W");
+    Some([
+        stand(b"A", 10_000, Letter::C, None)?,
+        stand(b"B", 14_029, Letter::C, None)?,
+        stand(b"C", 18_059, Letter::C, None)?,
+        stand(b"W", 30_000, Letter::E, None)?,
+        stand(b"WL", 28_000, Letter::C, whole)?,
+        stand(b"WR", 32_030, Letter::C, whole)?,
+        stand(b"P", 50_000, Letter::E, None)?,
+        stand(b"Q", 60_000, Letter::E, None)?,
+        stand(b"X", 70_000, Letter::C, None)?,
+        stand(b"Y", 80_000, Letter::C, None)?,
+    ])
+}
+
+fn airport(alloc: Global) -> Result<Airport, Fail> {
+    let Some(stands) = stands() else {
+        return Err(Fail::new("stands"));
+    };
+    let frontage = Frontage {
+        name: Name::literal(b"F"),
+        objects: Listed::from_vec(Vec::from_array(alloc, [72_240, 82_239])?),
+    };
+    let pair = PairRow {
+        a: Name::literal(b"P"),
+        la: Letter::E,
+        b: Name::literal(b"Q"),
+        lb: Letter::C,
+    };
+    let narrow = TypeRow::without_folding(Name::literal(b"A320"), 3_580, 40);
+    let wide = TypeRow::without_folding(Name::literal(b"B77W"), 6_480, 40);
+    airport_of(
+        alloc,
+        AirportParts {
+            days: 1,
+            frontages: Listed::from_vec(Vec::from_array(alloc, [frontage])?),
+            stands: Listed::from_vec(Vec::from_array(alloc, stands)?),
+            pairs: Listed::from_vec(Vec::from_array(alloc, [pair])?),
+            types: Listed::from_vec(Vec::from_array(alloc, [narrow, wide])?),
+            ..empty_parts(alloc)
+        },
+    )
+}
+
+fn number(airport: &Airport, name: &str) -> Option<StandNo>
+    ensures there { IfSome result (λ s. s.0 < length airport.now.stands) }
+{
+    let s = airport.stand_of(&Name::new(name.as_bytes())?)?;
+    if s.0 as usize >= airport.parts().stands.len() {
+        return None;
+    }
+    Some(s)
+}
+
+fn has_type(airport: &Airport, kind: u16) -> bool
+    ensures there { result ≡ nat_lt kind (length airport.now.types) }
+{
+    (kind as usize) < airport.parts().types.len()
+}
+
+// Whether a type on one stand and a type on another exclude each other by this rule, or by none.
+fn exclude_by(airport: &Airport, one: (&str, u16), other: (&str, u16), want: Option<Rule>) -> bool {
+    let Some(s) = number(airport, one.0) else {
+        return false;
+    };
+    let Some(s2) = number(airport, other.0) else {
+        return false;
+    };
+    has_type(airport, one.1)
+        && has_type(airport, other.1)
+        && airport.breaks(
+            s,
+            TypeNo(one.1),
+            Wing::Full,
+            s2,
+            TypeNo(other.1),
+            Wing::Full,
+        ) == want
+}
+
+const RULES: [(&str, (&str, u16), (&str, u16), Option<Rule>); 10] = [
+    (
+        "4,029 cm",
+        ("A", NARROW),
+        ("B", NARROW),
+        Some(Rule::Clearance),
+    ),
+    ("4,030 cm", ("B", NARROW), ("C", NARROW), None),
+    ("two halves", ("WL", NARROW), ("WR", NARROW), None),
+    (
+        "half, whole",
+        ("WL", NARROW),
+        ("W", NARROW),
+        Some(Rule::Split),
+    ),
+    (
+        "whole, half",
+        ("W", WIDE),
+        ("WR", NARROW),
+        Some(Rule::Split),
+    ),
+    ("one stand", ("W", NARROW), ("W", WIDE), Some(Rule::Same)),
+    ("restricted", ("P", WIDE), ("Q", NARROW), Some(Rule::Pair)),
+    (
+        "restricted, turned",
+        ("Q", NARROW),
+        ("P", WIDE),
+        Some(Rule::Pair),
+    ),
+    ("not restricted", ("P", NARROW), ("Q", WIDE), None),
+    ("not restricted, turned", ("Q", WIDE), ("P", NARROW), None),
+];
+
+// The first row at which another rule holds, if there is one.
+fn wrong_rule(airport: &Airport) -> Option<&'static str> {
+    for (row, one, other, want) in RULES {
+        if !exclude_by(airport, one, other, want) {
+            return Some(row);
+        }
+    }
+    None
+}
+
+// Whether a type fits a stand, or by what it does not fit.
+fn fits_so(airport: &Airport, name: &str, kind: u16, want: Result<(), UnfitBy>) -> bool {
+    match number(airport, name) {
+        Some(s) => has_type(airport, kind) && airport.fits(s, TypeNo(kind)) == want,
+        None => false,
+    }
+}
+
+const FITS: [(&str, &str, u16, Result<(), UnfitBy>); 4] = [
+    ("at its clearance", "X", NARROW, Ok(())),
+    ("1 cm less", "Y", NARROW, Err(UnfitBy::Object(2))),
+    ("E on C", "X", WIDE, Err(UnfitBy::Letter)),
+    ("E on E", "P", WIDE, Ok(())),
+];
+
+// The first row at which another answer is given, if there is one.
+fn wrong_fit(airport: &Airport) -> Option<&'static str> {
+    for (row, name, kind, want) in FITS {
+        if !fits_so(airport, name, kind, want) {
+            return Some(row);
+        }
+    }
+    None
+}
+
+// Whether these are the stand's neighbours.
+fn neighbours_are(airport: &Airport, name: &str, want: &[StandNo]) -> bool {
+    match number(airport, name) {
+        Some(s) => airport.neighbours(s) == want,
+        None => false,
+    }
+}
+
+const NEIGHBOURS: [(&str, &[StandNo]); 8] = [
+    ("A", &[StandNo(0), StandNo(1)]),
+    ("B", &[StandNo(0), StandNo(1), StandNo(2)]),
+    ("C", &[StandNo(1), StandNo(2)]),
+    ("W", &[StandNo(3), StandNo(4), StandNo(5)]),
+    ("WR", &[StandNo(3), StandNo(4), StandNo(5)]),
+    ("P", &[StandNo(6), StandNo(7)]),
+    ("Q", &[StandNo(6), StandNo(7)]),
+    ("X", &[StandNo(8)]),
+];
+
+// The first stand that has other neighbours, if there is one.
+fn wrong_neighbours(airport: &Airport) -> Option<&'static str> {
+    for (name, want) in NEIGHBOURS {
+        if !neighbours_are(airport, name, want) {
+            return Some(name);
+        }
+    }
+    None
+}
+
+// Two aircraft exclude each other by the first rule, an aircraft fits up to its clearance, and
+// neighbours are the stands that some two types exclude.
+fn wrong_row(airport: &Airport) -> Option<&'static str> {
+    wrong_rule(airport)
+        .or(wrong_fit(airport))
+        .or(wrong_neighbours(airport))
+}
+
+#[test]
+fn the_rules_hold_at_their_bounds(rt: HostRuntime) -> Result<(), Fail> {
+    let airport = airport(rt.alloc())?;
+    match wrong_row(&airport) {
+        Some(row) => Err(Fail::new(row)),
+        None => Ok(()),
+    }
+}
