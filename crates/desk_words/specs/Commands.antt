@@ -13,25 +13,25 @@ use Rattle.desk_words.specs.declared.asks.EntryKind.TheVariants as kind
 -- what kind of command it is
 abbrev pub kind_of : Command → EntryKind
 kind_of (AddVisit new) = kind.Visit
-kind_of (Commit desk draft base edits) = kind.Commit
-kind_of (Message desk message) = kind.Message
-kind_of (Report desk visit event) = kind.Report
+kind_of (Commit draft) = kind.Commit
+kind_of (Message passed) = kind.Message
+kind_of (Report report) = kind.Report
 kind_of (Cancel visit) = kind.Cancel
 
 -- the desk that a commit, a message or a report names
 abbrev pub desk_of : Command → Option (List ℕ)
-desk_of (Commit desk draft base edits) = Some desk
-desk_of (Message desk message) = Some desk
-desk_of (Report desk visit event) = Some desk
+desk_of (Commit draft) = Some draft.desk
+desk_of (Message passed) = Some passed.desk
+desk_of (Report report) = Some report.desk
 desk_of command = None
 
 -- the command is valid at any airport: what a visit is added with is; a commit has some edits but
 -- not too many; and a text can give the message
 abbrev pub IsCommand : Command → Type 0
 IsCommand (AddVisit new) = IsNewVisit new
-IsCommand (Commit desk draft base edits) = (1 ≤ length edits) × (length edits ≤ most_edits)
-IsCommand (Message desk message) = IsReadable message
-IsCommand (Report desk visit event) = Unit {0}
+IsCommand (Commit draft) = (1 ≤ length draft.edits) × (length draft.edits ≤ most_edits)
+IsCommand (Message passed) = IsReadable passed.message
+IsCommand (Report report) = Unit {0}
 IsCommand (Cancel visit) = Unit {0}
 
 -- the command is of the airport: what a visit is added with is valid at it; a commit has some edits
@@ -39,7 +39,8 @@ IsCommand (Cancel visit) = Unit {0}
 -- of it
 abbrev pub IsCommandOf : AirportParts → Command → Type 0
 IsCommandOf airport (AddVisit new) = IsNewVisitOf airport new
-IsCommandOf airport (Commit desk draft base edits) = (1 ≤ length edits) × (length edits ≤ most_edits) × All (IsEditOf airport) edits
-IsCommandOf airport (Message desk message) = IsReadable message
-IsCommandOf airport (Report desk visit event) = IsEventOf airport event
+IsCommandOf airport (Commit draft) =
+    (1 ≤ length draft.edits) × (length draft.edits ≤ most_edits) × All (IsEditOf airport) draft.edits
+IsCommandOf airport (Message passed) = IsReadable passed.message
+IsCommandOf airport (Report report) = IsEventOf airport report.event
 IsCommandOf airport (Cancel visit) = Unit {0}

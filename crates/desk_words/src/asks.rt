@@ -2,40 +2,40 @@
 ghost use Rattle.std.specs.Prelude.{◌≡◌, IfOk};
 ghost use Rattle.desk_words.specs.Commands.{desk_of, kind_of};
 
-use apron_base::{Listed, Memory, Name, VisitNo};
+use apron_base::{Memory, Name, VisitNo};
 use mvt_grammar::Mvt;
 use std::alloc::Global;
-use visit_book::{Edit, Event, NewVisit};
+use visit_book::{Draft, Event, NewVisit};
 
 /// What may change the plan.
 #[derive(Debug, Drop)]
 pub enum Command {
     /// A visit is added, or one of its name and the same data is there already.
     AddVisit(NewVisit),
-    /// The 1 to 64 edits of a desk's draft, in order. The desk made the draft over the plan's
-    /// version `base`.
-    Commit {
-        desk: Name,
-        draft: u32,
-        base: u32,
-        edits: Listed<Edit>,
-    },
+    /// The 1 to 64 edits of a desk's draft are made.
+    Commit(Draft),
     /// A desk passed on a movement message. It says what happened, and is never refused for a
     /// conflict.
-    Message {
-        desk: Name,
-        message: Mvt,
-    },
+    Message(DeskMessage),
     /// A desk reports that a visit came on block or went off block in fact.
-    Report {
-        desk: Name,
-        visit: VisitNo,
-        event: Event,
-    },
+    Report(DeskReport),
     /// A visit that is not on block is cancelled.
-    Cancel {
-        visit: VisitNo,
-    },
+    Cancel(VisitNo),
+}
+
+/// A movement message, and the desk that passed it on.
+#[derive(Clone, Copy, Debug)]
+pub struct DeskMessage {
+    pub desk: Name,
+    pub message: Mvt,
+}
+
+/// What happened to a visit, and the desk that reports it.
+#[derive(Clone, Copy, Debug)]
+pub struct DeskReport {
+    pub desk: Name,
+    pub visit: VisitNo,
+    pub event: Event,
 }
 
 /// What kind of command an entry has.
@@ -55,10 +55,10 @@ impl Command {
     {
         match self {
             Command::AddVisit(_) => EntryKind::Visit,
-            Command::Commit { .. } => EntryKind::Commit,
-            Command::Message { .. } => EntryKind::Message,
-            Command::Report { .. } => EntryKind::Report,
-            Command::Cancel { .. } => EntryKind::Cancel,
+            Command::Commit(_) => EntryKind::Commit,
+            Command::Message(_) => EntryKind::Message,
+            Command::Report(_) => EntryKind::Report,
+            Command::Cancel(_) => EntryKind::Cancel,
         }
     }
 
@@ -67,10 +67,10 @@ impl Command {
         ensures is { result ≡ desk_of self.now }
     {
         match self {
-            Command::Commit { desk, .. }
-            | Command::Message { desk, .. }
-            | Command::Report { desk, .. } => Some(*desk),
-            Command::AddVisit(_) | Command::Cancel { .. } => None,
+            Command::Commit(draft) => Some(draft.desk),
+            Command::Message(passed) => Some(passed.desk),
+            Command::Report(report) => Some(report.desk),
+            Command::AddVisit(_) | Command::Cancel(_) => None,
         }
     }
 
@@ -78,33 +78,13 @@ impl Command {
     pub fn copy(&self, alloc: Global) -> Result<Command, Memory>
         ensures same { IfOk result (λ made. made ≡ self.now) }
     {
-        match self {
-            Command::AddVisit(new) => Ok(Command::AddVisit(*new)),
-            Command::Commit {
-                desk,
-                draft,
-                base,
-                edits,
-            } => {
-                let edits = Vec::from_slice(alloc, edits.as_slice())?;
-                Ok(Command::Commit {
-                    desk: *desk,
-                    draft: *draft,
-                    base: *base,
-                    edits: Listed::from_vec(edits),
-                })
-            }
-            Command::Message { desk, message } => Ok(Command::Message {
-                desk: *desk,
-                message: *message,
-            }),
-            Command::Report { desk, visit, event } => Ok(Command::Report {
-                desk: *desk,
-                visit: *visit,
-                event: *event,
-            }),
-            Command::Cancel { visit } => Ok(Command::Cancel { visit: *visit }),
-        }
+        Ok(match self {
+            Command::AddVisit(new) => Command::AddVisit(*new),
+            Command::Commit(draft) => Command::Commit(draft.copy(alloc)?),
+            Command::Message(passed) => Command::Message(*passed),
+            Command::Report(report) => Command::Report(*report),
+            Command::Cancel(visit) => Command::Cancel(*visit),
+        })
     }
 }
 

@@ -3,6 +3,7 @@
 #![tactic(auto)]
 
 mod changes;
+mod drafts;
 mod edits;
 mod laws;
 mod movements;
@@ -14,6 +15,7 @@ mod slots;
 mod visits;
 
 pub use changes::{BadCut, BadJoin, cut, has_actual_behind, join, push};
+pub use drafts::Draft;
 pub use edits::{Edit, EditFault, part_of, visit_of};
 pub use laws::added_visits_are_well_formed;
 pub use movements::{BadTime, arrive, depart, estimate_off};
