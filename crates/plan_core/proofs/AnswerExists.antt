@@ -3,11 +3,11 @@ use Rattle.std.proofs.Common.{◌≡◌, ◌≢◌, ◌⊎◌, List, inl, inr, r
 use Rattle.apron_rules.specs.declared.rules.Clash.{Clash}
 use Rattle.apron_rules.specs.Clash.{IsFirstClash}
 use Rattle.apron_rules.proofs.Symmetry.{sound_from_none}
+use Rattle.visit_book.specs.declared.drafts.Draft.{Draft}
 use Rattle.visit_book.specs.declared.visits.Visit.{Visit}
 use Rattle.visit_book.specs.declared.edits.EditFault.{EditFault}
 use Rattle.visit_book.specs.declared.edits.EditFault.TheVariants.{Clash as ByClash, Memory}
 use Rattle.visit_book.specs.Slots.{slots_of}
-use Rattle.plan_core.specs.Drafts.{Draft}
 use Rattle.plan_core.specs.Edits.{after_all_edits}
 use Rattle.plan_core.specs.PlanState.{PlanState}
 use Rattle.plan_core.specs.Rebase.{Rebases, RefusesDraft}

@@ -3,6 +3,7 @@ use Rattle.std.proofs.Common.{◌≡◌, ◌≢◌, ◌+◌, ℕ, Bool, true, fa
 use Rattle.apron_rules.specs.declared.parts.AirportParts.{AirportParts}
 use Rattle.apron_rules.specs.declared.rules.UnfitBy.{UnfitBy}
 use Rattle.apron_rules.specs.Rules.{unfit_of}
+use Rattle.visit_book.specs.declared.drafts.Draft.{Draft}
 use Rattle.visit_book.specs.declared.visits.Part.{Part}
 use Rattle.visit_book.specs.declared.visits.Visit.{Visit}
 use Rattle.visit_book.specs.declared.edits.Edit.{Edit}
@@ -16,7 +17,6 @@ use Rattle.visit_book.specs.Ends.{is_live}
 use Rattle.visit_book.specs.Numbers.{visit_at, with_visit}
 use Rattle.visit_book.specs.PartFields.{part_at}
 use Rattle.visit_book.specs.Places.{is_actual}
-use Rattle.plan_core.specs.Drafts.{Draft}
 use Rattle.apron_base.specs.ResultChain.{◌>>=◌, refuse_if}
 use Rattle.plan_core.specs.Edits.{after_all_edits, after_edit, after_edits, edit_part, edit_visit, part_at_place, refuse_unfit, with_part}
 use Rattle.plan_core.specs.PlanState.{PlanState}

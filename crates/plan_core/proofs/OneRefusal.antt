@@ -4,12 +4,12 @@ use Rattle.apron_rules.specs.declared.rules.Clash.{Clash}
 use Rattle.apron_rules.specs.Clash.{IsFirstClash, IsSound}
 use Rattle.apron_rules.proofs.Symmetry.{none_from_sound}
 use Rattle.apron_rules.proofs.Unique.{first_unique}
+use Rattle.visit_book.specs.declared.drafts.Draft.{Draft}
 use Rattle.visit_book.specs.declared.visits.Visit.{Visit}
 use Rattle.visit_book.specs.declared.edits.EditFault.{EditFault}
 use Rattle.visit_book.specs.declared.edits.EditFault.TheVariants.{UnknownVisit, Overtaken, Gone, NoSuchPart, OnBlock, BadCut, BadJoin, Unfit, Clash as ByClash, Memory}
 use Rattle.visit_book.specs.Numbers.{IsNumbered}
 use Rattle.visit_book.specs.Slots.{slots_of}
-use Rattle.plan_core.specs.Drafts.{Draft}
 use Rattle.plan_core.specs.Edits.{after_all_edits, is_edited}
 use Rattle.plan_core.specs.PlanState.{PlanState}
 use Rattle.plan_core.specs.Rebase.{Rebases, RefusesDraft}

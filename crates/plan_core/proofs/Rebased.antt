@@ -8,13 +8,14 @@ use Rattle.apron_rules.specs.declared.parts.AirportParts.{AirportParts}
 use Rattle.apron_rules.specs.Clash.{IsSound}
 use Rattle.clash_check.specs.Steps.{steps_of}
 use Rattle.stand_index.specs.Slots.{StandSlots}
+use Rattle.visit_book.specs.declared.drafts.Draft.{Draft}
 use Rattle.visit_book.specs.declared.edits.Edit.{Edit}
 use Rattle.visit_book.specs.declared.edits.EditFault.{EditFault}
 use Rattle.visit_book.specs.declared.visits.Visit.{Visit}
 use Rattle.visit_book.specs.Numbers.{IsNumbered}
 use Rattle.visit_book.specs.Slots.{slots_of}
 use Rattle.visit_book.specs.WellFormed.{IsWellFormed}
-use Rattle.plan_core.specs.Drafts.{Draft, id_of}
+use Rattle.plan_core.specs.Drafts.{id_of}
 use Rattle.plan_core.specs.Edits.{after_all_edits, edited_visits, is_edited}
 use Rattle.plan_core.specs.Working.{replace_visits}
 use Rattle.plan_core.specs.PlanState.{ChangeState, IsPlan, PlanState, visit_number}
@@ -39,11 +40,12 @@ pub record Applied (plan : PlanState) (draft : Draft) (edited : List Visit) : Ty
   pub bare : edited ≡ edited_visits draft.edits new
   pub whole : replace_visits plan.visits edited ≡ new
 
-pub applied : (plan : PlanState) (draft : Draft) (a : AirportParts) (copy edited : List Visit) → IsNumbered plan.visits → a ≡ plan.airport
-    → copy ≡ edited_visits draft.edits plan.visits → after_all_edits a draft.base draft.edits copy ≡ Ok edited → Applied plan draft edited
-applied plan draft a copy edited numbered airport is e =
+pub applied : (plan : PlanState) (draft : Draft) (a : AirportParts) (edits : List Edit) (copy edited : List Visit) → IsNumbered plan.visits → a ≡ plan.airport
+    → edits ≡ draft.edits → copy ≡ edited_visits edits plan.visits → after_all_edits a draft.base edits copy ≡ Ok edited → Applied plan draft edited
+applied plan draft a edits copy edited numbered airport same is e =
     let made = edited_among plan.airport draft.base draft.edits plan.visits edited
-    (moved (λ b vs. after_all_edits b draft.base draft.edits vs ≡ Ok edited) a plan.airport copy (edited_visits draft.edits plan.visits) airport is e) in
+    (subst (λ es. after_all_edits plan.airport draft.base es (edited_visits es plan.visits) ≡ Ok edited) same
+    (moved (λ b vs. after_all_edits b draft.base edits vs ≡ Ok edited) a plan.airport copy (edited_visits edits plan.visits) airport is e)) in
     record {
       new = made.0;
       apply = made.1;
@@ -51,12 +53,13 @@ applied plan draft a copy edited numbered airport is e =
       whole = ap (replace_visits plan.visits) made.2 ∙ replaced_edited plan.airport draft.base draft.edits plan.visits made.0 numbered made.1;
     }
 
-pub refused : (plan : PlanState) (draft : Draft) (a : AirportParts) (copy : List Visit) (fault : EditFault) → a ≡ plan.airport
-    → copy ≡ edited_visits draft.edits plan.visits → after_all_edits a draft.base draft.edits copy ≡ Err fault
+pub refused : (plan : PlanState) (draft : Draft) (a : AirportParts) (edits : List Edit) (copy : List Visit) (fault : EditFault) → a ≡ plan.airport
+    → edits ≡ draft.edits → copy ≡ edited_visits edits plan.visits → after_all_edits a draft.base edits copy ≡ Err fault
     → after_all_edits plan.airport draft.base draft.edits plan.visits ≡ Err fault
-refused plan draft a copy fault airport is e =
+refused plan draft a edits copy fault airport same is e =
     refused_among plan.airport draft.base draft.edits plan.visits fault
-    (moved (λ b vs. after_all_edits b draft.base draft.edits vs ≡ Err fault) a plan.airport copy (edited_visits draft.edits plan.visits) airport is e)
+    (subst (λ es. after_all_edits plan.airport draft.base es (edited_visits es plan.visits) ≡ Err fault) same
+    (moved (λ b vs. after_all_edits b draft.base edits vs ≡ Err fault) a plan.airport copy (edited_visits edits plan.visits) airport is e))
 
 follows_rise : (e : ℕ → Bool) (n high : ℕ) (olds news : List Visit) → n + length olds + 1 ≤ high → Follows e n olds news → Rises visit_number (n + 1) high news
 follows_rise e n high [] [] le h = omega (arith, le)

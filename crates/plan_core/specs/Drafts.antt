@@ -7,21 +7,9 @@ use Rattle.std.specs.Ordering.{nat_cmp, ordering_then}
 use Rattle.std.specs.declared.cmp.Ordering.{Ordering}
 use Rattle.std.specs.Str.{bytes_eq}
 use Rattle.apron_base.specs.Histories.{Rises}
-use Rattle.visit_book.specs.declared.edits.Edit.{Edit}
+use Rattle.visit_book.specs.declared.drafts.Draft.{Draft}
 use Rattle.plan_core.specs.declared.drafts.DraftId.{DraftId}
 use Rattle.plan_core.specs.declared.drafts.Drafted.{Drafted}
-
--- a desk's draft: the desk's name, the number that the desk gave it, the version over which it was
--- made, and its edits in order
-pub record Draft : Type 0 where
-  pub desk : List ℕ
-  pub number : ℕ
-  pub base : ℕ
-  pub edits : List Edit
-
--- the draft with these parts
-abbrev pub draft_of : List ℕ → ℕ → ℕ → List Edit → Draft
-draft_of desk number base edits = record { desk = desk; number = number; base = base; edits = edits }
 
 -- the id of a draft
 abbrev pub id_of : Draft → DraftId

@@ -2,6 +2,7 @@
 ghost use Rattle.std.specs.Prelude.{◌≡◌, ◌≢◌, ◌⊎◌, ◌≤◌, ◌∷◌, [], ℕ, List, Some};
 ghost use Rattle.apron_rules.specs.declared.parts.AirportParts.{AirportParts};
 ghost use Rattle.apron_rules.specs.Clash.{HaveDifferentParts};
+ghost use Rattle.visit_book.specs.declared.drafts.Draft.{Draft};
 ghost use Rattle.visit_book.specs.declared.edits.EditFault.{EditFault};
 ghost use Rattle.visit_book.specs.declared.edits.EditFault.TheVariants.{Memory};
 ghost use Rattle.visit_book.specs.declared.visits.Visit.{Visit};
@@ -9,7 +10,7 @@ ghost use Rattle.visit_book.specs.NewVisits.{new_of};
 ghost use Rattle.visit_book.specs.Numbers.{IsNumbered};
 ghost use Rattle.visit_book.specs.Slots.{slots_of};
 ghost use Rattle.plan_core.specs.Adding.{IsAddable, add_change, with_added};
-ghost use Rattle.plan_core.specs.Drafts.{Draft, draft_version};
+ghost use Rattle.plan_core.specs.Drafts.{draft_version};
 ghost use Rattle.plan_core.specs.Moving.{IsCancellable, cancelled_visit, move_change, with_cancelled};
 ghost use Rattle.plan_core.specs.PlanState.{ChangeState, IsInstallable, IsPlan, PlanState, plan_after_change};
 ghost use Rattle.plan_core.specs.Rebase.{IsRebased, Rebases, RefusesDraft, plan_after_commit};
