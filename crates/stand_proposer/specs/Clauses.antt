@@ -7,13 +7,13 @@ use Rattle.apron_base.specs.declared.slot.Slot.{Slot}
 use Rattle.apron_rules.specs.declared.parts.AirportParts.{AirportParts}
 use Rattle.apron_rules.specs.declared.rules.Clash.{Clash}
 use Rattle.clash_check.specs.FirstWith.{IsClashOfBoth}
+use Rattle.visit_book.specs.declared.drafts.Draft.{Draft}
 use Rattle.visit_book.specs.declared.edits.Edit.{Edit}
 use Rattle.visit_book.specs.declared.visits.Place.TheVariants.{Planned}
 use Rattle.visit_book.specs.declared.visits.Visit.{Visit}
 use Rattle.visit_book.specs.Numbers.{visit_at}
 use Rattle.visit_book.specs.PartFields.{part_at}
 use Rattle.visit_book.specs.Slots.{slot_on, slots_of}
-use Rattle.plan_core.specs.Drafts.{Draft}
 use Rattle.plan_core.specs.Edits.{after_all_edits, part_at_place}
 use Rattle.plan_core.specs.PlanState.{PlanState}
 use Rattle.plan_core.specs.Rebase.{IsDraftFor, Rebases}

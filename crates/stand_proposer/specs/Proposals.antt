@@ -4,13 +4,13 @@ use Rattle.std.specs.List.{AllZip}
 use Rattle.apron_base.specs.declared.numbers.PartId.{PartId}
 use Rattle.apron_base.specs.declared.numbers.StandNo.{StandNo}
 use Rattle.apron_rules.specs.Neighbours.{first_stands}
+use Rattle.visit_book.specs.declared.drafts.Draft.{Draft}
 use Rattle.visit_book.specs.declared.edits.Edit.{Edit}
 use Rattle.visit_book.specs.declared.edits.Edit.TheVariants.{Put}
 use Rattle.visit_book.specs.declared.edits.EditFault.{EditFault}
 use Rattle.visit_book.specs.declared.edits.EditFault.TheVariants as fault
 use Rattle.visit_book.specs.declared.visits.Visit.{Visit}
 use Rattle.visit_book.specs.Edits.{most_edits}
-use Rattle.plan_core.specs.Drafts.{Draft, draft_of}
 use Rattle.plan_core.specs.PlanState.{PlanState}
 use Rattle.plan_core.specs.Rebase.{Rebases, RefusesDraft}
 use Rattle.plan_lists.specs.Unplaced.{unplaced_parts}
@@ -25,7 +25,7 @@ put_edit part stand = Put part.visit part.part stand
 
 -- a draft of these edits over the plan as it is; its desk and number do not matter here
 abbrev pub draft_over : PlanState → List Edit → Draft
-draft_over plan edits = draft_of [] 0 plan.version edits
+draft_over plan edits = record { desk = []; number = 0; base = plan.version; edits = edits }
 
 -- the draft of the edits so far and one more, which puts the part on the stand
 abbrev pub draft_with : PlanState → List Edit → PartId → StandNo → Draft

@@ -1,7 +1,7 @@
 // What is proposed for the parts of a plan that wait for a stand.
 ghost use Rattle.std.specs.Prelude.{◌≡◌, ◌≤◌, All, IfOk, None, OnOk, length};
 ghost use Rattle.visit_book.specs.Numbers.{IsNumbered};
-ghost use Rattle.plan_core.specs.Drafts.{draft_of, draft_version};
+ghost use Rattle.plan_core.specs.Drafts.{draft_version};
 ghost use Rattle.stand_proposer.specs.Clauses.{ClashesHold, TakesDraft};
 ghost use Rattle.stand_proposer.specs.Proposals.{IsDecided, IsProposal};
 ghost use Rattle.stand_proposer.specs.SoFar.{AreTold, IsProposedSoFar, IsUnput, WaitsInPlan};
@@ -74,8 +74,8 @@ pub fn propose<L: Ledger>(
     requires airport { airport.now ≡ plan.now.plan.airport }
     requires unused { draft_version plan.now.plan.drafts desk.now draft ≡ None }
     ensures proposal { IfOk result (IsProposal plan.now.plan) }
-    ensures taken { IfOk result (λ made. 1 ≤ length made.edits
-        → TakesDraft plan.now.plan (draft_of desk.now draft made.base made.edits)) }
+    ensures taken { IfOk result (λ made. 1 ≤ length made.edits → TakesDraft plan.now.plan
+        (record { desk = desk.now; number = draft; base = made.base; edits = made.edits })) }
     ensures clashes { IfOk result (λ made. All (ClashesHold plan.now.plan made.edits) made.left) }
 {
     let waiting = unplaced_parts(alloc, plan)?;
