@@ -6,7 +6,7 @@ use Rattle.desk_words.specs.declared.asks.Command.TheVariants.{AddVisit, Commit,
 
 pub command_of : (airport : AirportParts) (command : Command) → IsCommandOf airport command → IsCommand command
 command_of airport (AddVisit new) h = h.new_visit
-command_of airport (Commit desk draft base edits) h = (h.0, h.1)
-command_of airport (Message desk message) h = h
-command_of airport (Report desk visit event) h = tt
+command_of airport (Commit draft) h = (h.0, h.1)
+command_of airport (Message passed) h = h
+command_of airport (Report report) h = tt
 command_of airport (Cancel visit) h = tt

@@ -10,10 +10,9 @@ use Rattle.apron_base.specs.Name.{IsName}
 use Rattle.apron_base.specs.declared.numbers.VisitNo.{VisitNo}
 use Rattle.apron_rules.specs.declared.parts.AirportParts.{AirportParts}
 use Rattle.visit_book.specs.Edits.{most_edits, part_of, visit_of}
+use Rattle.visit_book.specs.declared.drafts.Draft.{Draft}
 use Rattle.visit_book.specs.declared.edits.Edit.{Edit}
 use Rattle.visit_book.specs.declared.edits.Edit.TheVariants.{Put, Lift, Cut, Join}
-use Rattle.desk_words.specs.declared.asks.Command.{Command}
-use Rattle.desk_words.specs.declared.asks.Command.TheVariants.{AddVisit, Commit, Message, Report, Cancel}
 use Rattle.entry_bytes.specs.declared.faults.EntryFault.TheVariants.{BadField}
 use Rattle.visit_book.specs.Edits.{IsEditOf}
 use Rattle.entry_bytes.specs.Widths.{EditFits}
@@ -257,108 +256,44 @@ edits-spells airport = Spells-as (λ edits. length edits ∷ flat_map edit_text 
 
 -- ---- the whole
 
-abbrev desk_in : Command → List ℕ
-desk_in (Commit desk draft base edits) = desk
-desk_in command = []
+-- a draft at an airport, whose numbers and name are of their types
+pub record IsDraftSpelt (airport : AirportParts) (draft : Draft) : Type 0 where
+  pub desk : IsName draft.desk
+  pub number : draft.number < 2 ^ 32
+  pub base : draft.base < 2 ^ 32
+  pub edits : AreEditsSpelt airport draft.edits
 
-abbrev draft_in : Command → ℕ
-draft_in (Commit desk draft base edits) = draft
-draft_in command = 0
+abbrev draft_of : List ℕ → ℕ → ℕ → List Edit → Draft
+draft_of desk number base edits = record { desk = desk; number = number; base = base; edits = edits }
 
-abbrev base_in : Command → ℕ
-base_in (Commit desk draft base edits) = base
-base_in command = 0
+same_draft : (d d' : List ℕ) (n n' b b' : ℕ) (e e' : List Edit) → d ≡ d' → n ≡ n' → b ≡ b' → e ≡ e' → draft_of d n b e ≡ draft_of d' n' b' e'
+same_draft d d' n n' b b' e e' ed en eb ee = cc
 
-abbrev edits_in : Command → List Edit
-edits_in (Commit desk draft base edits) = edits
-edits_in command = []
+abbrev OfDesk : AirportParts → List ℕ → Draft → Type 0
+OfDesk airport desk draft = (draft.desk ≡ desk) × IsDraftSpelt airport draft
 
--- a commit at an airport, whose numbers and name are of their types
-pub record IsCommitSpelt (airport : AirportParts) (name : List ℕ) (number made_over : ℕ) (changes : List Edit) : Type 0 where
-  pub desk : IsName name
-  pub draft : number < 2 ^ 32
-  pub base : made_over < 2 ^ 32
-  pub edits : AreEditsSpelt airport changes
+abbrev OfNumber : AirportParts → List ℕ → ℕ → Draft → Type 0
+OfNumber airport desk number draft = (draft.number ≡ number) × OfDesk airport desk draft
 
-abbrev pub IsCommitOf : AirportParts → Command → Type 0
-IsCommitOf airport (Commit desk draft base edits) = IsCommitSpelt airport desk draft base edits
-IsCommitOf airport command = ⊥
+abbrev OfBase : AirportParts → List ℕ → ℕ → ℕ → Draft → Type 0
+OfBase airport desk number base draft = (draft.base ≡ base) × OfNumber airport desk number draft
 
-abbrev pub commit_back : Command → List ℕ
-commit_back (Commit desk draft base edits) = commit_text desk draft base edits
-commit_back command = []
+regrouped : (draft : Draft) → commit_text draft
+    ≡ sized_text draft.desk ++ (to_le_bytes w32 draft.number ++ (to_le_bytes w32 draft.base ++ (length draft.edits ∷ flat_map edit_text draft.edits ++ [])))
+regrouped draft = simp (append_assoc, append-nil) refl
 
--- what a command that is a commit is made of
-pub record Committed (airport : AirportParts) (command : Command) : Type 0 where
-  pub desk : List ℕ
-  pub draft : ℕ
-  pub base : ℕ
-  pub edits : List Edit
-  pub spelt : IsCommitSpelt airport desk draft base edits
-  pub made : command ≡ Commit desk draft base edits
-
-pub is_commit : (airport : AirportParts) (command : Command) → IsCommitOf airport command → Committed airport command
-is_commit airport (AddVisit new) h = absurd h
-is_commit airport (Commit d n b e) h = record { desk = d; draft = n; base = b; edits = e; spelt = h; made = refl }
-is_commit airport (Message desk message) h = absurd h
-is_commit airport (Report desk visit event) h = absurd h
-is_commit airport (Cancel visit) h = absurd h
-
-abbrev OfDesk : AirportParts → List ℕ → Command → Type 0
-OfDesk airport desk command = (desk_in command ≡ desk) × IsCommitOf airport command
-
-abbrev OfDraft : AirportParts → List ℕ → ℕ → Command → Type 0
-OfDraft airport desk draft command = (draft_in command ≡ draft) × OfDesk airport desk command
-
-abbrev OfBase : AirportParts → List ℕ → ℕ → ℕ → Command → Type 0
-OfBase airport desk draft base command = (base_in command ≡ base) × OfDraft airport desk draft command
-
-same_commit : (d desk : List ℕ) (n draft b base : ℕ) (e edits : List Edit) → d ≡ desk → n ≡ draft → b ≡ base → e ≡ edits → Commit d n b e ≡ Commit desk draft base edits
-same_commit d desk n draft b base e edits one two three four = cc
-
-only_commit : (airport : AirportParts) (desk : List ℕ) (draft base : ℕ) (edits : List Edit) (command : Command) → (edits_in command ≡ edits) × OfBase airport desk draft base command → command ≡ Commit desk draft base edits
-only_commit airport desk draft base edits command h =
-    let c = is_commit airport command h.1.1.1.1 in
-    c.made
-    ∙ same_commit c.desk desk c.draft draft c.base base c.edits edits (sym (ap desk_in c.made) ∙ h.1.1.1.0) (sym (ap draft_in c.made) ∙ h.1.1.0)
-    (sym (ap base_in c.made) ∙ h.1.0) (sym (ap edits_in c.made) ∙ h.0)
-
-desk_name : (airport : AirportParts) (command : Command) → IsCommitOf airport command → IsName (desk_in command)
-desk_name airport command h = let c = is_commit airport command h in subst (λ x. IsName (desk_in x)) (sym c.made) c.spelt.desk
-
-draft_below : (airport : AirportParts) (command : Command) → IsCommitOf airport command → draft_in command < 2 ^ 32
-draft_below airport command h = let c = is_commit airport command h in subst (λ x. draft_in x < 2 ^ 32) (sym c.made) c.spelt.draft
-
-base_below : (airport : AirportParts) (command : Command) → IsCommitOf airport command → base_in command < 2 ^ 32
-base_below airport command h = let c = is_commit airport command h in subst (λ x. base_in x < 2 ^ 32) (sym c.made) c.spelt.base
-
-edits_spelt : (airport : AirportParts) (command : Command) → IsCommitOf airport command → AreEditsSpelt airport (edits_in command)
-edits_spelt airport command h = let c = is_commit airport command h in subst (λ x. AreEditsSpelt airport (edits_in x)) (sym c.made) c.spelt.edits
-
-abbrev back_in : Command → List ℕ
-back_in command =
-    sized_text (desk_in command) ++ (to_le_bytes w32 (draft_in command) ++ (to_le_bytes w32 (base_in command) ++ (length (edits_in command) ∷ flat_map edit_text (edits_in command) ++ [])))
-
-regrouped : (desk : List ℕ) (draft base : ℕ) (edits : List Edit) → commit_back (Commit desk draft base edits) ≡ back_in (Commit desk draft base edits)
-regrouped desk draft base edits = simp (append_assoc, append-nil) refl
-
-commit_same : (airport : AirportParts) (command : Command) → IsCommitOf airport command → commit_back command ≡ back_in command
-commit_same airport command h =
-    let c = is_commit airport command h in
-    subst (λ x. commit_back x ≡ back_in x) (sym c.made) (regrouped c.desk c.draft c.base c.edits)
-
-pub commit-spells : (airport : AirportParts) → Spells (parse_commit airport) commit_back (IsCommitOf airport) 662
+pub commit-spells : (airport : AirportParts) → Spells (parse_commit airport) commit_text (IsDraftSpelt airport) 662
 unfolding parse_commit
-commit-spells airport = Spells-as commit_back (IsCommitOf airport) 662
-    (Spells-then desk_in (IsCommitOf airport) name-spells
-    (λ d a. Spells-then draft_in (OfDesk airport d) (number-spells w32 (2 ^ 32) wide32)
-    (λ n b. Spells-then base_in (OfDraft airport d n) (number-spells w32 (2 ^ 32) wide32)
-    (λ k c. Spells-then edits_in (OfBase airport d n k) (edits-spells airport)
-    (λ e f. Spells-give (Commit d n k e) (λ command. (edits_in command ≡ e) × OfBase airport d n k command)
-    (refl, (refl, (refl, (refl, record { desk = a; draft = b; base = c; edits = f }))))
-    (only_commit airport d n k e))
-    (λ command h. edits_spelt airport command h.1.1.1))
-    (λ command h. base_below airport command h.1.1))
-    (λ command h. draft_below airport command h.1))
-    (desk_name airport))
-    (λ command h. h) (λ command h. h) (commit_same airport) (omega arith)
+commit-spells airport = Spells-as commit_text (IsDraftSpelt airport) 662
+    (Spells-then (λ draft. draft.desk) (IsDraftSpelt airport) name-spells
+    (λ d a. Spells-then (λ draft. draft.number) (OfDesk airport d) (number-spells w32 (2 ^ 32) wide32)
+    (λ n b. Spells-then (λ draft. draft.base) (OfNumber airport d n) (number-spells w32 (2 ^ 32) wide32)
+    (λ k c. Spells-then (λ draft. draft.edits) (OfBase airport d n k) (edits-spells airport)
+    (λ e f. Spells-give (draft_of d n k e) (λ draft. (draft.edits ≡ e) × OfBase airport d n k draft)
+    (refl, (refl, (refl, (refl, record { desk = a; number = b; base = c; edits = f }))))
+    (λ draft h. same_draft draft.desk d draft.number n draft.base k draft.edits e h.1.1.1.0 h.1.1.0 h.1.0 h.0))
+    (λ draft h. h.1.1.1.edits))
+    (λ draft h. h.1.1.base))
+    (λ draft h. h.1.number))
+    (λ draft h. h.desk))
+    (λ draft h. h) (λ draft h. h) (λ draft h. regrouped draft) (omega arith)

@@ -12,11 +12,14 @@ use Rattle.apron_base.specs.declared.numbers.VisitNo.{VisitNo}
 use Rattle.apron_rules.specs.declared.parts.AirportParts.{AirportParts}
 use Rattle.mvt_grammar.specs.Readable.{IsReadable}
 use Rattle.mvt_grammar.specs.declared.message.Mvt.{Mvt}
+use Rattle.visit_book.specs.declared.drafts.Draft.{Draft}
 use Rattle.visit_book.specs.declared.edits.Edit.{Edit}
 use Rattle.visit_book.specs.declared.reports.Event.{Event}
 use Rattle.visit_book.specs.declared.visits.NewVisit.{NewVisit}
 use Rattle.desk_words.specs.declared.asks.Command.{Command}
 use Rattle.desk_words.specs.declared.asks.Command.TheVariants.{AddVisit, Commit, Message, Report, Cancel}
+use Rattle.desk_words.specs.declared.asks.DeskMessage.{DeskMessage}
+use Rattle.desk_words.specs.declared.asks.DeskReport.{DeskReport}
 use Rattle.desk_words.specs.declared.asks.Entry.{Entry}
 use Rattle.entry_bytes.specs.declared.faults.EntryFault.{EntryFault}
 use Rattle.entry_bytes.specs.declared.faults.EntryFault.TheVariants.{BadField, BadKind, TrailingBytes}
@@ -31,49 +34,52 @@ use Rattle.entry_bytes.specs.Entries.{Kinds, command_text, decode_entry, entry_t
 use Rattle.entry_bytes.specs.Faults.{IsWithin, entry_fault}
 use Rattle.entry_bytes.specs.Keys.{sized_text}
 use Rattle.entry_bytes.specs.Laws.{AreBytes}
-use Rattle.entry_bytes.specs.Messages.{message_text, parse_message}
+use Rattle.entry_bytes.specs.Messages.{message_text}
 use Rattle.entry_bytes.specs.NewVisits.{new_visit_text, parse_new_visit}
 use Rattle.entry_bytes.specs.Readings.{RestOfEntry, Reading, ◌>>=◌, give, number}
 use Rattle.entry_bytes.specs.Reports.{event_text, parse_cancel, parse_report, report_text}
 use Rattle.entry_bytes.proofs.Fields.{byte-spells, byte-front, name-spells, number-spells, number-front, wide32, wide64}
 use Rattle.entry_bytes.proofs.VisitsSpelt.{IsVisitOf, new_visit-spells}
-use Rattle.entry_bytes.proofs.CommitsSpelt.{IsCommitOf, IsCommitSpelt, IsEditSpelt, commit-spells, commit_back, is_commit}
+use Rattle.entry_bytes.proofs.CommitsSpelt.{IsDraftSpelt, IsEditSpelt, commit-spells}
 use Rattle.entry_bytes.proofs.EventsSpelt.{IsEventSpelt, event-spells}
 use Rattle.entry_bytes.proofs.MessagesSpelt.{message-spells}
 use Rattle.entry_bytes.proofs.Spells.{Announces, Announces-or, IsWithin-wider, Spells, Spells-as, Spells-give, Spells-made, Spells-such, Spells-tagged, Spells-then, err_is, left_at, ok_is}
 
 abbrev pub kind_of : Command → ℕ
 kind_of (AddVisit new) = 1
-kind_of (Commit desk draft base edits) = 2
+kind_of (Commit draft) = 2
 kind_of (Cancel visit) = 5
-kind_of (Message desk message) = 6
-kind_of (Report desk visit event) = 7
+kind_of (Message passed) = 6
+kind_of (Report report) = 7
 
 abbrev pub back_of : Command → List ℕ
 back_of (AddVisit new) = new_visit_text new
-back_of (Commit desk draft base edits) = commit_text desk draft base edits
+back_of (Commit draft) = commit_text draft
 back_of (Cancel visit) = to_le_bytes w32 visit.0
-back_of (Message desk message) = sized_text desk ++ message_text message
-back_of (Report desk visit event) = sized_text desk ++ report_text visit event
+back_of (Message passed) = sized_text passed.desk ++ message_text passed.message
+back_of (Report report) = sized_text report.desk ++ report_text report
+
+-- a message that a desk passed on, whose desk has a name
+abbrev pub IsMessageSpelt : DeskMessage → Type 0
+IsMessageSpelt passed = IsName passed.desk × IsReadable passed.message
+
+-- a report at an airport, whose numbers and name are of their types
+abbrev pub IsReportSpelt : AirportParts → DeskReport → Type 0
+IsReportSpelt airport report = IsName report.desk × (report.visit.0 < 2 ^ 32) × IsEventSpelt airport report.event
 
 -- a command at an airport, whose numbers and names are of their types
 abbrev pub IsSpelt : AirportParts → Command → Type 0
 IsSpelt airport (AddVisit new) = IsVisitOf airport new
-IsSpelt airport (Commit desk draft base edits) = IsCommitSpelt airport desk draft base edits
+IsSpelt airport (Commit draft) = IsDraftSpelt airport draft
 IsSpelt airport (Cancel visit) = visit.0 < 2 ^ 32
-IsSpelt airport (Message desk message) = IsName desk × IsReadable message
-IsSpelt airport (Report desk visit event) = IsName desk × (visit.0 < 2 ^ 32) × IsEventSpelt airport event
+IsSpelt airport (Message passed) = IsMessageSpelt passed
+IsSpelt airport (Report report) = IsReportSpelt airport report
 
 abbrev pub HasKind : AirportParts → ℕ → Command → Type 0
 HasKind airport kind command = (kind_of command ≡ kind) × IsSpelt airport command
 
 abbrev visit_no : ℕ → VisitNo
 visit_no number = record { 0 = number }
-
-abbrev pub desk_in : Command → List ℕ
-desk_in (Message desk message) = desk
-desk_in (Report desk visit event) = desk
-desk_in command = []
 
 -- the fields of a kind; no command has more bytes of them than a commit
 pub among : (few : ℕ) (fields : Reading Command) (back : Command → List ℕ) (P : Command → Type 0) → few ≤ 662 → Spells fields back P few → Spells fields back P 662
@@ -83,9 +89,9 @@ among few fields back P le s = Spells-as back P 662 s (λ command h. h) (λ comm
 
 is_visit : (airport : AirportParts) (command : Command) → HasKind airport 1 command → (new : NewVisit) × IsVisitOf airport new × (command ≡ AddVisit new)
 is_visit airport (AddVisit new) h = (new, h.1, refl)
-is_visit airport (Commit desk draft base edits) h = absurd (omega (arith, h.0))
-is_visit airport (Message desk message) h = absurd (omega (arith, h.0))
-is_visit airport (Report desk visit event) h = absurd (omega (arith, h.0))
+is_visit airport (Commit draft) h = absurd (omega (arith, h.0))
+is_visit airport (Message passed) h = absurd (omega (arith, h.0))
+is_visit airport (Report report) h = absurd (omega (arith, h.0))
 is_visit airport (Cancel visit) h = absurd (omega (arith, h.0))
 
 pub visit-spells : (airport : AirportParts) → Spells (parse_new_visit airport >>= λ new. give (AddVisit new)) back_of (HasKind airport 1) 42
@@ -93,193 +99,95 @@ visit-spells airport = Spells-made AddVisit back_of (HasKind airport 1) (new_vis
 
 -- ---- kind 2
 
-commit_there : (airport : AirportParts) (command : Command) → IsCommitOf airport command → HasKind airport 2 command
-commit_there airport command h = let c = is_commit airport command h in subst (HasKind airport 2) (sym c.made) (refl, c.spelt)
+is_commit : (airport : AirportParts) (command : Command) → HasKind airport 2 command → (draft : Draft) × IsDraftSpelt airport draft × (command ≡ Commit draft)
+is_commit airport (AddVisit new) h = absurd (omega (arith, h.0))
+is_commit airport (Commit draft) h = (draft, h.1, refl)
+is_commit airport (Message passed) h = absurd (omega (arith, h.0))
+is_commit airport (Report report) h = absurd (omega (arith, h.0))
+is_commit airport (Cancel visit) h = absurd (omega (arith, h.0))
 
-commit_here : (airport : AirportParts) (command : Command) → HasKind airport 2 command → IsCommitOf airport command
-commit_here airport (AddVisit new) h = absurd (omega (arith, h.0))
-commit_here airport (Commit desk draft base edits) h = h.1
-commit_here airport (Message desk message) h = absurd (omega (arith, h.0))
-commit_here airport (Report desk visit event) h = absurd (omega (arith, h.0))
-commit_here airport (Cancel visit) h = absurd (omega (arith, h.0))
-
-commit_same : (airport : AirportParts) (command : Command) → HasKind airport 2 command → back_of command ≡ commit_back command
-commit_same airport command h =
-    let c = is_commit airport command (commit_here airport command h) in
-    subst (λ x. back_of x ≡ commit_back x) (sym c.made) refl
-
-pub second-spells : (airport : AirportParts) → Spells (parse_commit airport) back_of (HasKind airport 2) 662
-second-spells airport = Spells-as back_of (HasKind airport 2) 662 (commit-spells airport) (commit_there airport) (commit_here airport) (commit_same airport) (omega arith)
+pub second-spells : (airport : AirportParts) → Spells (parse_commit airport >>= λ draft. give (Commit draft)) back_of (HasKind airport 2) 662
+second-spells airport = Spells-made Commit back_of (HasKind airport 2) (commit-spells airport) (λ draft h. (refl, h)) (is_commit airport) (λ draft. refl)
 
 -- ---- kind 5
 
-is_cancel : (airport : AirportParts) (command : Command) → HasKind airport 5 command → (number : ℕ) × (number < 2 ^ 32) × (command ≡ Cancel (visit_no number))
-is_cancel airport (AddVisit new) h = absurd (omega (arith, h.0))
-is_cancel airport (Commit desk draft base edits) h = absurd (omega (arith, h.0))
-is_cancel airport (Message desk message) h = absurd (omega (arith, h.0))
-is_cancel airport (Report desk visit event) h = absurd (omega (arith, h.0))
-is_cancel airport (Cancel visit) h = (visit.0, h.1, refl)
-
-pub fifth-spells : (airport : AirportParts) → Spells parse_cancel back_of (HasKind airport 5) 4
+cancel-spells : Spells parse_cancel (λ visit. to_le_bytes w32 visit.0) (λ visit. visit.0 < 2 ^ 32) 4
 unfolding parse_cancel
-fifth-spells airport =
-    Spells-made (λ n. Cancel (visit_no n)) back_of (HasKind airport 5) (number-spells w32 (2 ^ 32) wide32) (λ n h. (refl, h)) (is_cancel airport) (λ n. refl)
+cancel-spells = Spells-made visit_no (λ visit. to_le_bytes w32 visit.0) (λ visit. visit.0 < 2 ^ 32) (number-spells w32 (2 ^ 32) wide32) (λ n h. h) (λ visit h. (visit.0, h, refl)) (λ n. refl)
 
--- ---- the message of a desk
+is_cancel : (airport : AirportParts) (command : Command) → HasKind airport 5 command → (visit : VisitNo) × (visit.0 < 2 ^ 32) × (command ≡ Cancel visit)
+is_cancel airport (AddVisit new) h = absurd (omega (arith, h.0))
+is_cancel airport (Commit draft) h = absurd (omega (arith, h.0))
+is_cancel airport (Message passed) h = absurd (omega (arith, h.0))
+is_cancel airport (Report report) h = absurd (omega (arith, h.0))
+is_cancel airport (Cancel visit) h = (visit, h.1, refl)
 
-abbrev pub IsMessageOf : List ℕ → Command → Type 0
-IsMessageOf desk (Message name message) = (name ≡ desk) × IsReadable message
-IsMessageOf desk command = ⊥
-
-abbrev pub message_back : Command → List ℕ
-message_back (Message desk message) = message_text message
-message_back command = []
-
-is_message : (desk : List ℕ) (command : Command) → IsMessageOf desk command → (message : Mvt) × IsReadable message × (command ≡ Message desk message)
-is_message desk (AddVisit new) h = absurd h
-is_message desk (Commit name draft base edits) h = absurd h
-is_message desk (Message name message) h = (message, h.1, ap (λ n. Message n message) h.0)
-is_message desk (Report name visit event) h = absurd h
-is_message desk (Cancel visit) h = absurd h
-
-pub message_of-spells : (desk : List ℕ) → Spells (parse_message >>= λ message. give (Message desk message)) message_back (IsMessageOf desk) 86
-message_of-spells desk = Spells-made (Message desk) message_back (IsMessageOf desk) message-spells (λ message h. (refl, h)) (is_message desk) (λ message. refl)
-
--- ---- the report of a desk
-
-abbrev pub IsReportOf : AirportParts → List ℕ → Command → Type 0
-IsReportOf airport desk (Report name visit event) = (name ≡ desk) × (visit.0 < 2 ^ 32) × IsEventSpelt airport event
-IsReportOf airport desk command = ⊥
-
-abbrev pub report_back : Command → List ℕ
-report_back (Report desk visit event) = report_text visit event
-report_back command = []
-
-abbrev number_in : Command → ℕ
-number_in (Report desk visit event) = visit.0
-number_in command = 0
-
-abbrev event_back : Command → List ℕ
-event_back (Report desk visit event) = event_text event
-event_back command = []
-
--- what a command that is a report is made of
-record Reported (airport : AirportParts) (desk : List ℕ) (command : Command) : Type 0 where
-  number : ℕ
-  event : Event
-  below : number < 2 ^ 32
-  spelt : IsEventSpelt airport event
-  made : command ≡ Report desk (visit_no number) event
-
-is_report : (airport : AirportParts) (desk : List ℕ) (command : Command) → IsReportOf airport desk command → Reported airport desk command
-is_report airport desk (AddVisit new) h = absurd h
-is_report airport desk (Commit name draft base edits) h = absurd h
-is_report airport desk (Message name message) h = absurd h
-is_report airport desk (Report name visit event) h = record { number = visit.0; event = event; below = h.1; spelt = h.2; made = ap (λ n. Report n visit event) h.0 }
-is_report airport desk (Cancel visit) h = absurd h
-
-number_below : (airport : AirportParts) (desk : List ℕ) (command : Command) → IsReportOf airport desk command → number_in command < 2 ^ 32
-number_below airport desk command h = let r = is_report airport desk command h in subst (λ x. number_in x < 2 ^ 32) (sym r.made) r.below
-
-of_visit : (airport : AirportParts) (desk : List ℕ) (number : ℕ) (command : Command) → (number_in command ≡ number) × IsReportOf airport desk command
-    → (event : Event) × IsEventSpelt airport event × (command ≡ Report desk (visit_no number) event)
-of_visit airport desk number command h =
-    let r = is_report airport desk command h.1 in
-    (r.event, r.spelt, r.made ∙ ap (λ n. Report desk (visit_no n) r.event) (sym (ap number_in r.made) ∙ h.0))
-
-report_same : (airport : AirportParts) (desk : List ℕ) (command : Command) → IsReportOf airport desk command
-    → report_back command ≡ to_le_bytes w32 (number_in command) ++ event_back command
-report_same airport desk command h =
-    let r = is_report airport desk command h in
-    subst (λ x. report_back x ≡ to_le_bytes w32 (number_in x) ++ event_back x) (sym r.made) refl
-
-pub report_of-spells : (airport : AirportParts) (desk : List ℕ) → Spells (parse_report airport desk) report_back (IsReportOf airport desk) 12
-unfolding parse_report
-report_of-spells airport desk = Spells-as report_back (IsReportOf airport desk) 12
-    (Spells-then number_in (IsReportOf airport desk) (number-spells w32 (2 ^ 32) wide32)
-    (λ n b. Spells-made (Report desk (visit_no n)) event_back (λ command. (number_in command ≡ n) × IsReportOf airport desk command) (event-spells airport)
-    (λ event e. (refl, (refl, b, e))) (of_visit airport desk n) (λ event. refl))
-    (number_below airport desk))
-    (λ command h. h) (λ command h. h) (report_same airport desk) (omega arith)
+pub fifth-spells : (airport : AirportParts) → Spells (parse_cancel >>= λ visit. give (Cancel visit)) back_of (HasKind airport 5) 4
+fifth-spells airport = Spells-made Cancel back_of (HasKind airport 5) cancel-spells (λ visit h. (refl, h)) (is_cancel airport) (λ visit. refl)
 
 -- ---- kind 6
 
-message_there : (airport : AirportParts) (desk : List ℕ) → IsName desk → (command : Command) → IsMessageOf desk command → (desk_in command ≡ desk) × HasKind airport 6 command
-message_there airport desk named (AddVisit new) h = absurd h
-message_there airport desk named (Commit name draft base edits) h = absurd h
-message_there airport desk named (Message name message) h = (h.0, (refl, (subst IsName (sym h.0) named, h.1)))
-message_there airport desk named (Report name visit event) h = absurd h
-message_there airport desk named (Cancel visit) h = absurd h
+abbrev pub passed_by : List ℕ → Mvt → DeskMessage
+passed_by desk message = record { desk = desk; message = message }
 
-message_here : (airport : AirportParts) (desk : List ℕ) (command : Command) → (desk_in command ≡ desk) × HasKind airport 6 command → IsMessageOf desk command
-message_here airport desk (AddVisit new) h = absurd (omega (arith, h.1.0))
-message_here airport desk (Commit name draft base edits) h = absurd (omega (arith, h.1.0))
-message_here airport desk (Message name message) h = (h.0, h.1.1.1)
-message_here airport desk (Report name visit event) h = absurd (omega (arith, h.1.0))
-message_here airport desk (Cancel visit) h = absurd (omega (arith, h.1.0))
-
-message_named : (airport : AirportParts) (command : Command) → HasKind airport 6 command → IsName (desk_in command)
-message_named airport (AddVisit new) h = absurd (omega (arith, h.0))
-message_named airport (Commit desk draft base edits) h = absurd (omega (arith, h.0))
-message_named airport (Message desk message) h = h.1.0
-message_named airport (Report desk visit event) h = absurd (omega (arith, h.0))
-message_named airport (Cancel visit) h = absurd (omega (arith, h.0))
-
-message_same : (airport : AirportParts) (command : Command) → HasKind airport 6 command → back_of command ≡ sized_text (desk_in command) ++ message_back command
-message_same airport (AddVisit new) h = absurd (omega (arith, h.0))
-message_same airport (Commit desk draft base edits) h = absurd (omega (arith, h.0))
-message_same airport (Message desk message) h = refl
-message_same airport (Report desk visit event) h = absurd (omega (arith, h.0))
-message_same airport (Cancel visit) h = absurd (omega (arith, h.0))
-
-sixth-spells : (airport : AirportParts) → Spells parse_desk_message back_of (HasKind airport 6) 99
+desk_message-spells : Spells parse_desk_message (λ passed. sized_text passed.desk ++ message_text passed.message) IsMessageSpelt 99
 unfolding parse_desk_message
-sixth-spells airport = Spells-as back_of (HasKind airport 6) 99
-    (Spells-then desk_in (HasKind airport 6) name-spells
-    (λ d a. Spells-as message_back (λ command. (desk_in command ≡ d) × HasKind airport 6 command) 86 (message_of-spells d)
-    (message_there airport d a) (message_here airport d) (λ command h. refl) (omega arith))
-    (message_named airport))
-    (λ command h. h) (λ command h. h) (message_same airport) (omega arith)
+desk_message-spells = Spells-as (λ passed. sized_text passed.desk ++ message_text passed.message) IsMessageSpelt 99
+    (Spells-then (λ passed. passed.desk) IsMessageSpelt name-spells
+    (λ desk a. Spells-made (passed_by desk) (λ passed. message_text passed.message) (λ passed. (passed.desk ≡ desk) × IsMessageSpelt passed) message-spells
+    (λ message h. (refl, (a, h))) (λ passed h. (passed.message, h.1.1, ap (λ d. passed_by d passed.message) h.0)) (λ message. refl))
+    (λ passed h. h.0))
+    (λ passed h. h) (λ passed h. h) (λ passed h. refl) (omega arith)
+
+is_message : (airport : AirportParts) (command : Command) → HasKind airport 6 command → (passed : DeskMessage) × IsMessageSpelt passed × (command ≡ Message passed)
+is_message airport (AddVisit new) h = absurd (omega (arith, h.0))
+is_message airport (Commit draft) h = absurd (omega (arith, h.0))
+is_message airport (Message passed) h = (passed, h.1, refl)
+is_message airport (Report report) h = absurd (omega (arith, h.0))
+is_message airport (Cancel visit) h = absurd (omega (arith, h.0))
+
+sixth-spells : (airport : AirportParts) → Spells (parse_desk_message >>= λ passed. give (Message passed)) back_of (HasKind airport 6) 99
+sixth-spells airport = Spells-made Message back_of (HasKind airport 6) desk_message-spells (λ passed h. (refl, h)) (is_message airport) (λ passed. refl)
 
 -- ---- kind 7
 
-report_there : (airport : AirportParts) (desk : List ℕ) → IsName desk → (command : Command) → IsReportOf airport desk command
-    → (desk_in command ≡ desk) × HasKind airport 7 command
-report_there airport desk named (AddVisit new) h = absurd h
-report_there airport desk named (Commit name draft base edits) h = absurd h
-report_there airport desk named (Message name message) h = absurd h
-report_there airport desk named (Report name visit event) h = (h.0, (refl, (subst IsName (sym h.0) named, h.1, h.2)))
-report_there airport desk named (Cancel visit) h = absurd h
+abbrev report_of : List ℕ → ℕ → Event → DeskReport
+report_of desk visit event = record { desk = desk; visit = visit_no visit; event = event }
 
-report_here : (airport : AirportParts) (desk : List ℕ) (command : Command) → (desk_in command ≡ desk) × HasKind airport 7 command → IsReportOf airport desk command
-report_here airport desk (AddVisit new) h = absurd (omega (arith, h.1.0))
-report_here airport desk (Commit name draft base edits) h = absurd (omega (arith, h.1.0))
-report_here airport desk (Message name message) h = absurd (omega (arith, h.1.0))
-report_here airport desk (Report name visit event) h = (h.0, h.1.1.1, h.1.1.2)
-report_here airport desk (Cancel visit) h = absurd (omega (arith, h.1.0))
+same_report : (d d' : List ℕ) (v v' : ℕ) (event : Event) → d ≡ d' → v ≡ v' → report_of d v event ≡ report_of d' v' event
+same_report d d' v v' event ed ev = cc
 
-report_named : (airport : AirportParts) (command : Command) → HasKind airport 7 command → IsName (desk_in command)
-report_named airport (AddVisit new) h = absurd (omega (arith, h.0))
-report_named airport (Commit desk draft base edits) h = absurd (omega (arith, h.0))
-report_named airport (Message desk message) h = absurd (omega (arith, h.0))
-report_named airport (Report desk visit event) h = h.1.0
-report_named airport (Cancel visit) h = absurd (omega (arith, h.0))
+-- a report of this desk at an airport, whose numbers are of their types
+abbrev pub IsReportOf : AirportParts → List ℕ → DeskReport → Type 0
+IsReportOf airport desk report = (report.desk ≡ desk) × (report.visit.0 < 2 ^ 32) × IsEventSpelt airport report.event
 
-all_same : (airport : AirportParts) (command : Command) → HasKind airport 7 command → back_of command ≡ sized_text (desk_in command) ++ report_back command
-all_same airport (AddVisit new) h = absurd (omega (arith, h.0))
-all_same airport (Commit desk draft base edits) h = absurd (omega (arith, h.0))
-all_same airport (Message desk message) h = absurd (omega (arith, h.0))
-all_same airport (Report desk visit event) h = refl
-all_same airport (Cancel visit) h = absurd (omega (arith, h.0))
+pub report-spells : (airport : AirportParts) (desk : List ℕ) → Spells (parse_report airport desk) report_text (IsReportOf airport desk) 12
+unfolding parse_report
+report-spells airport desk = Spells-as report_text (IsReportOf airport desk) 12
+    (Spells-then (λ report. report.visit.0) (IsReportOf airport desk) (number-spells w32 (2 ^ 32) wide32)
+    (λ n b. Spells-made (report_of desk n) (λ report. event_text report.event) (λ report. (report.visit.0 ≡ n) × IsReportOf airport desk report) (event-spells airport)
+    (λ event e. (refl, (refl, b, e))) (λ report h. (report.event, h.1.2, same_report report.desk desk report.visit.0 n report.event h.1.0 h.0)) (λ event. refl))
+    (λ report h. h.1))
+    (λ report h. h) (λ report h. h) (λ report h. refl) (omega arith)
 
-seventh-spells : (airport : AirportParts) → Spells (parse_desk_report airport) back_of (HasKind airport 7) 25
+desk_report-spells : (airport : AirportParts) → Spells (parse_desk_report airport) (λ report. sized_text report.desk ++ report_text report) (IsReportSpelt airport) 25
 unfolding parse_desk_report
-seventh-spells airport = Spells-as back_of (HasKind airport 7) 25
-    (Spells-then desk_in (HasKind airport 7) name-spells
-    (λ d a. Spells-as report_back (λ command. (desk_in command ≡ d) × HasKind airport 7 command) 12 (report_of-spells airport d)
-    (report_there airport d a) (report_here airport d) (λ command h. refl) (omega arith))
-    (report_named airport))
-    (λ command h. h) (λ command h. h) (all_same airport) (omega arith)
+desk_report-spells airport = Spells-as (λ report. sized_text report.desk ++ report_text report) (IsReportSpelt airport) 25
+    (Spells-then (λ report. report.desk) (IsReportSpelt airport) name-spells
+    (λ desk a. Spells-as report_text (λ report. (report.desk ≡ desk) × IsReportSpelt airport report) 12 (report-spells airport desk)
+    (λ report h. (h.0, (subst IsName (sym h.0) a, h.1, h.2))) (λ report h. (h.0, h.1.1, h.1.2)) (λ report h. refl) (omega arith))
+    (λ report h. h.0))
+    (λ report h. h) (λ report h. h) (λ report h. refl) (omega arith)
+
+is_report : (airport : AirportParts) (command : Command) → HasKind airport 7 command → (report : DeskReport) × IsReportSpelt airport report × (command ≡ Report report)
+is_report airport (AddVisit new) h = absurd (omega (arith, h.0))
+is_report airport (Commit draft) h = absurd (omega (arith, h.0))
+is_report airport (Message passed) h = absurd (omega (arith, h.0))
+is_report airport (Report report) h = (report, h.1, refl)
+is_report airport (Cancel visit) h = absurd (omega (arith, h.0))
+
+seventh-spells : (airport : AirportParts) → Spells (parse_desk_report airport >>= λ report. give (Report report)) back_of (HasKind airport 7) 25
+seventh-spells airport = Spells-made Report back_of (HasKind airport 7) (desk_report-spells airport) (λ report h. (refl, h)) (is_report airport) (λ report. refl)
 
 -- ---- any command
 
@@ -292,30 +200,33 @@ at_kind : (airport : AirportParts) (kind : ℕ) → Announces (fields_of airport
 at_kind airport kind =
     let P = HasKind airport kind in
     let first : Reading Command = parse_new_visit airport >>= λ new. give (AddVisit new) in
-    let from_7 : Option (Reading Command) = cond (kind == 7) (Some (parse_desk_report airport)) None in
-    let from_6 : Option (Reading Command) = cond (kind == 6) (Some parse_desk_message) from_7 in
-    let from_5 : Option (Reading Command) = cond (kind == 5) (Some parse_cancel) from_6 in
-    let from_2 : Option (Reading Command) = cond (kind == 2) (Some (parse_commit airport)) from_5 in
+    let second : Reading Command = parse_commit airport >>= λ draft. give (Commit draft) in
+    let fifth : Reading Command = parse_cancel >>= λ visit. give (Cancel visit) in
+    let sixth : Reading Command = parse_desk_message >>= λ passed. give (Message passed) in
+    let seventh : Reading Command = parse_desk_report airport >>= λ report. give (Report report) in
+    let from_7 : Option (Reading Command) = cond (kind == 7) (Some seventh) None in
+    let from_6 : Option (Reading Command) = cond (kind == 6) (Some sixth) from_7 in
+    let from_5 : Option (Reading Command) = cond (kind == 5) (Some fifth) from_6 in
+    let from_2 : Option (Reading Command) = cond (kind == 2) (Some second) from_5 in
     Announces-or (kind == 1) first from_2 back_of P 662 (kind_is airport kind 1 42 first (omega arith) (visit-spells airport))
-    (Announces-or (kind == 2) (parse_commit airport) from_5 back_of P 662 (kind_is airport kind 2 662 (parse_commit airport) (omega arith) (second-spells airport))
-    (Announces-or (kind == 5) parse_cancel from_6 back_of P 662 (kind_is airport kind 5 4 parse_cancel (omega arith) (fifth-spells airport))
-    (Announces-or (kind == 6) parse_desk_message from_7 back_of P 662 (kind_is airport kind 6 99 parse_desk_message (omega arith) (sixth-spells airport))
-    (Announces-or (kind == 7) (parse_desk_report airport) None back_of P 662
-    (kind_is airport kind 7 25 (parse_desk_report airport) (omega arith) (seventh-spells airport))
+    (Announces-or (kind == 2) second from_5 back_of P 662 (kind_is airport kind 2 662 second (omega arith) (second-spells airport))
+    (Announces-or (kind == 5) fifth from_6 back_of P 662 (kind_is airport kind 5 4 fifth (omega arith) (fifth-spells airport))
+    (Announces-or (kind == 6) sixth from_7 back_of P 662 (kind_is airport kind 6 99 sixth (omega arith) (sixth-spells airport))
+    (Announces-or (kind == 7) seventh None back_of P 662 (kind_is airport kind 7 25 seventh (omega arith) (seventh-spells airport))
     tt))))
 
 has_fields : (airport : AirportParts) (command : Command) → IsSpelt airport command → IsSome (fields_of airport (kind_of command))
 has_fields airport (AddVisit new) h = refl
-has_fields airport (Commit desk draft base edits) h = refl
-has_fields airport (Message desk message) h = refl
-has_fields airport (Report desk visit event) h = refl
+has_fields airport (Commit draft) h = refl
+has_fields airport (Message passed) h = refl
+has_fields airport (Report report) h = refl
 has_fields airport (Cancel visit) h = refl
 
 same_bytes : (command : Command) → command_text command ≡ kind_of command ∷ back_of command
 same_bytes (AddVisit new) = refl
-same_bytes (Commit desk draft base edits) = refl
-same_bytes (Message desk message) = refl
-same_bytes (Report desk visit event) = refl
+same_bytes (Commit draft) = refl
+same_bytes (Message passed) = refl
+same_bytes (Report report) = refl
 same_bytes (Cancel visit) = refl
 
 command-spells : (airport : AirportParts) → Spells (parse_command (fields_of airport)) command_text (IsSpelt airport) 663
@@ -337,25 +248,25 @@ spelt_of airport (edit ∷ edits) f h =
 
 pub said : (airport : AirportParts) (command : Command) → IsSpelt airport command → FitsWidths command × IsCommandOf airport command
 said airport (AddVisit new) h = (h.fits, h.at_airport)
-said airport (Commit desk draft base edits) h =
-    let each = fits_of airport edits h.edits.each in (
-      record { desk = h.desk; draft = h.draft; base = h.base; edits = All-from_recursion EditFits edits each.0 },
-      (h.edits.count.0, h.edits.count.1, All-from_recursion (IsEditOf airport) edits each.1),
+said airport (Commit draft) h =
+    let each = fits_of airport draft.edits h.edits.each in (
+      record { desk = h.desk; number = h.number; base = h.base; edits = All-from_recursion EditFits draft.edits each.0 },
+      (h.edits.count.0, h.edits.count.1, All-from_recursion (IsEditOf airport) draft.edits each.1),
     )
-said airport (Message desk message) h = (h.0, h.1)
-said airport (Report desk visit event) h = ((h.0, h.1, h.2.0), h.2.1)
+said airport (Message passed) h = (h.0, h.1)
+said airport (Report report) h = ((h.0, h.1, h.2.0), h.2.1)
 said airport (Cancel visit) h = (h, tt)
 
 pub spelt : (airport : AirportParts) (command : Command) → FitsWidths command → IsCommandOf airport command → IsSpelt airport command
 spelt airport (AddVisit new) f h = record { fits = f; at_airport = h }
-spelt airport (Commit desk draft base edits) f h = record {
+spelt airport (Commit draft) f h = record {
   desk = f.desk;
-  draft = f.draft;
+  number = f.number;
   base = f.base;
-  edits = record { count = (h.0, h.1); each = spelt_of airport edits f.edits h.2 };
+  edits = record { count = (h.0, h.1); each = spelt_of airport draft.edits f.edits h.2 };
 }
-spelt airport (Message desk message) f h = (f, h)
-spelt airport (Report desk visit event) f h = (f.0, f.1, (f.2, h))
+spelt airport (Message passed) f h = (f, h)
+spelt airport (Report report) f h = (f.0, f.1, (f.2, h))
 spelt airport (Cancel visit) f h = f
 
 -- ---- entries of any kinds

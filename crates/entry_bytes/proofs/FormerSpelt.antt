@@ -1,13 +1,16 @@
 -- Entries were read exactly as they were spelt.
-use Rattle.std.proofs.Common.{◌≡◌, ℕ, ◌≤◌, true, cond, List, ◌∷◌, Option, Some, None, Ok, Err, refl, sym, subst, inl, inr, arith}
+use Rattle.std.proofs.Common.{◌≡◌, ℕ, ◌≤◌, true, cond, List, ◌∷◌, Option, Some, None, Ok, Err, refl, sym, ap, subst, inl, inr, arith}
 use Rattle.std.specs.Prelude.{◌⊎◌, ◌==◌, IsSome}
 use Rattle.std.specs.Int.{w32, to_le_bytes}
 use Rattle.std.proofs.lemmas.Bool.{eqb-true}
 use Rattle.apron_base.specs.Name.{IsName}
 use Rattle.apron_base.proofs.NameTests.{name_decides}
 use Rattle.apron_rules.specs.declared.parts.AirportParts.{AirportParts}
+use Rattle.mvt_grammar.specs.Readable.{IsReadable}
+use Rattle.mvt_grammar.specs.declared.message.Mvt.{Mvt}
 use Rattle.desk_words.specs.declared.asks.Command.{Command}
 use Rattle.desk_words.specs.declared.asks.Command.TheVariants.{AddVisit, Commit, Message, Report, Cancel}
+use Rattle.desk_words.specs.declared.asks.DeskReport.{DeskReport}
 use Rattle.desk_words.specs.declared.asks.Entry.{Entry}
 use Rattle.entry_bytes.specs.declared.faults.EntryFault.{EntryFault}
 use Rattle.entry_bytes.specs.declared.faults.EntryFault.TheVariants.{BadKind}
@@ -22,21 +25,22 @@ use Rattle.entry_bytes.specs.NewVisits.{new_visit_text, parse_new_visit}
 use Rattle.entry_bytes.specs.Readings.{Reading, ◌>>=◌, give}
 use Rattle.entry_bytes.specs.Reports.{parse_cancel, parse_report, report_text}
 use Rattle.entry_bytes.proofs.Fields.{byte-spells, byte-front}
-use Rattle.entry_bytes.proofs.EntriesSpelt.{HasKind, IsMessageOf, IsReportOf, IsSpelt, among, back_of, entry_with-spells, fifth-spells, message_back, message_of-spells, report_back, report_of-spells, said, second-spells, spelt, visit-spells, whole_is_near, whole_is_read_back, whole_is_spelt}
-use Rattle.entry_bytes.proofs.Spells.{Announces, Announces-or, Spells, Spells-as, Spells-tagged}
+use Rattle.entry_bytes.proofs.EntriesSpelt.{HasKind, IsReportOf, IsSpelt, among, back_of, entry_with-spells, fifth-spells, passed_by, report-spells, said, second-spells, spelt, visit-spells, whole_is_near, whole_is_read_back, whole_is_spelt}
+use Rattle.entry_bytes.proofs.MessagesSpelt.{message-spells}
+use Rattle.entry_bytes.proofs.Spells.{Announces, Announces-or, Spells, Spells-as, Spells-made, Spells-tagged}
 
 abbrev former_kind_of : Command → ℕ
 former_kind_of (AddVisit new) = 1
-former_kind_of (Commit desk draft base edits) = 2
-former_kind_of (Message desk message) = 3
-former_kind_of (Report desk visit event) = 4
+former_kind_of (Commit draft) = 2
+former_kind_of (Message passed) = 3
+former_kind_of (Report report) = 4
 former_kind_of (Cancel visit) = 5
 
 abbrev former_back : Command → List ℕ
 former_back (AddVisit new) = new_visit_text new
-former_back (Commit desk draft base edits) = commit_text desk draft base edits
-former_back (Message desk message) = message_text message
-former_back (Report desk visit event) = report_text visit event
+former_back (Commit draft) = commit_text draft
+former_back (Message passed) = message_text passed.message
+former_back (Report report) = report_text report
 former_back (Cancel visit) = to_le_bytes w32 visit.0
 
 -- a command that existed at an airport, whose numbers and names are of their types
@@ -81,23 +85,23 @@ not_7 kind kept e = elim kept [
 
 kept_there : (airport : AirportParts) (kind : ℕ) → IsKept kind → (command : Command) → HasKind airport kind command → HadKind airport kind command
 kept_there airport kind kept (AddVisit new) h = (h.0, (h.1, tt))
-kept_there airport kind kept (Commit desk draft base edits) h = (h.0, (h.1, tt))
-kept_there airport kind kept (Message desk message) h = absurd (not_6 kind kept h.0)
-kept_there airport kind kept (Report desk visit event) h = absurd (not_7 kind kept h.0)
+kept_there airport kind kept (Commit draft) h = (h.0, (h.1, tt))
+kept_there airport kind kept (Message passed) h = absurd (not_6 kind kept h.0)
+kept_there airport kind kept (Report report) h = absurd (not_7 kind kept h.0)
 kept_there airport kind kept (Cancel visit) h = (h.0, (h.1, tt))
 
 kept_here : (airport : AirportParts) (kind : ℕ) → IsKept kind → (command : Command) → HadKind airport kind command → HasKind airport kind command
 kept_here airport kind kept (AddVisit new) h = (h.0, h.1.0)
-kept_here airport kind kept (Commit desk draft base edits) h = (h.0, h.1.0)
-kept_here airport kind kept (Message desk message) h = absurd (not_3 kind kept h.0)
-kept_here airport kind kept (Report desk visit event) h = absurd (not_4 kind kept h.0)
+kept_here airport kind kept (Commit draft) h = (h.0, h.1.0)
+kept_here airport kind kept (Message passed) h = absurd (not_3 kind kept h.0)
+kept_here airport kind kept (Report report) h = absurd (not_4 kind kept h.0)
 kept_here airport kind kept (Cancel visit) h = (h.0, h.1.0)
 
 kept_same : (airport : AirportParts) (kind : ℕ) → IsKept kind → (command : Command) → HadKind airport kind command → former_back command ≡ back_of command
 kept_same airport kind kept (AddVisit new) h = refl
-kept_same airport kind kept (Commit desk draft base edits) h = refl
-kept_same airport kind kept (Message desk message) h = absurd (not_3 kind kept h.0)
-kept_same airport kind kept (Report desk visit event) h = absurd (not_4 kind kept h.0)
+kept_same airport kind kept (Commit draft) h = refl
+kept_same airport kind kept (Message passed) h = absurd (not_3 kind kept h.0)
+kept_same airport kind kept (Report report) h = absurd (not_4 kind kept h.0)
 kept_same airport kind kept (Cancel visit) h = refl
 
 kept-spells : (airport : AirportParts) (kind few : ℕ) (fields : Reading Command) → IsKept kind → Spells fields back_of (HasKind airport kind) few
@@ -107,55 +111,27 @@ kept-spells airport kind few fields kept s =
 
 -- ---- messages and reports
 
-message_there : (airport : AirportParts) (command : Command) → IsMessageOf no_desk command → HadKind airport 3 command
-message_there airport (AddVisit new) h = absurd h
-message_there airport (Commit desk draft base edits) h = absurd h
-message_there airport (Message desk message) h = (refl, ((subst IsName (sym h.0) no_desk-name, h.1), h.0))
-message_there airport (Report desk visit event) h = absurd h
-message_there airport (Cancel visit) h = absurd h
+was_message : (airport : AirportParts) (command : Command) → HadKind airport 3 command → (message : Mvt) × IsReadable message × (command ≡ Message (passed_by no_desk message))
+was_message airport (AddVisit new) h = absurd (omega (arith, h.0))
+was_message airport (Commit draft) h = absurd (omega (arith, h.0))
+was_message airport (Message passed) h = (passed.message, h.1.0.1, ap (λ desk. Message (passed_by desk passed.message)) h.1.1)
+was_message airport (Report report) h = absurd (omega (arith, h.0))
+was_message airport (Cancel visit) h = absurd (omega (arith, h.0))
 
-message_here : (airport : AirportParts) (command : Command) → HadKind airport 3 command → IsMessageOf no_desk command
-message_here airport (AddVisit new) h = absurd (omega (arith, h.0))
-message_here airport (Commit desk draft base edits) h = absurd (omega (arith, h.0))
-message_here airport (Message desk message) h = (h.1.1, h.1.0.1)
-message_here airport (Report desk visit event) h = absurd (omega (arith, h.0))
-message_here airport (Cancel visit) h = absurd (omega (arith, h.0))
-
-message_same : (airport : AirportParts) (command : Command) → HadKind airport 3 command → former_back command ≡ message_back command
-message_same airport (AddVisit new) h = absurd (omega (arith, h.0))
-message_same airport (Commit desk draft base edits) h = absurd (omega (arith, h.0))
-message_same airport (Message desk message) h = refl
-message_same airport (Report desk visit event) h = absurd (omega (arith, h.0))
-message_same airport (Cancel visit) h = absurd (omega (arith, h.0))
-
-third-spells : (airport : AirportParts) → Spells (parse_message >>= λ message. give (Message no_desk message)) former_back (HadKind airport 3) 86
+third-spells : (airport : AirportParts) → Spells (parse_message >>= λ message. give (Message (passed_by no_desk message))) former_back (HadKind airport 3) 86
 third-spells airport =
-    Spells-as former_back (HadKind airport 3) 86 (message_of-spells no_desk) (message_there airport) (message_here airport) (message_same airport) (omega arith)
+    Spells-made (λ message. Message (passed_by no_desk message)) former_back (HadKind airport 3) message-spells (λ message h. (refl, ((no_desk-name, h), refl))) (was_message airport) (λ message. refl)
 
-report_there : (airport : AirportParts) (command : Command) → IsReportOf airport no_desk command → HadKind airport 4 command
-report_there airport (AddVisit new) h = absurd h
-report_there airport (Commit desk draft base edits) h = absurd h
-report_there airport (Message desk message) h = absurd h
-report_there airport (Report desk visit event) h = (refl, ((subst IsName (sym h.0) no_desk-name, h.1, h.2), h.0))
-report_there airport (Cancel visit) h = absurd h
+was_report : (airport : AirportParts) (command : Command) → HadKind airport 4 command → (report : DeskReport) × IsReportOf airport no_desk report × (command ≡ Report report)
+was_report airport (AddVisit new) h = absurd (omega (arith, h.0))
+was_report airport (Commit draft) h = absurd (omega (arith, h.0))
+was_report airport (Message passed) h = absurd (omega (arith, h.0))
+was_report airport (Report report) h = (report, (h.1.1, h.1.0.1, h.1.0.2), refl)
+was_report airport (Cancel visit) h = absurd (omega (arith, h.0))
 
-report_here : (airport : AirportParts) (command : Command) → HadKind airport 4 command → IsReportOf airport no_desk command
-report_here airport (AddVisit new) h = absurd (omega (arith, h.0))
-report_here airport (Commit desk draft base edits) h = absurd (omega (arith, h.0))
-report_here airport (Message desk message) h = absurd (omega (arith, h.0))
-report_here airport (Report desk visit event) h = (h.1.1, h.1.0.1, h.1.0.2)
-report_here airport (Cancel visit) h = absurd (omega (arith, h.0))
-
-report_same : (airport : AirportParts) (command : Command) → HadKind airport 4 command → former_back command ≡ report_back command
-report_same airport (AddVisit new) h = absurd (omega (arith, h.0))
-report_same airport (Commit desk draft base edits) h = absurd (omega (arith, h.0))
-report_same airport (Message desk message) h = absurd (omega (arith, h.0))
-report_same airport (Report desk visit event) h = refl
-report_same airport (Cancel visit) h = absurd (omega (arith, h.0))
-
-fourth-spells : (airport : AirportParts) → Spells (parse_report airport no_desk) former_back (HadKind airport 4) 12
+fourth-spells : (airport : AirportParts) → Spells (parse_report airport no_desk >>= λ report. give (Report report)) former_back (HadKind airport 4) 12
 fourth-spells airport =
-    Spells-as former_back (HadKind airport 4) 12 (report_of-spells airport no_desk) (report_there airport) (report_here airport) (report_same airport) (omega arith)
+    Spells-made Report former_back (HadKind airport 4) (report-spells airport no_desk) (λ report h. (refl, ((subst IsName (sym h.0) no_desk-name, h.1, h.2), h.0))) (was_report airport) (λ report. refl)
 
 -- ---- any command
 
@@ -168,34 +144,35 @@ at_kind : (airport : AirportParts) (kind : ℕ) → Announces (former_fields_of 
 at_kind airport kind =
     let P = HadKind airport kind in
     let first : Reading Command = parse_new_visit airport >>= λ new. give (AddVisit new) in
-    let third : Reading Command = parse_message >>= λ message. give (Message no_desk message) in
-    let fourth : Reading Command = parse_report airport no_desk in
-    let from_5 : Option (Reading Command) = cond (kind == 5) (Some parse_cancel) None in
+    let second : Reading Command = parse_commit airport >>= λ draft. give (Commit draft) in
+    let third : Reading Command = parse_message >>= λ message. give (Message (passed_by no_desk message)) in
+    let fourth : Reading Command = parse_report airport no_desk >>= λ report. give (Report report) in
+    let fifth : Reading Command = parse_cancel >>= λ visit. give (Cancel visit) in
+    let from_5 : Option (Reading Command) = cond (kind == 5) (Some fifth) None in
     let from_4 : Option (Reading Command) = cond (kind == 4) (Some fourth) from_5 in
     let from_3 : Option (Reading Command) = cond (kind == 3) (Some third) from_4 in
-    let from_2 : Option (Reading Command) = cond (kind == 2) (Some (parse_commit airport)) from_3 in
+    let from_2 : Option (Reading Command) = cond (kind == 2) (Some second) from_3 in
     let low_1 : 1 ≤ 2 = omega arith in
     let low_2 : 2 ≤ 2 = omega arith in
     Announces-or (kind == 1) first from_2 former_back P 662 (kind_is airport kind 1 42 first (omega arith) (kept-spells airport 1 42 first (inl low_1) (visit-spells airport)))
-    (Announces-or (kind == 2) (parse_commit airport) from_3 former_back P 662
-    (kind_is airport kind 2 662 (parse_commit airport) (omega arith) (kept-spells airport 2 662 (parse_commit airport) (inl low_2) (second-spells airport)))
+    (Announces-or (kind == 2) second from_3 former_back P 662 (kind_is airport kind 2 662 second (omega arith) (kept-spells airport 2 662 second (inl low_2) (second-spells airport)))
     (Announces-or (kind == 3) third from_4 former_back P 662 (kind_is airport kind 3 86 third (omega arith) (third-spells airport))
     (Announces-or (kind == 4) fourth from_5 former_back P 662 (kind_is airport kind 4 12 fourth (omega arith) (fourth-spells airport))
-    (Announces-or (kind == 5) parse_cancel None former_back P 662 (kind_is airport kind 5 4 parse_cancel (omega arith) (kept-spells airport 5 4 parse_cancel (inr refl) (fifth-spells airport)))
+    (Announces-or (kind == 5) fifth None former_back P 662 (kind_is airport kind 5 4 fifth (omega arith) (kept-spells airport 5 4 fifth (inr refl) (fifth-spells airport)))
     tt))))
 
 has_fields : (airport : AirportParts) (command : Command) → WasSpelt airport command → IsSome (former_fields_of airport (former_kind_of command))
 has_fields airport (AddVisit new) h = refl
-has_fields airport (Commit desk draft base edits) h = refl
-has_fields airport (Message desk message) h = refl
-has_fields airport (Report desk visit event) h = refl
+has_fields airport (Commit draft) h = refl
+has_fields airport (Message passed) h = refl
+has_fields airport (Report report) h = refl
 has_fields airport (Cancel visit) h = refl
 
 same_bytes : (command : Command) → former_command_text command ≡ former_kind_of command ∷ former_back command
 same_bytes (AddVisit new) = refl
-same_bytes (Commit desk draft base edits) = refl
-same_bytes (Message desk message) = refl
-same_bytes (Report desk visit event) = refl
+same_bytes (Commit draft) = refl
+same_bytes (Message passed) = refl
+same_bytes (Report report) = refl
 same_bytes (Cancel visit) = refl
 
 command-spells : (airport : AirportParts) → Spells (parse_command (former_fields_of airport)) former_command_text (WasSpelt airport) 663

@@ -1,9 +1,10 @@
 -- How long entries are.
-use Rattle.std.proofs.Common.{ℕ, ◌*◌, ◌≤◌, List, [], ◌∷◌, ◌++◌, length, Option, Some, None, length-append, arith}
+use Rattle.std.proofs.Common.{◌*◌, ◌≤◌, List, [], ◌∷◌, ◌++◌, length, Option, Some, None, length-append, arith}
 use Rattle.std.specs.List.{flat_map}
 use Rattle.std.specs.Prelude.{IfSome}
 use Rattle.std.specs.Int.{w16, w32, w64, to_le_bytes}
 use Rattle.visit_book.specs.NewVisits.{HasFlight, IsNewVisit}
+use Rattle.visit_book.specs.declared.drafts.Draft.{Draft}
 use Rattle.visit_book.specs.declared.edits.Edit.{Edit}
 use Rattle.visit_book.specs.declared.edits.Edit.TheVariants.{Put, Lift, Cut, Join}
 use Rattle.visit_book.specs.declared.reports.Event.{Event}
@@ -52,11 +53,15 @@ length-edits : (edits : List Edit) → length (flat_map edit_text edits) ≤ 10 
 length-edits [] = omega arith
 length-edits (edit ∷ edits) = omega (arith, length-append (edit_text edit) (flat_map edit_text edits), length-edit edit, length-edits edits)
 
-length-commit : (desk : List ℕ) (draft base : ℕ) (edits : List Edit) → length desk ≤ 12 → length edits ≤ 64 → length (commit_text desk draft base edits) ≤ 662
-length-commit desk draft base edits few some =
-    let fixed = sized_text desk ++ to_le_bytes w32 draft ++ to_le_bytes w32 base ++ length edits ∷ [] in
-    let begun : length fixed ≤ 22 = omega (arith, length-append desk (to_le_bytes w32 draft), length-append (desk ++ to_le_bytes w32 draft) (to_le_bytes w32 base), length-append (desk ++ to_le_bytes w32 draft ++ to_le_bytes w32 base) (length edits ∷ [])) in
-    omega (arith, begun, length-append fixed (flat_map edit_text edits), length-edits edits)
+length-commit : (draft : Draft) → length draft.desk ≤ 12 → length draft.edits ≤ 64 → length (commit_text draft) ≤ 662
+length-commit draft few some =
+    let desk = draft.desk in
+    let number = to_le_bytes w32 draft.number in
+    let base = to_le_bytes w32 draft.base in
+    let count = length draft.edits ∷ [] in
+    let fixed = sized_text desk ++ number ++ base ++ count in
+    let begun : length fixed ≤ 22 = omega (arith, length-append desk number, length-append (desk ++ number) base, length-append (desk ++ number ++ base) count) in
+    omega (arith, begun, length-append fixed (flat_map edit_text draft.edits), length-edits draft.edits)
 
 length-event : (event : Event) → length (event_text event) ≤ 8
 length-event (On part stand minute) = omega arith
@@ -64,9 +69,9 @@ length-event (Off minute) = omega arith
 
 length-command : (command : Command) → FitsWidths command → IsCommand command → length (command_text command) ≤ 663
 length-command (AddVisit new) f h = let one = length-new_visit new f h in omega arith
-length-command (Commit desk draft base edits) f h = let one = length-commit desk draft base edits f.desk.few h.1 in omega arith
-length-command (Message desk message) f h = omega (arith, length-append desk (message_text message), length-message message h, f.few)
-length-command (Report desk visit event) f h = omega (arith, length-append desk (report_text visit event), length-event event, f.0.few)
+length-command (Commit draft) f h = let one = length-commit draft f.desk.few h.1 in omega arith
+length-command (Message passed) f h = omega (arith, length-append passed.desk (message_text passed.message), length-message passed.message h, f.few)
+length-command (Report report) f h = omega (arith, length-append report.desk (report_text report), length-event report.event, f.0.few)
 length-command (Cancel visit) f h = omega arith
 
 -- an entry has at most 671 bytes

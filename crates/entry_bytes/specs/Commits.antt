@@ -6,10 +6,9 @@ use Rattle.std.specs.List.{flat_map}
 use Rattle.apron_base.specs.declared.numbers.VisitNo.{VisitNo}
 use Rattle.apron_rules.specs.declared.parts.AirportParts.{AirportParts}
 use Rattle.visit_book.specs.Edits.{most_edits}
+use Rattle.visit_book.specs.declared.drafts.Draft.{Draft}
 use Rattle.visit_book.specs.declared.edits.Edit.{Edit}
 use Rattle.visit_book.specs.declared.edits.Edit.TheVariants.{Put, Lift, Cut, Join}
-use Rattle.desk_words.specs.declared.asks.Command.{Command}
-use Rattle.desk_words.specs.declared.asks.Command.TheVariants.{Commit}
 use Rattle.entry_bytes.specs.declared.faults.EntryFault.TheVariants.{BadField}
 use Rattle.entry_bytes.specs.Readings.{Reading, ◌>>=◌, byte, give, name, number, parse_many, such_that, by_tag}
 use Rattle.entry_bytes.specs.Keys.{sized_text}
@@ -26,8 +25,10 @@ edit_text (Cut visit part at) = 3 ∷ (part_bytes visit part ++ to_le_bytes w32 
 edit_text (Join visit part) = 4 ∷ part_bytes visit part
 
 -- all that a commit has, in this order
-abbrev pub commit_text : List ℕ → ℕ → ℕ → List Edit → List ℕ
-commit_text desk draft base edits = sized_text desk ++ to_le_bytes w32 draft ++ to_le_bytes w32 base ++ length edits ∷ [] ++ flat_map edit_text edits
+abbrev pub commit_text : Draft → List ℕ
+commit_text draft =
+    sized_text draft.desk ++ to_le_bytes w32 draft.number ++ to_le_bytes w32 draft.base ++ length draft.edits ∷ []
+    ++ flat_map edit_text draft.edits
 
 -- what comes after the tag of a put, on a stand of the airport
 unfoldable pub parse_put : AirportParts → Reading Edit
@@ -78,11 +79,11 @@ parse_edits airport = do
   count ← such_that (λ count. nat_le 1 count && nat_le count most_edits) byte
   parse_many count (parse_edit airport)
 
--- a commit at the airport
-unfoldable pub parse_commit : AirportParts → Reading Command
+-- the draft of a commit at the airport
+unfoldable pub parse_commit : AirportParts → Reading Draft
 parse_commit airport = do
   desk ← name
   draft ← number w32
   base ← number w32
   edits ← parse_edits airport
-  give (Commit desk draft base edits)
+  give (record { desk = desk; number = draft; base = base; edits = edits })

@@ -5,6 +5,8 @@ use Rattle.apron_base.specs.declared.machine.TheConstants.{CALL_END}
 use Rattle.apron_rules.specs.declared.parts.AirportParts.{AirportParts}
 use Rattle.desk_words.specs.declared.asks.Command.{Command}
 use Rattle.desk_words.specs.declared.asks.Command.TheVariants.{AddVisit, Commit, Message, Report, Cancel}
+use Rattle.desk_words.specs.declared.asks.DeskMessage.{DeskMessage}
+use Rattle.desk_words.specs.declared.asks.DeskReport.{DeskReport}
 use Rattle.desk_words.specs.declared.asks.Entry.{Entry}
 use Rattle.entry_bytes.specs.declared.faults.EntryFault.{EntryFault}
 use Rattle.entry_bytes.specs.declared.faults.EntryFault.TheVariants.{BadKind, TrailingBytes}
@@ -18,24 +20,24 @@ use Rattle.entry_bytes.specs.Reports.{parse_cancel, parse_report, report_text}
 -- the kind and the fields of a command
 abbrev pub command_text : Command → List ℕ
 command_text (AddVisit new) = 1 ∷ new_visit_text new
-command_text (Commit desk draft base edits) = 2 ∷ commit_text desk draft base edits
+command_text (Commit draft) = 2 ∷ commit_text draft
 command_text (Cancel visit) = 5 ∷ to_le_bytes w32 visit.0
-command_text (Message desk message) = 6 ∷ (sized_text desk ++ message_text message)
-command_text (Report desk visit event) = 7 ∷ (sized_text desk ++ report_text visit event)
+command_text (Message passed) = 6 ∷ (sized_text passed.desk ++ message_text passed.message)
+command_text (Report report) = 7 ∷ (sized_text report.desk ++ report_text report)
 
 -- the one spelling of an entry
 abbrev pub entry_text : Entry → List ℕ
 entry_text entry = to_le_bytes w64 entry.call ++ command_text entry.command
 
 -- a message that a desk passed on
-unfoldable pub parse_desk_message : Reading Command
+unfoldable pub parse_desk_message : Reading DeskMessage
 parse_desk_message = do
   desk ← name
   message ← parse_message
-  give (Message desk message)
+  give (record { desk = desk; message = message })
 
 -- a report of a desk at the airport
-unfoldable pub parse_desk_report : AirportParts → Reading Command
+unfoldable pub parse_desk_report : AirportParts → Reading DeskReport
 parse_desk_report airport = do
   desk ← name
   parse_report airport desk
@@ -44,10 +46,10 @@ parse_desk_report airport = do
 abbrev pub fields_of : AirportParts → ℕ → Option (Reading Command)
 fields_of airport kind =
     if kind == 1 then Some (parse_new_visit airport >>= λ new. give (AddVisit new))
-    else (if kind == 2 then Some (parse_commit airport)
-    else (if kind == 5 then Some parse_cancel
-    else (if kind == 6 then Some parse_desk_message
-    else (if kind == 7 then Some (parse_desk_report airport)
+    else (if kind == 2 then Some (parse_commit airport >>= λ draft. give (Commit draft))
+    else (if kind == 5 then Some (parse_cancel >>= λ visit. give (Cancel visit))
+    else (if kind == 6 then Some (parse_desk_message >>= λ passed. give (Message passed))
+    else (if kind == 7 then Some (parse_desk_report airport >>= λ report. give (Report report))
     else None))))
 
 -- what each kind of command is read by, if there is such a kind

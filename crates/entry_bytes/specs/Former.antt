@@ -26,10 +26,10 @@ no_desk = codes "-"
 abbrev pub former_fields_of : AirportParts → ℕ → Option (Reading Command)
 former_fields_of airport kind =
     if kind == 1 then Some (parse_new_visit airport >>= λ new. give (AddVisit new))
-    else (if kind == 2 then Some (parse_commit airport)
-    else (if kind == 3 then Some (parse_message >>= λ message. give (Message no_desk message))
-    else (if kind == 4 then Some (parse_report airport no_desk)
-    else (if kind == 5 then Some parse_cancel
+    else (if kind == 2 then Some (parse_commit airport >>= λ draft. give (Commit draft))
+    else (if kind == 3 then Some (parse_message >>= λ message. give (Message (record { desk = no_desk; message = message })))
+    else (if kind == 4 then Some (parse_report airport no_desk >>= λ report. give (Report report))
+    else (if kind == 5 then Some (parse_cancel >>= λ visit. give (Cancel visit))
     else None))))
 
 -- the entry that the bytes spelt for an airport, or the first fault from left to right
@@ -39,9 +39,9 @@ decode_former_entry airport bytes = read_with (former_fields_of airport) bytes
 -- the kind and the fields of a command, as they were
 abbrev pub former_command_text : Command → List ℕ
 former_command_text (AddVisit new) = 1 ∷ new_visit_text new
-former_command_text (Commit desk draft base edits) = 2 ∷ commit_text desk draft base edits
-former_command_text (Message desk message) = 3 ∷ message_text message
-former_command_text (Report desk visit event) = 4 ∷ report_text visit event
+former_command_text (Commit draft) = 2 ∷ commit_text draft
+former_command_text (Message passed) = 3 ∷ message_text passed.message
+former_command_text (Report report) = 4 ∷ report_text report
 former_command_text (Cancel visit) = 5 ∷ to_le_bytes w32 visit.0
 
 -- the one spelling that an entry had
@@ -54,8 +54,8 @@ lift_entry airport bytes = result_map_both entry_text (λ fault. fault) (decode_
 
 -- the command existed then: a message or a report is of no desk
 abbrev pub NamesNoDesk : Command → Type 0
-NamesNoDesk (Message desk message) = desk ≡ no_desk
-NamesNoDesk (Report desk visit event) = desk ≡ no_desk
+NamesNoDesk (Message passed) = passed.desk ≡ no_desk
+NamesNoDesk (Report report) = report.desk ≡ no_desk
 NamesNoDesk command = Unit {0}
 
 -- an entry of the airport that existed then was read back from the bytes that it had

@@ -5,8 +5,7 @@ use Rattle.apron_base.specs.declared.numbers.VisitNo.{VisitNo}
 use Rattle.apron_rules.specs.declared.parts.AirportParts.{AirportParts}
 use Rattle.visit_book.specs.declared.reports.Event.{Event}
 use Rattle.visit_book.specs.declared.reports.Event.TheVariants.{On, Off}
-use Rattle.desk_words.specs.declared.asks.Command.{Command}
-use Rattle.desk_words.specs.declared.asks.Command.TheVariants.{Report, Cancel}
+use Rattle.desk_words.specs.declared.asks.DeskReport.{DeskReport}
 use Rattle.entry_bytes.specs.declared.faults.EntryFault.TheVariants.{BadField}
 use Rattle.entry_bytes.specs.Readings.{Reading, ◌>>=◌, byte, give, number, such_that, by_tag}
 
@@ -16,8 +15,8 @@ event_text (On part stand minute) = 1 ∷ part ∷ (to_le_bytes w16 stand.0 ++ t
 event_text (Off minute) = 2 ∷ to_le_bytes w32 minute
 
 -- the visit, and what happened to it
-abbrev pub report_text : VisitNo → Event → List ℕ
-report_text visit event = to_le_bytes w32 visit.0 ++ event_text event
+abbrev pub report_text : DeskReport → List ℕ
+report_text report = to_le_bytes w32 report.visit.0 ++ event_text report.event
 
 -- what comes after the tag of a part that came on block, on a stand of the airport
 unfoldable pub parse_on : AirportParts → Reading Event
@@ -45,14 +44,14 @@ unfoldable pub parse_event : AirportParts → Reading Event
 parse_event airport = by_tag BadField (event_of airport)
 
 -- a report of this desk at the airport
-unfoldable pub parse_report : AirportParts → List ℕ → Reading Command
+unfoldable pub parse_report : AirportParts → List ℕ → Reading DeskReport
 parse_report airport desk = do
   visit ← number w32
   event ← parse_event airport
-  give (Report desk (record { 0 = visit }) event)
+  give (record { desk = desk; visit = record { 0 = visit }; event = event })
 
--- a cancel, of any visit
-unfoldable pub parse_cancel : Reading Command
+-- the visit of a cancel, which is any
+unfoldable pub parse_cancel : Reading VisitNo
 parse_cancel = do
   visit ← number w32
-  give (Cancel (record { 0 = visit }))
+  give (record { 0 = visit })

@@ -1,8 +1,9 @@
 -- Which entries have bytes, and which of them can be read at an airport.
-use Rattle.std.specs.Prelude.{◌<◌, ◌^◌, ℕ, List, All}
+use Rattle.std.specs.Prelude.{◌<◌, ◌^◌, All}
 use Rattle.apron_base.specs.Name.{IsName}
 use Rattle.apron_base.specs.declared.machine.TheConstants.{CALL_END}
 use Rattle.apron_rules.specs.declared.parts.AirportParts.{AirportParts}
+use Rattle.visit_book.specs.declared.drafts.Draft.{Draft}
 use Rattle.visit_book.specs.declared.edits.Edit.{Edit}
 use Rattle.visit_book.specs.declared.edits.Edit.TheVariants.{Put, Lift, Cut, Join}
 use Rattle.visit_book.specs.declared.reports.Event.{Event}
@@ -28,11 +29,11 @@ EditFits (Cut visit part at) = (visit.0 < 2 ^ 32) × (at < 2 ^ 32)
 EditFits (Join visit part) = visit.0 < 2 ^ 32
 
 -- the desk's name is one, and each number fits the bytes that it is written in
-pub record CommitFits (name : List ℕ) (number made_over : ℕ) (changes : List Edit) : Type 0 where
-  pub desk : IsName name
-  pub draft : number < 2 ^ 32
-  pub base : made_over < 2 ^ 32
-  pub edits : All EditFits changes
+pub record DraftFits (draft : Draft) : Type 0 where
+  pub desk : IsName draft.desk
+  pub number : draft.number < 2 ^ 32
+  pub base : draft.base < 2 ^ 32
+  pub edits : All EditFits draft.edits
 
 -- each number of the event fits the bytes that it is written in
 abbrev pub EventFits : Event → Type 0
@@ -43,9 +44,9 @@ EventFits (Off minute) = minute < 2 ^ 32
 -- numbers and texts range over all of them
 abbrev pub FitsWidths : Command → Type 0
 FitsWidths (AddVisit new) = VisitFits new
-FitsWidths (Commit desk draft base edits) = CommitFits desk draft base edits
-FitsWidths (Message desk message) = IsName desk
-FitsWidths (Report desk visit event) = IsName desk × (visit.0 < 2 ^ 32) × EventFits event
+FitsWidths (Commit draft) = DraftFits draft
+FitsWidths (Message passed) = IsName passed.desk
+FitsWidths (Report report) = IsName report.desk × (report.visit.0 < 2 ^ 32) × EventFits report.event
 FitsWidths (Cancel visit) = visit.0 < 2 ^ 32
 
 -- an entry that has bytes, and can be read at the airport

@@ -1,22 +1,19 @@
 // Commits as bytes.
 ghost use Rattle.std.specs.Prelude.{◌≡◌, ◌≤◌, ◌++◌, ◌∷◌, ◌<◌, ◌^◌, All, length, OnOk};
 ghost use Rattle.std.specs.List.{flat_map};
-ghost use Rattle.apron_base.specs.Name.{IsName};
 ghost use Rattle.visit_book.specs.Edits.{most_edits};
-ghost use Rattle.entry_bytes.specs.Widths.{CommitFits, EditFits};
+ghost use Rattle.entry_bytes.specs.Widths.{DraftFits, EditFits};
 ghost use Rattle.entry_bytes.specs.Gives.{GivesReading};
 ghost use Rattle.entry_bytes.specs.Commits.{commit_text, edit_text, parse_commit, parse_cut, parse_edit, parse_edits, parse_join, parse_lift, parse_put, part_bytes};
 ghost use Rattle.entry_bytes.specs.Readings.{parse_many};
-ghost use Rattle.desk_words.specs.declared.asks.Command.TheVariants.{Commit};
 
 use crate::faults::ReadFault;
 use crate::reader::{Reader, in_form};
 use crate::writing::{push_name, push_u16, push_u32};
-use apron_base::{Listed, Memory, Name, StandNo, VisitNo};
+use apron_base::{Listed, Memory, StandNo, VisitNo};
 use apron_rules::Airport;
-use desk_words::asks::Command;
 use std::alloc::Global;
-use visit_book::Edit;
+use visit_book::{Draft, Edit};
 
 // The most edits of a commit.
 const MOST_EDITS: u8 = 64;
@@ -59,20 +56,15 @@ fn push_edits(out: &mut Vec<u8>, edits: &[Edit]) -> Result<(), Memory>
     Ok(())
 }
 
-pub(crate) fn push_commit(
-    out: &mut Vec<u8>,
-    desk: &Name,
-    draft: u32,
-    base: u32,
-    edits: &[Edit],
-) -> Result<(), Memory>
-    requires few { length edits.now ≤ most_edits }
-    ensures text { OnOk result (out.new.items ≡ out.old.items ++ commit_text desk.now draft base edits.now) }
-    ensures fits { OnOk result (CommitFits desk.now draft base edits.now) }
+pub(crate) fn push_commit(out: &mut Vec<u8>, draft: &Draft) -> Result<(), Memory>
+    requires few { length draft.now.edits ≤ most_edits }
+    ensures text { OnOk result (out.new.items ≡ out.old.items ++ commit_text draft.now) }
+    ensures fits { OnOk result (DraftFits draft.now) }
 {
-    push_name(out, desk)?;
-    push_u32(out, draft)?;
-    push_u32(out, base)?;
+    push_name(out, &draft.desk)?;
+    push_u32(out, draft.number)?;
+    push_u32(out, draft.base)?;
+    let edits = draft.edits.as_slice();
     out.push(edits.len() as u8)?;
     push_edits(out, edits)
 }
@@ -168,16 +160,16 @@ pub(crate) fn parse_commit(
     alloc: Global,
     reader: &mut Reader<'_>,
     airport: &Airport,
-) -> Result<Command, ReadFault>
+) -> Result<Draft, ReadFault>
     ensures is { GivesReading result reader.new (parse_commit airport.now reader.old) }
 {
     let desk = reader.name()?;
-    let draft = reader.u32()?;
+    let number = reader.u32()?;
     let base = reader.u32()?;
     let edits = parse_edits(alloc, reader, airport)?;
-    Ok(Command::Commit {
+    Ok(Draft {
         desk,
-        draft,
+        number,
         base,
         edits,
     })

@@ -18,7 +18,7 @@ use crate::reports::{parse_cancel, parse_report, push_cancel, push_report};
 use crate::writing::push_name;
 use apron_base::{CALL_END, Listed, Memory};
 use apron_rules::Airport;
-use desk_words::asks::{Command, Entry};
+use desk_words::asks::{Command, DeskMessage, DeskReport, Entry};
 use std::alloc::Global;
 
 fn push_command(alloc: Global, out: &mut Vec<u8>, command: &Command) -> Result<(), Memory>
@@ -31,28 +31,23 @@ fn push_command(alloc: Global, out: &mut Vec<u8>, command: &Command) -> Result<(
             out.push(1)?;
             push_new_visit(out, new)
         }
-        Command::Commit {
-            desk,
-            draft,
-            base,
-            edits,
-        } => {
+        Command::Commit(draft) => {
             out.push(2)?;
-            push_commit(out, desk, *draft, *base, edits.as_slice())
+            push_commit(out, draft)
         }
-        Command::Cancel { visit } => {
+        Command::Cancel(visit) => {
             out.push(5)?;
             push_cancel(out, *visit)
         }
-        Command::Message { desk, message } => {
+        Command::Message(passed) => {
             out.push(6)?;
-            push_name(out, desk)?;
-            push_message(alloc, out, message)
+            push_name(out, &passed.desk)?;
+            push_message(alloc, out, &passed.message)
         }
-        Command::Report { desk, visit, event } => {
+        Command::Report(report) => {
             out.push(7)?;
-            push_name(out, desk)?;
-            push_report(out, *visit, event)
+            push_name(out, &report.desk)?;
+            push_report(out, report)
         }
     }
 }
@@ -74,16 +69,16 @@ pub fn encode_entry(alloc: Global, entry: &Entry) -> Result<Listed<u8>, Memory>
 }
 
 #[tactic(auto, unfolding(crate::specs::Entries::parse_desk_message))]
-fn parse_desk_message(alloc: Global, reader: &mut Reader<'_>) -> Result<Command, ReadFault>
+fn parse_desk_message(alloc: Global, reader: &mut Reader<'_>) -> Result<DeskMessage, ReadFault>
     ensures is { GivesReading result reader.new (parse_desk_message reader.old) }
 {
     let desk = reader.name()?;
     let message = parse_message(alloc, reader)?;
-    Ok(Command::Message { desk, message })
+    Ok(DeskMessage { desk, message })
 }
 
 #[tactic(auto, unfolding(crate::specs::Entries::parse_desk_report))]
-fn parse_desk_report(reader: &mut Reader<'_>, airport: &Airport) -> Result<Command, ReadFault>
+fn parse_desk_report(reader: &mut Reader<'_>, airport: &Airport) -> Result<DeskReport, ReadFault>
     ensures is { GivesReading result reader.new (parse_desk_report airport.now reader.old) }
 {
     let desk = reader.name()?;
@@ -100,10 +95,10 @@ fn parse_command(
 {
     match reader.byte()? {
         1 => Ok(Command::AddVisit(parse_new_visit(reader, airport)?)),
-        2 => parse_commit(alloc, reader, airport),
-        5 => parse_cancel(reader),
-        6 => parse_desk_message(alloc, reader),
-        7 => parse_desk_report(reader, airport),
+        2 => Ok(Command::Commit(parse_commit(alloc, reader, airport)?)),
+        5 => Ok(Command::Cancel(parse_cancel(reader)?)),
+        6 => Ok(Command::Message(parse_desk_message(alloc, reader)?)),
+        7 => Ok(Command::Report(parse_desk_report(reader, airport)?)),
         _ => Err(ReadFault::BadKind),
     }
 }

@@ -16,7 +16,7 @@ use crate::reader::Reader;
 use crate::reports::{parse_cancel, parse_report};
 use apron_base::{Listed, Name};
 use apron_rules::Airport;
-use desk_words::asks::{Command, Entry};
+use desk_words::asks::{Command, DeskMessage, Entry};
 use std::alloc::Global;
 
 // The name that stands in for the desk of a message or report that named none.
@@ -36,13 +36,13 @@ fn former_command_at(
 {
     match reader.byte()? {
         1 => Ok(Command::AddVisit(parse_new_visit(reader, airport)?)),
-        2 => parse_commit(alloc, reader, airport),
-        3 => Ok(Command::Message {
+        2 => Ok(Command::Commit(parse_commit(alloc, reader, airport)?)),
+        3 => Ok(Command::Message(DeskMessage {
             desk: no_desk(),
             message: parse_message(alloc, reader)?,
-        }),
-        4 => parse_report(reader, airport, no_desk()),
-        5 => parse_cancel(reader),
+        })),
+        4 => Ok(Command::Report(parse_report(reader, airport, no_desk())?)),
+        5 => Ok(Command::Cancel(parse_cancel(reader)?)),
         _ => Err(ReadFault::BadKind),
     }
 }

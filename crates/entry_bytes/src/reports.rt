@@ -10,7 +10,7 @@ use crate::reader::{Reader, in_form};
 use crate::writing::{push_u16, push_u32};
 use apron_base::{Memory, Name, StandNo, VisitNo};
 use apron_rules::Airport;
-use desk_words::asks::Command;
+use desk_words::asks::DeskReport;
 use visit_book::Event;
 
 pub(crate) fn push_cancel(out: &mut Vec<u8>, visit: VisitNo) -> Result<(), Memory>
@@ -20,13 +20,13 @@ pub(crate) fn push_cancel(out: &mut Vec<u8>, visit: VisitNo) -> Result<(), Memor
     push_u32(out, visit.0)
 }
 
-pub(crate) fn push_report(out: &mut Vec<u8>, visit: VisitNo, event: &Event) -> Result<(), Memory>
-    ensures text { OnOk result (out.new.items ≡ out.old.items ++ report_text visit event.now) }
-    ensures visit { OnOk result (visit.0 < 2 ^ 32) }
-    ensures event { OnOk result (EventFits event.now) }
+pub(crate) fn push_report(out: &mut Vec<u8>, report: &DeskReport) -> Result<(), Memory>
+    ensures text { OnOk result (out.new.items ≡ out.old.items ++ report_text report.now) }
+    ensures visit { OnOk result (report.now.visit.0 < 2 ^ 32) }
+    ensures event { OnOk result (EventFits report.now.event) }
 {
-    push_u32(out, visit.0)?;
-    push_event(out, event)
+    push_u32(out, report.visit.0)?;
+    push_event(out, &report.event)
 }
 
 fn push_event(out: &mut Vec<u8>, event: &Event) -> Result<(), Memory>
@@ -93,18 +93,18 @@ pub(crate) fn parse_report(
     reader: &mut Reader<'_>,
     airport: &Airport,
     desk: Name,
-) -> Result<Command, ReadFault>
+) -> Result<DeskReport, ReadFault>
     ensures is { GivesReading result reader.new (parse_report airport.now desk reader.old) }
 {
     let visit = VisitNo(reader.u32()?);
     let event = parse_event(reader, airport)?;
-    Ok(Command::Report { desk, visit, event })
+    Ok(DeskReport { desk, visit, event })
 }
 
 #[tactic(auto, unfolding(crate::specs::Reports::parse_cancel))]
-pub(crate) fn parse_cancel(reader: &mut Reader<'_>) -> Result<Command, ReadFault>
+pub(crate) fn parse_cancel(reader: &mut Reader<'_>) -> Result<VisitNo, ReadFault>
     ensures is { GivesReading result reader.new (parse_cancel reader.old) }
 {
-    let visit = VisitNo(reader.u32()?);
-    Ok(Command::Cancel { visit })
+    let visit = reader.u32()?;
+    Ok(VisitNo(visit))
 }
