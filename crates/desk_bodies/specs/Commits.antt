@@ -4,7 +4,7 @@ use Rattle.serde_json.specs.Data.{Data, Items, no_items, item}
 use Rattle.serde_json.specs.Find.{get, as_array}
 use Rattle.serde_json.specs.Events.{items_len}
 use Rattle.apron_base.specs.Name.{is_name}
-use Rattle.desk_bodies.specs.declared.commits.TheConstants.{MAX_EDITS}
+use Rattle.visit_book.specs.Edits.{most_edits}
 use Rattle.desk_bodies.specs.Fields.{body_data, max_u32, max_u8, number_at, text_at}
 
 -- an edit, with its stand by the bytes of its name
@@ -66,7 +66,7 @@ json_edits (item d ds) = option_and_then (λ e. option_map (λ es. e ∷ es) (js
 
 -- 1 to 64 edits
 unfoldable pub edits_within : Items → Option (List EditSaid)
-edits_within ds = if nat_le 1 (items_len ds) && nat_le (items_len ds) MAX_EDITS then json_edits ds else None
+edits_within ds = if nat_le 1 (items_len ds) && nat_le (items_len ds) most_edits then json_edits ds else None
 
 -- the text, if it is a name
 abbrev pub if_name : List ℕ → Option (List ℕ)

@@ -1,7 +1,7 @@
 -- What the program's commit means.
 use Rattle.std.specs.Prelude.{◌≤◌, List, length, map, string_bytes}
+use Rattle.visit_book.specs.Edits.{most_edits}
 use Rattle.desk_bodies.specs.Commits.{EditSaid, put, lift, cut, join, CommitSaid}
-use Rattle.desk_bodies.specs.declared.commits.TheConstants.{MAX_EDITS}
 use Rattle.desk_bodies.specs.declared.commits.EditText.{EditText}
 use Rattle.desk_bodies.specs.declared.commits.EditText.TheVariants.{Put, Lift, Cut, Join}
 use Rattle.desk_bodies.specs.declared.commits.CommitText.{CommitText}
@@ -19,4 +19,4 @@ commit_shown c = record { desk = c.desk; draft = c.draft; base = c.base; edits =
 
 -- 1 to 64 edits
 abbrev pub HasFewEdits : List EditText → Type 0
-HasFewEdits edits = (1 ≤ length edits) × (length edits ≤ MAX_EDITS)
+HasFewEdits edits = (1 ≤ length edits) × (length edits ≤ most_edits)

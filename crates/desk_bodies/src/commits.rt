@@ -9,9 +9,7 @@ use crate::fields::{name_at, read_json, text_at, u8_at, u32_at};
 use apron_base::{Listed, Memory, Name};
 use serde_json::Value;
 use std::alloc::Global;
-
-/// The most edits of a commit; the least is 1.
-pub const MAX_EDITS: usize = 64;
+use visit_book::MAX_EDITS;
 
 /// An edit as a desk writes it, with its stand by name. Visits and parts are counted from 1, but
 /// any number may be written.

@@ -7,7 +7,7 @@ mod fields;
 mod reports;
 mod visits;
 
-pub use commits::{CommitText, EditText, MAX_EDITS, read_commit};
+pub use commits::{CommitText, EditText, read_commit};
 pub use fields::BodyFault;
 pub use reports::{EventText, ReportText, read_cancel, read_report};
 pub use visits::{VisitText, read_visit};

@@ -5,7 +5,6 @@ use Rattle.apron_base.specs.declared.outside.Acted.{Acted}
 use Rattle.apron_base.specs.declared.outside.Acted.TheVariants.{Memory as NoMemory, Spent}
 use Rattle.apron_rules.specs.declared.parts.AirportParts.{AirportParts}
 use Rattle.desk_words.specs.declared.asks.Ask.{Ask}
-use Rattle.desk_words.specs.declared.asks.Command.{Command}
 use Rattle.desk_words.specs.declared.asks.Entry.{Entry}
 use Rattle.desk_words.specs.declared.asks.What.TheVariants.{Change}
 use Rattle.history_core.specs.Answer.{ActsLegally}
@@ -15,10 +14,6 @@ use Rattle.turn_board.specs.Board.{AskAndAnswer, GotTurn, SeatState}
 -- the entry is of the command that is asked
 abbrev pub AddsAsked : Ask → Entry → Type 0
 AddsAsked ask entry = ask.what ≡ Change entry.command
-
--- a command is asked
-abbrev pub AsksCommand : Ask → Type 0
-AsksCommand ask = (command : Command) × (ask.what ≡ Change command)
 
 -- What an ask does at a seat of a machine: it is answered `Spent` exactly where the numbers have run out, and then the seat's note of that is all that changed;
 -- else it got its turn.

@@ -23,7 +23,7 @@ pub trait FeedMachine: DeskMachine {
     ghost use Rattle.desk_words.specs.declared.asks.Entry.{Entry};
     ghost use Rattle.desk_http.specs.declared.port.FeedAsk.{FeedAsk};
     ghost use Rattle.desk_turns.specs.Feeds.{IsLegalFeed};
-    ghost use Rattle.desk_turns.specs.Machines.{AsksCommand};
+    ghost use Rattle.desk_words.specs.Commands.{AsksCommand};
 
     /// How it is asked for a feed.
     ghost fed: { FeedAsk → Self.Ask };

@@ -19,7 +19,8 @@ pub trait DeskMachine: Machine<Entry = Entry> {
     ghost use Rattle.history_core.specs.Answer.{ActsLegally};
     ghost use Rattle.history_core.specs.History.{IsAskOf, IsLegal, call_limit, call_of};
     ghost use Rattle.turn_board.specs.Board.{Sits};
-    ghost use Rattle.desk_turns.specs.Machines.{AddsAsked, AsksAt, AsksCommand};
+    ghost use Rattle.desk_words.specs.Commands.{AsksCommand};
+    ghost use Rattle.desk_turns.specs.Machines.{AddsAsked, AsksAt};
 
     /// The airport of its plan.
     ghost airport: { Self.Fixed → AirportParts };

@@ -3,7 +3,8 @@ ghost use Rattle.std.specs.Prelude.{◌≡◌, IfOk, OnErr};
 ghost use Rattle.desk_words.specs.declared.asks.Ask.{Ask};
 ghost use Rattle.history_core.specs.History.{IsAskOf};
 ghost use Rattle.turn_board.specs.Board.{Sits};
-ghost use Rattle.desk_turns.specs.Machines.{AsksAt, AsksBoard, AsksCommand, answer_if_uncopied};
+ghost use Rattle.desk_words.specs.Commands.{AsksCommand};
+ghost use Rattle.desk_turns.specs.Machines.{AsksAt, AsksBoard, answer_if_uncopied};
 ghost use Rattle.desk_turns.specs.Seats.{fixed_of};
 
 use crate::machine::DeskMachine;

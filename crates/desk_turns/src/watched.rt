@@ -1,6 +1,6 @@
 // A board with watches: desks take turns at it, and it answers feeds.
 ghost use Rattle.std.specs.Prelude.{◌≡◌, IfOk, OnErr};
-ghost use Rattle.desk_turns.specs.Machines.{AsksCommand};
+ghost use Rattle.desk_words.specs.Commands.{AsksCommand};
 
 use crate::feeds::{FeedMachine, serve_fed};
 use crate::machine::DeskMachine;
@@ -8,7 +8,7 @@ use crate::served::SeatPort;
 use crate::sessions::SessionMachine;
 use crate::turns::Turns;
 use apron_base::{Acted, Keeper, Machine, Memory, Name, Outcome, Sink, Source};
-use desk_words::asks::{Ask, What};
+use desk_words::asks::Ask;
 use std::alloc::Global;
 use std::sync::Wait;
 use turn_board::Seat;
@@ -94,7 +94,7 @@ pub fn watch_ask_of(alloc: Global, ask: &Ask) -> Result<WatchAsk, Memory>
     ensures same { IfOk result (λ own. own ≡ WatchAsk.Plain ask.now) }
     ensures uncopied { OnErr result (AsksCommand ask.now) }
 {
-    Ok(WatchAsk::Plain(copy_of_ask(alloc, ask)?))
+    Ok(WatchAsk::Plain(ask.copy(alloc)?))
 }
 
 /// How a board with watches is asked for a feed. It takes no memory.
@@ -106,26 +106,4 @@ pub fn watch_feed(seen: u32, watch: &Name, after: u32) -> WatchAsk
         watch: *watch,
         after,
     }
-}
-
-// The same ask. At `Err` there is no memory to copy a command.
-fn copy_of_ask(alloc: Global, ask: &Ask) -> Result<Ask, Memory>
-    ensures same { IfOk result (λ made. made ≡ ask.now) }
-    ensures command { OnErr result (AsksCommand ask.now) }
-{
-    let what = match &ask.what {
-        What::Change(command) => What::Change(command.copy(alloc)?),
-        What::Version => What::Version,
-        What::Visit(number) => What::Visit(*number),
-        What::Plan(day) => What::Plan(*day),
-        What::Unplaced => What::Unplaced,
-        What::Chart(day) => What::Chart(*day),
-        What::Entry(number) => What::Entry(*number),
-        What::Airport => What::Airport,
-        What::Day(day) => What::Day(*day),
-    };
-    Ok(Ask {
-        seen: ask.seen,
-        what,
-    })
 }

@@ -1,14 +1,16 @@
 -- Commands that are valid at an airport.
-use Rattle.std.specs.Prelude.{◌≤◌, ℕ, List, Option, None, Some, length, All}
+use Rattle.std.specs.Prelude.{◌≡◌, ◌≤◌, ℕ, List, Option, None, Some, length, All}
 use Rattle.mvt_grammar.specs.Readable.{IsReadable}
 use Rattle.apron_rules.specs.declared.parts.AirportParts.{AirportParts}
 use Rattle.visit_book.specs.Edits.{IsEditOf, most_edits}
 use Rattle.visit_book.specs.NewVisits.{IsNewVisit, IsNewVisitOf}
 use Rattle.visit_book.specs.Reports.{IsEventOf}
+use Rattle.desk_words.specs.declared.asks.Ask.{Ask}
 use Rattle.desk_words.specs.declared.asks.Command.{Command}
 use Rattle.desk_words.specs.declared.asks.Command.TheVariants.{AddVisit, Commit, Message, Report, Cancel}
 use Rattle.desk_words.specs.declared.asks.EntryKind.{EntryKind}
 use Rattle.desk_words.specs.declared.asks.EntryKind.TheVariants as kind
+use Rattle.desk_words.specs.declared.asks.What.TheVariants.{Change}
 
 -- what kind of command it is
 abbrev pub kind_of : Command → EntryKind
@@ -44,3 +46,7 @@ IsCommandOf airport (Commit draft) =
 IsCommandOf airport (Message passed) = IsReadable passed.message
 IsCommandOf airport (Report report) = IsEventOf airport report.event
 IsCommandOf airport (Cancel visit) = Unit {0}
+
+-- a command is asked
+abbrev pub AsksCommand : Ask → Type 0
+AsksCommand ask = (command : Command) × (ask.what ≡ Change command)

@@ -1,6 +1,6 @@
 // What may be asked of the keeper of the plan.
-ghost use Rattle.std.specs.Prelude.{◌≡◌, IfOk};
-ghost use Rattle.desk_words.specs.Commands.{desk_of, kind_of};
+ghost use Rattle.std.specs.Prelude.{◌≡◌, IfOk, OnErr};
+ghost use Rattle.desk_words.specs.Commands.{AsksCommand, desk_of, kind_of};
 
 use apron_base::{Memory, Name, VisitNo};
 use mvt_grammar::Mvt;
@@ -124,4 +124,28 @@ pub struct Ask {
     /// The greatest version of the plan that the desk says it has seen; 0 if it says none.
     pub seen: u32,
     pub what: What,
+}
+
+impl Ask {
+    /// The same ask. `Err` if there is no memory for the command that it asks.
+    pub fn copy(&self, alloc: Global) -> Result<Ask, Memory>
+        ensures same { IfOk result (λ made. made ≡ self.now) }
+        ensures command { OnErr result (AsksCommand self.now) }
+    {
+        let what = match &self.what {
+            What::Change(command) => What::Change(command.copy(alloc)?),
+            What::Version => What::Version,
+            What::Visit(number) => What::Visit(*number),
+            What::Plan(day) => What::Plan(*day),
+            What::Unplaced => What::Unplaced,
+            What::Chart(day) => What::Chart(*day),
+            What::Entry(number) => What::Entry(*number),
+            What::Airport => What::Airport,
+            What::Day(day) => What::Day(*day),
+        };
+        Ok(Ask {
+            seen: self.seen,
+            what,
+        })
+    }
 }

@@ -13,10 +13,7 @@ use crate::writing::{push_name, push_u16, push_u32};
 use apron_base::{Listed, Memory, StandNo, VisitNo};
 use apron_rules::Airport;
 use std::alloc::Global;
-use visit_book::{Draft, Edit};
-
-// The most edits of a commit.
-const MOST_EDITS: u8 = 64;
+use visit_book::{Draft, Edit, MAX_EDITS};
 
 fn push_part_of_edit(out: &mut Vec<u8>, tag: u8, visit: VisitNo, part: u8) -> Result<(), Memory>
     ensures text { OnOk result (out.new.items ≡ out.old.items ++ (tag ∷ part_bytes visit part)) }
@@ -151,7 +148,7 @@ fn parse_edits(
 {
     let at = reader.at();
     let count = reader.byte()?;
-    in_form(at, 1 <= count && count <= MOST_EDITS)?;
+    in_form(at, 1 <= count && usize::from(count) <= MAX_EDITS)?;
     parse_edits_of_count(alloc, count, reader, airport)
 }
 

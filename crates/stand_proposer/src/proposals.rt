@@ -14,10 +14,7 @@ use plan_core::Plan;
 use plan_lists::unplaced_parts;
 use std::alloc::Global;
 use std::sync::ledger::Ledger;
-use visit_book::{Edit, Visit, visit_at};
-
-// The most edits of a commit.
-const MAX_EDITS: usize = 64;
+use visit_book::{Edit, MAX_EDITS, Visit, visit_at};
 
 /// Why a part can't be put on a stand.
 #[derive(Clone, Copy, Debug, PartialEq, Eq)]

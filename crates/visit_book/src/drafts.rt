@@ -1,9 +1,13 @@
 // What a desk sends to change the plan.
 ghost use Rattle.std.specs.Prelude.{◌≡◌, IfOk};
+ghost use Rattle.visit_book.specs.Edits.{most_edits};
 
 use crate::Edit;
 use apron_base::{Listed, Memory, Name};
 use std::alloc::Global;
+
+/// The most edits of a draft; the least is 1.
+pub const MAX_EDITS: usize = 64;
 
 /// Edits that a desk sends together, to be taken as a whole or not at all.
 #[derive(Debug, Drop)]
@@ -32,3 +36,8 @@ impl Draft {
         })
     }
 }
+
+/// The limit in the code is the number in its definition.
+pub fn limit_of_edits_is_as_defined()
+    ensures edits { MAX_EDITS ≡ most_edits }
+{}

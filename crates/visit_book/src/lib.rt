@@ -15,7 +15,7 @@ mod slots;
 mod visits;
 
 pub use changes::{BadCut, BadJoin, cut, has_actual_behind, join, push};
-pub use drafts::Draft;
+pub use drafts::{Draft, MAX_EDITS, limit_of_edits_is_as_defined};
 pub use edits::{Edit, EditFault, part_of, visit_of};
 pub use laws::added_visits_are_well_formed;
 pub use movements::{BadTime, arrive, depart, estimate_off};

@@ -1,7 +1,7 @@
 // What the body of POST /commits asks.
 ghost use Rattle.std.specs.Prelude.{◌≡◌, ◌≤◌, All, IfOk, length, map};
 ghost use Rattle.history_core.specs.History.{IsWhatOf};
-ghost use Rattle.visit_book.specs.Edits.{IsEditOf};
+ghost use Rattle.visit_book.specs.Edits.{IsEditOf, most_edits};
 ghost use Rattle.desk_bodies.specs.CommitsShown.{edit_shown};
 ghost use Rattle.desk_http.specs.CommitsRoute.{commit_asked as commit_asked_lem, edit_named as edit_named_lem, edits_named as edits_named_lem};
 ghost use Rattle.desk_http.specs.Finding.{FindsOrReplies};
@@ -10,7 +10,7 @@ use super::Unasked;
 use crate::names::stand_named;
 use apron_base::{Listed, VisitNo};
 use apron_rules::Airport;
-use desk_bodies::{EditText, MAX_EDITS, read_commit};
+use desk_bodies::{EditText, read_commit};
 use desk_words::asks::{Command, What};
 use desk_words::early::EarlyReply;
 use std::alloc::Global;
@@ -37,7 +37,7 @@ fn edits_named(
     airport: &Airport,
     texts: &[EditText],
 ) -> Result<Listed<Edit>, Unasked>
-    requires few { length texts.now ≤ MAX_EDITS }
+    requires few { length texts.now ≤ most_edits }
     ensures named { FindsOrReplies (edits_named_lem airport.now 1 (map edit_shown texts.now)) result }
     ensures stands { IfOk result (All (IsEditOf airport.now)) }
     ensures count { IfOk result (λ edits. length edits ≡ length texts.now) }
