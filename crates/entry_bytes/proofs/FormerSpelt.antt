@@ -18,7 +18,7 @@ use Rattle.entry_bytes.specs.Widths.{IsEntryOf}
 use Rattle.entry_bytes.specs.Commits.{commit_text, parse_commit}
 use Rattle.entry_bytes.specs.Entries.{parse_command, parse_entry}
 use Rattle.entry_bytes.specs.Faults.{IsWithin}
-use Rattle.entry_bytes.specs.Former.{NamesNoDesk, decode_former_entry, former_command_text, former_fields_of, former_text, no_desk}
+use Rattle.entry_bytes.specs.Former.{NamesNoDesk, decode_former_entry, former_command_text, former_fields_of, former_text, no_desk, with_no_desk}
 use Rattle.entry_bytes.specs.Laws.{AreBytes}
 use Rattle.entry_bytes.specs.Messages.{message_text, parse_message}
 use Rattle.entry_bytes.specs.NewVisits.{new_visit_text, parse_new_visit}
@@ -111,16 +111,16 @@ kept-spells airport kind few fields kept s =
 
 -- ---- messages and reports
 
-was_message : (airport : AirportParts) (command : Command) → HadKind airport 3 command → (message : Mvt) × IsReadable message × (command ≡ Message (passed_by no_desk message))
+was_message : (airport : AirportParts) (command : Command) → HadKind airport 3 command → (message : Mvt) × IsReadable message × (command ≡ Message (with_no_desk message))
 was_message airport (AddVisit new) h = absurd (omega (arith, h.0))
 was_message airport (Commit draft) h = absurd (omega (arith, h.0))
 was_message airport (Message passed) h = (passed.message, h.1.0.1, ap (λ desk. Message (passed_by desk passed.message)) h.1.1)
 was_message airport (Report report) h = absurd (omega (arith, h.0))
 was_message airport (Cancel visit) h = absurd (omega (arith, h.0))
 
-third-spells : (airport : AirportParts) → Spells (parse_message >>= λ message. give (Message (passed_by no_desk message))) former_back (HadKind airport 3) 86
+third-spells : (airport : AirportParts) → Spells (parse_message >>= λ message. give (Message (with_no_desk message))) former_back (HadKind airport 3) 86
 third-spells airport =
-    Spells-made (λ message. Message (passed_by no_desk message)) former_back (HadKind airport 3) message-spells (λ message h. (refl, ((no_desk-name, h), refl))) (was_message airport) (λ message. refl)
+    Spells-made (λ message. Message (with_no_desk message)) former_back (HadKind airport 3) message-spells (λ message h. (refl, ((no_desk-name, h), refl))) (was_message airport) (λ message. refl)
 
 was_report : (airport : AirportParts) (command : Command) → HadKind airport 4 command → (report : DeskReport) × IsReportOf airport no_desk report × (command ≡ Report report)
 was_report airport (AddVisit new) h = absurd (omega (arith, h.0))
@@ -145,7 +145,7 @@ at_kind airport kind =
     let P = HadKind airport kind in
     let first : Reading Command = parse_new_visit airport >>= λ new. give (AddVisit new) in
     let second : Reading Command = parse_commit airport >>= λ draft. give (Commit draft) in
-    let third : Reading Command = parse_message >>= λ message. give (Message (passed_by no_desk message)) in
+    let third : Reading Command = parse_message >>= λ message. give (Message (with_no_desk message)) in
     let fourth : Reading Command = parse_report airport no_desk >>= λ report. give (Report report) in
     let fifth : Reading Command = parse_cancel >>= λ visit. give (Cancel visit) in
     let from_5 : Option (Reading Command) = cond (kind == 5) (Some fifth) None in

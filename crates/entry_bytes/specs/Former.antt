@@ -3,9 +3,11 @@
 use Rattle.std.specs.Prelude.{◌≡◌, ℕ, ◌==◌, List, ◌∷◌, ◌++◌, codes, Option, Some, None, Result, Ok, Err, if◌then◌else◌}
 use Rattle.std.specs.Int.{w32, w64, to_le_bytes}
 use Rattle.std.specs.Result.{result_map_both}
+use Rattle.mvt_grammar.specs.declared.message.Mvt.{Mvt}
 use Rattle.apron_rules.specs.declared.parts.AirportParts.{AirportParts}
 use Rattle.desk_words.specs.declared.asks.Command.{Command}
 use Rattle.desk_words.specs.declared.asks.Command.TheVariants.{AddVisit, Commit, Message, Report, Cancel}
+use Rattle.desk_words.specs.declared.asks.DeskMessage.{DeskMessage}
 use Rattle.desk_words.specs.declared.asks.Entry.{Entry}
 use Rattle.entry_bytes.specs.declared.faults.EntryFault.{EntryFault}
 use Rattle.entry_bytes.specs.Commits.{commit_text, parse_commit}
@@ -22,12 +24,16 @@ use Rattle.entry_bytes.specs.Widths.{IsEntryOf}
 abbrev pub no_desk : List ℕ
 no_desk = codes "-"
 
+-- the message, passed on by the desk `-`
+abbrev pub with_no_desk : Mvt → DeskMessage
+with_no_desk message = record { desk = no_desk; message = message }
+
 -- the fields of a kind, as they were
 abbrev pub former_fields_of : AirportParts → ℕ → Option (Reading Command)
 former_fields_of airport kind =
     if kind == 1 then Some (parse_new_visit airport >>= λ new. give (AddVisit new))
     else (if kind == 2 then Some (parse_commit airport >>= λ draft. give (Commit draft))
-    else (if kind == 3 then Some (parse_message >>= λ message. give (Message (record { desk = no_desk; message = message })))
+    else (if kind == 3 then Some (parse_message >>= λ message. give (Message (with_no_desk message)))
     else (if kind == 4 then Some (parse_report airport no_desk >>= λ report. give (Report report))
     else (if kind == 5 then Some (parse_cancel >>= λ visit. give (Cancel visit))
     else None))))

@@ -50,7 +50,7 @@ parse_report airport desk = do
   event ← parse_event airport
   give (record { desk = desk; visit = record { 0 = visit }; event = event })
 
--- the visit of a cancel, which is any
+-- the visit that a cancel names, which can be any
 unfoldable pub parse_cancel : Reading VisitNo
 parse_cancel = do
   visit ← number w32
