@@ -27,7 +27,7 @@ HEAD = re.compile(
     rb"HTTP/1\.1 (\d{3}) [A-Za-z ]+\r\nContent-Type: (application/json|text/plain)\r\nContent-Length: (\d+)\r\n"
     rb"(?:Allow: (?:GET|POST)\r\n)?(?:X-Version: (\d+)\r\n)?(Connection: close\r\n)?\r\n")
 
-# The status, the body, the plan's version where it is told, and whether the reply says that the connection is closed.
+# The status, the body, the plan's version if the reply has it, and whether the reply says that the connection is closed.
 Reply = collections.namedtuple("Reply", "code body version closes")
 
 
