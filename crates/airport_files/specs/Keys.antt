@@ -45,6 +45,6 @@ unless_fault (Some fault) values = Err fault
 abbrev pub read_in : {A : Type 0} → List KeyForm → A → Result A WalkFault
 read_in keys values = unless_fault (first_fault keys) values
 
--- the value of a key in a form, or the other one, which stands only where the key is at fault
+-- the value of a key in a form, or this other one, which counts only if the key is at fault
 abbrev pub value_or : {A : Type 0} → A → (Data → Option A) → Option Data → A
 value_or other form held = unwrap_or (option_and_then form held) other

@@ -1,5 +1,5 @@
--- The tables of an airport file: their keys with their forms, in the order in which they are read,
--- and what each table says.
+-- The tables of an airport file: their keys with their forms, in reading order, and what each table
+-- says.
 use Rattle.std.specs.Prelude.{◌≡◌, ◌⊎◌, ℕ, List, [], ◌∷◌, Option, option_and_then, Result, Ok, Err}
 use Rattle.toml.specs.Data.{Data, Members, get_member}
 use Rattle.apron_base.specs.declared.letter.Letter.TheVariants as letter
@@ -46,7 +46,7 @@ head_keys ms =
     ∷ head_key ms Tow toml_number
     ∷ []
 
--- a date that stands for one that is not there
+-- a date in place of a missing one
 abbrev pub no_date : Date
 no_date = record { year = 0; month = 0; day = 0 }
 

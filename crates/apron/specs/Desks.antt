@@ -1,4 +1,4 @@
--- How many workers serve the desks that come over TCP, how many screens there are, and how many connections each of them takes.
+-- How many workers serve desks, how many screens there are, and how many connections each takes.
 use Rattle.std.specs.Prelude.{ℕ, nat_le, Option, Some, None, List, if◌then◌else◌}
 use Rattle.apron_base.specs.Digits.{number_of}
 use Rattle.apron_base.specs.declared.digits.TheConstants.{MAX_DIGITS}

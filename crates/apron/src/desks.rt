@@ -76,8 +76,8 @@ fn why_ended(status: u8) -> &'static str {
     }
 }
 
-// The words of `serve` and after it, without places and journal; where desks are served, and where
-// screens are shown if the words ask for any; and the journal's path.
+// The words of `serve` and after it, without places and journal; the address for desks, and the one
+// for screens if the words ask for any; and the journal's path.
 #[derive(Clone, Copy)]
 struct ServeWords<'a> {
     words: &'a [Word],

@@ -89,7 +89,7 @@ fn unclear_word(form: Form, rest: &[Word]) -> Unclear<'_> {
     }
 }
 
-// The range of a day, as it is told.
+// The range of a day, as it is printed.
 const DAYS: &str = "a day of the plan, from 1 on";
 
 // The number of connections, or else that of workers, that was not understood.

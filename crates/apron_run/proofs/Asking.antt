@@ -88,7 +88,7 @@ fault_stops airport number before after new (keeper_fault, is, (took, same)) cou
 fault_stops airport number before after new (replied reply, is, gives) counts risk = absurd cc
 fault_stops airport number before after new (no_memory, is, gives) counts risk = absurd cc
 
--- want of memory changed nothing
+-- if memory ran out nothing has changed
 pub memory_stops : (airport : AirportParts) (number : ℕ) (before after : Reached) (new : NewVisit) → ActsAs airport before.history before.next (asking new) NoMemory after.history
     → after.faults ≡ before.faults → LeavesAtRisk (standing_at before) before.next (asking new).what false (standing_at after)
     → StopsImport airport number before new after Memory
@@ -96,7 +96,7 @@ memory_stops airport number before after new (no_memory, is, same) counts risk =
 memory_stops airport number before after new (replied reply, is, gives) counts risk = absurd cc
 memory_stops airport number before after new (keeper_fault, is, gives) counts risk = absurd cc
 
--- where entries came, the visit was added
+-- if entries came, the visit was added
 came_by : (before after : List Entry) (call : ℕ) (command : Command) (stepped : Stepped) → after ≡ before ++ added_entries call command stepped → length before < length after
     → stepped ≡ accepted
 came_by before after call command accepted makes more = refl
@@ -105,7 +105,7 @@ came_by before after call command (repeated entry) makes more = let same : lengt
 came_by before after call command (refused why) makes more = let same : length after ≡ length before = ap length (makes ∙ append-nil before) in absurd (omega arith)
 came_by before after call command full makes more = let same : length after ≡ length before = ap length (makes ∙ append-nil before) in absurd (omega arith)
 
--- where none came, the history is as it was
+-- if none came, the history is as it was
 stays_by : (before after : List Entry) (call : ℕ) (command : Command) (stepped : Stepped) → after ≡ before ++ added_entries call command stepped → length after ≤ length before
     → after ≡ before
 stays_by before after call command accepted makes few =
@@ -115,7 +115,7 @@ stays_by before after call command (repeated entry) makes few = makes ∙ append
 stays_by before after call command (refused why) makes few = makes ∙ append-nil before
 stays_by before after call command full makes few = makes ∙ append-nil before
 
--- where no visit has the name, a visit that was not added has no place
+-- if no visit has the name, a visit that was not added has no place
 missing_by : (plan : PlanState) (count : ℕ) (new : NewVisit) (stepped : Stepped) → TakenAs plan count (AddVisit new) stepped → visit_named plan.visits new.name ≡ None
     → (stepped ≡ accepted → ⊥) → stepped ≡ full
 missing_by plan count new accepted steps none other = absurd (other refl)
@@ -126,7 +126,7 @@ missing_by plan count new (refused (edit fault)) steps none other = absurd steps
 missing_by plan count new (refused (denied why)) steps none other = absurd steps
 missing_by plan count new full steps none other = refl
 
--- no entry came where the history is as it was
+-- no entry came if the history is as it was
 not_accepted : (before after : List Entry) (call : ℕ) (command : Command) (stepped : Stepped) → after ≡ before ++ added_entries call command stepped → length after ≤ length before
     → stepped ≡ accepted → ⊥
 not_accepted before after call command stepped makes few is =

@@ -1,4 +1,4 @@
--- What a run ends with where one of its ends failed.
+-- The status of a run in which an end failed.
 use Rattle.std.proofs.Common.{◌≡◌, ◌≤◌, ◌∙◌, ◌+◌, ℕ, Bool, true, false, List, Result, Ok, Err, inl, inr, min, refl, sym, ap, subst, arith}
 use Rattle.apron_base.specs.Counts.{Counts, Rose, last_count}
 use Rattle.apron_base.specs.Ends.{SinkState}
@@ -48,7 +48,7 @@ disk_code : (status : Status) → exit_code status ≡ exit_code DiskFault → i
 disk_code DiskFault is = refl
 disk_code other is = absurd (omega arith)
 
--- a count that rose where the status says so
+-- a count that rose if the status says so
 rose_by : (failed : Bool) (before now : ℕ) → failed ≡ true → Counts failed before now → Rose before now
 rose_by failed before now is counts = let fails : Counts true before now = subst (λ (b : Bool). Counts b before now) is counts in fails.1
 
@@ -115,7 +115,7 @@ module _ (feeds : FeedTexts) (before after : World) (status : Status) where
   speaks faulty none does = usage_speaks before.sink after.sink status does
   speaks asked none does = absurd cc
 
-  -- the word uses the shelf where that fails
+  -- the word uses the shelf if that fails
   shelf_used : (asked : Subcommand) → Does feeds asked before after status → is_shelf_status status ≡ true → uses_shelf asked ≡ true
   shelf_used asked does is = by_use (uses_shelf asked) refl
     where
@@ -132,7 +132,7 @@ module _ (feeds : FeedTexts) (before after : World) (status : Status) where
       found_counted OnFiles (sink_and_disk before) (sink_and_disk after) status counted does.found does.does in
       absurd (not_both (is_source_status status) counts.read is)
 
-  -- and the source where that does
+  -- and the source if that does
   source_used : (asked : Subcommand) → Does feeds asked before after status → is_source_status status ≡ true → uses_source asked (exit_code ReadFault) ≡ true
   source_used (desk airport types) does is = refl
   source_used (init airport types) does is = unread MakesJournal (λ files. makes_counted files (sink_and_disk before) (sink_and_disk after) status) does is

@@ -81,7 +81,7 @@ module _ (made : AirportFiles) (before after : ShelfState) (airport types : List
           (let failing : FindsFiles before after airport types (Err files.ShelfFault) = subst (FindsFiles before after airport types) failed finds in failing.counts) in
           still counts.1
 
-  -- where it is done with what was found, that goes well where it does with the airport, and where memory has run out
+  -- what is done with what was found goes well, if it does with the airport, or memory has run out
   pub goes_well : (Does : Result AirportFiles FilesFault → Type 0) (status : Status) → (Does (Ok made) → Well status) → (Does (Err files.Memory) → Well status)
       → (found : Result AirportFiles FilesFault) → FindsFiles before after airport types found → Does found → Well status
   goes_well Does status with_airport wanting found finds does = by_case (found_or_wanting found finds)
@@ -90,7 +90,7 @@ module _ (made : AirportFiles) (before after : ShelfState) (airport types : List
       by_case (inl is) = with_airport (subst Does is does)
       by_case (inr is) = wanting (subst Does is does)
 
--- where a word does with the airport of the two files what goes well, its run goes well
+-- if a word does with the airport of the two files what goes well, its run goes well
 module _ (made : AirportFiles) (airport types : List ℕ) (before after : World) (status : Status) (has : HasFiles before.shelf airport types made)
     (still : ¬ (Rose before.shelf.faults after.shelf.faults)) where
   pub files_well : (OnFiles : AirportFiles → SinkAndDisk → SinkAndDisk → Status → Type 0) → (OnFiles made (sink_and_disk before) (sink_and_disk after) status → Well status)
@@ -167,7 +167,7 @@ print_well text before after status sink tells = printed_well before after sink 
 -- visits that are admitted one after another are asked
 module _ (airport : AirportParts) (visits : List NewVisit) (before after : Reached) (admits : AdmitsEach airport visits before)
     (numbers : before.next + length visits ≤ call_limit) (still : ¬ (Rose before.faults after.faults)) where
-  -- the asks stop only where memory has run out
+  -- the asks stop only if memory has run out
   stops_well : (imported : Imported) → StopsAmong airport visits before after imported → imported ≡ how.Memory
   stops_well imported stops = well imported stops.stops
     where

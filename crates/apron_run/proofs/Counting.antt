@@ -25,7 +25,7 @@ use Rattle.apron_run.specs.declared.status.Status.TheVariants.{Done, WriteFault}
 use Rattle.apron_run.specs.declared.unusable.Unusable.{Unusable}
 use Rattle.apron_run.specs.declared.unusable.Unusable.TheVariants.{Journal, Entries}
 
--- what stands still where the status doesn't speak of it
+-- what is as before if the status doesn't speak of it
 pub still : (failed : Bool) (before now : ℕ) → failed ≡ false → now ≡ before → Counts failed before now
 still failed before now none same = subst (λ (b : Bool). Counts b before now) (sym none) same
 
@@ -38,7 +38,7 @@ pub lines_of : (text : List ℕ) (of : Status) (before after : SinkState) (statu
 lines_of text of before after status (inl (is, wrote)) = record { is = is; least = let same : after.faults ≡ before.faults = wrote.faults in omega arith }
 lines_of text of before after status (inr (is, (count, wrote))) = record { is = is; least = let rose = wrote.faults in rose.0 }
 
--- the sink where a line tells the status
+-- the sink if a line tells the status
 pub told_sink : (status of : Status) (before after : SinkState) → is_told of ≡ true → Lines status of before after → SinkCounts status before.faults after.faults
 told_sink status of before after told lines = let is : is_told status ≡ true = ap is_told lines.is ∙ told in rw is lines.least
 
@@ -91,7 +91,7 @@ printed text before after status (inl (is, wrote)) =
 printed text before after status (inr (is, (count, wrote))) =
     printed_with status WriteFault before after is (record { shelf = refl; read = refl; disk = refl; sink = wrote.faults })
 
--- what is counted where the source is not used, by the status: of the shelf it says whether it failed
+-- what is counted if the source is not used, by the status: of the shelf it says whether it failed
 pub record Counted (failed : Bool) (status : Status) (before after : SinkAndDisk) : Type 0 where
   pub shelf : is_shelf_status status ≡ failed
   pub read : is_source_status status ≡ false
@@ -135,7 +135,7 @@ module _ (before after : SinkAndDisk) (status : Status) where
       line_counted (fault_line fault) (status_of_fault fault) (is_shelf_found (Err fault)) (fault_status fault)
       (still (is_disk_fault (status_of_fault fault)) before.disk.faults after.disk.faults (fault_spares fault) same) tells
 
--- the disk where there is no journal to work on
+-- the disk if there is no journal to work on
 pub why_disk : (files : AirportFiles) (before after : DiskSeen) (why : Unusable) → WhyUnusable files before after why
     → Counts (is_disk_fault (status_of_unusable why)) before.faults after.faults
 why_disk files before after (Journal journal.DiskFault) fails = fails

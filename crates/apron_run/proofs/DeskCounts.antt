@@ -41,7 +41,7 @@ outcome_status : (outcome : Outcome) → OfOutcome outcome
 outcome_status came.ReadFault = record { shelf = refl; read = refl }
 outcome_status outcome = record { shelf = refl; read = refl }
 
--- the sink after a session, of which this was told
+-- the sink after a session whose end was printed
 record Behind (outcome : Outcome) (status : Status) (before after : SinkState) : Type 0 where
   pub is : status ≡ status_of_outcome outcome
   pub sink : SinkCounts status before.faults after.faults

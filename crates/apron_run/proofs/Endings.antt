@@ -33,12 +33,12 @@ pub has_left : (input taken : List ℕ) (left : Option (List ℕ)) → Consumes 
 has_left input taken None h = absurd h
 has_left input taken (Some rest) h = record { rest = rest; is = refl; front = h }
 
--- what is written, where nothing is written last and nothing after it
+-- what is written, if nothing is written last and nothing after it
 bare : (texts written tail : List ℕ) → written ≡ [] → tail ≡ [] → (texts ++ written) ++ tail ≡ texts
 bare texts written tail none end =
     ap (λ w. (texts ++ w) ++ tail) none ∙ (ap (λ t. (texts ++ []) ++ t) end ∙ (append-nil (texts ++ []) ∙ append-nil texts))
 
--- the same, where this is written last
+-- the same, if this is written last
 ending_with : (texts written tail last : List ℕ) → written ≡ last → tail ≡ [] → (texts ++ written) ++ tail ≡ texts ++ last
 ending_with texts written tail last is end =
     ap (λ w. (texts ++ w) ++ tail) is ∙ (ap (λ t. (texts ++ last) ++ t) end ∙ append-nil (texts ++ last))
@@ -143,7 +143,7 @@ module _ (feeds : FeedTexts) (airport : AirportParts) (start : PortState) (input
     stops = stops;
   }
 
-  -- where nothing was answered and nothing is left of what was taken, nothing was taken
+  -- if nothing was answered and nothing is left of what was taken, nothing was taken
   nothing_taken : done ≡ no_progress → taken ≡ []
   nothing_taken none = subst (λ (p : Progress). Splits taken p.requests p.rest) none splits
 

@@ -1,4 +1,4 @@
--- A feed in a session of a desk alone counts as an ask of the version that was given want of memory.
+-- A feed in a session of a desk alone counts as an ask of the version for which memory ran out.
 use Rattle.std.proofs.Common.{◌≡◌, Bool, true, Option, None, Some, Result, Ok, Err, refl}
 use Rattle.std.specs.Prelude.{is_ok}
 use Rattle.apron_rules.specs.declared.parts.AirportParts.{AirportParts}
@@ -18,7 +18,8 @@ use Rattle.desk_turns.specs.Watched.{FeedTexts}
 use Rattle.apron_run.specs.Desk.{DeskAnswers}
 use Rattle.apron_run.specs.Headline.{Sends, is_asking, is_given, takes_number, tells_unkept}
 
--- what was sent, and what an ask without feeds is sent that leaves the port alike: both are counted alike, and the latter is a failed append only where it is
+-- what was sent, and what an ask without feeds is sent that leaves the port alike: both count alike,
+-- and the second is a failed append only if the first is
 -- what was sent for what is asked without feeds
 pub record AsPlain (airport : AirportParts) (asking : Bool) (plain : Result Ask EarlyReply) (before : PortState) (sent : Sent) (after : PortState) : Type 0 where
   pub asked : Result Ask EarlyReply

@@ -19,7 +19,7 @@ use Rattle.apron_run.specs.Survival.{EachImageFrom, IsTextOf, LeavesFronts, Open
 use Rattle.apron_run.proofs.Disks.{known}
 use Rattle.apron_run.proofs.Headers.{told_before}
 
--- nothing is written where nothing is called
+-- nothing is written if nothing is called
 pub stays_same : (disk : DiskState) → Stays disk disk
 stays_same disk = record {
   contents = refl;
@@ -40,7 +40,7 @@ passes_both a b c one two =
       kept = λ moment image early left. two.kept moment image (omega arith) (one.kept moment image early left);
     }
 
--- what a crash leaves where nothing is written is what it could leave before
+-- what a crash leaves if nothing is written is what it could leave before
 pub stays_from : (begun now : DiskState) → Stays begun now → EachImageFrom begun.moment now.moment now (begun.images begun.moment)
 stays_from begun now stays moment image low high left =
     let crash = stays.crash in

@@ -150,7 +150,7 @@ session_headline feeds files input before after sink outcome status left serves 
           (headline_of feeds files serves.opened before.disk after.disk carried (status_of_outcome outcome) serves.port opens.legal met serves.spent serves.faults serves.keeps),
     )
 
--- the headline where there is no journal to work on
+-- the headline if there is no journal to work on
 unopened_headline : (files : AirportFiles) (before after : DeskEnds) (sink : SinkState) (why : Unusable) (status : Status) → DeskFindsNoJournal files before after why
     → TellsUnusable why after.sink sink status → TellsUnopened files before (record { source = after.source; sink = sink; disk = after.disk }) (exit_code status)
 unopened_headline files before after sink why status finds (inl (is, wrote)) = record {
@@ -182,7 +182,7 @@ met_tells feeds files before after sink (Ok outcome) status serves tells = inl (
 })
 met_tells feeds files before after sink (Err why) status finds tells = inr (unopened_headline files before after sink why status finds tells)
 
--- the headline where the files have a fault
+-- the headline if the files have a fault
 early_tells : (fault : FilesFault) (before after : DeskEnds) (status : Status) → after.source ≡ before.source → after.disk ≡ before.disk → TellsFault fault before.sink after.sink status
     → TellsEarly fault before after (exit_code status)
 early_tells fault before after status source disk (inl (is, wrote)) = record {

@@ -30,7 +30,7 @@ use Rattle.apron_run.specs.declared.status.Status.{Status}
 use Rattle.apron_run.specs.declared.unusable.Unusable.{Unusable}
 use Rattle.apron_run.proofs.Counting.{Counted, Lines, OfLine, Printed, fault_counted, lines_of, printed, runs_counted, still, told_sink, unusable_counted, why_disk}
 
--- how an import ended was told: its status says of the ends what that does
+-- the line of how an import ended was printed: its status says of the ends what that does
 record ToldSo (imported : Imported) (status : Status) (before after : SinkState) : Type 0 where
   pub shelf : is_shelf_status status ≡ is_shelf_status (status_of_imported imported)
   pub read : is_source_status status ≡ false

@@ -61,7 +61,7 @@ init_as airport types before after status =
     files_as MakesJournal (init_asked airport types) airport types before after status (λ files. makes_counted files (sink_and_disk before) (sink_and_disk after) status)
     (λ does. does) (λ counts. counts)
 
--- where only the sink was used
+-- if only the sink was used
 module _ (before after : World) (status : Status) (shelf : after.shelf ≡ before.shelf) (source : after.source ≡ before.source) (disk : after.disk ≡ before.disk) where
   -- a run that is counted so
   sink_as : {feeds : FeedTexts} (asked : Subcommand) → Does feeds asked before after status → (Counts (is_disk_fault status) before.disk.faults after.disk.faults

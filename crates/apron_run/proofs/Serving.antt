@@ -93,7 +93,7 @@ module _ (files : AirportFiles) (history : List Entry) (extent : Extent) (disk :
     are = known (option_map (entries_within extent) disk.contents) (λ entries. entries ≡ entry_texts history) (entries_within extent bytes) kept.entries
         (ap (option_map (entries_within extent)) is)
 
-    -- a disk whose bytes stand for the journal keeps its history
+    -- a disk whose bytes are those of the journal keeps its history
     keeps_told : StandsFor extent bytes (λ entry. entry_at_risk extent disk.contents ≡ Some entry) bytes → KeepsHistory files history behind (disk_seen disk)
     keeps_told (front, inl opening) =
         let holds : Holds files (disk_seen disk) history = holds_just history legal kept.spells (opening ∙ ap Ok are) in
@@ -264,7 +264,7 @@ pub session_counts : (feeds : FeedTexts) (files : AirportFiles) (before after : 
 session_counts feeds files before after outcome status serves is =
     may_tell status before.disk.faults after.disk.faults (ap may_serve is ∙ outcomes_may outcome) (serves_count feeds files before after outcome serves)
 
--- the counts where there was no journal to work on
+-- the counts if there was no journal to work on
 pub why_counts : (files : AirportFiles) (before after : DiskSeen) (why : Unusable) → WhyUnusable files before after why
     → ServedCounts (status_of_unusable why) before.faults after.faults
 why_counts files before after (Journal journal.DiskFault) cause = cause

@@ -46,7 +46,7 @@ use Rattle.apron_run.proofs.Feeding.{as_plain, finds_spent}
 use Rattle.apron_run.proofs.Valid.{opened_once, unopened_wants}
 
 module _ (feeds : FeedTexts) (airport : AirportParts) where
-  -- a reply was given by the board exactly where something is asked of the plan
+  -- a reply was given by the board exactly if something is asked of the plan
   sent_asks : (before after : PortState) (asked : Result Ask EarlyReply) (sent : Sent) → SendsFor AloneAsks airport before asked sent after → is_given sent ≡ is_ok asked
   sent_asks before after (Err early) (at_once sent) h = refl
   sent_asks before after (Err early) (given answer) h = absurd h
@@ -55,7 +55,7 @@ module _ (feeds : FeedTexts) (airport : AirportParts) where
   sent_asks before after (Ok ask) (fed answer) h = absurd h
   sent_asks before after (Ok ask) (given answer) h = refl
 
-  -- or where the request takes a call number
+  -- or if the request takes a call number
   comes_ask : (before after : PortState) (request : Request) (sent : Sent) → Sends feeds airport before request sent after
       → is_given sent ≡ takes_number airport request
   comes_ask before after request sent comes =

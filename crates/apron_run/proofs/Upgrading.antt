@@ -24,7 +24,7 @@ use Rattle.apron_run.proofs.Counting.{Counted, files_as, text_counted, unusable_
 use Rattle.apron_run.proofs.Lifts.{none_stops}
 use Rattle.apron_run.proofs.Valid.{both_told}
 
--- the disk where no journal was upgraded
+-- the disk if no journal was upgraded
 failed_disk : (files : AirportFiles) (before after : DiskSeen) (why : Unusable) → NotUpgraded files before after why
     → Counts (is_disk_fault (status_of_unusable why)) before.faults after.faults
 failed_disk files before after (Journal journal.DiskFault) fails = fails
@@ -78,7 +78,7 @@ module _ (made : AirportFiles) (before after : DiskSeen) (can : CanUpgrade made 
   no_wrong : (number : ℕ) → LiftsInVain made before (entries.WrongEntry number) → ⊥
   no_wrong number vain = vain.cause
 
-  -- it is not upgraded only where there is no memory, if the disk doesn't fail
+  -- if the disk doesn't fail, it is not upgraded only if there is no memory
   failed_wants : (why : Unusable) → NotUpgraded made before after why → ¬ (Rose before.faults after.faults) → status_of_unusable why ≡ Memory
   failed_wants (Journal journal.DiskFault) fails disk = absurd (disk fails.1)
   failed_wants (Journal journal.NotEmpty) fails disk = absurd fails

@@ -1,4 +1,4 @@
--- What is found where the two files make an airport and the disk has its journal.
+-- What is found if the two files make an airport and the disk has its journal.
 use Rattle.std.proofs.Common.{◌≡◌, ◌≢◌, ◌∙◌, ◌<◌, ◌≤◌, ◌⊎◌, ℕ, List, [], ◌∷◌, ◌++◌, append_assoc, length, map, Option, None, Some, Result, Ok, Err, inl, inr, refl, sym, ap, ap₂, subst, arith}
 use Rattle.std.specs.Prelude.{IfSome, IsSome}
 use Rattle.apron_base.specs.Counts.{Rose}
@@ -79,7 +79,7 @@ module _ (before after : ShelfState) (airport types : List ℕ) (made : AirportF
       let many : max_file < length kept = long in
       absurd (omega arith)
 
-  -- they are found, or memory has run out, where the shelf doesn't fail
+  -- if the shelf doesn't fail, they are found, or memory has run out
   pub found_well : (found : Result AirportFiles FilesFault) → HasFilesCause before after airport types found → found ≢ Err files.ShelfFault
       → (found ≡ Ok made) ⊎ (found ≡ Err files.Memory)
   found_well (Ok other) cause failed = inl (ap Ok (made_once other cause))
@@ -186,7 +186,7 @@ module _ (made : AirportFiles) (before after : DiskSeen) (history : List Entry) 
       let same : entry_texts history ≡ texts = opens_to_texts texts opening in
       none_stops made.airport texts history (subst (λ (es : List (List ℕ)). Spells made.airport es history) same known.spells) known.legal fault other stops
 
-  -- it is not opened only where memory has run out, if the disk doesn't fail
+  -- if the disk doesn't fail, it is not opened only if memory has run out
   pub unopened_wants : (why : Unusable) → NotOpened made before after why → ¬ (Rose before.faults after.faults) → status_of_unusable why ≡ Memory
   unopened_wants why finds still = wants why finds.cause
     where

@@ -19,7 +19,8 @@ use Rattle.history_core.specs.Steps.{IsOtherName, IsSameName, Stepped, TakenAs, 
 use Rattle.apron_run.specs.declared.imported.Imported.{Imported}
 use Rattle.apron_run.specs.declared.imported.Imported.TheVariants.{Whole, Refused, Full, DiskFault, Spent, Memory}
 
--- what a board has come to: its history, the entry at risk after it, the number of its next call, and how often its keeper has failed
+-- what a board has come to: its history, the entry at risk after it, the number of its next call,
+-- and how often its keeper has failed
 pub record Reached : Type 0 where
   pub history : List Entry
   pub at_risk : Option Entry
@@ -35,11 +36,11 @@ reached_by tells board = record {
   faults = (tells board.keeper).faults;
 }
 
--- an entry is at risk only where one was
+-- an entry is at risk only if one was before
 abbrev pub NoMoreAtRisk : Reached → Reached → Type 0
 NoMoreAtRisk before after = before.at_risk ≡ None → after.at_risk ≡ None
 
--- where no entry was at risk, none is but that of the visit, as it was asked with the next call number
+-- if no entry was at risk, only the visit's entry can be now, asked with the next call number
 abbrev pub OnlyAtRisk : Reached → NewVisit → Reached → Type 0
 OnlyAtRisk at new after = at.at_risk ≡ None → IfSome after.at_risk (IsAskedFor at.next (Change (AddVisit new)))
 
@@ -47,7 +48,8 @@ OnlyAtRisk at new after = at.at_risk ≡ None → IfSome after.at_risk (IsAskedF
 abbrev pub IsThere : PlanState → NewVisit → Type 0
 IsThere plan new = (visit : Visit) × IsSameName plan new visit
 
--- why a visit is not there that was not added, with the number of its record: a visit with other data has its name, or none has it
+-- why a visit is not there that was not added, with the number of its record: a visit with other
+-- data has its name, or none has it
 abbrev pub IsMissing : PlanState → NewVisit → ℕ → Imported → Type 0
 IsMissing plan new number (Refused told) = (told ≡ number) × ((visit : Visit) × IsOtherName plan new visit)
 IsMissing plan new number (Full told) = (told ≡ number) × (visit_named plan.visits new.name ≡ None)
@@ -68,7 +70,8 @@ module _ (airport : AirportParts) where
   abbrev pub TakesAs : Reached → NewVisit → Stepped → Type 0
   TakesAs at new stepped = TakenAs (replay airport at.history) (length at.history) (AddVisit new) stepped
 
-  -- the visit was asked to be added, with the next call number: it was taken so, and where it was accepted the history has its entry
+  -- the visit was asked to be added, with the next call number: it was taken in this way, and if it
+  -- was accepted the history has its entry
   pub record Asks (before : Reached) (new : NewVisit) (stepped : Stepped) (after : Reached) : Type 0 where
     pub takes : TakesAs before new stepped
     pub history : after.history ≡ before.history ++ added_entries before.next (AddVisit new) stepped
@@ -87,9 +90,10 @@ module _ (airport : AirportParts) where
   MeetsAll [] before after = after ≡ before
   MeetsAll (new ∷ visits) before after = (mid : Reached) × AsksOnce before new mid × MeetsAll visits mid after
 
-  -- why the asks stopped at the visit of the record of this number: another visit has its name; it is new and there is no place for it; the keeper failed at
-  -- its entry, which may be at risk then; there was no call number for it; or memory has run out. Only the first two are asks that were answered, and none
-  -- changed the history.
+  -- why the asks stopped at the visit of the record of this number: another visit has its name; it
+  -- is new and there is no place for it; the keeper failed at its entry, which may be at risk then;
+  -- there was no call number for it; or memory has run out. Only the first two are asks that were
+  -- answered, and none changed the history.
   abbrev pub StopsImport : ℕ → Reached → NewVisit → Reached → Imported → Type 0
   StopsImport number at new after (Refused told) = (told ≡ number) × ((other : VisitNo) × Asks at new (refused (name other)) after)
   StopsImport number at new after (Full told) = (told ≡ number) × Asks at new full after
@@ -98,7 +102,8 @@ module _ (airport : AirportParts) where
   StopsImport number at new after Memory = (after.history ≡ at.history) × (after.faults ≡ at.faults) × NoMoreAtRisk at after
   StopsImport number at new after imported = ⊥
 
-  -- the visits before one of these were asked and met, and then the asks stopped: those after it were not asked
+  -- the visits before one of these were asked and met, and then the asks stopped: those after it
+  -- were not asked
   pub record StopsAmong (visits : List NewVisit) (before after : Reached) (imported : Imported) : Type 0 where
     pub front : List NewVisit
     pub new : NewVisit
@@ -108,13 +113,15 @@ module _ (airport : AirportParts) where
     pub met : MeetsAll front before at
     pub stops : StopsImport (record_behind front) at new after imported
 
-  -- each visit was asked and met: this many entries came, and the other visits, of this number, were there already
+  -- each visit was asked and met: this many entries came, and the other visits, of this number,
+  -- were there already
   pub record AsksWhole (visits : List NewVisit) (before after : Reached) (added_entries present : ℕ) : Type 0 where
     pub met : MeetsAll visits before after
     pub added_are : length after.history ≡ length before.history + added_entries
     pub present_are : added_entries + present ≡ length visits
 
-  -- these visits were asked to be added, each at most once and in order: all of them, or up to one at which the asks stopped
+  -- these visits were asked to be added, each at most once and in order: all of them, or up to one
+  -- at which the asks stopped
   abbrev pub AsksSeason : List NewVisit → Reached → Reached → Imported → Type 0
   AsksSeason visits before after (Whole added_entries present) = AsksWhole visits before after added_entries present
   AsksSeason visits before after imported = StopsAmong visits before after imported

@@ -12,8 +12,8 @@ use Rattle.apron_run.specs.declared.status.Status.TheVariants.{ShelfFault, ReadF
 abbrev pub FailsInUse : Bool → ℕ → ℕ → Type 0
 FailsInUse used before after = (used ≡ true) × Rose before after
 
--- A run ends with the status of the shelf, the source, the sink or the disk only where its count of faults rose in the run, which uses it for what is asked:
--- every run uses the sink.
+-- A run ends with the status of the shelf, the source, the sink or the disk only if its count of
+-- faults rose in the run and the run uses it. Every run uses the sink.
 pub record FaultsHaveCause (asked : Subcommand) (before after : World) (code : ℕ) : Type 0 where
   pub shelf : code ≡ exit_code ShelfFault → FailsInUse (uses_shelf asked) before.shelf.faults after.shelf.faults
   pub source : code ≡ exit_code ReadFault → FailsInUse (uses_source asked code) before.source.faults after.source.faults

@@ -1,4 +1,4 @@
--- What the word `chart` does: the wall chart of a day, drawn from the journal of the airport of two files.
+-- What the word `chart` does: the wall chart of a day, drawn from the journal of an airport.
 use Rattle.std.specs.Prelude.{◌≡◌, ℕ, List, Option, None, Some}
 use Rattle.apron_rules.specs.declared.parts.AirportParts.{AirportParts}
 use Rattle.wall_chart.specs.Chart.{chart_text}
@@ -31,6 +31,7 @@ ChartsDay files None before after status = (after.disk ≡ before.disk) × Write
 abbrev pub ChartsNamed : List ℕ → AirportFiles → SinkAndDisk → SinkAndDisk → Status → Type 0
 ChartsNamed day files before after status = ChartsDay files (day_named files.airport day) before after status
 
--- the airport file and the type file of these names were read, and this was done with what was found in them
+-- the airport file and the type file of these names were read, and this was done with what was
+-- found in them
 abbrev pub ChartsFiles : List ℕ → List ℕ → List ℕ → World → World → Status → Type 0
 ChartsFiles airport types day before after status = DoesWithFiles (ChartsNamed day) airport types before after status

@@ -1,4 +1,4 @@
--- Completeness: a run that is asked what can be done, and at whose ends nothing fails, does it, or memory has run out.
+-- Completeness: a run does what it can be asked for, if nothing fails, or memory has run out.
 use Rattle.std.specs.Prelude.{◌≡◌, ◌⊎◌, ◌<◌, ◌≤◌, ◌+◌, ℕ, List, ◌∷◌, ◌++◌, length, count_by, IsSome, IfSome, None, Some, Ok}
 use Rattle.apron_base.specs.Counts.{Rose}
 use Rattle.apron_base.specs.Ends.{SourceState}
@@ -49,13 +49,15 @@ pub record HasJournal (files : AirportFiles) (disk : DiskSeen) (history : List E
 abbrev pub count_of_asks : AirportParts → List Request → ℕ
 count_of_asks airport requests = count_by (takes_number airport) requests
 
--- an input of this many requests ends between requests, or with one that closes the session, and a session has not answered as many as it may before
+-- an input of this many requests ends between requests, or with one that closes the session, and a
+-- session has not answered as many as it may before
 abbrev pub EndsInTime : Ending → ℕ → Type 0
 EndsInTime ended count = count < most_requests
 EndsInTime closed count = count ≤ most_requests
 EndsInTime ending count = ⊥
 
--- the source tells its input, which a session can answer to its end, and the call numbers after the history are enough for what it asks
+-- the source tells its input, which a session can answer to its end, and the call numbers after the
+-- history are enough for what it asks
 pub record HasInput (airport : AirportParts) (source : SourceState) (history : List Entry) : Type 0 where
   pub input : List ℕ
   pub told : source.left ≡ Some input
@@ -65,18 +67,19 @@ pub record HasInput (airport : AirportParts) (source : SourceState) (history : L
   pub ends : EndsInTime ending (length requests)
   pub numbers : next_after history + count_of_asks airport requests ≤ call_limit
 
--- a plan, whose history has this many entries, adds the visit or has it: no visit of the plan has its name with other data, and where none has its name
--- there is a place for one more visit and one more entry
+-- a plan with a history of this many entries adds the visit or has it: no visit of the plan has its
+-- name with other data, and if none has its name there is a place for one more visit and entry
 pub record Admits (plan : PlanState) (entries : ℕ) (new : NewVisit) : Type 0 where
   pub name : (visit : Visit) → ¬ (IsOtherName plan new visit)
   pub place : visit_named plan.visits new.name ≡ None → HasPlace plan entries (AddVisit new)
 
--- each of these visits is admitted where those before it were asked to be added
+-- each of these visits is admitted after those before it were asked to be added
 abbrev pub AdmitsEach : AirportParts → List NewVisit → Reached → Type 0
 AdmitsEach airport visits before = (front back : List NewVisit) (new : NewVisit) (at : Reached) → visits ≡ front ++ new ∷ back → MeetsAll airport front before at
     → Admits (replay airport at.history) (length at.history) new
 
--- the shelf tells the season file of this name, whose visits are admitted one after another, and the call numbers are enough for them
+-- the shelf tells the season file of this name, whose visits are admitted one after another, and
+-- the call numbers are enough for them
 pub record HasSeason (airport : AirportParts) (shelf : ShelfState) (season : List ℕ) (before : Reached) : Type 0 where
   pub visits : List NewVisit
   pub told : IsSome (shelf.file season)
@@ -88,12 +91,14 @@ pub record HasSeason (airport : AirportParts) (shelf : ShelfState) (season : Lis
 abbrev pub OnFiles : World → List ℕ → List ℕ → (AirportFiles → Type 0) → Type 0
 OnFiles world airport types Holds = (files : AirportFiles) × HasFiles world.shelf airport types files × Holds files
 
--- the two files make an airport, the disk opens as the journal of it, and this holds of the files and of the journal's history
+-- the two files make an airport, the disk opens as the journal of it, and this holds of the files
+-- and of the journal's history
 abbrev pub OnJournal : World → List ℕ → List ℕ → (AirportFiles → List Entry → Type 0) → Type 0
 OnJournal world airport types Holds =
     OnFiles world airport types (λ files. (history : List Entry) × HasJournal files world.disk history × Holds files history)
 
--- what is asked can be done with what there is at the beginning, within all limits: one line for each word
+-- what is asked can be done with what there is at the beginning, within all limits: one line for
+-- each word
 abbrev pub CanBeRun : Subcommand → World → Type 0
 CanBeRun (desk airport types) world = OnJournal world airport types (λ files history. HasInput files.airport world.source history)
 CanBeRun (init airport types) world = OnFiles world airport types (λ files. IsEmpty world.disk)
@@ -120,6 +125,6 @@ pub record NoneFails (before after : World) : Type 0 where
 abbrev pub EndsWell : ℕ → Type 0
 EndsWell code = (code ≡ exit_code Done) ⊎ (code ≡ exit_code Memory)
 
--- what is valid, and where nothing fails, ends well
+-- what is valid ends well, if nothing fails
 pub record IsRunComplete (asked : Subcommand) (before after : World) (code : ℕ) : Type 0 where
   pub well : CanBeRun asked before → NoneFails before after → EndsWell code

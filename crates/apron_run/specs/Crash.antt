@@ -1,5 +1,4 @@
--- What a crash may leave of the disk in a run and after it, by what the run does: a clause of its
--- own beside what is seen of a disk without a crash.
+-- What a crash may leave of the disk in a run and after it, by what the run does.
 use Rattle.std.specs.Prelude.{◌≡◌, ◌≢◌, ℕ, List, length, Option, None, Some, Result, Ok, Err}
 use Rattle.apron_base.specs.declared.outside.Outcome.{Outcome}
 use Rattle.desk_turns.specs.Watched.{FeedTexts}
@@ -26,8 +25,8 @@ use Rattle.apron_run.specs.declared.unusable.Unusable.{Unusable}
 abbrev pub LeavesAll : DiskStates → Type 0
 LeavesAll disk = Stays disk.before disk.after
 
--- where a journal of the files of these digests was to be made: the empty journal, if it was made;
--- and what it could leave before, if it was refused and the disk had bytes
+-- if a journal of the files of these digests was to be made: the empty journal if it was made; and
+-- what a crash could leave before if it was refused and the disk had bytes
 abbrev pub LeavesMade : List ℕ → Option JournalFault → DiskStates → Type 0
 LeavesMade digests None disk =
     IfExposed disk.before (λ bytes. IsSafe (empty_journal digests) disk.after)
@@ -35,8 +34,8 @@ LeavesMade digests (Some fault) disk =
     IfExposed disk.before (λ bytes. length bytes ≢ 0 → LeavesAll disk)
 
 module _ (disk : DiskStates) where
-  -- an import: the history to which it came survives; and where there was no journal to work on,
-  -- nothing is written
+  -- an import: its history at the end survives; if there was no journal to work on, nothing is
+  -- written
   abbrev pub LeavesImported : (files : AirportFiles) (season : List ℕ) (before after : Stores)
       (met : Result Imported Unusable) → MeetsImport files season before after met → Type 0
   LeavesImported files season before after (Ok imported) imports =
@@ -89,7 +88,7 @@ module _ (disk : DiskStates) where
 
 -- `feeds` says what the reply to each feed is, by the airport and the history
 module _ (feeds : FeedTexts) (disk : DiskStates) where
-  -- a session: its history survives; and where there was no journal to work on, nothing is written
+  -- a session: its history survives; if there was no journal to work on, nothing is written
   abbrev pub LeavesOfSession : (files : AirportFiles) (before after : DeskEnds) (met : Result Outcome Unusable)
       → MeetsDesk feeds files before after met → Type 0
   LeavesOfSession files before after (Ok outcome) serves =

@@ -1,4 +1,4 @@
--- What the word `desk` does: one session of a desk alone at the airport of two files, on the journal of it that is on the disk.
+-- What the word `desk` does: one session of a desk alone at an airport, on its journal on the disk.
 use Rattle.std.specs.Prelude.{◌≡◌, ◌==◌, ◌+◌, ◌≤◌, ℕ, List, [], length, true, MatchBool, None, Result, Ok, Err}
 use Rattle.apron_base.specs.Counts.{Counts}
 use Rattle.apron_base.specs.Ends.{SinkState}
@@ -32,12 +32,13 @@ use Rattle.apron_run.specs.declared.unusable.Unusable.{Unusable}
 abbrev pub moment : DeskEnds → PortState → Moment
 moment ends port = record { source = ends.source; sink = ends.sink; port = port }
 
--- a desk that has made no call yet: it has seen the history that was opened, no entry is at risk, its calls go on from the last entry's number, and the disk
--- has failed so often
+-- a desk that has made no call yet: it has seen the opened history, no entry is at risk, its calls
+-- go on from the last entry's number, and the disk has failed this often
 abbrev pub new_port : List Entry → ℕ → PortState
 new_port opened faults = record { first = next_after opened; seen = opened; at_risk = None; calls = []; spent = next_after opened == call_limit; faults = faults }
 
--- there is no journal to work on: nothing was taken and nothing written, and the disk reads as before
+-- there is no journal to work on: nothing was taken and nothing written, and the disk reads as
+-- before
 pub record DeskFindsNoJournal (files : AirportFiles) (before after : DeskEnds) (why : Unusable) : Type 0 where
   pub source : after.source ≡ before.source
   pub sink : after.sink ≡ before.sink
@@ -49,13 +50,13 @@ abbrev pub TellsOutcome : Outcome → SinkState → SinkState → Status → Typ
 TellsOutcome Memory before after status = TellsFault files.Memory before after status
 TellsOutcome outcome before after status = (after ≡ before) × (status ≡ status_of_outcome outcome)
 
--- the same where there may have been no journal to work on, which its line tells
+-- the same, or there was no journal to work on, and the line says why
 abbrev pub PrintsSessionEnd : Result Outcome Unusable → SinkState → SinkState → Status → Type 0
 PrintsSessionEnd (Ok outcome) before after status = TellsOutcome outcome before after status
 PrintsSessionEnd (Err why) before after status = TellsUnusable why before after status
 
--- the disk's count of faults: it may have risen in a session, whose replies then say so; it rose where the status says that the disk failed, and else it
--- stands still
+-- the disk's count of faults: it may rise in a session, and the replies then say so; it rose if the
+-- status says that the disk failed; otherwise it is as before
 abbrev pub ServedCounts : Status → ℕ → ℕ → Type 0
 ServedCounts status before now = MatchBool (may_serve status) (before ≤ now) (Counts (is_disk_fault status) before now)
 
@@ -67,8 +68,8 @@ module _ (feeds : FeedTexts) where
       FedAnswers AloneAsks (AloneFeeds (feeds airport)) airport before request answered after
 
   -- One session with feeds of a desk alone: it began with the history that the disk opened to, and
-  -- left the disk with the history as it then was. Where the desk's call numbers were exhausted, all
-  -- of them have been used.
+  -- left the disk with the history at its end. If the desk's call numbers ran out, all of them were
+  -- used.
   pub record ServesDesk (files : AirportFiles) (before after : DeskEnds) (outcome : Outcome) : Type 0 where
     pub opened : List Entry
     pub opens : OpensTo files before.disk opened
@@ -97,7 +98,8 @@ module _ (feeds : FeedTexts) where
   RunsFound (Ok files) before after status = RunsOnJournal files before after status
   RunsFound (Err fault) before after status = (after.source ≡ before.source) × (after.disk ≡ before.disk) × TellsFault fault before.sink after.sink status
 
-  -- the airport file and the type file of these names were read, and this was done with what was found in them
+  -- the airport file and the type file of these names were read, and this was done with what was
+  -- found in them
   pub record RunsDesk (airport types : List ℕ) (before after : World) (status : Status) : Type 0 where
     pub found : Result AirportFiles FilesFault
     pub finds : FindsFiles before.shelf after.shelf airport types found

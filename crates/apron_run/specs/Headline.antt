@@ -1,4 +1,5 @@
--- The headline: what the output of a desk's session, and what it leaves on the disk, are to its input and what it found there.
+-- The headline: how a desk's session turns its input and the disk into its output and the disk
+-- after it.
 use Rattle.std.specs.Prelude.{◌≡◌, ◌⊎◌, ◌<◌, ◌≤◌, ◌↔◌, ◌+◌, ℕ, Bool, true, false, All, List, [], ◌∷◌, ◌++◌, length, take, count_by, is_ok, Option, None, Some, IfSome, Result, Ok, Err}
 use Rattle.std.specs.Io.KnownBytes.{Appends}
 use Rattle.apron_base.specs.Counts.{RoseBy}
@@ -46,7 +47,8 @@ pub record Carried : Type 0 where
   pub left : List ℕ
   pub output : List ℕ
 
--- the requests at the front of an input that were answered, in order, what was sent for each, and the bytes after them
+-- the requests at the front of an input that were answered, in order, what was sent for each, and
+-- the bytes after them
 pub record Exchange : Type 0 where
   pub requests : List Request
   pub sents : List Sent
@@ -63,7 +65,8 @@ pub record StopsInside (bytes left : List ℕ) : Type 0 where
   pub are : bytes ≡ part ++ left
   pub cut_off : IsPartial part
 
--- a request stands whole at the front of the bytes whose body is to be read as JSON: only that takes memory before it is asked
+-- a request stands whole at the front of the bytes whose body is to be read as JSON: only that
+-- takes memory before it is asked
 pub record IsUnread (bytes : List ℕ) : Type 0 where
   pub request : Request
   pub behind : List ℕ
@@ -75,8 +78,8 @@ abbrev pub is_asking : Option (Result FeedAsk EarlyReply) → Result Ask EarlyRe
 is_asking None asked = is_ok asked
 is_asking (Some feed) asked = is_ok feed
 
--- whether the request asks something of the plan of the airport, or asks for a feed: then it takes a
--- call number
+-- whether the request asks something of the plan of the airport, or asks for a feed: then it takes
+-- a call number
 abbrev pub takes_number : AirportParts → Request → Bool
 takes_number airport request = is_asking (feed_asked (said_in request)) (ask_of_request airport request)
 
@@ -103,13 +106,14 @@ tells_unkept (at_once reply) = false
 tells_unkept (given answer) = is_unkept answer
 tells_unkept (fed answer) = false
 
--- a count of faults over some replies: it stays as it is if none of them is 503, and else it rises by
--- at least as many as are, or is at its last value
+-- a count of faults over some replies: it stays as it is if none of them is 503, and else it rises
+-- by at least as many as are, or is at its last value
 pub record CountsUnkept (unkept before after : ℕ) : Type 0 where
   pub none : unkept ≡ 0 → after ≡ before
   pub some : RoseBy unkept before after
 
--- one place of an exchange: what was sent there for a request, and the requests and what was sent before it
+-- one place of an exchange: what was sent there for a request, and the requests and what was sent
+-- before it
 pub record IsPlace (exchange : Exchange) (front : List Request) (told : List Sent) (request : Request) (sent : Sent) : Type 0 where
   pub back : List Request
   pub later : List Sent
@@ -141,10 +145,12 @@ module _ (airport : AirportParts) where
     pub count : ℕ
     pub bytes : output ≡ replies_text exchange ++ take count (refusal_text why)
 
-  -- Where in its input a session stopped that ended with this status, and what it wrote. With Done, Cut and Malformed it came to the end of the
-  -- input's requests, and with Limit it answered as many as it may. With ReadFault it stopped inside a request, with WriteFault at a reply, with Spent
-  -- at a request that takes a call number, and with Memory before it took anything or at a request whose body is to be read as JSON; then the line that
-  -- says so was written after the replies, or a front of it.
+  -- The place in its input at which a session ended with this status, and what it wrote. With Done,
+  -- Cut and Malformed it came to the end of the input's requests, and with Limit it answered as
+  -- many as it may. With ReadFault it stopped inside a request, with WriteFault at a reply, and
+  -- with Spent at a request that takes a call number. With Memory it stopped before it took
+  -- anything, or at a request whose body is read as JSON; then the line that says so, or a
+  -- beginning of it, follows the replies.
   abbrev pub StopsWith : Status → Carried → Exchange → Type 0
   StopsWith Done carried exchange =
       (GoesOn exchange × Requests carried.input exchange.requests ended ⊎ Requests carried.input exchange.requests closed)
@@ -161,8 +167,9 @@ module _ (airport : AirportParts) where
   StopsWith Spent carried exchange = GoesOn exchange × TakesCall airport exchange.rest × (carried.output ≡ replies_text exchange)
   StopsWith status carried exchange = ⊥
 
-  -- An entry that could not be kept, where the calls of the exchange have the numbers from `first` on: the request at one place of it asked this command as
-  -- the call of this number, and its reply says so; and all entries of the history are of calls before that, so that none was added since.
+  -- An entry that could not be kept, in an exchange whose calls are numbered from `first` on: one
+  -- request asked this command as the call of this number, and its reply says so. All entries of
+  -- the history are of earlier calls, so none was added since.
   pub record IsUnkept (first : ℕ) (exchange : Exchange) (history : List Entry) (entry : Entry) : Type 0 where
     pub front : List Request
     pub told : List Sent
@@ -177,12 +184,13 @@ module _ (airport : AirportParts) where
   abbrev pub AllSound : List Entry → Type 0
   AllSound history = (front back : List Entry) → history ≡ front ++ back → IsSoundPlan (replay airport front)
 
-  -- a draft made a version of the plan exactly where the entry of that number is its commit
+  -- a draft made a version of the plan exactly if the entry of that number is its commit
   abbrev pub HasItsEntry : List Entry → List ℕ → ℕ → ℕ → Type 0
   HasItsEntry history desk number version =
       (draft_version (replay airport history).drafts desk number ≡ Some version) ↔ HasCommit history version desk number
 
-  -- a visit of the plan was added with this, by the entry of this number, exactly where that entry adds one with it
+  -- a visit of the plan was added with this, by the entry of this number, exactly if that entry
+  -- adds one with it
   abbrev pub IsOfItsEntry : List Entry → ℕ → NewVisit → Type 0
   IsOfItsEntry history version added = HasVisit (replay airport history).visits version added ↔ HasAdded history version added
 
@@ -193,33 +201,32 @@ Sends feeds airport before request sent after = DeskAnswers feeds airport before
 -- `feeds` says what the reply to each feed is, by the airport and the history
 module _ (feeds : FeedTexts) (files : AirportFiles) where
   -- The headline: the requests at the front of the input, a million at most, were answered in
-  -- order, and the output is the replies, as far as the status says, of one legal history that
-  -- begins with the entries that the journal had. A request that asks nothing of the plan, and for
-  -- no feed, has its fixed reply. Each other one reached the board with the next call number, from
-  -- the one above the last of those entries on, or from 1 on where there was none; at the end of
-  -- these numbers the session ends. The reply to an ask that has seen a later version than the
-  -- plan's says that it is ahead. Any other visit is added exactly where no visit has its name, and
-  -- there is a place for one more visit and one more entry; the same visit again gets the version
-  -- of its entry, and other data under its name is refused. Any other commit is accepted exactly
-  -- where it was not made over a later version, its draft is new, its edits (which put, lift, cut
-  -- and join parts) apply to the plan as it then is and leave no clash, and the history takes one
-  -- more entry; a draft that came before gets the version that its entry made, and any other is
-  -- refused for the first cause against it. Any other message, report or cancel is an entry exactly
-  -- where nothing refuses it and the history takes one more entry: nothing refuses a message; a
-  -- report is refused for the first cause against its visit, its part and its minute, and never for
-  -- a clash; a cancel is, where its visit is not there, has left or is on block. A message and a
-  -- report change the one visit that they are of, and then settle the plan: planned parts that
-  -- can't stay lose their stands, and the reply names them. A cancelled visit stands nowhere. A
-  -- question is answered from the plan and the history as they then are. The reply to a feed lists
-  -- the notes of entries after the one that it names of which its watch tells, or says that the
-  -- feed is ahead, or that there is no such watch. In place of each of these replies there may be
-  -- the one that says that memory has run out, and in place of the reply to a command that the plan
-  -- accepts the one that says that its entry could not be kept, if the disk's count of faults rose
-  -- at it; and then nothing has changed. The count stays as it is if no reply is that one. After
-  -- each entry the plan is sound. At the end the disk is a journal of the same two files with the
-  -- history, or, if it has failed, with this and perhaps one entry more, with which it is still
-  -- legal: that of a request whose reply said that its entry could not be kept, and after which
-  -- none was added.
+  -- order. The output is the replies, as far as the status says, of one legal history that begins
+  -- with the entries that the journal had. A request that asks nothing of the plan, and for no
+  -- feed, has its fixed reply. Each other one reached the board with the next call number: from one
+  -- above the last of those entries on, or from 1 on if there was none. The session ends if these
+  -- numbers run out. An ask that has seen a later version than the plan's gets the reply that says
+  -- so. Any other visit is added exactly if no visit has its name, and there is a place for one
+  -- more visit and entry. The same visit again gets the version of its entry, and other data under
+  -- its name is refused. Any other commit is accepted exactly if it was not made over a later
+  -- version, its draft is new, its edits (which put, lift, cut and join parts) apply to the plan as
+  -- it then is and leave no clash, and the history takes one more entry. A draft that came before
+  -- gets the version that its entry made, and any other is refused for the first cause against it.
+  -- Any other message, report or cancel is an entry exactly if nothing refuses it and the history
+  -- takes one more entry. Nothing refuses a message. A report is refused for the first cause
+  -- against its visit, its part and its minute, and never for a clash. A cancel is refused if its
+  -- visit does not exist, has left or is on block. A message and a report change the one visit that
+  -- they are of, and then settle the plan: planned parts that can't stay lose their stands, and the
+  -- reply names them. A cancelled visit is on no stand. A question is answered from the plan and
+  -- the history as they then are. The reply to a feed lists the notes that its watch tells of, of
+  -- entries after the one that it names; or it says that the feed is ahead, or that there is no
+  -- such watch. In place of each of these replies there may be the one that says that memory has
+  -- run out. In place of the reply to a command that the plan accepts there may be the one that
+  -- says that its entry could not be kept, if the disk's count of faults rose at it. Nothing has
+  -- changed then. The count stays as it is if no reply is that one. After each entry the plan is
+  -- sound. At the end the disk is a journal of the same two files with the history; or, if it has
+  -- failed, with the history and perhaps one more entry, with which it is still legal. This is the
+  -- entry of a request whose reply said that it could not be kept, and no entry was added after it.
   pub record Headline (opened : List Entry) (before after : DiskSeen) (carried : Carried) (code : ℕ) : Type 0 where
     pub status : Status
     pub code_is : code ≡ exit_code status
@@ -241,19 +248,21 @@ module _ (feeds : FeedTexts) (files : AirportFiles) where
     pub keeps : KeepsHistory files new.seen new.at_risk after
     pub at_risk : IfSome new.at_risk (IsUnkept files.airport (next_after opened) exchange new.seen)
 
-  -- the headline of this input, with what the source and the sink tell afterwards; what the sink told before it tells then too
+  -- the headline of this input, with what the source and the sink tell afterwards; what the sink
+  -- told before it tells then too
   abbrev pub TellsOf : List Entry → List ℕ → DeskEnds → DeskEnds → ℕ → Type 0
   TellsOf opened input before after code = (left output : List ℕ) × (after.source.left ≡ Some left) × Appends before.sink.told after.sink.told output
       × Headline opened before.disk after.disk (record { input = input; left = left; output = output }) code
 
-  -- the journal of the files opened, and the headline begins with its history, where the source tells its bytes
+  -- the journal of the files opened, and the headline begins with its history, if the source tells
+  -- its bytes
   pub record TellsOpened (before after : DeskEnds) (code : ℕ) : Type 0 where
     pub opened : List Entry
     pub opens : OpensTo files before.disk opened
     pub tells : IfSome before.source.left (λ input. TellsOf opened input before after code)
 
--- there is no journal of the files to work on: the line that tells why was written, or a front of it, and nothing else; the source is as it was, and the
--- disk reads as before
+-- there is no journal of the files to work on: the line that tells why was written, or a front of
+-- it, and nothing else; the source is as it was, and the disk reads as before
 pub record TellsUnopened (files : AirportFiles) (before after : DeskEnds) (code : ℕ) : Type 0 where
   pub why : Unusable
   pub code_is : code ≡ exit_code (status_of_unusable why)
@@ -262,7 +271,8 @@ pub record TellsUnopened (files : AirportFiles) (before after : DeskEnds) (code 
   pub count : ℕ
   pub wrote : Appends before.sink.told after.sink.told (take count (unusable_line why))
 
--- the line of a fault of the files was written, or a front of it, and nothing else; the source and the disk are as they were
+-- the line of a fault of the files was written, or a front of it, and nothing else; the source and
+-- the disk are as they were
 pub record TellsEarly (fault : FilesFault) (before after : DeskEnds) (code : ℕ) : Type 0 where
   pub code_is : code ≡ exit_code (status_of_fault fault)
   pub source : after.source ≡ before.source
@@ -272,8 +282,8 @@ pub record TellsEarly (fault : FilesFault) (before after : DeskEnds) (code : ℕ
 
 -- `feeds` says what the reply to each feed is, by the airport and the history
 module _ (feeds : FeedTexts) where
-  -- the headline of what was found in the two files: of a session on their journal, or that there is
-  -- none to work on; or the line of their fault
+  -- the headline of what was found in the two files: of a session on their journal, or that there
+  -- is none to work on; or the line of their fault
   abbrev pub TellsFoundHeadline : Result AirportFiles FilesFault → DeskEnds → DeskEnds → ℕ → Type 0
   TellsFoundHeadline (Ok files) before after code =
       TellsOpened feeds files before after code ⊎ TellsUnopened files before after code

@@ -8,7 +8,7 @@ use Rattle.apron_run.specs.declared.imported.Imported.TheVariants as imported
 use Rattle.apron_run.specs.declared.status.Status.{Status}
 use Rattle.apron_run.specs.declared.status.Status.TheVariants.{Done, WriteFault, ShelfFault, DiskFault, SeasonFault, Full, Spent, Memory}
 
--- what tells how an import ended: nothing where the call numbers are used up
+-- the text that says how an import ended: nothing if the call numbers have run out
 abbrev pub imported_text : Imported → List ℕ
 imported_text (imported.Whole added present) = (codes "added " ++ decimal added) ++ (codes " present " ++ decimal present)
 imported_text imported.ShelfFault = codes "shelf fault"
@@ -34,7 +34,8 @@ status_of_imported imported.DiskFault = DiskFault
 status_of_imported imported.Spent = Spent
 status_of_imported imported.Memory = Memory
 
--- the line that tells it, with its status, which stays where the sink fails at the line, unless all was done; and no line where the call numbers are used up
+-- the line that says how an import ended, with its status, which stays if the sink fails at the
+-- line, unless all was done; no line if the call numbers have run out
 abbrev pub TellsImported : Imported → SinkState → SinkState → Status → Type 0
 TellsImported (imported.Whole added present) before after status = Writes (imported_line (imported.Whole added present)) Done WriteFault before after status
 TellsImported imported.Spent before after status = (after ≡ before) × (status ≡ Spent)

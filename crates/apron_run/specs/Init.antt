@@ -26,12 +26,13 @@ pub record HadBytes (before after : DiskSeen) : Type 0 where
   pub reads : after.contents ≡ before.contents
   pub counts : Counts false before.faults after.faults
 
--- the disk failed; where it had bytes it has them still
+-- the disk failed; if it had bytes it still has them
 pub record FailedUnmade (before after : DiskSeen) : Type 0 where
   pub spares : IfSome before.contents (λ bytes. length bytes ≢ 0 → after.contents ≡ before.contents)
   pub counts : Counts true before.faults after.faults
 
--- a journal was made of the files of these digests, or refused: since the disk failed, or since it wasn't empty
+-- a journal was made of the files of these digests, or refused: since the disk failed, or since it
+-- wasn't empty
 abbrev pub Makes : List ℕ → DiskSeen → DiskSeen → Option JournalFault → Type 0
 Makes digests before after None = IsJournalMade digests before after
 Makes digests before after (Some journal.DiskFault) = FailedUnmade before after
@@ -43,12 +44,13 @@ abbrev pub TellsMade : Option JournalFault → SinkState → SinkState → Statu
 TellsMade None before after status = Writes made_text Done WriteFault before after status
 TellsMade (Some fault) before after status = TellsUnusable (Journal fault) before after status
 
--- a journal was made of these files, or refused, and that was told
+-- a journal was made of these files, or refused, and the line says so
 pub record MakesJournal (files : AirportFiles) (before after : SinkAndDisk) (status : Status) : Type 0 where
   pub refused : Option JournalFault
   pub makes : Makes files.digests before.disk after.disk refused
   pub tells : TellsMade refused before.sink after.sink status
 
--- the airport file and the type file of these names were read, and this was done with what was found in them
+-- the airport file and the type file of these names were read, and this was done with what was
+-- found in them
 abbrev pub InitsJournal : List ℕ → List ℕ → World → World → Status → Type 0
 InitsJournal airport types before after status = DoesWithFiles MakesJournal airport types before after status

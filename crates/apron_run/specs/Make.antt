@@ -20,6 +20,6 @@ pub record WritesDay (visits : ℕ) (before after : SinkState) (status : Status)
   pub makes : MakesDay visits summary
   pub writes : Writes (summary_text summary) Done WriteFault before after status
 
--- the same, or the line that tells want of memory
+-- the same, or the line that says that memory has run out
 abbrev pub TellsDay : ℕ → SinkState → SinkState → Status → Type 0
 TellsDay visits before after status = WritesDay visits before after status ⊎ TellsFault files.Memory before after status

@@ -25,7 +25,8 @@ TellsText (Err why) before after status = TellsUnusable why before after status
 
 -- for the texts that answer what is asked, by the airport and the history
 module _ (Answers : AirportParts → List Entry → List ℕ → Type 0) where
-  -- such a text was made of the history to which the disk opens, or memory ran out; the disk reads as before, and no call of it has failed
+  -- such a text was made of the history to which the disk opens, or memory ran out; the disk reads
+  -- as before, and no call of it has failed
   pub record MakesText (files : AirportFiles) (before after : DiskSeen) (made : Result (List ℕ) Memory) : Type 0 where
     pub opened : List Entry
     pub opens : OpensTo files before opened
@@ -38,12 +39,14 @@ module _ (Answers : AirportParts → List Entry → List ℕ → Type 0) where
   MeetsText files before after (Ok made) = MakesText files before after made
   MeetsText files before after (Err why) = NotOpened files before after why
 
-  -- such a text was made of the journal of these files, or none, and that was told
+  -- such a text was made of the journal of these files, or none, and it or the line of the cause
+  -- was printed
   pub record PrintsText (files : AirportFiles) (before after : SinkAndDisk) (status : Status) : Type 0 where
     pub met : Result (Result (List ℕ) Memory) Unusable
     pub meets : MeetsText files before.disk after.disk met
     pub tells : TellsText met before.sink after.sink status
 
-  -- the airport file and the type file of these names were read, and this was done with what was found in them
+  -- the airport file and the type file of these names were read, and this was done with what was
+  -- found in them
   abbrev pub PrintsFiles : List ℕ → List ℕ → World → World → Status → Type 0
   PrintsFiles airport types before after status = DoesWithFiles PrintsText airport types before after status

@@ -3,7 +3,8 @@ use Rattle.std.specs.Prelude.{◌≡◌, ◌⊎◌, ℕ, true, false, List, take
 use Rattle.apron_base.specs.Ends.{SinkState, Wrote}
 use Rattle.apron_run.specs.declared.status.Status.{Status}
 
--- a text was written whole, with its status; or the sink failed and a front of it was written, with the other status
+-- a text was written whole, with its status; or the sink failed and a front of it was written, with
+-- the other status
 abbrev pub Writes : List ℕ → Status → Status → SinkState → SinkState → Status → Type 0
 Writes text whole cut before after status =
     ((status ≡ whole) × Wrote false before after text) ⊎ ((status ≡ cut) × ((count : ℕ) × Wrote true before after (take count text)))
@@ -17,7 +18,7 @@ help_text =
 unfoldable pub version_text : List ℕ
 version_text = codes "apron 0.2.0\n"
 
--- what is printed where a journal was made
+-- what is printed if a journal was made
 unfoldable pub made_text : List ℕ
 made_text = codes "ok\n"
 

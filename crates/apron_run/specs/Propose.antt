@@ -1,5 +1,4 @@
--- What the word `propose` does: a first-fit draft for the plan in the journal of the airport of two
--- files.
+-- What the word `propose` does: a first-fit draft for the plan in the journal of an airport.
 use Rattle.std.specs.Prelude.{◌≡◌, ◌⊎◌, ℕ, List}
 use Rattle.apron_rules.specs.declared.parts.AirportParts.{AirportParts}
 use Rattle.desk_words.specs.declared.asks.Entry.{Entry}

@@ -18,12 +18,13 @@ use Rattle.apron_run.specs.Print.{Writes, help_text, usage_text, version_text}
 use Rattle.apron_run.specs.declared.status.Status.{Status}
 use Rattle.apron_run.specs.declared.status.Status.TheVariants.{Done, Usage, WriteFault}
 
--- the sink's count of faults: it rose where the status says that the sink failed, it may have risen where a line tells the status, and else it
--- stands still
+-- the sink's count of faults: it rose if the status says that the sink failed, it may have risen if
+-- a line reports the status, and otherwise it is as before
 abbrev pub SinkCounts : Status → ℕ → ℕ → Type 0
 SinkCounts status before now = MatchBool (is_told status) (before ≤ now) (Counts (is_sink_status status) before now)
 
--- the disk's count of faults: a session's where one is asked for; else it rose where the status says that the disk failed, or stands still
+-- the disk's count of faults: a session's if one is asked for; otherwise it rose if the status says
+-- that the disk failed, or is as before
 abbrev pub DiskCounts : Subcommand → Status → ℕ → ℕ → Type 0
 DiskCounts (desk airport types) status before now = ServedCounts status before now
 DiskCounts asked status before now = Counts (is_disk_fault status) before now
@@ -45,9 +46,9 @@ module _ (feeds : FeedTexts) where
   Does version before after status = Writes version_text Done WriteFault before.sink after.sink status
   Does faulty before after status = Writes usage_text Usage Usage before.sink after.sink status
 
-  -- what the program does for what is asked of it, from one moment to the other, and the status of its
-  -- number. No end fails but where the status says so, or at the line that tells a status; and the disk
-  -- in a session, at a reply that says so.
+  -- what the program does for what is asked of it, from one moment to the other, and the status of
+  -- its number. An end fails only if the status says so, or at the line that reports a status; and
+  -- the disk in a session, at a reply that says so.
   pub record RunsAs (asked : Subcommand) (before after : World) (code : ℕ) : Type 0 where
     pub status : Status
     pub code_is : code ≡ exit_code status

@@ -75,7 +75,7 @@ may_serve DiskFault = false
 may_serve JournalFault = false
 may_serve status = true
 
--- a line tells the status, which stays where the sink fails at that line
+-- a line reports the status, which stays if the sink fails at that line
 abbrev pub is_told : Status → Bool
 is_told Usage = true
 is_told FileFault = true

@@ -1,5 +1,4 @@
--- What a crash may leave of a journal that a run opens and goes on with, over the moments of its
--- disk.
+-- What a crash may leave of a journal that a run opens and uses, over the moments of its disk.
 use Rattle.std.specs.Prelude.{◌≡◌, ◌⊎◌, ◌≤◌, ℕ, List, length, take, Option, Some, Ok}
 use Rattle.apron_base.specs.Keeper.{with_last}
 use Rattle.desk_words.specs.declared.asks.Entry.{Entry}
@@ -30,14 +29,15 @@ OpensWith digests entries IsMore image =
     (opening_of digests image ≡ Ok entries)
     ⊎ ((more : List ℕ) × IsMore more × (opening_of digests image ≡ Ok (with_last more entries)))
 
--- the image opens to the first of these entries, at least this number of them, or to these and one more
+-- the image opens to the first of these entries, at least this number of them, or to these and one
+-- more
 pub record OpensToFront (digests : List ℕ) (least : ℕ) (entries : List (List ℕ)) (image : List ℕ) : Type 0 where
   pub count : ℕ
   pub some : least ≤ count
   pub few : count ≤ length entries
   pub opens : OpensWith digests (take count entries) (λ more. Unit {0}) image
 
--- What a crash may leave of a journal that was opened in a call, up to now, where the bytes of its
+-- What a crash may leave of a journal that was opened in a call, up to now, if the bytes of its
 -- disk tell its entries. Up to the moment at which it was open: what it could leave when the call
 -- began. From then on: the first of the entries, no fewer than it was opened with, or these and one
 -- more.

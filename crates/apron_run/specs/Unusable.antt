@@ -13,7 +13,8 @@ use Rattle.apron_run.specs.declared.status.Status.TheVariants.{DiskFault, Journa
 use Rattle.apron_run.specs.declared.unusable.Unusable.{Unusable}
 use Rattle.apron_run.specs.declared.unusable.Unusable.TheVariants.{Journal, Entries}
 
--- what tells why a journal isn't made or opened: of another airport's, the digests that it has and those of the files
+-- what tells why a journal isn't made or opened: of another airport's, the digests that it has and
+-- those of the files
 abbrev pub journal_text : JournalFault → List ℕ
 journal_text journal.DiskFault = codes "disk fault"
 journal_text journal.NotEmpty = codes "journal not empty"
@@ -55,6 +56,6 @@ abbrev pub status_of_unusable : Unusable → Status
 status_of_unusable (Journal fault) = status_of_journal fault
 status_of_unusable (Entries fault) = status_of_entries fault
 
--- the line that tells it, with its status, which stays where the sink fails at the line
+-- the line that says why, with its status, which stays if the sink fails at the line
 abbrev pub TellsUnusable : Unusable → SinkState → SinkState → Status → Type 0
 TellsUnusable why before after status = Writes (unusable_line why) (status_of_unusable why) (status_of_unusable why) before after status

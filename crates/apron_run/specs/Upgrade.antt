@@ -1,4 +1,4 @@
--- What the word `upgrade` does: the journal of the airport of two files goes from format 1 to format 2.
+-- What the word `upgrade` does: the journal of an airport goes from format 1 to format 2.
 use Rattle.std.specs.Prelude.{◌≡◌, ◌+◌, ℕ, true, false, List, [], ◌∷◌, ◌++◌, length, map, codes, decimal, Option, None, Some, IfSome, IsSome, Result, Ok, Err}
 use Rattle.apron_base.specs.Counts.{Counts}
 use Rattle.apron_base.specs.Ends.{SinkState}
@@ -30,8 +30,8 @@ use Rattle.apron_run.specs.declared.unusable.Unusable.TheVariants.{Journal, Entr
 abbrev pub Lifts : AirportParts → List (List ℕ) → List (List ℕ) → Type 0
 Lifts airport old new = map (lift_entry airport) old ≡ map Ok new
 
--- What is known of lifted entries: they are as long as an entry can be, and are read as the same as the
--- ones before.
+-- What is known of lifted entries: they are as long as an entry can be, and are read as the same as
+-- the ones before.
 pub record HasLifted (airport : AirportParts) (old new : List (List ℕ)) : Type 0 where
   pub lifts : Lifts airport old new
   pub reads : map (decode_entry airport) new ≡ map (decode_former_entry airport) old
@@ -94,7 +94,8 @@ pub record StopsLifting (airport : AirportParts) (old : List (List ℕ)) (number
   pub lifts : Lifts airport front new
   pub fails : lift_entry airport bytes ≡ Err fault
 
--- why the entries of a journal of format 1 are not lifted: one of them can't be, or there is no memory
+-- why the entries of a journal of format 1 are not lifted: one of them can't be, or there is no
+-- memory
 abbrev pub CannotLift : AirportParts → List (List ℕ) → OpenFault → Type 0
 CannotLift airport old (entries.BadEntry number) = StopsLifting airport old number
 CannotLift airport old (entries.WrongEntry number) = ⊥
@@ -106,8 +107,8 @@ pub record LiftsInVain (files : AirportFiles) (before : DiskSeen) (fault : OpenF
   pub was : IfSome before.contents (λ bytes. old_opening_of files.digests bytes ≡ Ok (Some old))
   pub cause : CannotLift files.airport old fault
 
--- Why the journal of the files was not upgraded: the disk failed, or there is no memory, or it is what
--- the disk reads as. If the disk did not fail, it reads as before.
+-- Why the journal of the files was not upgraded: the disk failed, or there is no memory, or it is
+-- what the disk reads as. If the disk did not fail, it reads as before.
 abbrev pub NotUpgraded : AirportFiles → DiskSeen → DiskSeen → Unusable → Type 0
 NotUpgraded files before after (Journal journal.DiskFault) = Counts true before.faults after.faults
 NotUpgraded files before after (Journal journal.NotEmpty) = ⊥
@@ -137,20 +138,20 @@ TellsUpgrade (Ok (Some count)) before after status = Writes (upgraded_text count
 TellsUpgrade (Ok None) before after status = Writes already_text Done WriteFault before after status
 TellsUpgrade (Err why) before after status = TellsUnusable why before after status
 
--- the journal of these files was upgraded, or not, and that was told
+-- the journal of these files was upgraded, or not, and the line says so
 pub record UpgradesJournal (files : AirportFiles) (before after : SinkAndDisk) (status : Status) : Type 0 where
   pub met : Result (Option ℕ) Unusable
   pub meets : MeetsUpgrade files before.disk after.disk met
   pub tells : TellsUpgrade met before.sink after.sink status
 
--- the airport file and the type file of these names were read, and this was done with what was found
--- in them
+-- the airport file and the type file of these names were read, and this was done with what was
+-- found in them
 abbrev pub UpgradesFiles : List ℕ → List ℕ → World → World → Status → Type 0
 UpgradesFiles airport types before after status =
     DoesWithFiles UpgradesJournal airport types before after status
 
--- the disk tells what it reads as, which is the journal of the files, of format 2 or with entries of
--- format 1 that are lifted
+-- the disk tells what it reads as, which is the journal of the files, of format 2 or with entries
+-- of format 1 that are lifted
 pub record CanUpgrade (files : AirportFiles) (disk : DiskSeen) : Type 0 where
   pub told : IsSome disk.contents
   pub found : Option (List (List ℕ))

@@ -19,9 +19,9 @@ abbrev pub IsOldOrNew : List ℕ → List (List ℕ) → List (List ℕ) → Lis
 IsOldOrNew digests old new image =
     (old_opening_of digests image ≡ Ok (Some old)) ⊎ (opening_of digests image ≡ Ok new)
 
--- What a crash may leave of a journal while it is upgraded. Up to the moment at which it was open: what
--- it could leave when the call began. From then on: the old entries in format 1, or the new ones in
--- format 2.
+-- What a crash may leave of a journal while it is upgraded. Up to the moment at which it was open:
+-- what it could leave when the call began. From then on: the old entries in format 1, or the new
+-- ones in format 2.
 pub record LeavesEither (digests : List ℕ) (old new : List (List ℕ)) (disk : DiskStates) : Type 0 where
   pub tells : TellsAlike disk.before disk.after
   pub moment : ℕ
@@ -62,7 +62,7 @@ module _ (disk : DiskStates) where
   MeetsUpgradeLeaving files before after met =
       (meets : MeetsUpgrade files before after met) × LeavesMetUpgrade files before after met meets
 
-  -- the same where it was told what came of it
+  -- the same, and what came of it was printed
   abbrev pub UpgradesJournalLeaving : AirportFiles → SinkAndDisk → SinkAndDisk → Status → Type 0
   UpgradesJournalLeaving files before after status =
       (upgrades : UpgradesJournal files before after status)

@@ -11,9 +11,11 @@ use Rattle.generated_day.specs.Days.{most_made}
 use Rattle.apron_run.specs.Statuses.{exit_code}
 use Rattle.apron_run.specs.declared.status.Status.TheVariants.{Usage, FileFault, ShelfFault, DiskFault, JournalFault, Memory}
 
--- what words ask for, with the names of an airport file and a type file where it has to do with an airport: a session of a desk on its journal, an empty
--- journal, a check of the two files, a chart of the day that these digits name, the adding of the visits of a season file of this name, a season file of
--- the plan's visits, a proposal to the desk of this name for its draft of this number, the journal in format 2; or a text, or nothing that there is
+-- what words ask for, with the names of an airport file and a type file if it has to do with an
+-- airport: a session of a desk on its journal, an empty journal, a check of the two files, a chart
+-- of the day that these digits name, the adding of the visits of a season file of this name, a
+-- season file of the plan's visits, a proposal to the desk of this name for its draft of this
+-- number, the journal in format 2; or a text, or nothing known
 pub data Subcommand : Type 0 where
   desk : List ℕ → List ℕ → Subcommand
   init : List ℕ → List ℕ → Subcommand
@@ -58,14 +60,16 @@ if_within first last number = if nat_le first number && nat_le number last then 
 abbrev pub number_within : List ℕ → ℕ → ℕ → Option ℕ
 number_within text first last = option_and_then (if_within first last) (number_of text MAX_DIGITS)
 
--- what a word asks for that has the names of an airport file and a type file and then one word more: the name of a season file, or a day
+-- what a word asks for that has the names of an airport file and a type file and then one word
+-- more: the name of a season file, or a day
 abbrev pub asked_of_more : List ℕ → List ℕ → List ℕ → List ℕ → Subcommand
 asked_of_more word airport types more =
     if bytes_eq word (codes "import") then import airport types more
     else (if bytes_eq word (codes "chart") && is_plain_number more then chart airport types more
     else faulty)
 
--- what the word `make` asks for with this number of visits, if it is one that a generated day can have
+-- what the word `make` asks for with this number of visits, if it is one that a generated day can
+-- have
 abbrev pub make_subcommand : Option ℕ → Subcommand
 make_subcommand None = faulty
 make_subcommand (Some visits) = make visits
@@ -89,14 +93,16 @@ abbrev pub proposed_of : List ℕ → List ℕ → List ℕ → Option ℕ → S
 proposed_of airport types name None = faulty
 proposed_of airport types name (Some draft) = proposed_to airport types name draft
 
--- what a word asks for that has the names of an airport file and a type file, a name and digits after it
+-- what a word asks for that has the names of an airport file and a type file, a name and digits
+-- after it
 abbrev pub asked_of_draft : List ℕ → List ℕ → List ℕ → List ℕ → List ℕ → Subcommand
 asked_of_draft word airport types name draft =
     if bytes_eq word (codes "propose") && is_plain_number draft
     then proposed_of airport types name (number_within draft 0 last_draft) else faulty
 
--- what the words ask for: `desk`, `init`, `check`, `export` or `upgrade` with the names of two files, `chart` with these and a number, `import` with the names of
--- three, `propose` with the names of two, a desk's name and a number, `make` with a number, `--help` or `--version`
+-- what the words ask for: `desk`, `init`, `check`, `export` or `upgrade` with the names of two
+-- files, `chart` with these and a number, `import` with the names of three, `propose` with the
+-- names of two, a desk's name and a number, `make` with a number, `--help` or `--version`
 abbrev pub subcommand_of : List (List ℕ) → Subcommand
 subcommand_of (word ∷ []) = asked_by_one word
 subcommand_of (word ∷ number ∷ []) = asked_with_number word number
@@ -121,22 +127,24 @@ ends_before_journal code = ends_at_files code || code == exit_code Memory
 abbrev pub ends_before_chart : ℕ → Bool
 ends_before_chart code = ends_at_files code || code == exit_code Usage
 
--- the program ends with this number before it comes to an import's journal: the shelf may fail at its season file too
+-- the program ends with this number before it comes to an import's journal: the shelf may fail at
+-- its season file too
 abbrev pub ends_before_import : ℕ → Bool
 ends_before_import code = code == exit_code FileFault
 
--- the program may end with the number of faulty words: where they are, or where the plan has no such day
+-- the program may end with the number of faulty words: if they are faulty, or if the plan has no
+-- such day
 abbrev pub may_be_usage : Subcommand → Bool
 may_be_usage faulty = true
 may_be_usage (chart airport types day) = true
 may_be_usage asked = false
 
--- whether the source is read for it where the program ends with this number
+-- whether it reads the source, if the program ends with this number
 abbrev pub uses_source : Subcommand → ℕ → Bool
 uses_source (desk airport types) code = not (ends_at_journal code)
 uses_source asked code = false
 
--- whether the disk is used for it where the program ends with this number
+-- whether it uses the disk, if the program ends with this number
 abbrev pub uses_disk : Subcommand → ℕ → Bool
 uses_disk (desk airport types) code = not (ends_at_files code)
 uses_disk (init airport types) code = not (ends_before_journal code)

@@ -4,7 +4,7 @@ use Rattle.apron_base.specs.Ends.{SinkState, SourceState}
 use Rattle.apron_base.specs.Shelf.{ShelfState}
 use Rattle.journal_disk.specs.Disk.{DiskState}
 
--- what a disk reads as where it tells that, and how often it has failed
+-- what a disk reads as, if it tells that, and how often it has failed
 pub record DiskSeen : Type 0 where
   pub contents : Option (List ℕ)
   pub faults : ℕ
@@ -26,7 +26,7 @@ pub record DeskEnds : Type 0 where
   pub sink : SinkState
   pub disk : DiskSeen
 
--- the outside where the disk is in this state
+-- the outside with the disk in this state
 abbrev pub world_at : ShelfState → SourceState → SinkState → DiskState → World
 world_at shelf source sink disk = record { shelf = shelf; source = source; sink = sink; disk = disk_seen disk }
 

@@ -24,8 +24,8 @@ use journal_disk::Disk;
 use std::alloc::Global;
 use wall_chart::chart as draw_chart;
 
-/// Prints the wall chart of the day that the digits name, of the plan in the journal of the two files of these names on the
-/// disk; or prints why there is none. Nothing is written on the disk.
+/// Prints the wall chart of the day that the digits name, of the plan in the journal of the two
+/// files of these names on the disk; or prints why there is none. Nothing is written on the disk.
 pub(crate) fn run_chart<F: Shelf, W: Sink, D: Disk>(
     alloc: Global,
     airport: &str,

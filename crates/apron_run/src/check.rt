@@ -11,7 +11,8 @@ use apron_base::{Failed, Shelf, Sink};
 use apron_check::{FilesFault, airport_of, put_counts, put_fault};
 use std::alloc::Global;
 
-/// Prints how much there is of the airport that the two files of these names make, or why they make none.
+/// Prints how much there is of the airport that the two files of these names make, or why they make
+/// none.
 pub(crate) fn run_check<F: Shelf, W: Sink>(
     alloc: Global,
     airport: &str,
@@ -31,7 +32,7 @@ pub(crate) fn run_check<F: Shelf, W: Sink>(
     }
 }
 
-/// Prints the line that tells a fault, and gives its status, which stays where the sink fails at the line.
+/// Prints the line of a fault, and gives its status, which stays if the sink fails at the line.
 pub fn print_fault<W: Sink>(sink: &mut W, fault: &FilesFault) -> Status
     ensures tells { TellsFault fault.now (W.state sink.old) (W.state sink.new) result }
 {

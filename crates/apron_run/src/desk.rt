@@ -25,8 +25,9 @@ use std::alloc::Global;
 use std::marker::{Brand, PhantomData};
 use watch_list::{NoteTest, Stated, Watches};
 
-/// Answers HTTP requests from the source on the sink, at the airport that the two files of these names make, on the journal of
-/// it that is on the disk, with these watches; or prints why there is none.
+/// Answers HTTP requests from the source on the sink, at the airport that the two files of these
+/// names make, on the journal of it that is on the disk, with these watches; or prints why there is
+/// none.
 pub(crate) fn run_desk<F: Shelf, S: Source, W: Sink, D: Disk, R: Stated, T: NoteTest>(
     alloc: Global,
     airport: &str,
@@ -51,8 +52,8 @@ pub(crate) fn run_desk<F: Shelf, S: Source, W: Sink, D: Disk, R: Stated, T: Note
     }
 }
 
-// One session on the journal of these files. If it ran out of memory the line that says so is printed after it, and if there is
-// no journal to work on the line that tells why.
+// One session on the journal of these files. If it ran out of memory the line that says so is
+// printed after it, and if there is no journal to work on the line that tells why.
 fn run_on_journal<S: Source, W: Sink, D: Disk, R: Stated, T: NoteTest>(
     alloc: Global,
     files: &AirportFiles,

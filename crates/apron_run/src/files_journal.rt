@@ -1,8 +1,9 @@
 // The journal of two files.
 //
-// A board knows its keeper by what every keeper tells, and that is neither a header nor what a crash leaves. So the digests of
-// the files and the disk as it was are in the type: whatever a board does with such a journal, it stays the journal of these
-// files, and a crash leaves a front of its entries.
+// A board knows its keeper by what every keeper tells, and that is neither a header nor what a
+// crash leaves. So the digests of the files and the disk as it was are in the type: whatever a
+// board does with such a journal, it stays the journal of these files, and a crash leaves a front
+// of its entries.
 ghost use Rattle.std.specs.Prelude.{◌≡◌, ℕ, List, [], IfSome};
 ghost use Rattle.journal_disk.specs.Disk.{DiskState, untold_disk};
 ghost use Rattle.journal_disk.specs.Extent.{IsCrashSafe, entries_within};
@@ -29,8 +30,9 @@ impl OfFiles for Brand {
     ghost begun = { untold_disk 0 };
 }
 
-/// A journal whose disk, where it tells what it reads as, has the digests of these files in its header, and of which a crash at
-/// any moment leaves a front of the entries, or this and one more. Contracts see the journal.
+/// A journal of these files: if its disk tells what it reads as, their digests are in its header. A
+/// crash at any moment leaves a front of its entries, or this and one more. Contracts see the
+/// journal.
 #[derive(Drop)]
 pub struct FilesJournal<N: OfFiles, D: Disk> {
     journal: Journal<D>,
@@ -64,7 +66,8 @@ impl<N: OfFiles, D: Disk> FilesJournal<N, D> {
         }
     }
 
-    /// The disk as it is: the journal's entries are on it, or these and the one at risk, after the header of these files.
+    /// The disk as it is: the journal's entries are on it, or these and the one at risk, after the
+    /// header of these files.
     pub(crate) fn into_disk(self) -> D
         ensures disk { result ≡ self.disk }
         ensures entries { IsCrashSafe self.extent (D.state result) }

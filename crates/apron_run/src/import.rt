@@ -26,8 +26,8 @@ use journal_disk::Disk;
 use std::alloc::Global;
 use std::marker::{Brand, PhantomData};
 
-/// Asks to add the visits of the season file to the plan in the journal of the two files on the disk, and prints how many were
-/// added; or prints why not all were asked. What was added stays.
+/// Asks to add the visits of the season file to the plan in the journal of the two files on the
+/// disk, and prints how many were added; or prints why not all were asked. What was added stays.
 pub(crate) fn run_import<F: Shelf, W: Sink, D: Disk>(
     alloc: Global,
     airport: &str,

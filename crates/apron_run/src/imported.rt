@@ -18,7 +18,8 @@ pub(crate) enum Imported {
     ShelfFault,
     /// The season file is longer than 16 MiB.
     TooLong,
-    /// The record of this number is refused: in the file, or since a visit with other data has its name.
+    /// The record of this number is refused: in the file, or since a visit with other data has its
+    /// name.
     Refused(u64),
     /// The history has no place for the visit of the record of this number.
     Full(u64),
@@ -30,8 +31,8 @@ pub(crate) enum Imported {
     Memory,
 }
 
-/// Prints the line that tells it, and gives its status, which stays where the sink fails at the line, unless all was done. It
-/// prints nothing where the call numbers are used up.
+/// Prints the line that says how the import ended, and gives its status, which stays if the sink
+/// fails at the line, unless all was done. It prints nothing if the call numbers have run out.
 pub(crate) fn tell_imported<W: Sink>(sink: &mut W, imported: &Imported) -> Status
     ensures tells { TellsImported imported.now (W.state sink.old) (W.state sink.new) result }
     ensures comes { ends_before_import (exit_code result) ≡ false }

@@ -19,8 +19,8 @@ use apron_check::{AirportFiles, airport_of};
 use journal_disk::Disk;
 use std::alloc::Global;
 
-/// Makes a journal with no entry on an empty disk, for the airport that the two files of these names make; or prints why
-/// there is none.
+/// Makes a journal with no entry on an empty disk, for the airport that the two files of these
+/// names make; or prints why there is none.
 pub(crate) fn run_init<F: Shelf, W: Sink, D: Disk>(
     alloc: Global,
     airport: &str,

@@ -16,8 +16,8 @@ use journal_disk::{Disk, Journal};
 use std::alloc::Global;
 use watch_list::{NoteTest, Stated, WatchBoard, Watches};
 
-/// Opens the journal of these files on the disk, and the board of its entries. At `Err` comes why there is none to work on,
-/// and the disk, on which nothing was written.
+/// Opens the journal of these files on the disk, and the board of its entries. At `Err` comes why
+/// there is none to work on, and the disk, on which nothing was written.
 pub fn open_board<'f, N: OfFiles, D: Disk>(
     alloc: Global,
     files: &'f AirportFiles,
@@ -63,7 +63,8 @@ pub fn open_watched<'f, N: OfFiles, D: Disk, R: Stated, T: NoteTest>(
     }
 }
 
-// The journal of these files on the disk, and the bytes of its entries. At `Err` comes why there is none, and the disk.
+// The journal of these files on the disk, and the bytes of its entries. At `Err` comes why there is
+// none, and the disk.
 fn open_journal<N: OfFiles, D: Disk>(
     alloc: Global,
     files: &AirportFiles,
@@ -84,8 +85,9 @@ fn open_journal<N: OfFiles, D: Disk>(
     }
 }
 
-/// Gives back the disk of a board that is not needed any more. It keeps the board's history, or this and the entry at risk
-/// after it, as the journal of these files; and so does what a crash leaves.
+/// Gives back the disk of a board that is not needed any more. It keeps the board's history, or
+/// this and the entry at risk after it, as the journal of these files; and so does what a crash
+/// leaves.
 pub fn close_board<N: OfFiles, D: Disk>(board: Board<'_, FilesJournal<N, D>>) -> D
     ensures keeps { KeepsHistory (record { airport = board.entry.airport; digests = N.digests }) board.entry.history
         (read_entry_at_risk board.entry.airport (journal_tells D.state board.entry.keeper)) (disk_seen (D.state result)) }

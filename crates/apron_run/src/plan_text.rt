@@ -53,8 +53,8 @@ pub(crate) trait PlanText {
         ensures answers { IfOk result (answers self.now airport.now board.now.history) };
 }
 
-/// Prints the answer of the plan in the journal of the two files of these names on the disk; or prints why there is none.
-/// Nothing is written on the disk.
+/// Prints the answer of the plan in the journal of the two files of these names on the disk; or
+/// prints why there is none. Nothing is written on the disk.
 pub(crate) fn print_of_files<T: PlanText, F: Shelf, W: Sink, D: Disk>(
     alloc: Global,
     airport: &str,
@@ -78,7 +78,8 @@ pub(crate) fn print_of_files<T: PlanText, F: Shelf, W: Sink, D: Disk>(
     }
 }
 
-/// Prints the answer of the plan in the journal of these files, or the line that tells why there is none.
+/// Prints the answer of the plan in the journal of these files, or the line that tells why there is
+/// none.
 pub(crate) fn print_of_journal<T: PlanText, W: Sink, D: Disk>(
     alloc: Global,
     files: &AirportFiles,

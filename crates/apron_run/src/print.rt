@@ -26,7 +26,7 @@ pub(crate) fn print_made<W: Sink>(sink: &mut W) -> Status
     print(sink, made_text())
 }
 
-/// Prints the line for faulty words. The status stays theirs where the sink fails at it.
+/// Prints the line for faulty words. The status stays theirs if the sink fails at it.
 pub fn print_usage<W: Sink>(sink: &mut W) -> Status
     ensures writes { Writes usage_text Status.Usage Status.Usage (W.state sink.old) (W.state sink.new) result }
     ensures usage { result ≡ Status.Usage }
@@ -61,7 +61,7 @@ fn version_text() -> &'static [u8]
     b"apron 0.2.0\n"
 }
 
-// What is printed where a journal was made.
+// What is printed if a journal was made.
 #[tactic(auto, unfolding(crate::specs::Print::made_text))]
 fn made_text() -> &'static [u8]
     ensures text { result.now ≡ made_text }

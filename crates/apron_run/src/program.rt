@@ -30,41 +30,41 @@ use journal_disk::Disk;
 use std::alloc::Global;
 use watch_list::{NoteTest, Shown, Stated, Watches};
 
-/// Does what the words ask for, and gives the number of the [`Status`](crate::Status) that the program ends
-/// with.
+/// Does what the words ask for, and gives the number of the [`Status`](crate::Status) that the
+/// program ends with.
 ///
-/// `desk A T` reads the airport file and the type file of these names from the shelf, opens the
-/// journal of these files on the disk, and answers HTTP requests from the source on the sink, at
-/// the airport that they make and from the history that the journal has, with these watches for
-/// feeds; where there is no airport or no journal of it, it prints the line that tells why.
-/// `init A T` reads both files and makes an empty journal of them on an empty disk. `check A T`
-/// reads both files, and prints the one line that tells what is in them. `chart A T DAY` opens the
-/// journal as `run_desk` does, and prints the wall chart of that day of the plan. `import A T SEASON`
-/// opens it and asks to add the visits of the season file, one after the other, and prints how many
-/// were added and how many were there; `export A T` opens it and prints the season file of the
-/// plan's visits. `propose A T DESK DRAFT` opens it and prints a first-fit draft for the parts that
-/// stand nowhere, or the line `draft used` if the history has a commit of this desk's draft of this
-/// number, 0 to 4,294,967,295. `upgrade A T` makes a journal of format 1 one of format 2, with the
-/// same entries, and prints how many there are; all other words need format 2. `make N` prints the
+/// `desk A T` reads the airport file and the type file of these names from the shelf, and opens the
+/// journal of these files on the disk. It answers HTTP requests from the source on the sink, at the
+/// airport that the files make and from the journal's history, with these watches for feeds. If
+/// there is no airport or no journal of it, it prints the line that says why. `init A T` reads both
+/// files and makes an empty journal of them on an empty disk. `check A T` reads both files, and
+/// prints the one line that says what is in them. `chart A T DAY` opens the journal as `run_desk`
+/// does, and prints the wall chart of that day of the plan. `import A T SEASON` opens it and asks
+/// to add the visits of the season file, one after the other, and prints how many were added and
+/// how many were there. `export A T` opens it and prints the season file of the plan's visits.
+/// `propose A T DESK DRAFT` opens it and prints a first-fit draft for the parts that are on no
+/// stand, or the line `draft used` if the history has a commit of this desk's draft of this number,
+/// 0 to 4,294,967,295. `upgrade A T` makes a journal of format 1 one of format 2, with the same
+/// entries, and prints how many there are; all other words need format 2. `make N` prints the
 /// summary of a generated day of `N` visits, 1 to 5,000. `--help` and `--version` print their text.
 /// Other words print the line `usage`.
 ///
-/// | Status | Comes where |
+/// | Status | Comes if |
 /// |---|---|
 /// | 0 | all was done; of a session, the source ended after whole requests, or a request closed it |
-/// | 2 | the words ask for nothing that there is, or for the chart of a day that the plan does not have |
+/// | 2 | the words ask for nothing known, or for the chart of a day that the plan does not have |
 /// | 3 | a file has a fault, which is printed, or is over 1 MiB |
 /// | 4, 5, 6 | the shelf, the source, the sink failed |
 /// | 7 | the disk failed before there was a journal to work on, or at an entry of an import, which is printed; in a session a reply says so |
 /// | 8 | what the disk reads as is no journal of these files, or no history of their airport, which is printed |
 /// | 9 | a record of the season file is refused, or the file is over 16 MiB, which is printed |
 /// | 10 | the source ended inside a request |
-/// | 12 | there is no memory, which is printed |
+/// | 12 | memory has run out, which is printed |
 /// | 13 | a request's head was refused |
-/// | 14 | a journal is to be made where there are bytes already, which is printed |
+/// | 14 | a journal is to be made, but the disk has bytes, which is printed |
 /// | 15 | the history has no place for a visit of the season file, whose record is printed |
 /// | 16 | 1,000,000 requests were answered |
-/// | 17 | the call numbers are used up |
+/// | 17 | the call numbers have run out |
 pub fn run_with<F: Shelf, S: Source, W: Sink, D: Disk, R: Stated, T: NoteTest>(
     alloc: Global,
     words: &[Word],

@@ -6,8 +6,8 @@ use history_core::Board;
 use proposal_text::draft_text;
 use std::alloc::Global;
 
-/// A proposal to the desk of this name for its draft of this number, or that the history has a commit
-/// of this draft.
+/// A proposal to the desk of this name for its draft of this number, or that the history has a
+/// commit of this draft.
 #[derive(Drop)]
 pub(crate) struct DraftProposal {
     pub(crate) desk: Name,

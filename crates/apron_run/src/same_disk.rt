@@ -1,7 +1,8 @@
 // A borrowed disk that stays the same one.
 //
-// A call that takes a disk by value gives back a disk, and no clause tells that what it gives back is the same borrow. So the
-// borrow's name stands in the type: whoever has a value of it at the end has the disk that was lent at the beginning.
+// A call that takes a disk by value gives back a disk, and no clause tells that what it gives back
+// is the same borrow. So the borrow's name stands in the type: whoever has a value of it at the end
+// has the disk that was lent at the beginning.
 ghost use Rattle.std.specs.Prelude.{◌≡◌, ℕ};
 
 use apron_base::Failed;

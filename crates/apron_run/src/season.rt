@@ -19,8 +19,9 @@ use visit_book::{NewVisit, new_of};
 /// The most bytes of a season file: 16 MiB.
 pub(crate) const MAX_SEASON: u32 = 16_777_216;
 
-/// Asks to add the visits of the season file of this name to the board, each at most once and in order, with the board's next
-/// call numbers, up to the first that is neither added nor there already.
+/// Asks to add the visits of the season file of this name to the board, each at most once and in
+/// order, with the board's next call numbers, up to the first that is neither added nor there
+/// already.
 pub(crate) fn add_season<F: Shelf, K: Keeper>(
     alloc: Global,
     board: &mut Board<'_, K>,
@@ -60,7 +61,8 @@ fn find_season<F: Shelf>(
     }
 }
 
-// Asks to add these visits of the board's airport, up to the first that is neither added nor there already.
+// Asks to add these visits of the board's airport, up to the first that is neither added nor there
+// already.
 fn ask_season<K: Keeper>(alloc: Global, board: &mut Board<'_, K>, visits: &[NewVisit]) -> Imported
     requires new { All (IsNewVisitOf board.old.airport) visits.now }
     ensures asks { AsksSeason board.old.airport visits.now (reached_by K.state board.old) (reached_by K.state board.new) result }
@@ -79,8 +81,8 @@ fn ask_season<K: Keeper>(alloc: Global, board: &mut Board<'_, K>, visits: &[NewV
     }
 }
 
-// Asks to add the visit of the record of this number, with the next call number. At `Err` it is neither added nor there, and
-// the history is as it was.
+// Asks to add the visit of the record of this number, with the next call number. At `Err` it is
+// neither added nor there, and the history is as it was.
 fn ask_visit<K: Keeper>(
     alloc: Global,
     board: &mut Board<'_, K>,
@@ -110,8 +112,8 @@ fn ask_visit<K: Keeper>(
     }
 }
 
-// Whether the visit of the record of this number, which was asked and not added, is there already. At `Err` another has its
-// name, or it has no place.
+// Whether the visit of the record of this number, which was asked and not added, is there already.
+// At `Err` another has its name, or it has no place.
 fn find_visit(plan: &Plan, new: &NewVisit, number: u64) -> Result<(), Imported>
     ensures there { OnOk result (IsThere plan.now.plan new.now) }
     ensures missing { IfErr result (IsMissing plan.now.plan new.now number) }

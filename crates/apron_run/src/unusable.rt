@@ -19,7 +19,7 @@ pub enum Unusable {
     Entries(OpenFault),
 }
 
-/// Prints the line that tells it, and gives its status, which stays where the sink fails at the line.
+/// Prints the line that says why, and gives its status, which stays if the sink fails at the line.
 pub fn tell_unusable<W: Sink>(sink: &mut W, why: &Unusable) -> Status
     ensures tells { TellsUnusable why.now (W.state sink.old) (W.state sink.new) result }
     ensures status { result ≡ status_of_unusable why.now }

@@ -24,9 +24,9 @@ use journal_disk::{Disk, Found, open_old};
 use std::alloc::Global;
 use std::marker::{Brand, PhantomData};
 
-/// Makes the journal of the two files of these names on the disk one of format 2, if it is of format 1,
-/// and prints how many entries it has; or prints that it is of format 2 already, or why it is not
-/// upgraded.
+/// Makes the journal of the two files of these names on the disk one of format 2, if it is of
+/// format 1, and prints how many entries it has; or prints that it is of format 2 already, or why
+/// it is not upgraded.
 pub(crate) fn run_upgrade<F: Shelf, W: Sink, D: Disk>(
     alloc: Global,
     airport: &str,
@@ -115,8 +115,8 @@ fn upgrade_on<'d, N: Named, D: Disk>(
     (met, disk)
 }
 
-// The upgrade of the journal of these files on the disk, with the number of its entries; none if it is
-// of format 2 already.
+// The upgrade of the journal of these files on the disk, with the number of its entries; none if it
+// is of format 2 already.
 fn upgrade_disk<D: Disk>(
     alloc: Global,
     files: &AirportFiles,

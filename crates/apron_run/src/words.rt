@@ -12,7 +12,8 @@ use generated_day::MAX_MADE;
 /// What the words ask for.
 #[derive(Clone, Copy)]
 pub(crate) enum Subcommand<'w> {
-    /// One session at the airport of the airport file and the type file of these names, on its journal.
+    /// One session at the airport of the airport file and the type file of these names, on its
+    /// journal.
     Desk(&'w str, &'w str),
     /// An empty journal for the airport of the two files.
     Init(&'w str, &'w str),
@@ -20,11 +21,13 @@ pub(crate) enum Subcommand<'w> {
     Check(&'w str, &'w str),
     /// The wall chart of the day that these digits name, drawn from the journal of the two files.
     Chart(&'w str, &'w str, &'w str),
-    /// The visits of the season file of the third name are added to the plan in the journal of the two files.
+    /// The visits of the season file of the third name are added to the plan in the journal of the
+    /// two files.
     Import(&'w str, &'w str, &'w Word),
     /// The season file of the visits of the plan in the journal of the two files.
     Export(&'w str, &'w str),
-    /// A proposal to the desk of this name for its draft of this number, over the plan in the journal of the two files.
+    /// A proposal to the desk of this name for its draft of this number, over the plan in the
+    /// journal of the two files.
     Propose(&'w str, &'w str, Name, u32),
     /// The journal of the two files in format 2.
     Upgrade(&'w str, &'w str),

@@ -1,4 +1,4 @@
--- All that is ordered is served where it is valid and nothing fails.
+-- All that is ordered is served if it is valid and nothing fails.
 use Rattle.std.proofs.Common.{◌≡◌, ◌∙◌, ◌⊎◌, ℕ, true, List, Option, None, Some, Result, Ok, Err, inl, inr, ⊎_elim, sym, ap, subst}
 use Rattle.std.specs.Prelude.{IsSome}
 use Rattle.std.specs.Option.{option_map}
@@ -42,7 +42,7 @@ module _ {In Out : Type 0} (service : Service In Out) where
       lines_of (unusable_line why) (status_of_unusable why) before.sink after.sink status tells in
       inr (ap exit_code (lines.is ∙ unopened_wants files before.disk after.disk history has why meets.disk still))
 
-  -- what was done where the plan has the day
+  -- what was done if the plan has the day
   day_well : (files : AirportFiles) (order : Order) (history : List Entry) (day : Option ℕ) (before after : ServeOuts In Out) (status : Status)
       → HasJournal files before.disk history → ¬ (Rose before.disk.faults after.disk.faults) → ¬ (status ≡ ListenerFault) → IsSome day
       → ServesTask service files (option_map (λ day. record { connections = order.connections; day = day }) day) before after status → EndsWell (exit_code status)

@@ -1,4 +1,4 @@
--- The journal of two files may go to another thread where its disk may.
+-- The journal of two files may go to another thread if its disk may.
 use denote.Param.Send.{IsSend, sendable}
 use denote.RattleType.{RattleType}
 use Rattle.std.proofs.Crossing.{crosses}

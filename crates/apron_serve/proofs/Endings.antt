@@ -48,7 +48,7 @@ module _ {In Out : Type 0} where
   abbrev pub AnyFailed : ServeOuts In Out → ServeOuts In Out → Type 0
   AnyFailed before after = SomeFailed before.listeners after.listeners ⊎ SomeFailed before.screens after.screens
 
--- the status is that of serving that was all done; or of such, where there are screens, after which one missed the last version
+-- the status is that of serving that was all done; or, if there are screens, of one after which a screen missed the last version
 abbrev pub IsDone : {In Out : Type 0} → ServeOuts In Out → ℕ → Type 0
 IsDone before code = (code ≡ exit_code Done) ⊎ ((code ≡ exit_code Memory) × (0 < length before.screens))
 
@@ -96,7 +96,7 @@ module _ {In Out : Type 0} where
   none_yet order before after some any same all = none_finished order.connections before.listeners some any
       (subst (λ (l : List (ListenerState In Out)). HaveFinished order.connections before.listeners l) same all.0)
 
-  -- an early ending, where the listeners are as they were
+  -- an early ending: the listeners are as they were
   early_as : (order : Order) (found : Result AirportFiles FilesFault) (status of : Status) (before after : ServeOuts In Out) → 1 ≤ order.connections → 1 ≤ length before.listeners
       → after.listeners ≡ before.listeners → IsEarly of → is_shelf_status of ≡ is_shelf_found found → ServedCounts of before.disk.faults after.disk.faults
       → Lines status of before.sink after.sink → EndsAs order found status before after
@@ -175,7 +175,7 @@ module _ {In Out : Type 0} (service : Service In Out) where
         all = λ all is. none_failed desks.desks desks.looks desks.missed (ended.done all.0) (shown.done all.1) (sym desks.end_is ∙ is);
       }
 
-  -- where a screen missed a version there are screens
+  -- if a screen missed a version there are screens
   pub missed_shown : (files : AirportFiles) (task : Task) (before after : ServeOuts In Out) (met : Result ServeEnd Unusable)
       → MeetsDesks service files task (serve_ends before) (serve_ends after) met → met ≡ Ok end.Missed → 0 < length before.screens
   missed_shown files task before after met meets is =

@@ -19,7 +19,7 @@ first_done : (end : WorkEnd) (ends : List WorkEnd) → end_of (end ∷ ends) ≡
 first_done Done ends is = (refl, is)
 first_done ListenerFault ends is = absurd cc
 
--- where not all were done the first was not, or one of the others
+-- if not all were done the first was not, or one of the others
 first_failed : (end : WorkEnd) (ends : List WorkEnd) → end_of (end ∷ ends) ≡ ListenerFault → (end ≡ ListenerFault) ⊎ (end_of ends ≡ ListenerFault)
 first_failed Done ends is = inr is
 first_failed ListenerFault ends is = inl refl
@@ -86,7 +86,7 @@ module _ {In Out W : Type 0} (asked : ℕ) (before after : W → ListenerState I
   fails_first worker at (inl is) goes = inl (has_failed worker at is)
   fails_first worker at (inr others) goes = inr (goes others)
 
-  -- where not all are done the count of a listener rose
+  -- if not all are done the count of a listener rose
   some_failed : (workers : List W) → Every EndedAt workers → end_of (map end workers) ≡ ListenerFault → SomeFailed (map before workers) (map after workers)
   some_failed [] every is = absurd cc
   some_failed (worker ∷ workers) (at, rest) is =

@@ -51,7 +51,7 @@ of_all P all [] desks [] shown is none empty holds = subst (λ list. P list [] s
 of_all P all (x ∷ front) desks left shown is none empty holds = absurd (omega arith)
 of_all P all [] desks (x ∷ left) shown is none empty holds = absurd (omega arith)
 
--- where there is no screen none is ordered
+-- if there is no screen none is ordered
 with_none : (order : Order) (day : Option (List ℕ)) → order.day ≡ day → ¬ (is_screen_order (order_with 0 (Some order)) ≡ true)
 with_none order None is some =
     let test : may_have 0 order.day ≡ true = ap (may_have 0) is in

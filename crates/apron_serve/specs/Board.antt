@@ -20,7 +20,8 @@ use Rattle.apron_serve.specs.declared.board.ServeEnd.{ServeEnd}
 use Rattle.apron_serve.specs.declared.board.ServeEnd.TheVariants.{Done, ListenerFault, Missed}
 use Rattle.apron_serve.specs.World.{ServeEnds}
 
--- a board that was opened with this history, after which no entry is at risk, over a disk that had failed so often
+-- a board that was opened with this history, after which no entry is at risk, over a disk that had
+-- failed this often
 abbrev pub opened_board : AirportParts → List Entry → ℕ → MachineState Entry AirportParts
 opened_board airport opened faults = record { fixed = airport; history = opened; at_risk = None; next = next_after opened; faults = faults }
 
@@ -35,24 +36,32 @@ served_end work.ListenerFault missed = ListenerFault
 served_end work.Done true = Missed
 served_end work.Done false = Done
 
--- there is no journal to work on, or no memory for the turns at it: no listener was called, and the disk reads as before
+-- there is no journal to work on, or no memory for the turns at it: no listener was called, and the
+-- disk reads as before
 pub record ServeFindsNoJournal {In Out : Type 0} (files : AirportFiles) (before after : ServeEnds In Out) (why : Unusable) : Type 0 where
   pub listeners : after.listeners ≡ before.listeners
   pub screens : after.screens ≡ before.screens
   pub disk : NotOpened files before.disk after.disk why
 
 module _ {In Out : Type 0} (service : Service In Out) (files : AirportFiles) (task : Task) where
-  -- The headline for many desks. The journal of the files opened to a legal history. Each listener's connections were served one after the other by a
-  -- worker of its own, whose port had seen that history: each request was answered as for a desk alone, at the whole history that its turn found. At
-  -- the end the history is legal, begins with the one that was opened, and is the longest that a worker has seen; each worker has seen a front of it.
-  -- The calls of all workers are, each once and without a gap, the numbers from the one above the last entry's on, or from 1 on where there was none;
-  -- and where a worker found them exhausted, all that there are. A worker was told that an entry could not be kept only where the disk's count rose.
-  -- After each entry the plan is sound; a draft made a version exactly where the entry of that number is its commit, and a visit is of the entry that
-  -- added it. The disk at the end is the journal of the same files with the history, or, where it has failed, with this and perhaps one entry more, with
-  -- which it is still legal: that of a request on a connection of one of the workers, which was told that its entry could not be kept, and after which none
-  -- was added. Beside the desks each screen's connections were shown its sheets, one look each; a screen had seen the chart of the opened plan, and its
-  -- sheets are charts of the day of plans of the airport whose versions never fall. Serving ended as the first worker in order that stopped early,
-  -- those of the desks before those of the screens. If none did, it tells whether a writer of a screen missed the last version.
+  -- The headline for many desks. The journal of the files opened to a legal history. Each
+  -- listener's connections were served one after the other by a worker of its own, whose port had
+  -- seen that history. Each request was answered as for a desk alone, at the whole history that its
+  -- turn found. At the end the history is legal, begins with the one that was opened, and is the
+  -- longest that a worker has seen; each worker has seen a front of it. The calls of all workers
+  -- are, each once and without a gap, the numbers from one above the last entry's on, or from 1 on
+  -- if there was none; if a worker found no number left, all numbers were used. A worker got the
+  -- answer that an entry could not be kept only if the disk's count rose. After each entry the plan
+  -- is sound. A draft made a version exactly if the entry of that number is its commit, and a visit
+  -- is of the entry that added it. The disk at the end is the journal of the same files with the
+  -- history; or, if it has failed, with the history and perhaps one more entry, with which it is
+  -- still legal. This is the entry of a request on a connection of one of the workers, which got
+  -- the answer that it could not be kept, and no entry was added after it. Beside the desks each
+  -- screen's connections were shown its sheets, one look each. A screen had seen the chart of the
+  -- opened plan, and its sheets are charts of the day of plans of the airport whose versions never
+  -- fall. Serving ended as the first worker in order that stopped early, those of the desks before
+  -- those of the screens. If none did, it says whether a writer of a screen missed the last
+  -- version.
   pub record ServesDesks (before after : ServeEnds In Out) (end : ServeEnd) : Type 0 where
     pub opened : List Entry
     pub opens : OpensTo files before.disk opened

@@ -1,4 +1,4 @@
--- What a crash may leave of the disk while desks are served and after it: a clause of its own beside what is seen of a disk without a crash.
+-- What a crash may leave of the disk while desks are served, and after it.
 use Rattle.std.specs.Prelude.{◌≡◌, ℕ, Option, None, Some, Result, Ok, Err}
 use Rattle.screen_looks.specs.declared.shown.Task.{Task}
 use Rattle.apron_check.specs.declared.files.AirportFiles.{AirportFiles}
@@ -16,13 +16,14 @@ use Rattle.apron_serve.specs.Serve.{CarriesOut}
 use Rattle.apron_serve.specs.World.{ServeEnds, ServeOuts, ServeWorld, serve_ends, serve_outs}
 
 module _ {In Out : Type 0} (service : Service In Out) (disk : DiskStates) where
-  -- desks that were served: the history that the board then has survives; and where there was no journal to work on, nothing is written
+  -- desks that were served: the board's history at the end survives; if there was no journal to
+  -- work on, nothing is written
   abbrev pub LeavesOfService : (files : AirportFiles) (task : Task) (before after : ServeEnds In Out) (met : Result ServeEnd Unusable)
       → MeetsDesks service files task before after met → Type 0
   LeavesOfService files task before after (Ok end) serves = Survives files.digests serves.board.history serves.board.at_risk disk
   LeavesOfService files task before after (Err why) finds = LeavesAll disk
 
-  -- the same where there may be no such day, and then nothing is written
+  -- the same; if there is no such day, nothing is written
   abbrev pub LeavesTask : (files : AirportFiles) (task : Option Task) (before after : ServeOuts In Out) (status : Status)
       → ServesTask service files task before after status → Type 0
   LeavesTask files (Some task) before after status serves =
@@ -35,13 +36,14 @@ module _ {In Out : Type 0} (service : Service In Out) (disk : DiskStates) where
   LeavesFound order (Ok files) before after status serves = LeavesTask files (task_at files order) before after status serves
   LeavesFound order (Err fault) before after status serves = LeavesAll disk
 
-  -- what is done, where there is an order
+  -- what is done, if there is an order
   abbrev pub ServeLeavesOnCrash : (order : Option Order) (before after : ServeWorld In Out) (status : Status) → CarriesOut service order before after status → Type 0
   ServeLeavesOnCrash None before after status does = LeavesAll disk
   ServeLeavesOnCrash (Some order) before after status serves =
       LeavesFound order serves.found (serve_outs before) (serve_outs after) status serves.serves
 
-  -- what `serve` does for what is ordered, the status that its number stands for, and what a crash may leave of what it does
+  -- what `serve` does for an order, the status of its number, and what a crash may leave of what it
+  -- does
   pub record ServeCrashesAs (order : Option Order) (before after : ServeWorld In Out) (code : ℕ) : Type 0 where
     pub status : Status
     pub code_is : code ≡ exit_code status

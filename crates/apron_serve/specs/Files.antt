@@ -1,4 +1,4 @@
--- What is done with an order: desks and screens are served at the journal of two files, or a line says why not.
+-- What is done with an order: desks and screens are served at the journal, or a line says why not.
 use Rattle.std.specs.Prelude.{◌≡◌, ℕ, List, codes, Option, None, Some, Result, Ok, Err}
 use Rattle.std.specs.Option.{option_map}
 use Rattle.apron_base.specs.Ends.{SinkState}
@@ -28,7 +28,8 @@ listener_line = codes "listener fault\n"
 abbrev pub no_memory : Unusable
 no_memory = Entries entries.Memory
 
--- what is printed about what was met, and its status: nothing if desks and screens were all served, and otherwise a line
+-- what is printed about what was met, and its status: nothing if desks and screens were all served,
+-- and otherwise a line
 abbrev pub PrintsServeEnd : Result ServeEnd Unusable → SinkState → SinkState → Status → Type 0
 PrintsServeEnd (Ok Done) before after told = (after ≡ before) × (told ≡ status.Done)
 PrintsServeEnd (Ok ListenerFault) before after told = Writes listener_line status.ListenerFault status.ListenerFault before after told
@@ -42,7 +43,8 @@ pub record TellsFiles {In Out : Type 0} (fault : FilesFault) (before after : Ser
   pub disk : after.disk ≡ before.disk
   pub tells : TellsFault fault before.sink after.sink told
 
--- the plan has no such day: the line for faulty words was written, and the listeners and the disk are as they were
+-- the plan has no such day: the line for faulty words was written, and the listeners and the disk
+-- are as they were
 pub record TellsNoDay {In Out : Type 0} (before after : ServeOuts In Out) (told : Status) : Type 0 where
   pub listeners : after.listeners ≡ before.listeners
   pub screens : after.screens ≡ before.screens
@@ -54,13 +56,14 @@ abbrev pub task_at : AirportFiles → Order → Option Task
 task_at files order = option_map (λ day. record { connections = order.connections; day = day }) (day_shown files.airport order.day)
 
 module _ {In Out : Type 0} (service : Service In Out) where
-  -- desks and screens served at the journal of these files, or none, and what is printed about either
+  -- desks and screens served at the journal of these files, or none, and what is printed about
+  -- either
   pub record ServesJournal (files : AirportFiles) (task : Task) (before after : ServeOuts In Out) (told : Status) : Type 0 where
     pub met : Result ServeEnd Unusable
     pub meets : MeetsDesks service files task (serve_ends before) (serve_ends after) met
     pub tells : PrintsServeEnd met before.sink after.sink told
 
-  -- the same where there may be no such day
+  -- the same, or there is no such day
   abbrev pub ServesTask : AirportFiles → Option Task → ServeOuts In Out → ServeOuts In Out → Status → Type 0
   ServesTask files (Some task) before after told = ServesJournal files task before after told
   ServesTask files None before after told = TellsNoDay before after told

@@ -18,8 +18,8 @@ most_listeners = 16
 abbrev pub most_screens : ℕ
 most_screens = 8
 
--- the names of an airport file and a type file, how many connections each listener is to take, and the digits of the day that screens are to show, if there
--- are any
+-- the names of an airport file and a type file, how many connections each listener is to take, and
+-- the digits of the day that screens are to show, if there are any
 pub record Order : Type 0 where
   pub airport : List ℕ
   pub types : List ℕ
@@ -38,7 +38,8 @@ abbrev pub ordered_by : List ℕ → List ℕ → List ℕ → List ℕ → Opti
 ordered_by word airport types number day =
     if bytes_eq word (codes "serve") && is_plain_number number then order_if_counted airport types day (number_of number MAX_DIGITS) else None
 
--- what the words order: `serve` with the names of two files and a number, and perhaps `screen` and a number
+-- what the words order: `serve` with the names of two files and a number, and perhaps `screen` and
+-- a number
 abbrev pub order_of_words : List (List ℕ) → Option Order
 order_of_words (word ∷ airport ∷ types ∷ number ∷ []) = ordered_by word airport types number None
 order_of_words (word ∷ airport ∷ types ∷ number ∷ screen ∷ day ∷ []) =
@@ -60,7 +61,8 @@ abbrev pub order_of : List (List ℕ) → ℕ → ℕ → Option Order
 order_of words listeners screens =
     if nat_le 1 listeners && nat_le listeners most_listeners then order_with screens (order_of_words words) else None
 
--- the day that screens show at an airport: the one that the digits name, if it is a day of the plan; where there are no screens, the first
+-- the day that screens show at an airport: the one that the digits name, if it is a day of the
+-- plan; if there are no screens, the first
 abbrev pub day_shown : AirportParts → Option (List ℕ) → Option ℕ
 day_shown airport None = Some 1
 day_shown airport (Some digits) = number_within digits 1 airport.days

@@ -1,4 +1,4 @@
--- What the program does with the words `serve A T N` and `serve A T N screen DAY`, its files, its listeners and its disk.
+-- What the program does with the words `serve A T N` and `serve A T N screen DAY`.
 use Rattle.std.specs.Prelude.{◌≡◌, ◌⊎◌, ◌+◌, ◌≤◌, ◌==◌, ◌&&◌, ◌||◌, nat_lt, ℕ, Bool, true, false, List, ◌∷◌, map, Option, Some, None, is_some}
 use Rattle.apron_base.specs.Counts.{Counts, Rose}
 use Rattle.apron_base.specs.Listener.{ListenerState}
@@ -57,13 +57,15 @@ module _ {In Out : Type 0} where
   SomeFailed befores afters = ⊥
 
 module _ {In Out : Type 0} (service : Service In Out) where
-  -- what is done where there is an order; where there is none the line `usage` is written, and nothing else is touched
+  -- what is done if there is an order; if there is none the line `usage` is written, and nothing
+  -- else is touched
   abbrev pub CarriesOut : Option Order → ServeWorld In Out → ServeWorld In Out → Status → Type 0
   CarriesOut None before after status = (after ≡ record before { sink = after.sink }) × Writes usage_text Usage Usage before.sink after.sink status
   CarriesOut (Some order) before after status = ServesFiles service order before after status
 
-  -- What `serve` does for what is ordered, and the status that its number stands for. The shelf fails only where the status says so, the sink only at the
-  -- line that tells a status, and the disk where the status says so or desks were served.
+  -- What `serve` does for an order, and the status of its number. The shelf fails only if the
+  -- status says so, the sink only at the line that reports a status, and the disk if the status
+  -- says so or desks were served.
   pub record ServesAs (order : Option Order) (before after : ServeWorld In Out) (code : ℕ) : Type 0 where
     pub status : Status
     pub code_is : code ≡ exit_code status

@@ -6,7 +6,8 @@ use Rattle.apron_base.specs.Shelf.{ShelfState}
 use Rattle.journal_disk.specs.Disk.{DiskState}
 use Rattle.apron_run.specs.World.{DiskSeen, disk_seen}
 
--- the shelf of files, the listeners of desks and those of screens in order, the sink of the line that tells a fault, and the disk
+-- the shelf of files, the listeners of desks and those of screens in order, the sink of the line
+-- that tells a fault, and the disk
 pub record ServeWorld (In Out : Type 0) : Type 0 where
   pub shelf : ShelfState
   pub listeners : List (ListenerState In Out)
@@ -28,7 +29,7 @@ pub record ServeEnds (In Out : Type 0) : Type 0 where
   pub disk : DiskSeen
 
 module _ {In Out : Type 0} where
-  -- the outside where the disk is in this state
+  -- the outside with the disk in this state
   abbrev pub serve_world_at : ShelfState → List (ListenerState In Out) → List (ListenerState In Out) → SinkState → DiskState → ServeWorld In Out
   serve_world_at shelf listeners screens sink disk =
       record { shelf = shelf; listeners = listeners; screens = screens; sink = sink; disk = disk_seen disk }

@@ -26,16 +26,17 @@ use std::sync::Wait;
 use std::thread::Threads;
 use watch_list::{NoteTest, Shown, Stated, Watches};
 
-/// Serves many desks at once, and gives the disk back with the number of the [`Status`](apron_run::Status) that the program
-/// ends with.
+/// Serves many desks at once, and gives the disk back with the number of the
+/// [`Status`](apron_run::Status) that the program ends with.
 ///
-/// `serve A T N` reads the airport file and the type file of these names from the shelf, opens the journal of these files on
-/// the disk, and takes `N` connections of each listener, 1 to 1,000,000. Each listener has a worker in a thread of its own,
-/// which answers the requests of one connection after the other; all workers take turns at the one board over the journal.
-/// Other words, no listener or more than 16 print the line `usage`. It ends when each worker has ended, and returns only if
-/// each call that waits does. There is no watch: each feed is answered that there is none.
+/// `serve A T N` reads the airport file and the type file of these names from the shelf, opens the
+/// journal of these files on the disk, and takes `N` connections of each listener, 1 to 1,000,000.
+/// Each listener has a worker in a thread of its own, which answers the requests of one connection
+/// after the other; all workers take turns at the one board over the journal. Other words, no
+/// listener or more than 16 print the line `usage`. It ends when each worker has ended, and returns
+/// only if each call that waits does. There is no watch: each feed is answered that there is none.
 ///
-/// | Status | Comes where |
+/// | Status | Comes if |
 /// |---|---|
 /// | 0 | each listener has finished `N` connections more, however their sessions ended |
 /// | 2 | the words ask for nothing that there is, or the number of listeners is none of 1 to 16 |
@@ -117,13 +118,14 @@ pub fn serve_with<
 
 /// The same with screens beside the desks.
 ///
-/// `serve A T N screen DAY` takes `N` connections of each screen's listener too, 1 to 8 of them, each by a worker in a thread of
-/// its own. It reads nothing from a connection. It puts the chart of this day, counted from 1, of the plan that the screen then
-/// sees, and finishes the connection. Without `screen DAY` there may be no such listener.
+/// `serve A T N screen DAY` takes `N` connections of each screen's listener too, 1 to 8 of them,
+/// each by a worker in a thread of its own. It reads nothing from a connection. It puts the chart
+/// of this day, counted from 1, of the plan that the screen then sees, and finishes the connection.
+/// Without `screen DAY` there may be no such listener.
 ///
 /// Its statuses are those of [`serve`] with these besides:
 ///
-/// | Status | Comes where |
+/// | Status | Comes if |
 /// |---|---|
 /// | 2 | the plan has no such day, or there are other screens than the words order |
 /// | 11 | a listener of a screen failed |
@@ -274,7 +276,8 @@ fn serve_day<
     }
 }
 
-// Serves desks and screens at the journal of these files, and prints the line that tells why they were not all served.
+// Serves desks and screens at the journal of these files, and prints the line that tells why they
+// were not all served.
 fn serve_journal<
     L: Wall + Send,
     W: Sink,
@@ -313,7 +316,8 @@ fn serve_journal<
     (tell_met(sink, &met), disk)
 }
 
-// Prints the line about it, if there is one, and gives its status, which stays even if the sink fails at the line.
+// Prints the line about it, if there is one, and gives its status, which stays even if the sink
+// fails at the line.
 fn tell_met<W: Sink>(sink: &mut W, met: &Result<ServeEnd, Unusable>) -> Status
     ensures tells { PrintsServeEnd met.now (W.state sink.old) (W.state sink.new) result }
 {
@@ -332,7 +336,7 @@ fn print_listener_fault<W: Sink>(sink: &mut W) -> Status
     Status::ListenerFault
 }
 
-// What is printed where a listener failed.
+// What is printed if a listener failed.
 fn listener_line() -> &'static [u8]
     ensures text { result.now ≡ listener_line }
 {

@@ -25,8 +25,9 @@ pub fn limits_are_as_defined()
     ensures screens { MAX_SCREENS ≡ most_screens }
 {}
 
-/// Desks at the airport of the airport file and the type file of these names, on its journal, and perhaps screens that show the
-/// day that these digits name: this many connections of each listener.
+/// Desks at the airport of the airport file and the type file of these names, on its journal, and
+/// perhaps screens that show the day that these digits name: this many connections of each
+/// listener.
 #[derive(Clone, Copy)]
 pub(crate) struct Order<'w> {
     pub(crate) airport: &'w Word,
@@ -36,7 +37,8 @@ pub(crate) struct Order<'w> {
 }
 
 impl<'w> Order<'w> {
-    /// The day that screens show of a plan of this many days, or none if it has no such day. Without screens it is the first.
+    /// The day that screens show of a plan of this many days, or none if it has no such day.
+    /// Without screens it is the first.
     pub(crate) fn shown_day(&self, days: u32) -> Option<u32>
         ensures screens { (screens : ℕ) → may_have screens (option_copied self.now.day) ≡ true → 0 < screens
             → IfSome result (λ day. (1 ≤ day) × (day ≤ days)) }

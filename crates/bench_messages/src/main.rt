@@ -1,5 +1,5 @@
-// Measures how fast movement messages are read: `bench_messages 100000` reads this many messages of each
-// kind.
+// Measures how fast movement messages are read: `bench_messages 100000` reads this many messages of
+// each kind.
 #![tactic(auto)]
 
 use mvt_grammar::read_mvt;

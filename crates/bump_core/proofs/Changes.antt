@@ -1,4 +1,4 @@
--- The visits that an entry changes, put in where they were.
+-- The visits that an entry changes, put in their old places.
 use Rattle.std.proofs.Common.{◌≡◌, ◌∙◌, ◌<◌, ◌≤◌, ◌+◌, ◌-◌, ◌++◌, ◌∷◌, [], ℕ, zero, suc, Bool, true, false, List, Some, length, map, refl, sym, ap, arith, inl, inr, nat_le, append_assoc, length-append}
 use Rattle.std.specs.Prelude.{All, filter, slice_set}
 use Rattle.std.specs.List.{AllByRecursion}

@@ -24,7 +24,7 @@ use Rattle.desk_http.specs.Runs.{Runs}
 use Rattle.desk_http.specs.Session.{ComesFirst, EndsAfter, IsCount, IsReadToEnd, Last, Moment, Progress, SessionBy, WritesLast, is_read_fault, is_write_fault, last_text, most_requests, nothing, refusal, reply, texts_of}
 use Rattle.desk_http.proofs.SoFar.{runs_push, texts_of-push}
 
--- the requests that are listed of some bytes begin with those that stand open at their front, and go on behind them
+-- the requests that are listed of some bytes begin with the open ones at their front, and go on after them
 pub record GoesOnBehind (requests listed : List Request) (rest : List ℕ) (ending : Ending) : Type 0 where
   pub more : List Request
   pub are : listed ≡ requests ++ more
@@ -53,7 +53,7 @@ has_more : (input taken : List ℕ) (left : Option (List ℕ)) → Consumes (Som
 has_more input taken None h = absurd h
 has_more input taken (Some rest) h = record { rest = rest; is = refl; front = h }
 
--- all that are listed of an input are its requests, where they are no more than a session answers
+-- all that are listed of an input are its requests, if they are no more than a session answers
 each_is_listed : (input : List ℕ) (requests : List Request) (ending : Ending) → Requests input requests ending → length requests ≤ most_requests
     → (listed : List Request) (other : Ending) → Requests input listed other → requests ≡ take most_requests listed
 each_is_listed input requests ending reads few listed other lists =
@@ -72,7 +72,7 @@ module _ (Comes : PortState → Request → Answered → PortState → Type 0) (
   all_taken : more ≡ [] → input ≡ taken
   all_taken none = front ∙ (ap (λ m. taken ++ m) none ∙ append-nil taken)
 
-  -- the session ended behind those requests, with its port as it then was
+  -- the session ended after those requests, with its port as it then was
   answers_open : (outcome : Outcome) (last : List ℕ) → after.port ≡ served
       → ((listed : List Request) (ending : Ending) → Requests input listed ending → done.requests ≡ take most_requests listed)
       → ComesToEnd outcome input done.requests last → Wrote false before.sink after.sink (texts_of airport done.sents ++ last)

@@ -81,7 +81,7 @@ no_version name version e =
       | Some watch ↦ ap (named_after watch) e
     ]
 
--- the pieces of a feed, where the last may be cut further
+-- the pieces of a feed, if the last may be cut further
 with_version : (name version : List ℕ) (ps : List (List ℕ)) → pieces version ≡ ps → feed_named name version ≡ feed_of_pieces ([] ∷ codes "feeds" ∷ name ∷ ps)
 with_version name version [] e = absurd (subst IsSome e (pieces-some version))
 with_version name version (piece ∷ []) e = ap (feed_named name) (sym (joined-pieces version) ∙ ap joined e)

@@ -5,7 +5,7 @@ use Rattle.apron_rules.specs.Names.{place_of}
 use Rattle.desk_bodies.specs.Commits.{if_name}
 use Rattle.desk_http.specs.Names.{place_named}
 
--- the place of a name, where it is one
+-- the place of a name, if it is one
 abbrev place_if : List (List ℕ) → Option (List ℕ) → Option ℕ
 place_if names name = option_and_then (λ text. place_of text names) name
 

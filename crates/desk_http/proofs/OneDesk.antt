@@ -44,14 +44,14 @@ calls_push first next h =
     let last : first + (next - first) ≡ next = omega arith in
     ap (numbers_from first) count ∙ (numbers_from-push first (next - first) ∙ ap (λ n. numbers_from first (next - first) ++ n ∷ []) last)
 
--- what a board leaves at risk is what its desk is told of it
+-- what a board leaves at risk is what its answer to the desk says
 risks : (before after : Standing Entry) (call : ℕ) (what : What) (given : Given) → LeavesAtRisk before call what (is_unkept given) after
     → RisksGiven before.at_risk call what given after.at_risk
 risks before after call what given (inl none) = inl none
 risks before after call what given (inr (inl (same, entries))) = inr (inl same)
 risks before after call what given (inr (inr unkept)) = inr (inr unkept)
 
--- a board's count of faults over an act is what its desk is told of it
+-- a board's count of faults over an act is what its answer to the desk says
 counts_given : (given : Given) (before after : ℕ) → Counts (is_unkept given) before after → CountsGiven given before after
 counts_given (replied reply) before after same = omega (arith, same)
 counts_given no_memory before after same = omega (arith, same)

@@ -135,7 +135,7 @@ mapped : (make : ℕ → Route) (number : Option ℕ) → option_map make number
 mapped make None = refl
 mapped make (Some n) = refl
 
--- a target behind a front of a word and slashes, where no further slash comes
+-- a target after a front of a word and slashes, if no further slash comes
 numbered : (front : List ℕ) (make : ℕ → Route) (path : List ℕ) → is_plain_text front ≡ true
     → ((rest : List ℕ) → pieces rest ≡ rest ∷ [] → route_of (front ++ rest) ≡ option_and_then (λ n. Some (make n)) (plain_number rest))
     → takes (front ++ 256 ∷ []) path ≡ true → option_map make (number_behind front path) ≡ route_of path

@@ -1,4 +1,4 @@
--- Which targets a pattern takes, and that the router's search finds a row exactly where a pattern takes the target, for patterns of bytes and parameters that
+-- Which targets a pattern takes, and that the router's search finds a row exactly if a pattern takes the target, for patterns of bytes and parameters that
 -- are whole pieces.
 use Rattle.std.proofs.Common.{◌≡◌, ◌⊎◌, ◌==◌, ◌&&◌, not, ℕ, zero, suc, ◌-◌, ◌<◌, ◌≤◌, Bool, true, false, true≢false, cond, List, [], ◌∷◌, length, drop, Option, Some, None, refl, sym, ap, ◌∙◌, subst, arith, inl, inr, ltb}
 use Rattle.std.proofs.lemmas.Bool.{eqb-true, eq-eqb}
@@ -16,7 +16,7 @@ abbrev mutual
   takes (x ∷ pattern) [] = false
   takes (x ∷ pattern) (b ∷ path) = if x == 256 then not (b == 47) && takes_on pattern path else (x == b) && takes pattern path
 
-  -- the same where a parameter has taken one byte at least
+  -- the same if a parameter has taken one byte at least
   pub takes_on : List ℕ → List ℕ → Bool
   takes_on [] [] = true
   takes_on [] (b ∷ path) = not (b == 47) && takes_on [] path
@@ -308,7 +308,7 @@ segment-le (b ∷ p) = by (λ v. length (cond v (b ∷ []) (b ∷ segment p)) �
 byte-no-param : (b : ℕ) → b < 256 → (b == 256) ≡ false
 byte-no-param b h = by (λ v. (b == 256) ≡ v → v ≡ false) (b == 256) (λ e _. let same = eqb-true b 256 e in absurd (omega arith)) (λ _ _. refl) refl
 
--- where a pattern takes the path, the search finds a route
+-- if a pattern takes the path, the search finds a route
 pub complete : {K : Type 0} (path : List ℕ) (n : ℕ) (rs : RowsOf K) (t : List ℕ) (k : K) → ArePlain rs → n ≤ length path → Has rs t k
     → takes t (drop n path) ≡ true → (found : K) × (seek n rs path ≡ Some found)
 complete [] zero rs [] k h l i e = let r = own-Has rs k i in (r.0, seek-nil 0 rs ∙ r.1)

@@ -18,20 +18,22 @@ pub record AloneHeld (K : Type 0) : Type 0 where
   pub board : BoardHeld K
   pub first : ℕ
 
--- what is true at a machine that a desk has to itself, by its airport, its history, the least number of its next call and the number of the desk's first one:
--- the calls come from the first number on, the history is legal and numbered below the next call
+-- what is true at a machine that a desk has to itself, by its airport, its history, the least
+-- number of its next call and the number of the desk's first one: the calls come from the first
+-- number on, the history is legal and numbered below the next call
 pub record IsAlone (airport : AirportParts) (history : List Entry) (next first : ℕ) : Type 0 where
   pub begun : first ≤ next
   pub numbers : Rises call_of 1 next history
   pub legal : IsLegal airport history
 
--- so many numbers from the first on, in order
+-- this many numbers from the first on, in order
 abbrev pub numbers_from : ℕ → ℕ → List ℕ
 numbers_from first zero = []
 numbers_from first (suc count) = first ∷ numbers_from (first + 1) count
 
--- what a desk tells that has a machine in this state to itself, and whose first call has this number: it has seen the machine's history, the entry at risk
--- is the machine's, its calls are the numbers from the first up to the machine's next, and its count of faults is the machine's
+-- what a desk tells that has a machine in this state to itself, and whose first call has this
+-- number: it has seen the machine's history, the entry at risk is the machine's, its calls are the
+-- numbers from the first up to the machine's next, and its count of faults is the machine's
 abbrev pub port_over : {Fixed : Type 0} → ℕ → MachineState Entry Fixed → PortState
 port_over first machine = record {
   first = first;
@@ -46,13 +48,14 @@ port_over first machine = record {
 abbrev pub alone_port : {K : Type 0} → (K → KeeperState) → AloneHeld K → PortState
 alone_port tells alone = port_over alone.first (machine_state tells alone.board)
 
--- how a port stands: what it has seen, and the entry at risk behind it
+-- the state of a port: what it has seen, and the entry at risk after it
 abbrev pub standing_of : PortState → Standing Entry
 standing_of port = record { entries = port.seen; at_risk = port.at_risk }
 
--- an ask of a desk alone gets its turn at the history that it has seen, and with the next number; an entry comes to be at risk only where it is the one
--- that was asked for and could not be kept, and is at risk no more once another is added; the count of faults rises, or stands at its last value, where
--- the entry could not be kept, and else it stands still
+-- an ask of a desk alone gets its turn at the history that it has seen, and with the next number.
+-- An entry comes to be at risk only if it is the one that was asked for and could not be kept, and
+-- is at risk no more once another is added. The count of faults rises, or is at its greatest value,
+-- if the entry could not be kept; otherwise it is as before
 abbrev pub AloneAsks : AirportParts → PortState → Ask → Given → PortState → Type 0
 AloneAsks airport before ask given after =
     (turn : Turn airport before ask given after) × (turn.history ≡ before.seen) × (turn.call ≡ before.first + length before.calls)

@@ -10,7 +10,8 @@ use Rattle.desk_http.specs.FeedPorts.{FeedGiven, feed_given_text}
 use Rattle.desk_http.specs.Ports.{PortState, IsExhausted}
 use Rattle.desk_http.specs.Routes.{ReadsBody, ask_of_request, said_in}
 
--- what is sent for a request: a reply that is fixed before the plan is consulted, or what the port gave for an ask or a feed
+-- what is sent for a request: a reply that is fixed before the plan is consulted, or what the port
+-- gave for an ask or a feed
 pub data Sent : Type 0 where
   at_once : EarlyReply → Sent
   given : Given → Sent
@@ -22,7 +23,8 @@ sent_text airport (at_once reply) = early_text reply
 sent_text airport (given answer) = given_text airport answer
 sent_text airport (fed feed) = feed_given_text feed
 
--- what comes of a request: this is sent, or it found the port's numbers exhausted, or no memory was there to read it
+-- what comes of a request: this is sent, or it found the port's numbers exhausted, or no memory was
+-- there to read it
 pub data Answered : Type 0 where
   sends : Sent → Answered
   exhausted : Answered

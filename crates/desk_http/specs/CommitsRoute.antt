@@ -21,7 +21,8 @@ edit_named airport number (lift visit part) = Ok (Lift (record { 0 = visit }) pa
 edit_named airport number (cut visit part at) = Ok (Cut (record { 0 = visit }) part at)
 edit_named airport number (join visit part) = Ok (Join (record { 0 = visit }) part)
 
--- the edits, the first of this number, or the first that names a stand that the airport does not have
+-- the edits, the first of this number, or the first that names a stand that the airport does not
+-- have
 abbrev pub edits_named : AirportParts → ℕ → List EditSaid → Result (List Edit) EarlyReply
 edits_named airport number [] = Ok []
 edits_named airport number (said ∷ more) = do

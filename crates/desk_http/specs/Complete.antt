@@ -1,4 +1,5 @@
--- Completeness: a session that nothing hinders answers each request of its input, a million at most, and comes to the end of it.
+-- Completeness: a session that nothing hinders answers each request of its input, a million at
+-- most.
 use Rattle.std.specs.Prelude.{◌≡◌, All, ℕ, false, List, [], ◌++◌, length, take, Some}
 use Rattle.apron_base.specs.Counts.{Rose}
 use Rattle.apron_base.specs.Ends.{Wrote}
@@ -15,16 +16,17 @@ use Rattle.desk_http.specs.Ports.{PortState}
 use Rattle.desk_http.specs.Runs.{Runs}
 use Rattle.desk_http.specs.Session.{Moment, SessionKind, SessionOf, most_requests, refusal_text, texts_of}
 
--- nothing hindered a session: no memory was wanting, its port had a number for each call, and neither its source's count of faults nor its sink's rose,
--- nor stands at its last value
+-- nothing hindered a session: memory did not run out, its port had a number for each call, and the
+-- counts of faults of its source and its sink neither rose nor are at their greatest value
 pub record IsUnhindered (before after : Moment) (outcome : Outcome) : Type 0 where
   pub memory : ¬ (outcome ≡ Memory)
   pub numbers : ¬ (outcome ≡ Spent)
   pub source : ¬ (Rose before.source.faults after.source.faults)
   pub sink : ¬ (Rose before.sink.faults after.sink.faults)
 
--- how a session ends that answered these requests of its input, and what it sent behind their replies: as the input does behind them, where a head that
--- is refused has its own reply; or with as many as one session answers, of which none closes it
+-- how a session ends that answered these requests of its input, and what it sent after their
+-- replies: as the input does after them, and a head that is refused has its own reply; or with as
+-- many requests as one session answers, of which none closes it
 abbrev pub ComesToEnd : Outcome → List ℕ → List Request → List ℕ → Type 0
 ComesToEnd Ended input requests last = Requests input requests ended × (last ≡ [])
 ComesToEnd Closed input requests last = Requests input requests closed × (last ≡ [])
@@ -35,8 +37,8 @@ ComesToEnd outcome input requests last = ⊥
 
 -- `Comes` says what comes of a request and what the port becomes
 module _ (Comes : PortState → Request → Answered → PortState → Type 0) (airport : AirportParts) where
-  -- The requests of the input were answered one after another, each that has fewer than a million before it, by what came of it at its place. Their replies
-  -- were written whole.
+  -- The requests of the input were answered one after another, each that has fewer than a million
+  -- before it, by what came of it at its place. Their replies were written whole.
   pub record AnswersEachBy (before after : Moment) (outcome : Outcome) (input : List ℕ) : Type 0 where
     pub requests : List Request
     pub sents : List Sent
@@ -46,7 +48,8 @@ module _ (Comes : PortState → Request → Answered → PortState → Type 0) (
     pub ends : ComesToEnd outcome input requests last
     pub wrote : Wrote false before.sink after.sink (texts_of airport sents ++ last)
 
-  -- each session whose source tells its bytes, and which nothing hindered, answers each request of them
+  -- each session that nothing hindered, and whose source tells its bytes, answers each of their
+  -- requests
   abbrev pub IsCompleteBy : Moment → Moment → Outcome → Type 0
   IsCompleteBy before after outcome = (input : List ℕ) → before.source.left ≡ Some input → IsUnhindered before after outcome → AnswersEachBy before after outcome input
 
@@ -54,11 +57,13 @@ module _ (Comes : PortState → Request → Answered → PortState → Type 0) (
 abbrev pub IsCompleteOfKind : SessionKind → Moment → Moment → Outcome → Type 0
 IsCompleteOfKind kind before after outcome = IsCompleteBy kind.comes kind.airport before after outcome
 
--- each request of the input was answered by its early reply, or by what the port gave for it at its place
+-- each request of the input was answered by its early reply, or by what the port gave for it at its
+-- place
 abbrev pub AnswersEach : (AirportParts → PortState → Ask → Given → PortState → Type 0) → AirportParts → Moment → Moment → Outcome → List ℕ → Type 0
 AnswersEach asks airport before after outcome input = AnswersEachBy (Answers asks airport) airport before after outcome input
 
--- the same of a session over a port: `asks` says what a port of the airport gives for an ask and what it becomes
+-- the same of a session over a port: `asks` says what a port of the airport gives for an ask and
+-- what it becomes
 abbrev pub IsSessionComplete : (AirportParts → PortState → Ask → Given → PortState → Type 0) → AirportParts → Moment → Moment → Outcome → Type 0
 IsSessionComplete asks airport before after outcome = IsCompleteBy (Answers asks airport) airport before after outcome
 

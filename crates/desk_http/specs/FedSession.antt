@@ -19,18 +19,20 @@ use Rattle.desk_http.specs.Session.{Moment, SessionBy}
 use Rattle.desk_http.specs.declared.port.Feed.{Feed}
 use Rattle.desk_http.specs.declared.port.FeedAsk.{FeedAsk}
 
--- what is asked with this feed, or the first reply that is fixed: by the method, then by the version that the desk says it has seen
+-- what is asked with this feed, or the first reply that is fixed: by the method, then by the
+-- version that the desk says it has seen
 abbrev pub feed_asked_of : Said → Feed → Result FeedAsk EarlyReply
 feed_asked_of said feed = do
   taken ← refuse_if (not (bytes_eq said.method (codes "GET"))) OnlyGet
   version ← ok_or said.seen BadSeen
   Ok (record { seen = version; feed = feed })
 
--- the same by the target, where it names a feed
+-- the same by the target, if it names a feed
 abbrev pub feed_asked : Said → Option (Result FeedAsk EarlyReply)
 feed_asked said = option_map (feed_asked_of said) (feed_of said.target)
 
--- `asks` says what a port of the airport gives for an ask and what it becomes, `feeds` the same of a feed
+-- `asks` says what a port of the airport gives for an ask and what it becomes, `feeds` the same of
+-- a feed
 module _ (asks : AirportParts → PortState → Ask → Given → PortState → Type 0) (feeds : AirportParts → PortState → FeedAsk → FeedGiven → PortState → Type 0) where
   -- what comes of a feed that is asked for, and the port after it
   abbrev pub FeedAnswers : AirportParts → PortState → Result FeedAsk EarlyReply → Answered → PortState → Type 0
@@ -39,7 +41,8 @@ module _ (asks : AirportParts → PortState → Ask → Given → PortState → 
   FeedAnswers airport before (Ok ask) exhausted after = IsExhausted before after
   FeedAnswers airport before asked answered after = ⊥
 
-  -- what comes of a request that asks for this feed; or for none, and then it is answered as in a session without feeds
+  -- what comes of a request that asks for this feed; or for none, and then it is answered as in a
+  -- session without feeds
   abbrev pub FedAnswersTo : Option (Result FeedAsk EarlyReply) → AirportParts → PortState → Request → Answered → PortState → Type 0
   FedAnswersTo None airport before request answered after = Answers asks airport before request answered after
   FedAnswersTo (Some asked) airport before request answered after = FeedAnswers airport before asked answered after

@@ -1,4 +1,4 @@
--- What the target of a request for a feed names: /feeds/, the name of a watch, a slash and a version.
+-- What the target of a feed's request names: /feeds/, the name of a watch, a slash and a version.
 use Rattle.std.specs.Prelude.{ℕ, List, [], ◌∷◌, codes, Option, None, Some, if◌then◌else◌}
 use Rattle.std.specs.Option.{option_map, option_and_then}
 use Rattle.std.specs.Str.{bytes_eq}
@@ -10,7 +10,7 @@ use Rattle.desk_http.specs.declared.port.Feed.{Feed}
 abbrev pub version_written : List ℕ → Option ℕ
 version_written text = if bytes_eq text (codes "0") then Some 0 else plain_number text
 
--- the feed of the watch of this name after this version, where they are a name and a version
+-- the feed of the watch of this name after this version, if they are a name and a version
 abbrev pub feed_named : List ℕ → List ℕ → Option Feed
 feed_named name version =
     option_and_then (λ watch. option_map (λ after. record { watch = watch; after = after }) (version_written version)) (if_name name)

@@ -7,7 +7,7 @@ use Rattle.apron_rules.specs.Names.{place_of, stand_names, type_names}
 use Rattle.apron_rules.specs.declared.parts.AirportParts.{AirportParts}
 use Rattle.desk_bodies.specs.Commits.{if_name}
 
--- the place among names of the name that the text is, where it is one
+-- the place among names of the name that the text is, if it is one
 abbrev pub place_named : List (List ℕ) → List ℕ → Option ℕ
 place_named names text = option_and_then (λ name. place_of name names) (if_name text)
 

@@ -5,6 +5,6 @@ use Rattle.std.specs.Prelude.{ℕ, ◌-◌, ◌^◌, nat_le, Option, None, Some,
 abbrev pub greatest : ℕ
 greatest = 2 ^ 32 - 1
 
--- the number, where it has 32 bits
+-- the number, if it has 32 bits
 abbrev pub within_32_bits : ℕ → Option ℕ
 within_32_bits number = if nat_le number greatest then Some number else None

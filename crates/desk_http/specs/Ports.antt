@@ -12,8 +12,9 @@ use Rattle.history_core.specs.History.{call_limit, call_of, IsLegal}
 use Rattle.history_core.specs.Answer.{Given, keeper_fault, acted_from, GivesAnswer}
 use Rattle.history_core.specs.AtRisk.{IsAskedFor}
 
--- a port: the least number that a call of it can have, the history that it has seen, the entry at risk that its own calls left where there is one (of a
--- desk alone: the keeper's), the numbers of its own calls, whether its numbers are exhausted, and its count of faults
+-- a port: the least number that a call of it can have, the history that it has seen, the entry at
+-- risk that its own calls left if there is one (of a desk alone: the keeper's), the numbers of its
+-- own calls, whether its numbers have run out, and its count of faults
 pub record PortState : Type 0 where
   pub first : ℕ
   pub seen : List Entry
@@ -22,13 +23,14 @@ pub record PortState : Type 0 where
   pub spent : Bool
   pub faults : ℕ
 
--- the history begins with what was seen, and what is new in it has greater numbers than each of these calls
+-- the history begins with what was seen, and what is new in it has greater numbers than each of
+-- these calls
 pub record IsLater (seen : List Entry) (calls : List ℕ) (history : List Entry) : Type 0 where
   pub new : List Entry
   pub is : history ≡ seen ++ new
   pub above : Every (λ call. Every (λ entry. call < call_of entry) new) calls
 
--- a count of faults after something was given: it never falls, and a fault is given only where it rose
+-- a count of faults after something was given: it never falls, and a fault is given only if it rose
 abbrev pub CountsGiven : Given → ℕ → ℕ → Type 0
 CountsGiven keeper_fault before now = (before ≤ now) × Rose before now
 CountsGiven given before now = before ≤ now
@@ -38,12 +40,14 @@ abbrev pub is_unkept : Given → Bool
 is_unkept keeper_fault = true
 is_unkept given = false
 
--- what is at risk after an ask with this call number: nothing, or what was; or the entry that was asked for, where it could not be kept
+-- what is at risk after an ask with this call number: nothing, or what was; or the entry that was
+-- asked for, if it could not be kept
 abbrev pub RisksGiven : Option Entry → ℕ → What → Given → Option Entry → Type 0
 RisksGiven before call what given after =
     (after ≡ None) ⊎ (after ≡ before) ⊎ ((is_unkept given ≡ true) × ((entry : Entry) × (after ≡ Some entry) × IsAskedFor call what entry))
 
--- An ask that got its turn: it found this whole history, which begins with all that the port had seen, and was given its answer there.
+-- An ask that got its turn: it found this whole history, which begins with all that the port had
+-- seen, and was given its answer there.
 pub record Turn (airport : AirportParts) (before : PortState) (ask : Ask) (given : Given) (after : PortState) : Type 0 where
   pub history : List Entry
   pub call : ℕ
@@ -66,7 +70,7 @@ pub record Turn (airport : AirportParts) (before : PortState) (ask : Ask) (given
 abbrev pub IsExhausted : PortState → PortState → Type 0
 IsExhausted before after = after ≡ record before { spent = true }
 
--- what an act shows of an ask, where `asks` says what the port gives and becomes
+-- what an act shows of an ask, if `asks` says what the port gives and becomes
 abbrev pub ShowsAsk : (AirportParts → PortState → Ask → Given → PortState → Type 0) → AirportParts → PortState → Ask → Acted → PortState → Type 0
 ShowsAsk asks airport before ask Spent after = IsExhausted before after
 ShowsAsk asks airport before ask acted after = (given : Given) × (acted ≡ acted_from airport given) × asks airport before ask given after

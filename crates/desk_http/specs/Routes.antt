@@ -55,7 +55,7 @@ is_read json = true
 abbrev pub takes_body : Route → Bool
 takes_body route = is_read (body_of route)
 
--- the method of a route: POST where a body comes with its requests, and else GET
+-- the method of a route: POST if a body comes with its requests, and GET otherwise
 abbrev pub method_of : Route → List ℕ
 method_of route = if takes_body route then codes "POST" else codes "GET"
 
@@ -63,7 +63,7 @@ method_of route = if takes_body route then codes "POST" else codes "GET"
 abbrev pub only : Route → EarlyReply
 only route = if takes_body route then OnlyPost else OnlyGet
 
--- the version that a desk says it has seen: 0 where it says none
+-- the version that a desk says it has seen, or 0 if it says none
 abbrev pub seen_version : FieldNumber → Option ℕ
 seen_version Absent = Some 0
 seen_version (Written number) = within_32_bits number
@@ -75,7 +75,8 @@ desk_for Mvt desk = desk
 desk_for Reports desk = desk
 desk_for route desk = Some no_desk
 
--- what is looked at for what a request asks; a version or a desk that was not told as it has to be is none
+-- what is looked at for what a request asks; a version or a desk that was not told as it has to be
+-- is none
 pub record Said : Type 0 where
   pub method : List ℕ
   pub target : List ℕ
@@ -100,7 +101,8 @@ route_taken method target = do
   taken ← refuse_if (not (bytes_eq method (method_of route))) (only route)
   Ok route
 
--- the body is read as JSON: that of the route is, and the version that was seen and the desk are told as they have to be
+-- the body is read as JSON: the route's body is, and the version that was seen and the desk are
+-- given in their form
 pub record ReadsBody (said : Said) : Type 0 where
   pub route : Route
   pub taken : route_taken said.method said.target ≡ Ok route
@@ -108,7 +110,7 @@ pub record ReadsBody (said : Said) : Type 0 where
   pub seen : IsSome said.seen
   pub desk : IsSome (desk_for route said.desk)
 
--- what a desk asks of a route with this body, where a day is looked at and no body
+-- what a desk asks of a route with this body: a day has no body, and its number is looked at
 abbrev pub what_asked : AirportParts → Route → List ℕ → List ℕ → Result What EarlyReply
 what_asked airport Visits desk body = visit_added airport body
 what_asked airport Commits desk body = commit_asked airport body
@@ -124,8 +126,8 @@ what_asked airport (Plan day) desk body = day_asked airport day (what.Plan day)
 what_asked airport (Chart day) desk body = day_asked airport day (what.Chart day)
 what_asked airport (Day day) desk body = day_asked airport day (what.Day day)
 
--- what is asked, or the first reply that is fixed: by the target and the method, then by the version that the desk says it has seen, then by the desk's
--- name, then by the day or the body
+-- what is asked, or the first reply that is fixed: by the target and the method, then by the
+-- version that the desk says it has seen, then by the desk's name, then by the day or the body
 abbrev pub asked_by : AirportParts → Said → Result Ask EarlyReply
 asked_by airport said = do
   route ← route_taken said.method said.target

@@ -30,7 +30,7 @@ TakesMore before after old new Taken = (piece : List ℕ) × Took false before a
 TakesMore before after old new NoMore = Took false before after [] × (new ≡ old) × IsAtEnd after.left
 TakesMore before after old new Fault = Took true before after [] × (new ≡ old)
 
--- how a session ends after such a turn; none where it goes on
+-- how a session ends after such a turn; none if it goes on
 abbrev pub outcome_of : Turned → Option Outcome
 outcome_of (Met closes (Ok done)) = if closes then Some Closed else None
 outcome_of (Met closes (Err SinkFault)) = Some WriteFault

@@ -24,13 +24,15 @@ pub record Moment : Type 0 where
   pub sink : SinkState
   pub port : PortState
 
--- the requests that were answered and left the session open, what was sent for each, and the bytes behind them
+-- the requests that were answered and left the session open, what was sent for each, and the bytes
+-- after them
 pub record Progress : Type 0 where
   pub requests : List Request
   pub sents : List Sent
   pub rest : List ℕ
 
--- what was sent last, whole or a front of it: nothing, the reply to a request, or the reply to bytes that are refused
+-- what was sent last, whole or a front of it: nothing, the reply to a request, or the reply to
+-- bytes that are refused
 pub data Last : Type 0 where
   nothing : Last
   reply : Request → Sent → Last
@@ -67,7 +69,7 @@ abbrev pub is_write_fault : Outcome → Bool
 is_write_fault WriteFault = true
 is_write_fault outcome = false
 
--- the source was read to its end where the outcome rests on its end
+-- the source was read to its end, if the outcome depends on its end
 abbrev pub IsReadToEnd : Outcome → Option (List ℕ) → Type 0
 IsReadToEnd Ended left = IsAtEnd left
 IsReadToEnd Cut left = IsAtEnd left
@@ -78,12 +80,13 @@ abbrev pub IsCount : Outcome → ℕ → Type 0
 IsCount Limit count = count ≡ most_requests
 IsCount outcome count = count < most_requests
 
--- what was written of the last text: all of it, or a front where the sink failed
+-- what was written of the last text: all of it, or a front if the sink failed
 abbrev pub WritesLast : Outcome → List ℕ → List ℕ → Type 0
 WritesLast WriteFault text written = (count : ℕ) × (written ≡ take count text)
 WritesLast outcome text written = written ≡ text
 
--- why a session ends that asks nothing more of its port, by the bytes that are left and what is sent last
+-- why a session ends that asks nothing more of its port, by the bytes that are left and what is
+-- sent last
 abbrev pub StopsSession : Outcome → List ℕ → Last → Type 0
 StopsSession Ended rest nothing = EndsStream rest ended
 StopsSession Cut rest nothing = EndsStream rest cut
@@ -105,7 +108,8 @@ module _ (Comes : PortState → Request → Answered → PortState → Type 0) w
     pub first : HasRequest bytes request behind
     pub comes : Comes before request answered after
 
-  -- why a session ends, by the request at the front of the bytes that are left, or with its port as it was
+  -- why a session ends, by the request at the front of the bytes that are left, or with its port as
+  -- it was
   abbrev pub EndsSession : Outcome → List ℕ → Last → PortState → PortState → Type 0
   EndsSession Closed rest (reply request sent) before after = (is_closing request.head ≡ true) × ComesFirst rest request (sends sent) before after
   EndsSession WriteFault rest (reply request sent) before after = ComesFirst rest request (sends sent) before after
@@ -113,12 +117,13 @@ module _ (Comes : PortState → Request → Answered → PortState → Type 0) w
   EndsSession Memory rest nothing before after = (request : Request) × ComesFirst rest request unread before after
   EndsSession outcome rest last before after = StopsSession outcome rest last × (after ≡ before)
 
-  -- the same with want of memory before anything was read
+  -- the same, or memory ran out before anything was read
   abbrev pub EndsAfter : Outcome → Progress → Last → PortState → PortState → Type 0
   EndsAfter Memory done nothing before after = EndsSession Memory done.rest nothing before after ⊎ ((done ≡ no_progress) × (after ≡ before))
   EndsAfter outcome done last before after = EndsSession outcome done.rest last before after
 
-  -- One session: it took these bytes, answered the requests at their front one after another, and ended with what was sent last.
+  -- One session: it took these bytes, answered the requests at their front one after another, and
+  -- ended with what was sent last.
   pub record SessionBy (airport : AirportParts) (before after : Moment) (outcome : Outcome) : Type 0 where
     pub taken : List ℕ
     pub done : Progress
@@ -135,11 +140,13 @@ module _ (Comes : PortState → Request → Answered → PortState → Type 0) w
     pub last_written : WritesLast outcome (last_text airport last) written
     pub wrote : Wrote (is_write_fault outcome) before.sink after.sink (texts_of airport done.sents ++ written)
 
--- a session over a port: `asks` says what a port of the airport gives for an ask and what it becomes
+-- a session over a port: `asks` says what a port of the airport gives for an ask and what it
+-- becomes
 abbrev pub SessionOf : (AirportParts → PortState → Ask → Given → PortState → Type 0) → AirportParts → Moment → Moment → Outcome → Type 0
 SessionOf asks airport before after outcome = SessionBy (Answers asks airport) airport before after outcome
 
--- the sessions of one kind: the airport of their plan, and what comes of a request and what the port becomes
+-- the sessions of one kind: the airport of their plan, and what comes of a request and what the
+-- port becomes
 pub record SessionKind : Type 1 where
   pub airport : AirportParts
   pub comes : PortState → Request → Answered → PortState → Type 0

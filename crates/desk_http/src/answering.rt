@@ -91,7 +91,7 @@ impl<P: DeskPort> Answerer<P> for DeskRoutes {
     }
 }
 
-// The reply to an ask; none where the port's call numbers are exhausted.
+// The reply to an ask; none if the port's call numbers have run out.
 fn answer_ask<P: DeskPort>(alloc: Global, port: &mut P, ask: &Ask) -> Option<PreparedReply>
     requires valid { IsAskOf (P.airport_of port.old) ask.now }
     ensures airport { P.airport_of port.new ≡ P.airport_of port.old }

@@ -19,7 +19,8 @@ use desk_words::fixed;
 use http_framing::RequestParts;
 use std::alloc::Global;
 
-/// One session of one desk that also answers feeds, at GET `/feeds/NAME/VERSION`. All else is as in `session`.
+/// One session of one desk that also answers feeds, at GET `/feeds/NAME/VERSION`. All else is as in
+/// `session`.
 pub fn session_fed<P: FeedPort, S: Source, W: Sink>(
     alloc: Global,
     port: &mut P,
@@ -66,7 +67,7 @@ impl<P: FeedPort> Answerer<P> for FedRoutes {
     }
 }
 
-// The reply to a feed; none where the port's call numbers are exhausted.
+// The reply to a feed; none if the port's call numbers have run out.
 fn answer_feed<P: FeedPort>(alloc: Global, port: &mut P, ask: &FeedAsk) -> Option<PreparedReply>
     ensures airport { P.airport_of port.new ≡ P.airport_of port.old }
     ensures place { P.place port.new ≡ P.place port.old }
@@ -81,7 +82,8 @@ fn answer_feed<P: FeedPort>(alloc: Global, port: &mut P, ask: &FeedAsk) -> Optio
     }
 }
 
-// The feed that a request with these parts asks for, where its target names one. Its body is passed over.
+// The feed that a request with these parts asks for, if its target names one. Its body is passed
+// over.
 fn feed_asked(request: &RequestParts<'_>) -> Option<Result<FeedAsk, EarlyReply>>
     ensures asked { result ≡ feed_asked_lem (said_by request.now) }
 {

@@ -3,7 +3,8 @@ ghost use Rattle.desk_http.specs.Complete.{SessionsAreComplete};
 
 use crate::DeskPort;
 
-/// A session that nothing hinders answers each request of its input, a million at most, and comes to its end.
+/// A session that nothing hinders answers each request of its input, a million at most, and comes
+/// to its end.
 pub fn sessions_are_complete<P: DeskPort>()
     ensures complete { SessionsAreComplete P.asks }
 {}

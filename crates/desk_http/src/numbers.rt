@@ -2,7 +2,7 @@
 ghost use Rattle.std.specs.Prelude.{◌≡◌};
 ghost use Rattle.desk_http.specs.Numbers.{within_32_bits as within_lem};
 
-/// The number, where it has 32 bits.
+/// The number, if it has 32 bits.
 pub(crate) fn within_32_bits(number: u64) -> Option<u32>
     ensures value { result ≡ within_lem number }
 {

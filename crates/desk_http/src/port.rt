@@ -34,7 +34,8 @@ pub trait DeskPort {
     fn airport(&self) -> &Airport
         ensures value { result.now ≡ airport_of self.now };
 
-    /// Answers an ask. Spent comes where the port's call numbers were exhausted, and then no call was made.
+    /// Answers an ask. Spent comes if the port's call numbers have run out, and then no call was
+    /// made.
     fn ask(&mut self, alloc: Global, ask: &Ask) -> Acted
         requires valid { IsAskOf (airport_of self.old) ask.now }
         ensures airport { airport_of self.new ≡ airport_of self.old }
@@ -63,7 +64,8 @@ pub struct FeedAsk {
     pub feed: Feed,
 }
 
-/// A port that answers feeds too. What their replies are is a meaning of the port, so that a session knows of no watches.
+/// A port that answers feeds too. What their replies are is a meaning of the port, so that a
+/// session knows of no watches.
 pub trait FeedPort: DeskPort {
     ghost use Rattle.std.specs.Prelude.{◌≡◌, ℕ, List};
     ghost use Rattle.apron_rules.specs.declared.parts.AirportParts.{AirportParts};
@@ -78,9 +80,9 @@ pub trait FeedPort: DeskPort {
     /// What it gives for a feed at that place and airport, and what it becomes.
     ghost feeds: { Self.Place → AirportParts → PortState → FeedAsk → FeedGiven → PortState → Type 0 };
 
-    /// Answers a feed: the bumps that the watch of this name picks, of those after the version `after`, to a desk that has
-    /// seen the version `seen`. It adds no entry, and answers no Fault. Spent comes where the port's call numbers were
-    /// exhausted, and then no call was made.
+    /// Answers a feed: the bumps that the watch of this name picks, of those after the version
+    /// `after`, to a desk that has seen the version `seen`. It adds no entry, and answers no Fault.
+    /// Spent comes if the port's call numbers have run out, and then no call was made.
     fn feed(&mut self, alloc: Global, seen: u32, watch: &Name, after: u32) -> Acted
         ensures airport { Self.airport_of self.new ≡ Self.airport_of self.old }
         ensures place { Self.place self.new ≡ Self.place self.old }

@@ -58,7 +58,7 @@ pub enum Route {
 pub(crate) enum Unasked {
     /// This reply is fixed before the plan is consulted.
     AtOnce(EarlyReply),
-    /// Memory is wanting to read the body.
+    /// Memory ran out while the body was read.
     Memory,
 }
 
@@ -161,7 +161,7 @@ fn only(route: Route) -> EarlyReply
     }
 }
 
-/// The version that a desk says it has seen: 0 where it says none.
+/// The version that a desk says it has seen, or 0 if it says none.
 pub(crate) fn seen_of(seen: FieldNumber) -> Option<u32>
     ensures value { result ≡ seen_of_lem seen }
 {

@@ -19,8 +19,8 @@ use std::alloc::Global;
 const MOST_REQUESTS: u32 = 1_000_000;
 
 /// One session of one desk: it answers requests in order until the source ends, one of them closes
-/// it, or something stops it. The memory for its routes and its bytes is taken before the first read,
-/// so that after it only the reading of a body can want any without an ask.
+/// it, or something stops it. The memory for its routes and its bytes is taken before the first
+/// read, so that after it only the reading of a body can want any without an ask.
 pub fn session<P: DeskPort, S: Source, W: Sink>(
     alloc: Global,
     port: &mut P,
@@ -91,7 +91,7 @@ pub(crate) enum Unserved {
     SinkFault,
 }
 
-// How a session ends after such a turn; none where it goes on.
+// How a session ends after such a turn; none if it goes on.
 fn outcome_of(turned: Turned) -> Option<Outcome>
     ensures is { result ≡ outcome_of_lem turned }
 {

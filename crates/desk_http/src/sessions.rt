@@ -2,7 +2,8 @@
 use apron_base::{Outcome, Sink, Source};
 use std::alloc::Global;
 
-/// A port over which sessions of one kind are served: those of [`session`](crate::session), or ones with further routes.
+/// A port over which sessions of one kind are served: those of [`session`](crate::session), or ones
+/// with further routes.
 pub trait SessionPort {
     ghost use Rattle.std.specs.Prelude.{◌≡◌};
     ghost use Rattle.desk_http.specs.Complete.{IsCompleteOfKind};
@@ -15,7 +16,8 @@ pub trait SessionPort {
     /// What no session changes beside that.
     type Place;
 
-    /// By what the kind of its sessions is known: the airport, and what else a session needs. No session changes it.
+    /// By what the kind of its sessions is known: the airport, and what else a session needs. No
+    /// session changes it.
     ghost fixed: { Self → Self.Fixed };
 
     /// The port's place: for a seat its board and its share. No session changes it.

@@ -30,7 +30,7 @@ every_map P (call ∷ calls) h = (h.0, every_map P calls h.1)
 risen_push : (calls : List (Call Entry)) (last : Call Entry) → count_by is_risen (calls ++ last ∷ []) ≡ count_by is_risen calls + cond (is_risen last) 1 0
 risen_push calls last = let more = sum_by-append (λ (call : Call Entry). cond (is_risen call) 1 0) calls (last ∷ []) in omega (arith, more)
 
--- the count of a port rises where something was given for a failure, and never falls
+-- the count of a port rises if the answer is a failure, and never falls
 counts : (given : Given) (airport : AirportParts) (answer : Acted) (last : Call Entry) (before : ℕ)
     → is_fault answer ≡ is_fault (acted_from airport given) → Counts (is_fault answer) last.found last.left
     → CountsGiven given before (before + cond (is_risen last) 1 0)

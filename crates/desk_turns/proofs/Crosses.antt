@@ -14,7 +14,7 @@ use Rattle.desk_turns.specs.declared.machine.DeskMachine as desks
 use Rattle.desk_turns.specs.declared.turns.Turns as boards
 use Rattle.desk_turns.specs.contracts.served.SeatPort as SeatPort
 
--- a board may be shared, and a seat may go to another thread, where the machine may
+-- a board may be shared, and a seat may go to another thread, if the machine may
 pub turns_sync : (M A E F : RattleType) (g : machines.Ghosts M.Denot A.Denot E.Denot F.Denot) → IsSend M → IsSync (TurnBoard.the_row M A E F g)
 turns_sync M A E F g machine_send = search (turns.crosses, sendable, crosses) depth 60 fits 20000
 

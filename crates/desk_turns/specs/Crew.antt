@@ -32,7 +32,8 @@ pub record IsFresh (history : List Entry) (port : PortState) : Type 0 where
   pub spent : port.spent ≡ false
   pub faults : port.faults ≡ 0
 
--- how workers ended together: as the first one that did not finish all its connections, where there is one
+-- how workers ended together: as the first one that did not finish all its connections, if there is
+-- one
 abbrev pub end_of : List WorkEnd → WorkEnd
 end_of [] = Done
 end_of (Done ∷ ends) = end_of ends
@@ -51,29 +52,35 @@ module _ {In Out : Type 0} where
   abbrev pub HasSeen : List Entry → Worker In Out → Type 0
   HasSeen history worker = worker.after.port.seen ≡ history
 
-  -- the worker's port tells this entry at risk at its end: one that was asked for on its connections, and could not be kept
+  -- the worker's port tells this entry at risk at its end: one that was asked for on its
+  -- connections, and could not be kept
   abbrev pub TellsAtRisk : Entry → Worker In Out → Type 0
   TellsAtRisk entry worker = worker.after.port.at_risk ≡ Some entry
 
-  -- an entry that one of these workers could not keep, and none was added since: each of the history has a lower number
+  -- an entry that one of these workers could not keep, and none was added since: each of the
+  -- history has a lower number
   pub record IsUnkeptOf (workers : List (Worker In Out)) (history : List Entry) (entry : Entry) : Type 0 where
     pub by : Any (TellsAtRisk entry) workers
     pub since : Rises call_of 1 entry.call history
 
 -- `kinds` says of which kind the sessions are, by the fixed part
 module _ {In Out Fixed : Type 0} (states : EndStates In Out) (kinds : Fixed → SessionKind) (asked : ℕ) (before after : MachineState Entry Fixed) where
-  -- A worker at the board: its port had seen the board's history, and it served the connections of its listener over it. What it has seen at its end begins
-  -- the history at the end, where all else has greater numbers than its calls; and its port counts a fault only where the board's count rose.
+  -- A worker at the board: its port had seen the board's history, and it served the connections of
+  -- its listener over it. What it has seen at its end begins the history at the end, and all other
+  -- entries have greater numbers than its calls. Its port counts a fault only if the board's count
+  -- rose.
   pub record WorksAt (worker : Worker In Out) : Type 0 where
     pub fresh : IsFresh before.history worker.before.port
     pub works : Works states (kinds before.fixed) asked worker.before worker.after worker.end
     pub seen : IsLater worker.after.port.seen worker.after.port.calls after.history
     pub faults : 0 < worker.after.port.faults → Rose before.faults after.faults
 
--- Workers that were asked for this many connections each, one for each listener: how they ended together, and what they left of the board. Its history is legal, begins
--- with the history before, and is the longest that one of them has seen. Their calls together are, without a gap and each once, the numbers from the board's next
--- one up to an end, which is the end of all numbers where a port found them exhausted. An entry at risk then is one that one of them could not keep, and none was
--- added since.
+-- Workers that were asked for this many connections each, one for each listener: how they ended
+-- together, and what they left of the board. Its history is legal, begins with the history before,
+-- and is the longest that one of them has seen. Their calls together are, without a gap and each
+-- once, the numbers from the board's next one up to an end. This is the end of all numbers if a
+-- port found none left. An entry at risk at the end is one that one of them could not keep, and
+-- none was added since.
 pub record ServesBoard {In Out Fixed : Type 0} (states : EndStates In Out) (kinds : Fixed → SessionKind) (asked : ℕ) (before after : CrewState In Out Fixed) (end : WorkEnd) : Type 0 where
   pub workers : List (Worker In Out)
   pub begun : before.listeners ≡ map (λ (worker : Worker In Out). worker.before.listener) workers

@@ -15,19 +15,21 @@ use Rattle.turn_board.specs.Board.{AskAndAnswer, GotTurn, SeatState}
 abbrev pub AddsAsked : Ask → Entry → Type 0
 AddsAsked ask entry = ask.what ≡ Change entry.command
 
--- What an ask does at a seat of a machine: it is answered `Spent` exactly where the numbers have run out, and then the seat's note of that is all that changed;
--- else it got its turn.
+-- What an ask does at a seat of a machine: it is answered `Spent` exactly if the numbers have run
+-- out, and then only the seat's note of that changed; otherwise it got its turn.
 pub record AsksAt {M Entry Fixed Asks : Type 0} (state : M → MachineState Entry Fixed) (number : Entry → ℕ) (adds : Asks → Entry → Type 0) (answers : Fixed → List Entry → ℕ → Asks → Acted → List Entry → Type 0)
     (before : SeatState Entry Fixed) (asked : AskAndAnswer Asks) (after : SeatState Entry Fixed) : Type 0 where
   pub spent : asked.answer ≡ Spent ↔ (after.exhausted ≡ true)
   pub unasked : asked.answer ≡ Spent → after ≡ record before { exhausted = true }
   pub answered : asked.answer ≢ Spent → GotTurn state number adds answers before asked after
 
--- what a desk's ask does at a seat, whatever is around the board: it is answered as by a board with this airport
+-- what a desk's ask does at a seat, whatever is around the board: it is answered as by a board with
+-- this airport
 abbrev pub AsksBoard : {M Fixed : Type 0} → (M → MachineState Entry Fixed) → (Fixed → AirportParts) → SeatState Entry Fixed → AskAndAnswer Ask → SeatState Entry Fixed → Type 0
 AsksBoard state airport before asked after = AsksAt state call_of AddsAsked (λ fixed. ActsLegally (airport fixed)) before asked after
 
--- the answer to an ask that could not be copied, by the answer to the call that was made in its place
+-- the answer to an ask that could not be copied, by the answer to the call that was made in its
+-- place
 abbrev pub answer_if_uncopied : Acted → Acted
 answer_if_uncopied Spent = Spent
 answer_if_uncopied answer = NoMemory

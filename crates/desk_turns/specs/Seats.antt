@@ -45,8 +45,9 @@ abbrev pub latest_at_risk : List (Call Entry) → Option Entry
 latest_at_risk [] = None
 latest_at_risk (call ∷ calls) = later_of (put_by call.number call.at_risk) (latest_at_risk calls)
 
--- what a seat tells: its calls have numbers from 1 on, its entry at risk is the latest that one of them put there, also where others have added entries since,
--- and its count of faults is the number of its own calls over which the machine's count rose
+-- what a seat tells: its calls have numbers from 1 on; its entry at risk is the latest that one of
+-- them put there, even if others have added entries since; and its count of faults is the number of
+-- its own calls over which the machine's count rose
 abbrev pub port_of : {Fixed : Type 0} → ServedState Fixed → PortState
 port_of served = record {
   first = 1;

@@ -1,4 +1,4 @@
--- What workers do whose seats are cut from one seat, and which meet it again.
+-- What workers do whose seats are split from one seat and meet it again.
 use Rattle.std.specs.Prelude.{◌≡◌, ◌⊎◌, ◌+◌, ◌<◌, ◌≤◌, ◌==◌, ℕ, true, List, [], map, Some}
 use Rattle.std.specs.List.{Any, count_by}
 use Rattle.apron_base.specs.Histories.{Every}
@@ -32,8 +32,9 @@ HasCallOf entry calls = Any (λ (call : Call Entry). call.number ≡ call_of ent
 abbrev pub StaysAtRisk : Entry → List (Call Entry) → Type 0
 StaysAtRisk entry calls = Every (λ (call : Call Entry). call_of entry ≤ call.number → call.at_risk ≡ Some entry) calls
 
--- A worker whose seat was cut from one seat and met it again: what its port has seen at its end begins the history that is seen then, and its calls, its note
--- of exhausted numbers and its faults are with that seat.
+-- A worker whose seat was cut from one seat and met it again: what its port has seen at its end
+-- begins the history that is seen then, and its calls, its note of exhausted numbers and its faults
+-- are with that seat.
 pub record WorksBeside {In Out Fixed : Type 0} (states : EndStates In Out) (kind : SessionKind) (asked : ℕ) (before after : SeatState Entry Fixed) (worker : Worker In Out) : Type 0 where
   pub fresh : IsFresh before.seen worker.before.port
   pub works : Works states kind asked worker.before worker.after worker.end
@@ -42,8 +43,9 @@ pub record WorksBeside {In Out Fixed : Type 0} (states : EndStates In Out) (kind
   pub exhausted : worker.after.port.spent ≡ true → after.exhausted ≡ true
   pub faults : worker.after.port.faults ≤ count_by is_risen after.calls
 
--- workers that were asked for this many connections each, one for each listener: how they ended together, and the seat that has met all of theirs; an entry that
--- one of its calls put at risk, and which stayed so, is that of a call from before or the one that a worker tells
+-- workers that were asked for this many connections each, one for each listener: how they ended
+-- together, and the seat that has met all of theirs; an entry that one of its calls put at risk,
+-- and which stayed so, is that of a call from before or the one that a worker tells
 pub record WorkTogether {In Out Fixed : Type 0} (states : EndStates In Out) (kind : SessionKind) (asked : ℕ) (before after : SeatedState In Out Fixed) (end : WorkEnd) : Type 0 where
   pub workers : List (Worker In Out)
   pub begun : before.listeners ≡ map (λ (worker : Worker In Out). worker.before.listener) workers

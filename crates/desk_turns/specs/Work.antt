@@ -31,7 +31,8 @@ abbrev pub is_listener_fault : WorkEnd → Bool
 is_listener_fault Done = false
 is_listener_fault ListenerFault = true
 
--- how many connections were finished of those that were asked for: all, or fewer where the listener failed
+-- how many connections were finished of those that were asked for: all, or fewer if the listener
+-- failed
 abbrev pub IsEndAt : WorkEnd → ℕ → ℕ → Type 0
 IsEndAt Done asked count = count ≡ asked
 IsEndAt ListenerFault asked count = count < asked
@@ -67,7 +68,8 @@ module _ {In Out : Type 0} (states : EndStates In Out) (kind : SessionKind) wher
   AreServed before (connection ∷ connections) after =
       (between : PortState) × HasSession before connection between × AreServed between connections after
 
-  -- these connections were accepted, served one after the other and finished, and another accept failed or none
+  -- these connections were accepted, served one after the other and finished, and another accept
+  -- failed or none
   pub record Serves (failed : Bool) (before after : WorkState In Out) (connections : List (Connection In Out)) : Type 0 where
     pub served : AreServed before.port connections after.port
     pub finishes : TakesAndFinishes failed before.listener after.listener connections
@@ -78,7 +80,8 @@ module _ {In Out : Type 0} (states : EndStates In Out) (kind : SessionKind) wher
       (λ _. (connection : Connection In Out) × Serves false before after (connection ∷ []))
       (λ _. Serves true before after [])
 
-  -- A worker that was asked for this many connections: it served these, all or fewer, and fewer only if the listener failed.
+  -- A worker that was asked for this many connections: it served these, all or fewer, and fewer
+  -- only if the listener failed.
   pub record Works (asked : ℕ) (before after : WorkState In Out) (end : WorkEnd) : Type 0 where
     pub connections : List (Connection In Out)
     pub serves : Serves (is_listener_fault end) before after connections

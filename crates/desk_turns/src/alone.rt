@@ -16,8 +16,8 @@ use desk_words::asks::{Ask, What};
 use std::alloc::Global;
 use std::marker::Model;
 
-/// The port of a desk that has a board with something around it to itself. It numbers its calls from the machine's next one on,
-/// and waits for nobody.
+/// The port of a desk that has a board with something around it to itself. It numbers its calls
+/// from the machine's next one on, and waits for nobody.
 ///
 /// Contracts see the machine, and the number that the first call has.
 pub struct AlonePort<'a, M: DeskMachine> {
@@ -115,7 +115,8 @@ where
     }
 }
 
-// Asks a machine what a desk asks. An ask that no memory is there to copy is answered so after a call all the same.
+// Asks a machine what a desk asks. An ask that no memory is there to copy is answered so after a
+// call all the same.
 fn ask_next<M: FeedMachine>(alloc: Global, machine: &mut M, ask: &Ask) -> Acted
 where
     M::Ask: Drop,
@@ -131,7 +132,8 @@ where
     }
 }
 
-// Makes a call that asks for the version, and answers that there is no memory, or `Spent` if the numbers have run out.
+// Makes a call that asks for the version, and answers that there is no memory, or `Spent` if the
+// numbers have run out.
 fn call_uncopied<M: FeedMachine>(alloc: Global, machine: &mut M) -> Acted
 where
     M::Ask: Drop,
@@ -150,7 +152,8 @@ where
     answer_if_uncopied(act_next(alloc, machine, &own))
 }
 
-// Asks a machine with the number of its next call. It is answered `Spent`, and not asked, where there is no such number.
+// Asks a machine with the number of its next call. If there is no such number, the answer is
+// `Spent`, and the machine is not asked.
 fn act_next<M: DeskMachine>(alloc: Global, machine: &mut M, ask: &M::Ask) -> Acted
     requires valid { M.valid (M.state machine.old).fixed ask.now }
     ensures unasked { result ≡ Acted.Spent → (M.state machine.new ≡ M.state machine.old) × ((M.state machine.old).next ≡ call_limit) }

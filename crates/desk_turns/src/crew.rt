@@ -1,4 +1,5 @@
-// The workers at one board, one for each listener, each in a thread of its own, and a job beside them.
+// The workers at one board, one for each listener, each in a thread of its own, and a job beside
+// them.
 ghost use Rattle.std.specs.Prelude.{◌≡◌, ◌<◌, IfErr, IfOk, None, [], ◌∷◌, length, map};
 ghost use Rattle.std.specs.List.{AllZip};
 ghost use Rattle.std.specs.Thread.{IsSync};
@@ -22,11 +23,12 @@ use std::sync::Wait;
 use std::thread::{Threads, join_mut};
 use turn_board::{Seat, TurnBoard};
 
-/// Serves this many connections of each listener at a board at which no entry is at risk: each listener by a worker in a thread
-/// of its own with a seat of its own at the board. The job runs beside the workers, in this thread, and has to end by itself.
-/// When all have ended, all seats are taken in, and the board comes back with what the job gave. It ends as the first worker
-/// in order that stopped early, and is done if none did. At `Err` there is no memory: nothing was served, and the
-/// job was not run.
+/// Serves this many connections of each listener at a board at which no entry is at risk: each
+/// listener by a worker in a thread of its own with a seat of its own at the board. The job runs
+/// beside the workers, in this thread, and has to end by itself. When all have ended, all seats are
+/// taken in, and the board comes back with what the job gave. It ends as the first worker in order
+/// that stopped early, and is done if none did. At `Err` there is no memory: nothing was served,
+/// and the job was not run.
 pub fn serve_board<
     R: Threads + Wait + Sync,
     M: SessionMachine + Send,
@@ -76,8 +78,8 @@ fn close_turns<M: DeskMachine>(turns: TurnBoard<M>, seat: Seat<M>) -> M
     board
 }
 
-/// A listener as its worker sees it. Every listener is one. The ends of its connections have no bound, since what is sent to
-/// a thread can't have a bound on its associated types.
+/// A listener as its worker sees it. Every listener is one. The ends of its connections have no
+/// bound, since what is sent to a thread can't have a bound on its associated types.
 pub trait Workplace {
     ghost use Rattle.std.specs.Prelude.{◌≡◌};
     ghost use Rattle.apron_base.specs.Listener.{ListenerState};
@@ -182,7 +184,8 @@ fn work_beside<
     )
 }
 
-// A worker for each listener, each in a thread of its own, and the job in this one. All seats are taken in again.
+// A worker for each listener, each in a thread of its own, and the job in this one. All seats are
+// taken in again.
 fn work_all<P: SplitPort + Send, W: Workplace + Send, R: Threads + Wait + Sync, J: FnMut() -> T, T>(
     rt: &R,
     alloc: Global,

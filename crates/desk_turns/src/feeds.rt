@@ -16,7 +16,8 @@ use desk_words::asks::Ask;
 use std::alloc::Global;
 use std::sync::Wait;
 
-/// A board with something around it that answers feeds too. Its asks own their data, so that what a desk asks is copied.
+/// A board with something around it that answers feeds too. Its asks own their data, so that what a
+/// desk asks is copied.
 pub trait FeedMachine: DeskMachine {
     ghost use Rattle.std.specs.Prelude.{◌≡◌, ℕ, IfOk, List, OnErr};
     ghost use Rattle.apron_base.specs.declared.outside.Acted.{Acted};
@@ -31,13 +32,14 @@ pub trait FeedMachine: DeskMachine {
     /// The text of the reply to each feed at each history.
     ghost feed_text: { Self.Fixed → FeedAsk → List Entry → List ℕ };
 
-    /// A copy of what a desk asks, as it is asked here. At `Err` no memory was there to copy a command.
+    /// A copy of what a desk asks, as it is asked here. At `Err` no memory was there to copy a
+    /// command.
     fn copied(alloc: Global, ask: &Ask) -> Result<Self::Ask, Memory>
         ensures same { IfOk result (λ own. own ≡ Self.plain ask.now) }
         ensures uncopied { OnErr result (AsksCommand ask.now) };
 
-    /// The ask for a feed: the bumps that the watch of this name picks, of those after the version `after`, for a desk that has
-    /// seen the version `seen`. It takes no memory.
+    /// The ask for a feed: the bumps that the watch of this name picks, of those after the version
+    /// `after`, for a desk that has seen the version `seen`. It takes no memory.
     fn feed_ask(seen: u32, watch: &Name, after: u32) -> Self::Ask
         ensures is { result ≡ fed (record { seen = seen; feed = record { watch = watch.now; after = after } }) };
 
@@ -47,7 +49,8 @@ pub trait FeedMachine: DeskMachine {
     /// A feed adds no entry.
     ghost adds_none: { (ask : FeedAsk) (entry : Entry) → Self.adds (fed ask) entry → ⊥ };
 
-    /// A feed gets its reply at the history that it finds, or there is no memory; it leaves that history.
+    /// A feed gets its reply at the history that it finds, or there is no memory; it leaves that
+    /// history.
     ghost feeds_as: { (fixed : Self.Fixed) (before : List Entry) (call : ℕ) (ask : FeedAsk) (answer : Acted) (after : List Entry)
         → Self.answers fixed before call (fed ask) answer after → IsLegalFeed (Self.airport fixed) (feed_text fixed ask) before answer after };
 }

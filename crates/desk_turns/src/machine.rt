@@ -8,8 +8,8 @@ use std::alloc::Global;
 use std::sync::Wait;
 use turn_board::Seat;
 
-/// A board of an airport, with something around it or alone: its history is the board's, and a desk's ask is answered as by
-/// the board.
+/// A board of an airport, with something around it or alone: its history is the board's, and a
+/// desk's ask is answered as by the board.
 pub trait DeskMachine: Machine<Entry = Entry> {
     ghost use Rattle.std.specs.Prelude.{◌≡◌, ◌≤◌, ℕ, IfOk, List, OnErr};
     ghost use Rattle.apron_base.specs.declared.outside.Acted.{Acted};
@@ -28,13 +28,14 @@ pub trait DeskMachine: Machine<Entry = Entry> {
     /// How it is asked what a desk asks.
     ghost plain: { Ask → Self.Ask };
 
-    /// Nothing is done: it shows that the history is legal, and that the number of the next call is within the limit.
+    /// Nothing is done: it shows that the history is legal, and that the number of the next call is
+    /// within the limit.
     fn is_board(&self)
         ensures next { (Self.state self.now).next ≤ call_limit }
         ensures legal { IsLegal (airport (Self.state self.now).fixed) (Self.state self.now).history };
 
-    /// Asks at a seat what a desk asks, by reference or by a copy of it. At `Err` no memory was there to copy a command, and
-    /// nothing was asked.
+    /// Asks at a seat what a desk asks, by reference or by a copy of it. At `Err` no memory was
+    /// there to copy a command, and nothing was asked.
     fn ask_at<R: Wait, B: Turns<Self>>(
         rt: &R,
         alloc: Global,

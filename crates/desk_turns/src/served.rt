@@ -21,7 +21,8 @@ use std::marker::Model;
 use std::sync::Wait;
 use turn_board::{Seat, TurnBoard};
 
-/// The port of a desk that has a seat of its own at a board with something around it. An ask waits for its turn.
+/// The port of a desk that has a seat of its own at a board with something around it. An ask waits
+/// for its turn.
 ///
 /// Contracts see the board and the seat.
 pub struct SeatPort<'s, R, M: DeskMachine, B: Turns<M>> {
@@ -173,7 +174,8 @@ fn ask_plainly<R: Wait, M: DeskMachine, B: Turns<M>>(
     M::ask_at(rt, alloc, board, seat, ask)
 }
 
-// Makes a call that asks for the version, and answers that there is no memory, or `Spent` if the numbers have run out.
+// Makes a call that asks for the version, and answers that there is no memory, or `Spent` if the
+// numbers have run out.
 fn call_uncopied<R: Wait, M: DeskMachine, B: Turns<M>>(
     rt: &R,
     alloc: Global,

@@ -9,7 +9,8 @@ use std::alloc::Global;
 use std::sync::Wait;
 use turn_board::TurnBoard;
 
-/// A board with something around it, or alone, over the ports of whose seats sessions of one kind are served.
+/// A board with something around it, or alone, over the ports of whose seats sessions of one kind
+/// are served.
 pub trait SessionMachine: DeskMachine {
     ghost use Rattle.std.specs.Prelude.{◌≡◌};
     ghost use Rattle.http_framing.specs.Requests.{Request};

@@ -11,8 +11,9 @@ pub(crate) trait SplitPort: SessionPort {
     /// The board and the seat.
     ghost served: { Self → ServedState Self.Fixed };
 
-    /// Nothing is done: it shows that each such port tells what its seat does, that its sessions are of the kind that goes with
-    /// the machine's fixed part, and that a port which keeps its place keeps its board and its share.
+    /// Nothing is done: it shows that each such port tells what its seat does, that its sessions
+    /// are of the kind that goes with the machine's fixed part, and that a port which keeps its
+    /// place keeps its board and its share.
     fn is_seat(&self)
         ensures tells { (port : Self) → Self.port port ≡ port_of (served port) }
         ensures fixes { (port : Self) → Self.fixed port ≡ fixed_of (served port) }

@@ -4,8 +4,8 @@ use std::alloc::Global;
 use std::sync::Wait;
 use turn_board::{Seat, TurnBoard};
 
-/// At what the seats of a machine take turns: a turn board of it. The signature of a trait's method can name this, and not the
-/// turn board of a machine that is the trait's own.
+/// At what the seats of a machine take turns: a turn board of it. The signature of a trait's method
+/// can name this, and not the turn board of a machine that is the trait's own.
 pub trait Turns<M: Machine> {
     ghost use Rattle.std.specs.Prelude.{◌≡◌};
     ghost use Rattle.turn_board.specs.Board.{Sits, TurnBoardState};

@@ -89,7 +89,8 @@ impl<'a, K: Keeper, R: Stated + 'a, T: NoteTest + 'a> SessionMachine
     }
 }
 
-/// A copy of what a desk asks, as a board with watches is asked it. At `Err` there is no memory to copy a command.
+/// A copy of what a desk asks, as a board with watches is asked it. At `Err` there is no memory to
+/// copy a command.
 pub fn watch_ask_of(alloc: Global, ask: &Ask) -> Result<WatchAsk, Memory>
     ensures same { IfOk result (λ own. own ≡ WatchAsk.Plain ask.now) }
     ensures uncopied { OnErr result (AsksCommand ask.now) }

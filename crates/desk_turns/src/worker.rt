@@ -17,9 +17,9 @@ pub enum WorkEnd {
     ListenerFault,
 }
 
-/// Accepts this many connections one after the other, serves a session of the port's kind on each, and finishes it with the
-/// session's outcome, whatever that is. It ends before its time only where the listener fails, and its count of faults
-/// rises.
+/// Accepts this many connections one after the other, serves a session of the port's kind on each,
+/// and finishes it with the session's outcome, whatever that is. It ends early only if the listener
+/// fails, and its count of faults then rises.
 pub fn work<P: SessionPort, L: Listener, R: Wait>(
     rt: &R,
     alloc: Global,

@@ -1,5 +1,4 @@
--- The calls that a disk in memory was given, what it reads as after them, and what a crash may
--- leave.
+-- The calls that a disk in memory was given, what it reads as then, and what a crash may leave.
 use Rattle.std.specs.Prelude.{◌≡◌, ℕ, ◌+◌, ◌==◌, List, [], ◌∷◌, length, take, drop, max, Bool, false, Some, ◌&&◌, nat_le, nat_lt, if◌then◌else◌}
 use Rattle.std.specs.List.{list_any}
 use Rattle.journal_disk.specs.Disk.{DiskState, with_piece_at, Torn, Same}

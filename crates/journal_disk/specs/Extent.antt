@@ -1,5 +1,4 @@
--- How far a journal reaches on its disk: its entries, the entry at risk, and what a crash leaves of
--- them.
+-- How far a journal reaches on its disk: its entries, the entry at risk, and what a crash leaves.
 use Rattle.std.specs.Prelude.{◌≡◌, ◌⊎◌, ◌<◌, ◌≤◌, ◌+◌, ◌*◌, ℕ, List, [], ◌∷◌, ◌++◌, length, take, drop, Bool, true, false, Option, None, Some, IfSome, Ok}
 use Rattle.std.specs.Option.{option_map, option_and_then}
 use Rattle.std.specs.Result.{result_unwrap_or}

@@ -1,5 +1,4 @@
--- What comes before the first gate of a journal's new part: in format 2 there is one, in format 1
--- there may be one.
+-- What is before the first gate of a journal's new part; in format 1 the new part may be missing.
 use Rattle.std.specs.Prelude.{◌≡◌, ◌≤◌, ℕ, List, [], ◌∷◌, ◌++◌, length, Bool, true}
 use Rattle.std.proofs.Common.{◌≢◌}
 use Rattle.apron_base.specs.Histories.{Every}

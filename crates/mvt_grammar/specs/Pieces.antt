@@ -1,5 +1,4 @@
--- A text cut into pieces, each with the place of its first byte: a text into its lines, a line into
--- its words.
+-- A text cut into pieces, each with the place of its first byte: into lines, and lines into words.
 use Rattle.std.specs.Prelude.{ℕ, ◌+◌, ◌==◌, Bool, true, false, not, List, [], ◌∷◌, length, map, filter, if◌then◌else◌}
 use Rattle.std.specs.List.{slice_split}
 

@@ -1,5 +1,4 @@
--- What the words of an element line mean: elements, faults, and where the line or the whole reading
--- ends.
+-- What the words of an element line mean: elements, faults, and the end of the line or the reading.
 use Rattle.std.specs.Prelude.{ℕ, nat_eq, Bool, not, ◌&&◌, ◌||◌, List, [], ◌∷◌, drop, slice_index, codes, Option, Some, None, is_some, if◌then◌else◌}
 use Rattle.std.specs.List.{starts_with}
 use Rattle.std.specs.Option.{option_map}

@@ -1,5 +1,4 @@
-// What the words of an element line mean: elements, faults, and where the line or the whole reading
-// ends.
+// What the words of an element line mean: elements, faults, and the end of the line or the reading.
 ghost use Rattle.std.specs.Prelude.{◌≡◌, ◌≤◌, [], ◌∷◌, length, MatchOption};
 ghost use Rattle.mvt_grammar.specs.Words.{begins_element, element_of, estimate_time, marks_of_words};
 ghost use Rattle.mvt_grammar.specs.Spans.{left_words};

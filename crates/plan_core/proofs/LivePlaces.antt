@@ -220,7 +220,7 @@ module _ (live : BTreeSet FlightPlace) (indexed i : ℕ) (keys : List (Option Ke
   here : (key : Option Key) (place : FlightPlace) → place.place ≡ i → slice_get (slice_set keys i key) place.place ≡ Some key
   here key place at = ap (slice_get (slice_set keys i key)) at ∙ there_of keys i key within
 
-  -- to none, where there was a key, whose place is taken out of the set
+  -- to none, if there was a key: its place is taken out of the set
   pub places_clear : (new : BTreeSet FlightPlace) (old : Key) → slice_get keys i ≡ Some (Some old)
       → ((place : FlightPlace) → contains compare_places new place ≡ cond (is_at (compare_places (flight_place old i)) place) false (contains compare_places live place))
       → AreFlightPlaces new indexed (slice_set keys i None)

@@ -27,8 +27,8 @@ struct FlightPlace {
 
 /// Where the live visits of each flight are in a list of visits: of the flights that they come by,
 /// or of those that they leave by. The set lacks those that were added since the last `reserve`,
-/// since it takes memory: these are looked through. Contracts see the keys of the live visits in the
-/// places of all visits, and how many more can be added without taking memory.
+/// since it takes memory: these are looked through. Contracts see the keys of the live visits in
+/// the places of all visits, and how many more can be added without taking memory.
 #[derive(Drop)]
 pub(crate) struct FlightPlaces {
     keys: Vec<Option<Key>>,
@@ -114,8 +114,8 @@ impl FlightPlaces {
         self.keys.push_reserved(key);
     }
 
-    /// The place of the first live visit of a flight. It looks at no other visit but those that were
-    /// added since the last `reserve`.
+    /// The place of the first live visit of a flight. It looks at no other visit but those that
+    /// were added since the last `reserve`.
     pub(crate) fn first(&self, key: &Key) -> Option<usize>
         ensures place { result ≡ position (is_by key.now) self.now.keys }
     {

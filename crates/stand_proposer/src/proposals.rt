@@ -55,11 +55,11 @@ struct Proposing {
 
 /// A first-fit draft for the parts of live visits that are on no stand. They are taken by rank: the
 /// class of the visit, its scheduled minute on block, its number and the part decide, lower ones
-/// first. Each part is put on the first stand, in order of number, that its type fits and where it
-/// clashes neither with the plan nor with a part put before it. After 64 edits the remaining parts
-/// are left over, and can be tried in a later draft. The plan stays as it is. The edits can be sent
-/// under the given desk and number. The only error is a lack of memory. The rule of first fit is
-/// this project's own.
+/// first. Each part is put on the first stand, in order of number, that its type fits and on which
+/// it clashes neither with the plan nor with a part put before it. After 64 edits the remaining
+/// parts are left over, and can be tried in a later draft. The plan stays as it is. The edits can
+/// be sent under the given desk and number. The only error is that memory ran out. The rule of
+/// first fit is this project's own.
 pub fn propose<L: Ledger>(
     alloc: Global,
     airport: &Airport,

@@ -10,8 +10,8 @@ use std::marker::Model;
 use std::net::{Net, SocketAddr, TcpListener, TcpStream};
 use std::sync::Wait;
 
-/// Connections over TCP. Each reply is sent at once. While the system has no memory or descriptor
-/// for a connection, and where a connection was cut before it was accepted, accepting goes on. It
+/// Connections over TCP. Each reply is sent at once. Accepting goes on while the system has no
+/// memory or descriptor for a connection, and if a connection was cut before it was accepted. It
 /// counts each accept that failed for another cause. Contracts see that count, and how many
 /// connections were accepted and finished; it exposes no connection.
 #[derive(Drop)]

@@ -26,7 +26,7 @@ pub trait Doorway {
         ensures gives { IfSome (failures self.old) (λ causes. GivesConnection causes (failures self.new) result) };
 }
 
-/// Where it is reported that no connection could be taken for a time.
+/// The place to which it reports that no connection could be taken for a time.
 pub trait Reporter {
     ghost use Rattle.std.specs.Prelude.{List, Option, [], ◌∷◌};
     ghost use Rattle.tcp_desks.specs.Taking.{IsReported, Notice, TakenAgain, Waits};
@@ -58,8 +58,8 @@ impl Reporter for Unreported {
 }
 
 /// Takes the next connection. If this fails for a cause that passes, it is tried again after a
-/// moment, as often as needed. It reports the first of each row of such failures, and the end of the row if a
-/// connection comes then. `Err` has a cause that does not pass.
+/// moment, as often as needed. It reports the first of each row of such failures, and the end of
+/// the row if a connection comes then. `Err` has a cause that does not pass.
 pub fn take_next<R: Wait, D: Doorway, N: Reporter>(
     rt: &R,
     doorway: &mut D,

@@ -100,8 +100,8 @@ fn airport(alloc: Global) -> Result<Airport, Fail> {
     )
 }
 
-// Whether a desk alone that sends this request is answered with this line, and is asked for this feed; none for want of
-// memory.
+// Whether a desk alone that sends this request gets this line, and is asked for this feed; none if
+// memory ran out.
 fn is_answered(
     alloc: Global,
     airport: &Airport,

@@ -18,7 +18,8 @@ use test_support::{AIRPORT, TYPES};
 use watch_list::{Shown, WatchBoard, Watches};
 use writers::writers_of;
 
-/// A hall whose writers show these days, what it is asked, and the version that its screens then see.
+/// A hall whose writers show these days, what it is asked, and the version that its screens then
+/// see.
 #[derive(Clone, Copy, Debug)]
 struct Row {
     name: &'static str,

@@ -39,8 +39,8 @@ impl Sleepers {
         self.any.store(1, Ordering::SeqCst);
     }
 
-    /// Wakes a seat that sleeps, if one may, after a turn has ended: all of them if the next number is
-    /// awaited, since only the seat that has drawn it can go on.
+    /// Wakes a seat that sleeps, if one may, after a turn has ended: all of them if the next number
+    /// is awaited, since only the seat that has drawn it can go on.
     pub(crate) fn wake<M: Machine>(&self, table: &SharedTable<M>, is_awaited: bool)
         requires table { IsTurnTable table.now.table_id }
     {

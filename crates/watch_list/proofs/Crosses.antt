@@ -9,7 +9,7 @@ use Rattle.watch_list.specs.contracts.watch_board.WatchBoard as WatchBoard
 use Rattle.watch_list.specs.declared.note.Stated as stated
 use Rattle.watch_list.specs.declared.watch.NoteTest as tests
 
--- where its keeper may, and where what is stated and the tests may be shared
+-- if its keeper may, and if what is stated and the tests may be shared
 pub watch_board_send : (ω κ : NamedLft) (K R T : RattleType) (k : keepers.Ghosts K.Denot) (r : stated.Ghosts R.Denot) (t : tests.Ghosts T.Denot)
     → IsSend K → IsSync R → IsSync T → IsSend (WatchBoard.the_row ω κ K R T k r t)
 watch_board_send ω κ K R T k r t keeper_send stated_sync test_sync = search (board_send, sendable, crosses) depth 60 fits 20000

@@ -25,7 +25,7 @@ module _ {R : Type 0} where
         different_push watches last first.1 named.1,
       )
 
-  -- one more watch where there is a place for it
+  -- one more watch if there is a place for it
   pub watches_push : (before room after : List (Watched R)) (last : Watched R) → room ≡ before → after ≡ room ++ last ∷ [] → CanAddWatch before last
       → AreWatches before → AreWatches after
   watches_push before room after last same put place are =

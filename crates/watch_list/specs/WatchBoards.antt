@@ -31,7 +31,8 @@ pub record WatchHeld (K R : Type 0) : Type 0 where
 abbrev pub watch_fixed : {K R : Type 0} → WatchHeld K R → WatchFixed R
 watch_fixed held = record { airport = held.board.airport; watches = held.watches }
 
--- as a machine, by what its keeper tells: the history, the entry at risk and the faults are the board's
+-- as a machine, by what its keeper tells: the history, the entry at risk and the faults are the
+-- board's
 abbrev pub watch_state : {K R : Type 0} → (K → KeeperState) → WatchHeld K R → MachineState Entry (WatchFixed R)
 watch_state tells held = record {
   fixed = watch_fixed held;
@@ -51,7 +52,8 @@ abbrev pub CanAdd : WatchAsk → Entry → Type 0
 CanAdd (Plain ask) entry = ask.what ≡ Change entry.command
 CanAdd (Feed seen watch after) entry = ⊥
 
--- a feed: the greatest version that was seen, the name of the watch, and the entry after which its notes are wanted
+-- a feed: the greatest version that was seen, the name of the watch, and the entry after which its
+-- notes are wanted
 pub record WatchFeedAsk : Type 0 where
   pub seen : ℕ
   pub watch : List ℕ
@@ -87,7 +89,8 @@ pub record FindsLegalHistory {R : Type 0} (tells : R → Note → Bool) (fixed :
   pub acts : IsReplyOrMemory (feed_reply tells fixed before ask) acted
   pub left : after ≡ before
 
--- what an ask is answered at the history before it, and the history after it: a board's ask as by a board
+-- what an ask is answered at the history before it, and the history after it: a board's ask as by a
+-- board
 abbrev pub WatchAnswers : {R : Type 0} → (R → Note → Bool) → WatchFixed R → List Entry → ℕ → WatchAsk → Acted → List Entry → Type 0
 WatchAnswers tells fixed before call (Plain ask) acted after = ActsLegally fixed.airport before call ask acted after
 WatchAnswers tells fixed before call (Feed seen watch entry) acted after =

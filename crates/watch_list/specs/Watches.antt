@@ -13,7 +13,8 @@ abbrev pub is_at : Option StandNo → StandNo → Bool
 is_at None stand = true
 is_at (Some given) stand = given.0 == stand.0
 
--- the class is not above the top one, the stand is the given one if one is given, and the minute is one of these
+-- the class is not above the top one, the stand is the given one if one is given, and the minute is
+-- one of these
 abbrev pub shows : Shown → Note → Bool
 shows shown note =
     nat_le note.class shown.top_class && is_at shown.stand note.stand && nat_le shown.from note.minute && nat_lt note.minute shown.until
@@ -44,7 +45,8 @@ pub record AreWatches {R : Type 0} (watches : List (Watched R)) : Type 0 where
 abbrev pub CanAddWatch : {R : Type 0} → List (Watched R) → Watched R → Type 0
 CanAddWatch watches watch = (watch_named watches watch.name ≡ None) × (length watches < most_watches)
 
--- why the watch is not put to these: its name is taken; or it is not, and they are full; or there is a place, but no memory
+-- why the watch is not put to these: its name is taken; or it is not, and they are full; or there
+-- is a place, but no memory
 abbrev pub IsWatchRefused : {R : Type 0} → List (Watched R) → Watched R → WatchFault → Type 0
 IsWatchRefused watches watch Taken = IsSome (watch_named watches watch.name)
 IsWatchRefused watches watch Full = (watch_named watches watch.name ≡ None) × (length watches ≡ most_watches)

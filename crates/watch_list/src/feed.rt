@@ -7,8 +7,8 @@ use crate::watch::{NoteTest, Watch};
 use apron_base::Memory;
 use std::alloc::Global;
 
-/// Those of the notes that are of entries after this one, and that the watch tells of, in order. The only error is
-/// a lack of memory.
+/// Those of the notes that are of entries after this one, and that the watch tells of, in order.
+/// The only error is a lack of memory.
 pub fn feed<R: Stated, T: NoteTest>(
     alloc: Global,
     notes: &[Note],

@@ -1,4 +1,5 @@
-//! Watches: which of the parts that lost their stands a reader is shown. It knows nothing of requests.
+//! Watches: which of the parts that lost their stands a reader is shown. It knows nothing of
+//! requests.
 #![tactic(auto)]
 
 mod entry_notes;

@@ -38,9 +38,10 @@ pub trait Stated {
 pub struct Shown {
     /// The greatest class of a part's visit, 0 to 9.
     pub top_class: u8,
-    /// The stand that the part had; any stand where it is None.
+    /// The stand that the part had; any stand if it is None.
     pub stand: Option<StandNo>,
-    /// The first minute at which the clash may begin, counted from 00:00 UTC of the plan's first day.
+    /// The first minute at which the clash may begin, counted from 00:00 UTC of the plan's first
+    /// day.
     pub from: Minute,
     /// The minute before which the clash begins.
     pub until: Minute,

@@ -96,7 +96,8 @@ impl<'a, K: Keeper> NotedBoard<'a, K> {
         self.board
     }
 
-    /// Asks the board. All memory for the notes is taken before, so that an ask that finds none adds nothing.
+    /// Asks the board. All memory for the notes is taken before, so that an ask that finds none
+    /// adds nothing.
     pub(crate) fn ask(&mut self, alloc: Global, call: u64, ask: &Ask) -> Acted
         requires valid { IsAskOf self.old.airport ask.now }
         requires next { self.old.next ≤ call }
@@ -232,7 +233,8 @@ fn may_bump(what: &What) -> bool
     )
 }
 
-/// The notes of a legal history of the airport, in order. It replays the history. The only error is a lack of memory.
+/// The notes of a legal history of the airport, in order. It replays the history. The only error is
+/// a lack of memory.
 pub fn notes_of(alloc: Global, airport: &Airport, history: &[Entry]) -> Result<Vec<Note>, Memory>
     requires legal { IsLegal airport.now history.now }
     ensures notes { IfOk result (λ notes. notes.items ≡ notes_of airport.now history.now) }

@@ -60,7 +60,8 @@ pub struct Watched<R> {
     pub stated: R,
 }
 
-/// A named test of notes, which answers exactly what is stated. Contracts see its name and what it states.
+/// A named test of notes, which answers exactly what is stated. Contracts see its name and what it
+/// states.
 #[derive(Drop)]
 pub struct Watch<R: Stated, T: NoteTest> {
     name: Name,

@@ -12,7 +12,7 @@ pub enum WatchAsk {
     Plain(Ask),
     /// The notes that the watch of this name is fed with.
     Feed {
-        /// The greatest version of the plan that the desk has seen, as it says: 0 where it says none.
+        /// The greatest version of the plan that the desk says it has seen, or 0 if it says none.
         seen: u32,
         watch: Name,
         /// The notes are of entries after this one: 0 for those of all.

@@ -28,7 +28,8 @@ use std::marker::Model;
 
 /// A board with the notes of its history, and watches that are fed with them.
 ///
-/// Contracts see the board, the watches' names and what they state, and the least number that the next call may have.
+/// Contracts see the board, the watches' names and what they state, and the least number that the
+/// next call may have.
 #[derive(Drop)]
 pub struct WatchBoard<'w, 'a, K: Keeper, R: Stated, T: NoteTest> {
     noted: NotedBoard<'a, K>,
@@ -50,7 +51,8 @@ impl<'w, 'a, K: Keeper, R: Stated, T: NoteTest> Model for WatchBoard<'w, 'a, K, 
 }
 
 impl<'w, 'a, K: Keeper, R: Stated, T: NoteTest> WatchBoard<'w, 'a, K, R, T> {
-    /// The board with these watches. At `Err` there is no memory, and the board comes back as it was.
+    /// The board with these watches. At `Err` there is no memory, and the board comes back as it
+    /// was.
     pub fn new(
         alloc: Global,
         airport: &'a Airport,

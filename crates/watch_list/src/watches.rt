@@ -32,8 +32,8 @@ pub enum WatchFault {
     Memory,
 }
 
-/// At most 16 watches in the order of adding, each with a name of its own. Contracts see their names and what they
-/// state.
+/// At most 16 watches in the order of adding, each with a name of its own. Contracts see their
+/// names and what they state.
 #[derive(Drop)]
 pub struct Watches<R: Stated, T: NoteTest> {
     kept: Vec<Watch<R, T>>,
@@ -70,7 +70,8 @@ impl<R: Stated, T: NoteTest> Watches<R, T> {
         }
     }
 
-    /// Puts the watch last. At `Err` it comes back with the first cause that holds, and the list is as it was.
+    /// Puts the watch last. At `Err` it comes back with the first cause that holds, and the list is
+    /// as it was.
     pub fn add(&mut self, watch: Watch<R, T>) -> Result<(), (WatchFault, Watch<R, T>)>
         ensures last { OnOk result (self.new ≡ with_last watch self.old) }
         ensures place { OnOk result (CanAddWatch self.old watch) }

@@ -99,9 +99,9 @@ impl Model for ListSource {
 }
 
 impl ListSource {
-    /// `pieces` are the greatest sizes of the pieces, where 0 counts as 1; after the last of them
-    /// the rest comes whole. `fails` are the numbers of the reads that fail, from 0, in any order.
-    /// A read that fails takes nothing.
+    /// `pieces` are the greatest sizes of the pieces, and 0 counts as 1; after the last of them the
+    /// rest comes whole. `fails` are the numbers of the reads that fail, from 0, in any order. A
+    /// read that fails takes nothing.
     pub fn new(bytes: Vec<u8>, pieces: Vec<usize>, fails: Vec<u64>) -> Self
         ensures pieces { result.pieces ≡ record { left = bytes.items; sizes = pieces.items; taken = 0 } }
         ensures fails { result.fails ≡ fails_from fails.items }
@@ -150,8 +150,8 @@ impl Model for SteadySource {
 }
 
 impl SteadySource {
-    /// `pieces` are the greatest sizes of the pieces, where 0 counts as 1; after the last of them
-    /// the rest comes whole.
+    /// `pieces` are the greatest sizes of the pieces, and 0 counts as 1; after the last of them the
+    /// rest comes whole.
     pub fn new(bytes: Vec<u8>, pieces: Vec<usize>) -> Self
         ensures pieces { result ≡ record { left = bytes.items; sizes = pieces.items; taken = 0 } }
     {

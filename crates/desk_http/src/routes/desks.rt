@@ -14,7 +14,8 @@ pub(crate) fn no_desk() -> Name
     Name::literal(b"-")
 }
 
-/// The name of the desk that a field tells. None comes if there are two fields, or one that tells no name.
+/// The name of the desk that a field tells. None comes if there are two fields, or one that tells
+/// no name.
 pub(crate) fn desk_named(desk: FieldText<'_>) -> Option<Name>
     ensures name { result ≡ desk_named_lem (text_shown desk.entry) }
 {

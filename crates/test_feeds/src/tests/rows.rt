@@ -1,6 +1,7 @@
 // What desks send, and what they are sent.
 
-/// Two visits are put on N1, and then a message has the first one there so long that the second loses it.
+/// Two visits are put on N1, and then a message has the first one there so long that the second
+/// loses it.
 pub(super) const HISTORY: [&[u8]; 4] = [
     b"POST /visits HTTP/1.1\r\nHost: apron\r\nContent-Length: 100\r\n\r\n{\"name\":\"V1\",\"type\":\"A320\",\"class\":1,\"on\":600,\"off\":660,\"arr\":{\"flight\":\"LH123\",\"day\":1},\"dep\":null}",
     b"POST /visits HTTP/1.1\r\nHost: apron\r\nContent-Length: 78\r\n\r\n{\"name\":\"V2\",\"type\":\"A320\",\"class\":5,\"on\":680,\"off\":740,\"arr\":null,\"dep\":null}",

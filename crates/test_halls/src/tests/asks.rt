@@ -124,7 +124,7 @@ fn tried<W: Wait>(
     asked(alloc, hall, &ask)
 }
 
-/// The reply to what is asked, where one of two tries has memory.
+/// The reply to what is asked, if one of two tries has memory.
 pub(super) fn reply_to<W: Wait>(
     alloc: Global,
     airport: &Airport,

@@ -22,7 +22,8 @@ fn plan_of<'b>(airport: &Airport, board: &'b Watched<'_, '_>) -> &'b Plan
     board.board().plan()
 }
 
-/// A writer for each of these days, up to one that the plan lacks or for which there is no memory. Their screens are put last.
+/// A writer for each of these days, up to one that the plan lacks or for which there is no memory.
+/// Their screens are put last.
 pub(super) fn writers_of<W: Wait>(
     rt: &W,
     alloc: Global,

@@ -1,4 +1,5 @@
-// Shows that are tried again where they want memory. They want it only where an allocation is made to fail.
+// Shows that are tried again if memory runs out, which happens only if an allocation is made to
+// fail.
 ghost use Rattle.std.specs.Prelude.{◌≡◌};
 
 use super::stage::Stage;
@@ -11,7 +12,7 @@ use std::test::Fail;
 // How many plans are shown.
 const VERSIONS: u32 = 40;
 
-// Whether each plan is seen, where one of two tries has memory.
+// Whether each plan is seen, if one of two tries has memory.
 fn is_seen_each_time<R: Wait>(
     rt: &R,
     alloc: Global,

@@ -14,7 +14,8 @@ use std::sync::Wait;
 use std::test::Fail;
 use visit_book::{Edit, NewVisit, is_in_time};
 
-/// A board of the airport, and two writers for its first day. Contracts see which pairs the writers are of.
+/// A board of the airport, and two writers for its first day. Contracts see which pairs the writers
+/// are of.
 pub(super) struct Stage<'a> {
     board: Board<'a, SteadyKeeper>,
     one: ScreenWriter,

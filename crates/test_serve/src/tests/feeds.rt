@@ -23,8 +23,8 @@ const HIGH: Shown = Shown {
     ..ALL
 };
 
-// Two visits are put on N1, and a message has the first one there so long that the second, of class 5, loses it. Then the feeds
-// of all classes and of high ones are asked for.
+// Two visits are put on N1, and a message has the first one there so long that the second, of class
+// 5, loses it. Then the feeds of all classes and of high ones are asked for.
 const ASKED: &[u8] =
     b"POST /visits HTTP/1.1\r\nContent-Length: 100\r\n\r\n{\"name\":\"V1\",\"type\":\"A320\",\"class\":1,\"on\":600,\"off\":660,\"arr\":{\"flight\":\"LH123\",\"day\":1},\"dep\":null}POST /visits HTTP/1.1\r\nContent-Length: 78\r\n\r\n{\"name\":\"V2\",\"type\":\"A320\",\"class\":5,\"on\":680,\"off\":740,\"arr\":null,\"dep\":null}POST /commits HTTP/1.1\r\nContent-Length: 125\r\n\r\n{\"desk\":\"D\",\"draft\":1,\"base\":2,\"edits\":[{\"put\":{\"visit\":1,\"part\":1,\"stand\":\"N1\"}},{\"put\":{\"visit\":2,\"part\":1,\"stand\":\"N1\"}}]}POST /mvt HTTP/1.1\r\nContent-Length: 46\r\n\r\nMVT\nLH123/27.DAIQA.MUC\nAD0930/0940 EA1040 APR\nGET /feeds/ALL/0 HTTP/1.1\r\n\r\nGET /feeds/HIGH/0 HTTP/1.1\r\n\r\n";
 
@@ -43,7 +43,8 @@ fn watches(alloc: Global) -> Result<Watches<Shown, Shown>, Memory> {
     Ok(watches)
 }
 
-// Serves one connection of each listener with both watches. It gives whether nothing was printed and the status is 0.
+// Serves one connection of each listener with both watches. It gives whether nothing was printed
+// and the status is 0.
 fn are_served<R: Wait + Threads + Sync>(
     rt: &R,
     alloc: Global,
@@ -84,7 +85,8 @@ fn a_desk_is_fed_the_bumps_that_a_watch_picks(rt: HostRuntime) -> Result<(), Fai
     Ok(())
 }
 
-// Whether of two desks, beside which there are watches, one is answered its commands and the other a version that there was.
+// Whether of two desks, beside which there are watches, one is answered its commands and the other
+// a version that there was.
 fn both_are_served<R: Wait + Threads + Sync>(rt: &R, alloc: Global) -> Result<bool, Memory> {
     let two = [listener(alloc, FIRST)?, listener(alloc, VERSION)?];
     let mut listeners = Vec::from_array(alloc, two)?;

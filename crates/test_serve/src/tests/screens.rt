@@ -9,7 +9,8 @@ use std::thread::Threads;
 use test_support::{FIRST, STANDS, words};
 use watch_list::{Shown, Watches};
 
-// The charts of the first day: of the empty plan, with a visit that has no stand, and with it on N1.
+// The charts of the first day: of the empty plan, with a visit that has no stand, and with it on
+// N1.
 const CHARTS: [&[u8]; 3] = [
     b"STAND CHART APR 2026-03-27 VERSION 0\nN1     ................................................................................................\nPARTS\nUNPLACED\nALARMS\nEND\n",
     b"STAND CHART APR 2026-03-27 VERSION 1\nN1     ................................................................................................\nPARTS\nUNPLACED\n1.1 A320 1/1000-1/1100\nALARMS\nEND\n",
@@ -111,7 +112,8 @@ fn listeners(alloc: Global, input: &[u8], count: usize) -> Result<Lists, Memory>
     Ok(all)
 }
 
-// Serves a desk that sends the first commands, and these screens. It gives whether the status and the printed line are these.
+// Serves a desk that sends the first commands, and these screens. It gives whether the status and
+// the printed line are these.
 fn are_served<R: Wait + Threads + Sync>(
     rt: &R,
     alloc: Global,

@@ -5,8 +5,8 @@ use std::alloc::Global;
 use std::test::Fail;
 use test_texts::{DEMO, Run, Session};
 
-// Five stands of the demo airport, where S3 takes letter F, and 15 is restricted only by an
-// aircraft of that letter on 14.
+// Five stands of the demo airport. S3 takes letter F, and 15 is restricted only by an aircraft of
+// that letter on 14.
 const AIRPORT: &str =
     r#"frontage = [{ name = "S", objects = [0] }, { name = "T", objects = [27500] }]
 stand = [

@@ -234,7 +234,8 @@ pub(super) fn opened_again<'w, 'a>(
     }
 }
 
-/// The reply to a feed of the watch of this name after an entry, where this version was seen.
+/// The reply to a feed of the watch of this name after an entry, to a desk that has seen this
+/// version.
 pub(super) fn feed_reply(
     alloc: Global,
     board: &mut WatchBoard<'_, '_, SteadyKeeper, Shown, Shown>,

@@ -10,7 +10,8 @@ const N2: u16 = 1;
 
 /// What a desk does.
 pub(super) enum Deed {
-    /// An A320 of this class is added, on and off block at these minutes. The first one comes as LH123.
+    /// An A320 of this class is added, on and off block at these minutes. The first one comes as
+    /// LH123.
     Add(u8, Minute, Minute),
     /// The first part of a visit is put on a stand.
     Put(u32, u16),
@@ -22,7 +23,8 @@ pub(super) enum Deed {
     Cancel(u32),
 }
 
-/// A part that lost its stand: the entry, its visit and its class, the stand, the visit of the blocker, and the minute.
+/// A part that lost its stand: the entry, its visit and its class, the stand, the visit of the
+/// blocker, and the minute.
 pub(super) type Bumped = (u32, u32, u8, u16, u32, Minute);
 
 /// What desks do one after the other, and the notes then.
@@ -153,7 +155,7 @@ pub(super) const HIGH: Shown = Shown {
     ..ALL
 };
 
-/// What a watch shows, an entry, and the notes after it that it is fed with where a part was bumped twice.
+/// What a watch shows, an entry, and the notes after it in the feed, if a part was bumped twice.
 pub(super) type Fed = (Shown, u32, &'static [Bumped]);
 
 pub(super) const FEEDS: [Fed; 12] = [

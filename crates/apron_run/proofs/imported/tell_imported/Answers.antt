@@ -9,7 +9,7 @@ use Rattle.apron_run.specs.declared.imported.Imported.TheVariants.{Whole, Spent,
 use Rattle.apron_run.specs.declared.status.Status.{Status}
 use Rattle.apron_run.proofs.imported.tell_imported.Goals as goal
 
--- a line whose status stays where the sink fails at it
+-- a line whose status stays if the sink fails at it
 puts_told : {T E : Type 0} (imported : Imported) (of : Status) (before after : SinkState) (result : Result T E) → Puts before after result (imported_line imported)
     → Writes (imported_line imported) of of before after of
 puts_told imported of before after (Ok done) wrote = inl (refl, wrote)

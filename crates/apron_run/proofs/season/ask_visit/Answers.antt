@@ -9,7 +9,7 @@ use Rattle.apron_run.specs.Asking.{IsMissing, Reached, reached_by}
 use Rattle.apron_run.proofs.Asking.{asking, standing_at, stops_missing}
 use Rattle.apron_run.proofs.season.ask_visit.Goals as goal
 
--- what follows from a cause follows where there is one
+-- what follows from a cause follows if there is one
 err_by : {T E : Type 0} {P Q : E → Type 0} (result : Result T E) → ((why : E) → P why → Q why) → IfErr result P → IfErr result Q
 err_by (Ok done) follows cause = cause
 err_by (Err why) follows cause = follows why cause
