@@ -1,5 +1,4 @@
--- The tables of an airport file: their keys with their forms, in reading order, and what each table
--- says.
+-- The tables of an airport file: their keys with their forms, in reading order, and what each says.
 use Rattle.std.specs.Prelude.{◌≡◌, ◌⊎◌, ℕ, List, [], ◌∷◌, Option, option_and_then, Result, Ok, Err}
 use Rattle.toml.specs.Data.{Data, Members, get_member}
 use Rattle.apron_base.specs.declared.letter.Letter.TheVariants as letter

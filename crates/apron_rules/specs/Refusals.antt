@@ -1,5 +1,5 @@
--- Why an airport is refused: the first reason in a fixed order; of several names, the first in its
--- list.
+-- Why an airport is refused: the first reason in a fixed order, and the first name that it is
+-- about.
 use Rattle.std.specs.Prelude.{ℕ, Bool, false, ◌&&◌, ◌||◌, not, nat_le, nat_lt, List, [], ◌∷◌, length, Option, None, Some, is_some, is_none, find, count_by, option_and_then, if◌then◌else◌}
 use Rattle.std.specs.Option.{option_map, option_or}
 use Rattle.std.specs.List.{list_all}

@@ -147,7 +147,7 @@ module _ (feeds : FeedTexts) (airport : AirportParts) (start : PortState) (input
   nothing_taken : done ≡ no_progress → taken ≡ []
   nothing_taken none = subst (λ (p : Progress). Splits taken p.requests p.rest) none splits
 
-  -- how a session that wanted memory stopped
+  -- how a session stopped for which memory ran out
   wants_memory : (output : List ℕ) → length done.requests < most_requests → ((count : ℕ) × (output ≡ texts ++ take count (fault_line files.Memory)))
       → EndsAfter Comes came.Memory done nothing served after → Meets feeds airport start (carrying output) Memory after
   wants_memory output few wrote (inl (request, first)) =

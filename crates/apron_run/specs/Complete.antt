@@ -114,7 +114,7 @@ CanBeRun help world = Unit {0}
 CanBeRun version world = Unit {0}
 CanBeRun faulty world = ⊥
 
--- the count of faults of no end rose, or stands at its last value
+-- no end has a count of faults that rose or is at its greatest value
 pub record NoneFails (before after : World) : Type 0 where
   pub shelf : ¬ (Rose before.shelf.faults after.shelf.faults)
   pub source : ¬ (Rose before.source.faults after.source.faults)

@@ -1,5 +1,4 @@
--- The headline: how a desk's session turns its input and the disk into its output and the disk
--- after it.
+-- The headline: how a desk's session turns its input into its output and its journal.
 use Rattle.std.specs.Prelude.{◌≡◌, ◌⊎◌, ◌<◌, ◌≤◌, ◌↔◌, ◌+◌, ℕ, Bool, true, false, All, List, [], ◌∷◌, ◌++◌, length, take, count_by, is_ok, Option, None, Some, IfSome, Result, Ok, Err}
 use Rattle.std.specs.Io.KnownBytes.{Appends}
 use Rattle.apron_base.specs.Counts.{RoseBy}
@@ -106,8 +105,8 @@ tells_unkept (at_once reply) = false
 tells_unkept (given answer) = is_unkept answer
 tells_unkept (fed answer) = false
 
--- a count of faults over some replies: it stays as it is if none of them is 503, and else it rises
--- by at least as many as are, or is at its last value
+-- a count of faults over some replies: it stays as it is if none of them is 503, and otherwise it
+-- rises by at least as many as are, or is at its last value
 pub record CountsUnkept (unkept before after : ℕ) : Type 0 where
   pub none : unkept ≡ 0 → after ≡ before
   pub some : RoseBy unkept before after

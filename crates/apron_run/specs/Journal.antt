@@ -1,5 +1,4 @@
--- The journal of an airport on a disk: what it opens to, why not, and what a disk keeps of a
--- history.
+-- The journal of an airport on a disk: what it opens to, why not, and what a disk has of a history.
 use Rattle.std.specs.Prelude.{◌≡◌, ◌⊎◌, ℕ, List, length, true, false, Option, None, Some, IfSome, Ok}
 use Rattle.apron_base.specs.Counts.{Counts}
 use Rattle.apron_base.specs.Keeper.{KeeperState, with_last}

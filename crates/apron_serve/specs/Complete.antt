@@ -17,8 +17,8 @@ module _ {In Out : Type 0} where
       (files : AirportFiles) × HasFiles world.shelf order.airport order.types files
       × IsSome (day_shown files.airport order.day) × ((history : List Entry) × HasJournal files world.disk history)
 
-  -- the count of faults of the shelf, of a listener or of the disk neither rose nor stands at its
-  -- last value
+  -- the count of faults of the shelf, of a listener or of the disk neither rose nor is at its
+  -- greatest value
   pub record NoneFailsInServe (before after : ServeWorld In Out) : Type 0 where
     pub shelf : ¬ (Rose before.shelf.faults after.shelf.faults)
     pub listeners : ¬ (SomeFailed before.listeners after.listeners)

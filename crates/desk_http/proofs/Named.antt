@@ -19,7 +19,7 @@ module _ {N : Type 0} (number : ℕ → N) (names : List (List ℕ)) (text : Lis
   pub none_named : (let name : Option (List ℕ) = None in name ≡ if_name text) → None ≡ option_map number (place_named names text)
   none_named e = ap (λ name. option_map number (place_if names name)) e
 
-  -- a name names what stands at its place
+  -- a name names what is at its place
   pub some_named : (place_in : N → ℕ) → ((n : N) → number (place_in n) ≡ n) → (name : List ℕ) (found : Option N)
       → Some name ≡ if_name text → option_map place_in found ≡ place_of name names → found ≡ option_map number (place_named names text)
   some_named place_in same name found e is = at_place number place_in same found (place_of name names) is ∙ ap (λ name. option_map number (place_if names name)) e

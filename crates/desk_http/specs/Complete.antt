@@ -1,5 +1,4 @@
--- Completeness: a session that nothing hinders answers each request of its input, a million at
--- most.
+-- Completeness: a session that nothing hinders answers all requests of its input, up to a million.
 use Rattle.std.specs.Prelude.{◌≡◌, All, ℕ, false, List, [], ◌++◌, length, take, Some}
 use Rattle.apron_base.specs.Counts.{Rose}
 use Rattle.apron_base.specs.Ends.{Wrote}

@@ -102,7 +102,7 @@ no_progress = record { requests = []; sents = []; rest = [] }
 
 -- `Comes` says what comes of a request and what the port becomes
 module _ (Comes : PortState → Request → Answered → PortState → Type 0) where
-  -- the request stands at the front of the bytes, and this came of it
+  -- the request is at the front of the bytes, and this came of it
   pub record ComesFirst (bytes : List ℕ) (request : Request) (answered : Answered) (before after : PortState) : Type 0 where
     pub behind : List ℕ
     pub first : HasRequest bytes request behind

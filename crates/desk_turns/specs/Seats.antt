@@ -25,7 +25,7 @@ module _ {Fixed : Type 0} where
 abbrev pub call_number : Call Entry → ℕ
 call_number call = call.number
 
--- the machine's count of faults rose over a call, or stands at its last value
+-- the machine's count of faults rose over a call, or is at its greatest value
 abbrev pub is_risen : Call Entry → Bool
 is_risen call = nat_le (one_more call.found) call.left
 

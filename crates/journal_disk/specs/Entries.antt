@@ -1,5 +1,5 @@
--- The records of a journal. A record is an open gate (the byte 1), the entry's length in two bytes,
--- the low one first, and the entry. Any other gate ends the records.
+-- The records of a journal: an open gate (the byte 1), the entry's length in two bytes, the low one
+-- first, and the entry. Any other gate ends the records.
 use Rattle.std.specs.Prelude.{◌≤◌, ◌+◌, ◌-◌, ◌*◌, ◌/◌, ◌%◌, ℕ, zero, suc, List, [], ◌∷◌, ◌++◌, length, take, drop, Option, None, Some, Result, Ok, Err, ◌&&◌, ◌==◌, nat_le, nat_lt, if◌then◌else◌}
 use Rattle.journal_disk.specs.Limits.{most_entries, most_bytes}
 

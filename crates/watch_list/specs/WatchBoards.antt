@@ -52,8 +52,8 @@ abbrev pub CanAdd : WatchAsk → Entry → Type 0
 CanAdd (Plain ask) entry = ask.what ≡ Change entry.command
 CanAdd (Feed seen watch after) entry = ⊥
 
--- a feed: the greatest version that was seen, the name of the watch, and the entry after which its
--- notes are wanted
+-- a feed: the greatest version that was seen, the name of the watch, and the entry after which it
+-- asks for notes
 pub record WatchFeedAsk : Type 0 where
   pub seen : ℕ
   pub watch : List ℕ
