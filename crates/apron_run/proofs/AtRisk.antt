@@ -1,4 +1,5 @@
--- The entry at risk after a run of requests: that of one whose reply says that its entry could not be kept.
+-- The entry at risk after a run of requests: that of one whose reply says that its entry could not
+-- be kept.
 use Rattle.std.proofs.Common.{◌≡◌, ◌∙◌, ◌⊎◌, ◌+◌, ℕ, suc, Bool, List, [], ◌∷◌, length, length-append, refl, sym, ap, subst, arith, inl, inr, Option, None, Some, Result, Ok, Err}
 use Rattle.std.specs.Prelude.{IfSome, cond, count_by}
 use Rattle.std.proofs.lemmas.List.Sums.{sum_by-cons}
@@ -26,7 +27,8 @@ use Rattle.apron_run.proofs.Feeding.{AsPlain, as_plain}
 abbrev next_of : PortState → ℕ
 next_of port = port.first + length port.calls
 
--- what is asked could not be kept, and its reply says so: this is its entry, after which no entry came
+-- what is asked could not be kept, and its reply says so: this is its entry, after which no entry
+-- came
 record IsToldOf (before : PortState) (asked : Result Ask EarlyReply) (sent : Sent) (mid : PortState) (entry : Entry) : Type 0 where
   pub sent_is : sent ≡ given keeper_fault
   pub ask : Ask

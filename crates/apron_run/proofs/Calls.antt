@@ -43,7 +43,8 @@ more_came : (opened mid history : List Entry) → GoesOnFrom opened mid → Goes
 more_came opened mid history (first, one) (more, rest) = (first ++ more, rest ∙ (ap (λ m. m ++ more) one ∙ append_assoc opened first more))
 
 module _ (airport : AirportParts) where
-  -- a port after this many more calls: its first number and what it has seen, and the numbers of its calls without a gap
+  -- a port after this many more calls: its first number and what it has seen, and the numbers of
+  -- its calls without a gap
   pub record Leaves (before after : PortState) (count : ℕ) : Type 0 where
     pub first : after.first ≡ before.first
     pub begins : GoesOnFrom before.seen after.seen

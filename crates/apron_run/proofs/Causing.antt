@@ -64,7 +64,8 @@ disk_rose asked status before now is counts = rose_by (is_disk_fault status) bef
 not_both : (flag : Bool) → flag ≡ false → flag ≡ true → ⊥
 not_both flag off on = cc
 
--- what a text that was written, or the line of a fault of the two files, says of the source and of the disk
+-- what a text that was written, or the line of a fault of the two files, says of the source and of
+-- the disk
 found_read : (found : Result AirportFiles FilesFault) (before after : SinkState) (status : Status) → TellsFound found before after status → is_source_status status ≡ false
 found_read (Ok files) before after status tells = let print : Printed status before after = printed _ before after status tells in print.read
 found_read (Err fault) before after status tells =

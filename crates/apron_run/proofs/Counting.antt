@@ -29,7 +29,8 @@ use Rattle.apron_run.specs.declared.unusable.Unusable.TheVariants.{Journal, Entr
 pub still : (failed : Bool) (before now : ℕ) → failed ≡ false → now ≡ before → Counts failed before now
 still failed before now none same = subst (λ (b : Bool). Counts b before now) (sym none) same
 
--- a line that was written with its status, whole or a front of it: its status is that, and the sink's count doesn't fall
+-- a line that was written with its status, whole or a front of it: its status is that, and the
+-- sink's count doesn't fall
 pub record Lines (status of : Status) (before after : SinkState) : Type 0 where
   pub is : status ≡ of
   pub least : before.faults ≤ after.faults

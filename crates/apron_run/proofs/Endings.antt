@@ -70,7 +70,8 @@ exhausted_alike one other same = record {
 same_alike : (one other : PortState) → other ≡ one → AreAlike one other
 same_alike one other same = subst (AreAlike one) (sym same) (record { first = refl; seen = refl; at_risk = refl; calls = refl; faults = refl })
 
--- what a session that began with this port answered of its input, how it stopped, and the port after it
+-- what a session that began with this port answered of its input, how it stopped, and the port
+-- after it
 pub record Meets (feeds : FeedTexts) (airport : AirportParts) (start : PortState) (carried : Carried) (status : Status) (after : PortState) : Type 0 where
   pub exchange : Exchange
   pub new : PortState

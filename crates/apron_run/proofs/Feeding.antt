@@ -18,9 +18,9 @@ use Rattle.desk_turns.specs.Watched.{FeedTexts}
 use Rattle.apron_run.specs.Desk.{DeskAnswers}
 use Rattle.apron_run.specs.Headline.{Sends, is_asking, is_given, takes_number, tells_unkept}
 
--- what was sent, and what an ask without feeds is sent that leaves the port alike: both count alike,
--- and the second is a failed append only if the first is
--- what was sent for what is asked without feeds
+-- what was sent, and what an ask without feeds is sent that leaves the port alike: both count
+-- alike, and the second is a failed append only if the first is what was sent for what is asked
+-- without feeds
 pub record AsPlain (airport : AirportParts) (asking : Bool) (plain : Result Ask EarlyReply) (before : PortState) (sent : Sent) (after : PortState) : Type 0 where
   pub asked : Result Ask EarlyReply
   pub like : Sent

@@ -40,7 +40,8 @@ use Rattle.apron_run.proofs.Calls.{Leaves, run_leaves}
 use Rattle.apron_run.proofs.Endings.{HasLeft, IsTail, Meets, has_left, session_meets}
 use Rattle.apron_run.proofs.Unkept.{run_counts}
 
--- what is written after a session that ran out of memory is a front of the line, and nothing is written after others
+-- what is written after a session that ran out of memory is a front of the line, and nothing is
+-- written after others
 record Told (outcome : Outcome) (before after : SinkState) (status : Status) : Type 0 where
   pub failed : Bool
   pub tail : List ℕ

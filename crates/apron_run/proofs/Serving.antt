@@ -206,7 +206,8 @@ serves_count feeds files before after outcome serves =
     let counted : serves.port.faults ≡ after.disk.faults = serves.faults in
     omega arith
 
--- a session of a desk alone over a board that was opened and got these watches, with the disk that was closed after it
+-- a session of a desk alone over a board that was opened and got these watches, with the disk that
+-- was closed after it
 abbrev pub desk_serves : {K R : Type 0} (tells : K → KeeperState) (shows : R → Note → Bool) (watches : List (Watched R)) (files : AirportFiles) (before after : DeskEnds)
     (board : BoardHeld K) (start done : AloneMachine (WatchHeld K R)) (outcome : Outcome) → IsOpened tells files before.disk board
     → start.machine ≡ record { board = board; watches = watches; next = board.next } → start.first ≡ board.next

@@ -1,4 +1,5 @@
--- The count of faults over a run of requests: it rises at each one whose reply says that its entry could not be kept, and at no other.
+-- The count of faults over a run of requests: it rises at each one whose reply says that its entry
+-- could not be kept, and at no other.
 use Rattle.std.proofs.Common.{◌≡◌, ◌+◌, ◌∙◌, ℕ, Bool, true, false, List, [], ◌∷◌, sym, ap, subst, arith, Result, Ok, Err}
 use Rattle.std.specs.Prelude.{cond, count_by}
 use Rattle.std.proofs.lemmas.List.Sums.{sum_by-cons}

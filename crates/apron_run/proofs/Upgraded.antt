@@ -25,7 +25,8 @@ use Rattle.apron_run.proofs.Fronts.{alike_both, alike_same, stays_from}
 use Rattle.apron_run.proofs.Headers.{told_before}
 use Rattle.apron_run.proofs.Lifts.{lifted_count, texts_are}
 
--- a journal of format 1 has passed the test of its digests, and its format byte is not that of format 2
+-- a journal of format 1 has passed the test of its digests, and its format byte is not that of
+-- format 2
 old_passed : (short starts same new : Bool) (one two : JournalFault) (read : Result (List (List ℕ)) JournalFault) (old : List (List ℕ))
     → unless (cond (short || not starts) (Some one) (cond (not same) (Some two) None)) (cond new (Ok None) (as_old read)) ≡ Ok (Some old) → (same ≡ true) × (new ≡ false)
 old_passed true starts same new one two read old is = absurd cc

@@ -51,12 +51,12 @@ use watch_list::{NoteTest, Shown, Stated, Watches};
 ///
 /// | Status | Comes if |
 /// |---|---|
-/// | 0 | all was done; of a session, the source ended after whole requests, or a request closed it |
+/// | 0 | all was done: a session ended after whole requests, or a request closed it |
 /// | 2 | the words ask for nothing known, or for the chart of a day that the plan does not have |
 /// | 3 | a file has a fault, which is printed, or is over 1 MiB |
 /// | 4, 5, 6 | the shelf, the source, the sink failed |
-/// | 7 | the disk failed before there was a journal to work on, or at an entry of an import, which is printed; in a session a reply says so |
-/// | 8 | what the disk reads as is no journal of these files, or no history of their airport, which is printed |
+/// | 7 | the disk failed before a journal was open, or at an entry of an import, which is printed |
+/// | 8 | the disk has no journal of these files, or no history of their airport, which is printed |
 /// | 9 | a record of the season file is refused, or the file is over 16 MiB, which is printed |
 /// | 10 | the source ended inside a request |
 /// | 12 | memory has run out, which is printed |
@@ -65,6 +65,8 @@ use watch_list::{NoteTest, Shown, Stated, Watches};
 /// | 15 | the history has no place for a visit of the season file, whose record is printed |
 /// | 16 | 1,000,000 requests were answered |
 /// | 17 | the call numbers have run out |
+///
+/// If the disk fails later in a session, a reply says so.
 pub fn run_with<F: Shelf, S: Source, W: Sink, D: Disk, R: Stated, T: NoteTest>(
     alloc: Global,
     words: &[Word],

@@ -45,7 +45,8 @@ opened_begun tells airport faults next board airport_is next_is count safe = rw 
 pub of_err : {A E P : Type 0} (met : Result A E) (why : E) → met ≡ Err why → IfErr met (λ _. P) → P
 of_err {A} {E} {P} met why is holds = subst (λ (r : Result A E). IfErr r (λ _. P)) is holds
 
--- desks and screens that were served at a board that was opened, with the disk that was closed after them
+-- desks and screens that were served at a board that was opened, with the disk that was closed
+-- after them
 abbrev pub desks_serve : {In Out K R : Type 0} (service : Service In Out) (tells : K → KeeperState) (files : AirportFiles) (task : Task) (before after : ServeEnds In Out) (board left : BoardHeld K)
     (met : Result ShownEnd R) (ends : ShownEnd) (served : ServeEnd)
     → IsOpened tells files before.disk board

@@ -48,7 +48,8 @@ module _ {In Out : Type 0} where
   abbrev pub AnyFailed : ServeOuts In Out → ServeOuts In Out → Type 0
   AnyFailed before after = SomeFailed before.listeners after.listeners ⊎ SomeFailed before.screens after.screens
 
--- the status is that of serving that was all done; or, if there are screens, of one after which a screen missed the last version
+-- the status is that of serving that was all done; or, if there are screens, of one after which a
+-- screen missed the last version
 abbrev pub IsDone : {In Out : Type 0} → ServeOuts In Out → ℕ → Type 0
 IsDone before code = (code ≡ exit_code Done) ⊎ ((code ≡ exit_code Memory) × (0 < length before.screens))
 
@@ -63,7 +64,8 @@ record EndsAs {In Out : Type 0} (order : Order) (found : Result AirportFiles Fil
   pub failed : exit_code status ≡ exit_code ListenerFault → AnyFailed before after
   pub ordered : exit_code status ≡ exit_code Usage → is_some order.day ≡ true
 
--- the status of a journal that isn't worked on is one of those of `serve`, and none of desks that were served
+-- the status of a journal that isn't worked on is one of those of `serve`, and none of desks that
+-- were served
 record IsEarly (status : Status) : Type 0 where
   pub may : may_end_serve status ≡ true
   pub done : exit_code status ≡ exit_code Done → ⊥

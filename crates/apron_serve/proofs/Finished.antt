@@ -40,7 +40,8 @@ record Ended {In Out : Type 0} (asked : ℕ) (before after : ListenerState In Ou
   pub is : IsEndAt end asked count
   pub faults : Counts (is_listener_fault end) before.faults after.faults
 
--- what is known of the listeners of workers that were asked for this many connections each, and ended so together
+-- what is known of the listeners of workers that were asked for this many connections each, and
+-- ended so together
 pub record Finished {In Out : Type 0} (asked : ℕ) (olds news : List (ListenerState In Out)) (together : WorkEnd) : Type 0 where
   pub finished : together ≡ Done → HaveFinished asked olds news
   pub done : HaveFinished asked olds news → together ≡ Done

@@ -39,13 +39,13 @@ use watch_list::{NoteTest, Shown, Stated, Watches};
 /// | Status | Comes if |
 /// |---|---|
 /// | 0 | each listener has finished `N` connections more, however their sessions ended |
-/// | 2 | the words ask for nothing that there is, or the number of listeners is none of 1 to 16 |
+/// | 2 | the words ask for nothing known, or the number of listeners is none of 1 to 16 |
 /// | 3 | a file has a fault, which is printed, or is over 1 MiB |
 /// | 4 | the shelf failed |
-/// | 7 | the disk failed before there was a journal to work on, which is printed; later a reply says so |
-/// | 8 | what the disk reads as is no journal of these files, or no history of their airport, which is printed |
+/// | 7 | the disk failed before a journal was open, which is printed; later a reply says so |
+/// | 8 | the disk has no journal of these files, or no history of their airport, which is printed |
 /// | 11 | a listener failed, which is printed when all workers have ended |
-/// | 12 | there is no memory before any connection is taken, which is printed |
+/// | 12 | memory has run out before any connection is taken, which is printed |
 pub fn serve<F: Shelf, L: Wall + Send, W: Sink, D: Disk + Send, Rt: Wait + Threads + Sync>(
     rt: &Rt,
     alloc: Global,
@@ -129,7 +129,7 @@ pub fn serve_with<
 /// |---|---|
 /// | 2 | the plan has no such day, or there are other screens than the words order |
 /// | 11 | a listener of a screen failed |
-/// | 12 | all connections were finished, but there was no memory to show a screen the last version |
+/// | 12 | all connections were finished, but memory ran out before a screen was shown the last version |
 pub fn serve_all<
     F: Shelf,
     L: Wall + Send,

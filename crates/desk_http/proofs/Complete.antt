@@ -24,7 +24,8 @@ use Rattle.desk_http.specs.Runs.{Runs}
 use Rattle.desk_http.specs.Session.{ComesFirst, EndsAfter, IsCount, IsReadToEnd, Last, Moment, Progress, SessionBy, WritesLast, is_read_fault, is_write_fault, last_text, most_requests, nothing, refusal, reply, texts_of}
 use Rattle.desk_http.proofs.SoFar.{runs_push, texts_of-push}
 
--- the requests that are listed of some bytes begin with the open ones at their front, and go on after them
+-- the requests that are listed of some bytes begin with the open ones at their front, and go on
+-- after them
 pub record GoesOnBehind (requests listed : List Request) (rest : List ℕ) (ending : Ending) : Type 0 where
   pub more : List Request
   pub are : listed ≡ requests ++ more

@@ -1,4 +1,5 @@
--- The feed of a target by its pieces, and by what is before and after the slash that follows the watch's name.
+-- The feed of a target by its pieces, and by what is before and after the slash that follows the
+-- watch's name.
 use Rattle.std.proofs.Common.{◌≡◌, ◌≢◌, ◌∙◌, ◌+◌, ◌==◌, ℕ, suc, true, false, cond, List, [], ◌∷◌, ◌++◌, codes, take, drop, Option, Some, None, refl, sym, ap, ap₂, subst, arith, bytes_eq}
 use Rattle.std.specs.Prelude.{position}
 use Rattle.std.specs.Char.{is_ascii_digit}

@@ -1,5 +1,5 @@
--- Which targets a pattern takes, and that the router's search finds a row exactly if a pattern takes the target, for patterns of bytes and parameters that
--- are whole pieces.
+-- Which targets a pattern takes, and that the router's search finds a row exactly if a pattern
+-- takes the target, for patterns of bytes and parameters that are whole pieces.
 use Rattle.std.proofs.Common.{◌≡◌, ◌⊎◌, ◌==◌, ◌&&◌, not, ℕ, zero, suc, ◌-◌, ◌<◌, ◌≤◌, Bool, true, false, true≢false, cond, List, [], ◌∷◌, length, drop, Option, Some, None, refl, sym, ap, ◌∙◌, subst, arith, inl, inr, ltb}
 use Rattle.std.proofs.lemmas.Bool.{eqb-true, eq-eqb}
 use Rattle.std.proofs.lemmas.Bool.Decides.{nat_tests}
@@ -9,7 +9,8 @@ use Rattle.matchit.specs.Rows.{RowsOf}
 use Rattle.matchit.specs.Seek.{segment, has_slash, cuts, own, step, or_else, longest_from, longest_suffix, with_suffix, param_step, seek, same_text}
 
 abbrev mutual
-  -- each byte of a pattern is itself, and a parameter, which stands as 256, is one byte or more, none of them a slash, up to the next slash or the end
+  -- each byte of a pattern is itself, and a parameter, which stands as 256, is one byte or more,
+  -- none of them a slash, up to the next slash or the end
   pub takes : List ℕ → List ℕ → Bool
   takes [] [] = true
   takes [] (b ∷ path) = false

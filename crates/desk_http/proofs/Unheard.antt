@@ -54,7 +54,8 @@ counts keeper_fault before now h = h.0
 pub version_kept : (airport : AirportParts) (before after : PortState) (given : Given) → Turn airport before version_ask given after → is_unkept given ≡ false
 version_kept airport before after given turn = none_failed (replay airport turn.history) turn.history after.seen turn.call given turn.gives
 
--- the port is left as by any ask for which there is no memory, at the same history and with the same call
+-- the port is left as by any ask for which there is no memory, at the same history and with the
+-- same call
 pub unheard : (airport : AirportParts) (before after : PortState) (given : Given) (ask : Ask) (turn : Turn airport before version_ask given after)
     → (other : Turn airport before ask no_memory after) × (other.history ≡ turn.history) × (other.call ≡ turn.call)
 unheard airport before after given ask turn = (

@@ -47,7 +47,8 @@ unkept (replied reply) airport failed = absurd cc
 unkept no_memory airport failed = absurd cc
 unkept keeper_fault airport failed = refl
 
--- what a port tells at risk: what it told, since what the call found there is older than it; or what the call put there, which failed
+-- what a port tells at risk: what it told, since what the call found there is older than it; or
+-- what the call put there, which failed
 risks : (given : Given) (airport : AirportParts) (ask : Ask) (answer : Acted) (calls : List (Call Entry)) (last : Call Entry) (found : Standing Entry) (seen : List Entry)
     → is_fault answer ≡ is_fault (acted_from airport given) → Every (λ (call : Call Entry). call.number < last.number) calls → IfSome found.at_risk (λ entry. call_of entry < last.number)
     → ActsAtRisk (λ entry. (call_of entry ≡ last.number) × AddsAsked ask entry) (is_fault answer) found (record { entries = seen; at_risk = last.at_risk })

@@ -88,7 +88,8 @@ latest_most entry [] stays = inr tt
 latest_most entry (call ∷ calls) stays =
     later_most entry (put_by call.number call.at_risk) (latest_at_risk calls) (put_most call.number call.at_risk entry stays.0) (latest_most entry calls stays.1)
 
--- an entry that one of these calls put at risk, and which no later one of them changed, is the latest
+-- an entry that one of these calls put at risk, and which no later one of them changed, is the
+-- latest
 pub latest_is : (entry : Entry) (calls : List (Call Entry)) → HasCallOf entry calls → StaysAtRisk entry calls → latest_at_risk calls ≡ Some entry
 latest_is entry [] has stays = absurd (any_none (λ (call : Call Entry). call.number ≡ call_of entry) has)
 latest_is entry (call ∷ calls) has stays = ⊎_elim

@@ -1,4 +1,5 @@
--- Workers whose seats were cut from one seat and met it again, one more at a time; and what the closed board then tells of them.
+-- Workers whose seats were cut from one seat and met it again, one more at a time; and what the
+-- closed board then tells of them.
 use Rattle.std.proofs.Common.{◌≡◌, ◌⊎◌, ◌∙◌, ◌<◌, ◌≤◌, ◌+◌, ◌-◌, ◌==◌, ◌&&◌, ◌||◌, nat_le, nat_lt, ℕ, Bool, true, false, cond, List, [], ◌∷◌, ◌++◌, map, length, Option, Some, None, IfSome, refl, sym, ap, subst, inl, inr, ⊎_elim, arith, append_assoc}
 use Rattle.std.specs.List.{AllZip, Any, count_by}
 use Rattle.std.proofs.lemmas.Bool.Decides.{nat_tests}
@@ -118,7 +119,8 @@ module _ {In Out Fixed : Type 0} (states : EndStates In Out) (kind : SessionKind
       (λ (theirs : after.seen ≡ other.seen). inr (any_here (HasSeen after.seen) worker workers (sym (theirs ∙ its))))
       meets.one
 
-  -- an entry that a call put at risk is that of a call from before, or the one that the worker or one of the others tells
+  -- an entry that a call put at risk is that of a call from before, or the one that the worker or
+  -- one of the others tells
   at_risk_of : (before less mid other after : Held Fixed) (worker : Worker In Out) (workers : List (Worker In Out)) → less.calls ≡ before.calls → after.calls ≡ mid.calls ++ other.calls
       → worker.after.port.at_risk ≡ latest_at_risk other.calls
       → ((entry : Entry) → HasCallOf entry mid.calls → StaysAtRisk entry mid.calls → HasCallOf entry less.calls ⊎ Any (TellsAtRisk entry) workers)
@@ -222,7 +224,8 @@ rose least now (call ∷ calls) some within = ⊎_elim
 once : (first end number count : ℕ) → first ≤ end → count + below number first ≡ below number end → count ≡ cond (nat_le first number && nat_lt number end) 1 0
 once first end number count order counts = grind (arith, nat_tests)
 
--- an entry at risk after a board's history is the one that a worker tells, if no call was made before
+-- an entry at risk after a board's history is the one that a worker tells, if no call was made
+-- before
 unkept : {In Out : Type 0} (workers : List (Worker In Out)) (calls : List (Call Entry)) (history : List Entry) (risk : Option Entry)
     → ((entry : Entry) → HasCallOf entry calls → StaysAtRisk entry calls → HasCallOf entry [] ⊎ Any (TellsAtRisk entry) workers)
     → IfSome risk (IsPutAtRisk call_of calls history) → IfSome risk (IsUnkeptOf workers history)

@@ -86,7 +86,8 @@ live_by : (live : Bool) (key : Key) (found : Option Key) → is_by key (cond liv
 live_by true key found = refl
 live_by false key found = refl
 
--- the place of a key among the keys of live visits is the place of the first live visit of its flight
+-- the place of a key among the keys of live visits is the place of the first live visit of its
+-- flight
 places_same : (key_of : Visit → Option Key) (visits : List Visit) (keys : List (Option Key)) (key : Key)
     → map (λ (v : Visit). cond (is_live v) (key_of v) None) visits ≡ keys
     → position (is_by key) keys ≡ position (λ v. is_live v && is_by key (key_of v)) visits
