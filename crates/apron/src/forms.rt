@@ -1,4 +1,4 @@
-// What can come after the first word of the command line: the one table of it.
+// The one table of what can come after the first word of the command line.
 use apron_base::Word;
 
 /// What is done with the journal whose path is the last word.

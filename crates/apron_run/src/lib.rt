@@ -1,5 +1,5 @@
-//! The program's one call: what its words ask for, from the shelf's files, the source's bytes and
-//! the disk's to the sink's and the disk's. Each word has a module of its own.
+//! The program's one call: it does what its words ask for, from the shelf's files and the bytes of
+//! source and disk to the bytes of sink and disk. Each word has a module of its own.
 #![tactic(auto)]
 
 mod chart;

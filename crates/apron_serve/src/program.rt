@@ -129,7 +129,7 @@ pub fn serve_with<
 /// |---|---|
 /// | 2 | the plan has no such day, or there are other screens than the words order |
 /// | 11 | a listener of a screen failed |
-/// | 12 | all connections were finished, but memory ran out before a screen was shown the last version |
+/// | 12 | all connections were finished, but memory ran out for a screen's last version |
 pub fn serve_all<
     F: Shelf,
     L: Wall + Send,

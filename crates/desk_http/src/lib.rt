@@ -1,5 +1,5 @@
-//! A session over HTTP: one desk, from its bytes to its bytes. It knows nothing of files, of the
-//! command line, and of the source and the sink of its bytes.
+//! A session over HTTP: from the bytes of one desk to the bytes for it. It knows nothing of files,
+//! of the command line, and of the source and the sink of its bytes.
 #![tactic(auto)]
 
 mod alone;

@@ -1,6 +1,6 @@
 //! The files and standard streams of the system: whole files as a shelf, a file as a journal's
 //! disk, and streams. It says on standard error why a call failed. It knows nothing of what is in a
-//! file, and exposes nothing of it.
+//! file, and its contracts tell nothing of that.
 #![tactic(auto)]
 
 mod causes;

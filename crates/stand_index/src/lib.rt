@@ -1,5 +1,5 @@
-//! Which parts are on a stand, and when: the slots of each stand, kept so that those of some
-//! minutes are found by halving. It doesn't know which stands exclude each other.
+//! Which parts are on a stand, and when: the slots of each stand, kept so that those at given
+//! minutes are found by binary search. It doesn't know which stands exclude each other.
 #![tactic(auto)]
 
 mod index;

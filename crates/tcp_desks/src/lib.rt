@@ -1,5 +1,5 @@
 //! Desks that come over TCP: the system's listener as a `Listener`. It knows nothing of what is
-//! read and written, and exposes nothing of it.
+//! read and written, and its contracts tell nothing of that.
 #![tactic(auto)]
 
 mod listening;

@@ -1,4 +1,4 @@
-//! Watches: which of the parts that lost their stands a reader is shown. It knows nothing of
+//! Watches: which of the parts that lost their stands are shown to a reader. It knows nothing of
 //! requests.
 #![tactic(auto)]
 
