@@ -1,5 +1,5 @@
-// The words `serve A T N ADDRESS WORKERS JOURNAL`, for many desks at once over TCP, and `serve A T
-// N screen DAY ADDRESS WORKERS SCREENADDRESS SCREENS JOURNAL`, for screens beside them.
+// The words `serve A T N ADDRESS WORKERS JOURNAL`, for many desks at once over TCP, and
+// `serve A T N screen DAY ADDRESS WORKERS SCREENADDRESS SCREENS JOURNAL`, for screens beside them.
 ghost use Rattle.std.specs.Prelude.{◌≡◌, IfOk, length};
 ghost use Rattle.apron.specs.Desks.{connections_named, named_up_to, screens_named, workers_named};
 

@@ -1,6 +1,6 @@
 //! Many desks at once, each on a connection of its own, at one board over one journal, and beside
-//! them screens that show the board's plan: what the words `serve A T N` and `serve A T N screen
-//! DAY` ask for. It knows nothing of where connections come from.
+//! them screens that show the board's plan: what the words `serve A T N` and
+//! `serve A T N screen DAY` ask for. It knows nothing of where connections come from.
 #![tactic(auto)]
 
 mod board;
