@@ -25,7 +25,8 @@ is_short_byte b = is_capital b || is_decimal b
 
 -- at least `least` and at most `most` capitals or digits
 abbrev pub is_short_name : ℕ → ℕ → List ℕ → Bool
-is_short_name least most text = nat_le least (length text) && nat_le (length text) most && list_all is_short_byte text
+is_short_name least most text =
+    nat_le least (length text) && nat_le (length text) most && list_all is_short_byte text
 
 -- the text, if it passes the test
 abbrev pub text_if : (List ℕ → Bool) → List ℕ → Option (List ℕ)
@@ -85,7 +86,8 @@ is_in_form form d = is_some (form d)
 
 -- the items of an array in a form, if each of them is of it
 abbrev pub all_of : {A : Type 0} → (Data → Option A) → Items → Option (List A)
-all_of form ds = if list_all (is_in_form form) (items_of ds) then Some (filter_map form (items_of ds)) else None
+all_of form ds =
+    if list_all (is_in_form form) (items_of ds) then Some (filter_map form (items_of ds)) else None
 
 -- an array of values of one form
 abbrev pub array_of : {A : Type 0} → (Data → Option A) → Data → Option (List A)
@@ -116,6 +118,7 @@ in_form_if_there at None = Err (Wrong at)
 in_form_if_there at (Some x) = Ok (Some x)
 
 -- the same for a key that may be missing
-abbrev pub if_there : {A : Type 0} → (Data → Option A) → FileKey → Option Data → Result (Option A) WalkFault
+abbrev pub if_there : {A : Type 0} → (Data → Option A) → FileKey → Option Data
+    → Result (Option A) WalkFault
 if_there form at None = Ok None
 if_there form at (Some d) = in_form_if_there at (form d)

@@ -16,11 +16,21 @@ pub record KeyForm : Type 0 where
 
 -- a key that has to be there, with a value of this form
 abbrev pub needed : {A : Type 0} → (Data → Option A) → FileKey → Option Data → KeyForm
-needed form key held = record { key = key; is_in_form = is_in_form form; may_be_missing = false; held = held }
+needed form key held = record {
+  key = key;
+  is_in_form = is_in_form form;
+  may_be_missing = false;
+  held = held;
+}
 
 -- a key that may be missing; if it is there, its value is of this form
 abbrev pub optional : {A : Type 0} → (Data → Option A) → FileKey → Option Data → KeyForm
-optional form key held = record { key = key; is_in_form = is_in_form form; may_be_missing = true; held = held }
+optional form key held = record {
+  key = key;
+  is_in_form = is_in_form form;
+  may_be_missing = true;
+  held = held;
+}
 
 -- the fault of a key with or without a value
 abbrev pub fault_with : KeyForm → Option Data → Option WalkFault

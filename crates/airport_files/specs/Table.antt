@@ -16,7 +16,8 @@ in_form k None = Err (BadRow k)
 in_form k (Some row) = Ok row
 
 -- the types of these records, of which the first is record k, or the first bad record
-unfoldable pub type_rows_from : Columns → ℕ → List (List (List ℕ)) → Result (List TypeRow) TableFault
+unfoldable pub type_rows_from : Columns → ℕ → List (List (List ℕ))
+    → Result (List TypeRow) TableFault
 type_rows_from columns k [] = Ok []
 type_rows_from columns k (fields ∷ rest) = do
   row ← in_form k (row_of columns fields)

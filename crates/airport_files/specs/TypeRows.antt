@@ -21,7 +21,9 @@ is_field fields i word = field_is word (field_at fields i)
 -- the first three fields name the columns that each file has
 abbrev pub has_plain_columns : List (List ℕ) → Bool
 has_plain_columns fields =
-    is_field fields 0 (codes "type") && is_field fields 1 (codes "span") && is_field fields 2 (codes "least")
+    is_field fields 0 (codes "type")
+    && is_field fields 1 (codes "span")
+    && is_field fields 2 (codes "least")
 
 -- the two fields after them name the columns of a file whose types may fold their wing tips
 abbrev pub has_folding_columns : List (List ℕ) → Bool

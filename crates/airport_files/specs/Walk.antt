@@ -57,7 +57,8 @@ frontage_name k ms = at_key name_of (key.Frontage k frontage.Name) (frontage_hel
 
 -- the objects of the k-th frontage
 abbrev pub frontage_objects : ℕ → Members → Result (List ℕ) WalkFault
-frontage_objects k ms = numbers_at (key.Frontage k frontage.Objects) (frontage_held ms frontage.Objects)
+frontage_objects k ms =
+    numbers_at (key.Frontage k frontage.Objects) (frontage_held ms frontage.Objects)
 
 -- the k-th frontage, if it is a table
 abbrev pub frontage_value : ℕ → Data → Result Frontage WalkFault
@@ -99,7 +100,8 @@ pair_value k (table ms) = pair_in k ms
 pair_value k _ = Err (Wrong key.Pairs)
 
 -- the rows from the k-th on, each read in turn
-unfoldable pub walk_rows_from : {A : Type 0} → (ℕ → Data → Result A WalkFault) → ℕ → Items → Result (List A) WalkFault
+unfoldable pub walk_rows_from : {A : Type 0} → (ℕ → Data → Result A WalkFault) → ℕ → Items
+    → Result (List A) WalkFault
 walk_rows_from read k no_items = Ok []
 walk_rows_from read k (item d ds) = do
   first ← read k d
@@ -116,11 +118,13 @@ are_tables no_items = true
 are_tables (item d ds) = if is_table d then are_tables ds else false
 
 -- an array with another item is wrong before any row is looked at
-abbrev pub rows_in : {A : Type 0} → (ℕ → Data → Result A WalkFault) → FileKey → Items → Result (List A) WalkFault
+abbrev pub rows_in : {A : Type 0} → (ℕ → Data → Result A WalkFault) → FileKey → Items
+    → Result (List A) WalkFault
 rows_in read at ds = if are_tables ds then walk_rows_from read 1 ds else Err (Wrong at)
 
 -- a missing array is empty
-abbrev pub rows_value : {A : Type 0} → (ℕ → Data → Result A WalkFault) → FileKey → Option Data → Result (List A) WalkFault
+abbrev pub rows_value : {A : Type 0} → (ℕ → Data → Result A WalkFault) → FileKey → Option Data
+    → Result (List A) WalkFault
 rows_value read at None = Ok []
 rows_value read at (Some (array ds)) = rows_in read at ds
 rows_value read at (Some _) = Err (Wrong at)

@@ -23,7 +23,8 @@ pub(crate) const MAX_TYPE_NAME: usize = 4;
 
 /// What a table holds at a key.
 pub(crate) fn find<'a>(table: &'a Table, word: &str) -> Option<&'a Value>
-    ensures value { option_map (λ v. view v.now) result ≡ get_member word.now (table_view table.now) }
+    ensures value { option_map (λ v. view v.now) result
+        ≡ get_member word.now (table_view table.now) }
 {
     table.get(word)
 }

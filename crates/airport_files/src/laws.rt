@@ -7,5 +7,6 @@ ghost use Rattle.airport_files.specs.Meaning.{meaning};
 /// The meaning of two files is never a lack of memory, nor an airport that is refused for it.
 pub fn files_mean_no_want_of_memory()
     ensures files { (airport types : List ℕ) → meaning airport types ≢ Err file.Memory }
-    ensures made { (airport types : List ℕ) → meaning airport types ≢ Err (file.Airport refused.Memory) }
+    ensures made { (airport types : List ℕ)
+        → meaning airport types ≢ Err (file.Airport refused.Memory) }
 {}

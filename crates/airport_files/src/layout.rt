@@ -70,7 +70,8 @@ fn rows_at<T: Row>(
     word: &str,
     at: FileKey,
 ) -> Result<Listed<T>, WalkFault>
-    ensures value { ReadsRow result (rows_value T.read_of at (get_member word.now (table_view document.now))) }
+    ensures value { ReadsRow result
+        (rows_value T.read_of at (get_member word.now (table_view document.now))) }
 {
     match find(document, word) {
         None => Ok(Listed::new(alloc)),
