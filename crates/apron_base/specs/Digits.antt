@@ -6,7 +6,8 @@ use Rattle.std.specs.Str.Parse.{digits_value}
 
 -- one digit or more, and at most this many
 abbrev pub are_digits : List ℕ → ℕ → Bool
-are_digits text most = nat_le 1 (length text) && nat_le (length text) most && list_all is_ascii_digit text
+are_digits text most =
+    nat_le 1 (length text) && nat_le (length text) most && list_all is_ascii_digit text
 
 -- the number that a text of at most this many digits writes; none for other texts
 unfoldable pub number_of : List ℕ → ℕ → Option ℕ

@@ -17,7 +17,8 @@ pub record Took (failed : Bool) (before after : SourceState) (bytes : List ℕ) 
 -- and took nothing
 abbrev pub Reads : {E : Type 0} → SourceState → SourceState → Result ℕ E → List ℕ → Type 0
 Reads before after result into = MatchResult result
-    (λ count. Took false before after (take count into) × (count ≡ 0 → 0 < length into → IsAtEnd after.left))
+    (λ count. Took false before after (take count into)
+    × (count ≡ 0 → 0 < length into → IsAtEnd after.left))
     (λ _. Took true before after [])
 
 -- what was written, if the sink exposes it, and how often the sink has failed

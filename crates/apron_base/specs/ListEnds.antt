@@ -17,11 +17,15 @@ within_size (Some size) most = min (max size 1) most
 
 -- how many bytes the next piece has, if there is room for this many
 abbrev pub next_length : PiecesHeld → ℕ → ℕ
-next_length pieces room = within_size (slice_get pieces.sizes pieces.taken) (min (length pieces.left) room)
+next_length pieces room =
+    within_size (slice_get pieces.sizes pieces.taken) (min (length pieces.left) room)
 
 -- the pieces after one of this many bytes was taken
 abbrev pub after_piece : PiecesHeld → ℕ → PiecesHeld
-after_piece pieces count = record pieces { left = drop count pieces.left; taken = one_more pieces.taken }
+after_piece pieces count = record pieces {
+  left = drop count pieces.left;
+  taken = one_more pieces.taken;
+}
 
 -- the pieces, and the calls that fail
 pub record SourceHeld : Type 0 where

@@ -10,7 +10,13 @@ pub record EntriesHeld : Type 0 where
 
 -- what is known of a keeper that never fails: it never has an entry at risk
 abbrev pub steady_keeper_state : EntriesHeld → KeeperState
-steady_keeper_state kept = record { entries = Some kept.entries; at_risk = None; number = length kept.entries; room = kept.room; faults = 0 }
+steady_keeper_state kept = record {
+  entries = Some kept.entries;
+  at_risk = None;
+  number = length kept.entries;
+  room = kept.room;
+  faults = 0;
+}
 
 -- the entries with their room, and the calls that fail
 pub record ListKeeperHeld : Type 0 where

@@ -28,7 +28,8 @@ refuses_accept listener = is_to_fail listener.fails || nat_eq (length listener.t
 
 -- each accepted connection and each one to come has a place among the finished ones, and a count
 -- can hold the number of all
-pub record HasPlaces {In Out A : Type 0} (to_come : List (In × Out)) (finished : Vec (Finished In Out) A) (accepted : ℕ) : Type 0 where
+pub record HasPlaces {In Out A : Type 0} (to_come : List (In × Out))
+    (finished : Vec (Finished In Out) A) (accepted : ℕ) : Type 0 where
   pub ended : vec_len finished ≤ accepted
   pub places : accepted + length to_come ≤ vec_capacity finished
   pub few : accepted + length to_come < last_count

@@ -15,7 +15,8 @@ pub record ListenerState (In Out : Type 0) : Type 0 where
   pub faults : ℕ
 
 -- the first of the connections to come was accepted, and no more had been finished than accepted
-pub record TakesFirst {In Out : Type 0} (before after : ListenerState In Out) (first : In × Out) : Type 0 where
+pub record TakesFirst {In Out : Type 0} (before after : ListenerState In Out)
+    (first : In × Out) : Type 0 where
   pub few : before.accepted < last_count
   pub fewer : before.ended ≤ before.accepted
   pub to_come : before.to_come ≡ option_map (λ others. first ∷ others) after.to_come
@@ -33,11 +34,14 @@ pub record TakesNone {In Out : Type 0} (before after : ListenerState In Out) : T
   pub faults : Counts true before.faults after.faults
 
 -- a connection was accepted, or the call failed
-abbrev pub Accepts : {In Out E : Type 0} → ListenerState In Out → ListenerState In Out → Result (In × Out) E → Type 0
-Accepts before after result = MatchResult result (TakesFirst before after) (λ _. TakesNone before after)
+abbrev pub Accepts : {In Out E : Type 0} → ListenerState In Out → ListenerState In Out
+    → Result (In × Out) E → Type 0
+Accepts before after result =
+    MatchResult result (TakesFirst before after) (λ _. TakesNone before after)
 
 -- a connection is last among the finished ones
-pub record Finishes {In Out : Type 0} (before after : ListenerState In Out) (last : Finished In Out) : Type 0 where
+pub record Finishes {In Out : Type 0} (before after : ListenerState In Out)
+    (last : Finished In Out) : Type 0 where
   pub finished : after.finished ≡ option_map (with_last last) before.finished
   pub ended : after.ended ≡ before.ended + 1
   pub to_come : after.to_come ≡ before.to_come

@@ -31,7 +31,11 @@ pub record ShelfHeld : Type 0 where
 
 -- what is known of such a shelf
 abbrev pub shelf_state : ShelfHeld → ShelfState
-shelf_state shelf = record { file = file_in shelf.files; faults = shelf.fails.faults; read = shelf.read }
+shelf_state shelf = record {
+  file = file_in shelf.files;
+  faults = shelf.fails.faults;
+  read = shelf.read;
+}
 
 -- a read of this name is among those that are to fail, or there is no such file
 abbrev pub refuses_read : ShelfHeld → List ℕ → Bool
@@ -44,4 +48,8 @@ pub record SteadyShelfHeld : Type 0 where
 
 -- what is known of a shelf that never fails
 abbrev pub steady_shelf_state : SteadyShelfHeld → ShelfState
-steady_shelf_state shelf = record { file = λ name. Some (file_or_empty shelf.files name); faults = 0; read = shelf.read }
+steady_shelf_state shelf = record {
+  file = λ name. Some (file_or_empty shelf.files name);
+  faults = 0;
+  read = shelf.read;
+}

@@ -38,5 +38,6 @@ pub trait Listener {
     /// Puts a connection last among the finished ones. It takes no memory.
     fn finish(&mut self, input: Self::In, output: Self::Out, outcome: Outcome)
         requires accepted { (state self.old).ended < (state self.old).accepted }
-        ensures finishes { Finishes (state self.old) (state self.new) (record { source = input; sink = output; outcome = outcome }) };
+        ensures finishes { Finishes (state self.old) (state self.new)
+            (record { source = input; sink = output; outcome = outcome }) };
 }

@@ -119,7 +119,9 @@ impl<W: Write> Sink for WriterSink<W> {
 fn write_some<W: Write>(inner: &mut W, piece: &[u8]) -> Option<usize>
     requires some { 0 < length piece.now }
     ensures bytes { MatchOption result (Keeps (W.contents inner.old) (W.contents inner.new))
-        (λ n. (0 < n) × (n ≤ length piece.now) × Appends (W.contents inner.old) (W.contents inner.new) (take n piece.now)) }
+        (λ n. (0 < n)
+        × (n ≤ length piece.now)
+        × Appends (W.contents inner.old) (W.contents inner.new) (take n piece.now)) }
 {
     for _ in 0..MOST_RETRIES {
         match inner.write(piece) {

@@ -28,7 +28,11 @@ impl Model for Pieces {
 
     ghost Value = { PiecesHeld };
 
-    ghost view = { λ p. record { left = drop p.at p.bytes.items; sizes = p.sizes.items; taken = p.taken } };
+    ghost view = { λ p. record {
+      left = drop p.at p.bytes.items;
+      sizes = p.sizes.items;
+      taken = p.taken;
+    } };
 
     ghost invariant = { λ p. p.at ≤ vec_len p.bytes };
 }
@@ -103,7 +107,8 @@ impl ListSource {
     /// rest comes whole. `fails` are the numbers of the reads that fail, from 0, in any order. A
     /// read that fails takes nothing.
     pub fn new(bytes: Vec<u8>, pieces: Vec<usize>, fails: Vec<u64>) -> Self
-        ensures pieces { result.pieces ≡ record { left = bytes.items; sizes = pieces.items; taken = 0 } }
+        ensures pieces { result.pieces
+            ≡ record { left = bytes.items; sizes = pieces.items; taken = 0 } }
         ensures fails { result.fails ≡ fails_from fails.items }
     {
         ListSource {
@@ -124,7 +129,8 @@ impl Source for ListSource {
         // Exactly the given calls fail, and each piece has its size.
         ensures refused { is_err result ≡ is_to_fail self.old.fails }
         ensures called { self.new.fails ≡ fails_after_count (is_err result) self.old.fails }
-        ensures size { IfOk result (λ count. count ≡ next_length self.old.pieces (length into.new)) }
+        ensures size { IfOk result
+            (λ count. count ≡ next_length self.old.pieces (length into.new)) }
         ensures ok { IfOk result (λ count. self.new.pieces ≡ after_piece self.old.pieces count) }
         ensures err { OnErr result (self.new.pieces ≡ self.old.pieces) }
     {
@@ -167,7 +173,8 @@ impl Source for SteadySource {
     fn read(&mut self, into: &mut [u8]) -> Result<usize, Failed>
         requires room { 0 < length into.old }
         ensures bound { ReadsAtMost result into.new }
-        ensures reads { Reads (steady_source_state self.old) (steady_source_state self.new) result into.new }
+        ensures reads { Reads (steady_source_state self.old) (steady_source_state self.new)
+            result into.new }
         ensures never_fails { IsOk result }
         ensures size { IfOk result (λ count. count ≡ next_length self.old (length into.new)) }
         ensures rest { IfOk result (λ count. self.new ≡ after_piece self.old count) }
@@ -201,7 +208,8 @@ impl ListSink {
     /// numbers of the puts that fail, from 0, in any order. A put that fails writes nothing. `Err`
     /// if there is no memory for this much room.
     pub fn new(alloc: Global, room: usize, fails: Vec<u64>) -> Result<Self, AllocError>
-        ensures ok { IfOk result (λ sink. sink ≡ record { told = []; room = room; fails = fails_from fails.items }) }
+        ensures ok { IfOk result
+            (λ sink. sink ≡ record { told = []; room = room; fails = fails_from fails.items }) }
     {
         Ok(ListSink {
             bytes: Vec::with_capacity(alloc, room)?,

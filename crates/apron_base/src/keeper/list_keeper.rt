@@ -114,8 +114,10 @@ impl Keeper for ListKeeper {
         requires most { length entry.now ≤ MAX_ENTRY }
         requires room { length entry.now ≤ (keeper_state self.old).room }
         requires few { (keeper_state self.old).number < MAX_ENTRIES }
-        ensures ok { OnOk result (AddsEntry (keeper_state self.old) (keeper_state self.new) entry.now) }
-        ensures err { OnErr result (FailsToAdd (keeper_state self.old) (keeper_state self.new) entry.now) }
+        ensures ok { OnOk result
+            (AddsEntry (keeper_state self.old) (keeper_state self.new) entry.now) }
+        ensures err { OnErr result
+            (FailsToAdd (keeper_state self.old) (keeper_state self.new) entry.now) }
 
         // Exactly the given calls fail.
         ensures refused { is_err result ≡ is_to_fail self.old.fails }
@@ -174,8 +176,10 @@ impl Keeper for SteadyKeeper {
         requires most { length entry.now ≤ MAX_ENTRY }
         requires room { length entry.now ≤ (steady_keeper_state self.old).room }
         requires few { (steady_keeper_state self.old).number < MAX_ENTRIES }
-        ensures ok { OnOk result (AddsEntry (steady_keeper_state self.old) (steady_keeper_state self.new) entry.now) }
-        ensures err { OnErr result (FailsToAdd (steady_keeper_state self.old) (steady_keeper_state self.new) entry.now) }
+        ensures ok { OnOk result
+            (AddsEntry (steady_keeper_state self.old) (steady_keeper_state self.new) entry.now) }
+        ensures err { OnErr result
+            (FailsToAdd (steady_keeper_state self.old) (steady_keeper_state self.new) entry.now) }
         ensures never_fails { IsOk result }
     {
         self.entries.push(entry);

@@ -26,7 +26,12 @@ impl<I, O> Model for ListListener<I, O> {
 
     ghost Value = { ListenerHeld I O };
 
-    ghost view = { λ l. record { to_come = l.to_come.items; finished = l.finished.items; accepted = l.accepted; fails = l.fails } };
+    ghost view = { λ l. record {
+      to_come = l.to_come.items;
+      finished = l.finished.items;
+      accepted = l.accepted;
+      fails = l.fails;
+    } };
 
     ghost invariant = { λ l. HasPlaces l.to_come.items l.finished l.accepted };
 }
@@ -36,7 +41,13 @@ impl<I: Drop, O: Drop> ListListener<I, O> {
     /// takes no connection. An accept also fails if no connection is to come. `Err` if there is no
     /// memory for as many finished connections as there are to come.
     pub fn new(alloc: Global, to_come: Vec<(I, O)>, fails: Vec<u64>) -> Result<Self, AllocError>
-        ensures ok { IfOk result (λ listener. listener ≡ record { to_come = to_come.items; finished = []; accepted = 0; fails = fails_from fails.items }) }
+        ensures ok { IfOk result (λ listener. listener
+            ≡ record {
+              to_come = to_come.items;
+              finished = [];
+              accepted = 0;
+              fails = fails_from fails.items;
+            }) }
     {
         Ok(ListListener {
             finished: Vec::with_capacity(alloc, to_come.len())?,
@@ -62,7 +73,8 @@ impl<I: Source + Drop, O: Sink + Drop> Listener for ListListener<I, O> {
     ghost state = { list_listener_state };
 
     fn accept<R: Wait>(&mut self, _rt: &R) -> Result<(I, O), Failed>
-        ensures accepts { Accepts (list_listener_state self.old) (list_listener_state self.new) result }
+        ensures accepts { Accepts (list_listener_state self.old)
+            (list_listener_state self.new) result }
 
         // Exactly the given calls, and those with no connection to come, fail.
         ensures refused { is_err result ≡ refuses_accept self.old }

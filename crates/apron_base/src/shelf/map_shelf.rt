@@ -37,7 +37,8 @@ impl Model for MapShelf {
 impl MapShelf {
     /// `fails` are the numbers of the calls that fail, from 0, in any order.
     pub fn new(files: Vec<ShelfFile>, fails: Vec<u64>) -> Self
-        ensures is { result ≡ record { files = files.items; fails = fails_from fails.items; read = 0 } }
+        ensures is { result
+            ≡ record { files = files.items; fails = fails_from fails.items; read = 0 } }
     {
         MapShelf {
             files: Listed::from_vec(files),
@@ -51,7 +52,8 @@ impl Shelf for MapShelf {
     ghost state = { shelf_state };
 
     fn read_file(&mut self, alloc: Global, name: &str, limit: u32) -> Result<Vec<u8>, ShelfFault>
-        ensures gives { GivesFile (shelf_state self.old) (shelf_state self.new) name.now limit result }
+        ensures gives { GivesFile (shelf_state self.old) (shelf_state self.new)
+            name.now limit result }
 
         // Exactly the given calls, and those with a name that it doesn't hold, fail.
         ensures refused { is_failed result ≡ refuses_read self.old name.now }
@@ -104,7 +106,8 @@ impl Shelf for SteadyShelf {
     ghost state = { steady_shelf_state };
 
     fn read_file(&mut self, alloc: Global, name: &str, limit: u32) -> Result<Vec<u8>, ShelfFault>
-        ensures gives { GivesFile (steady_shelf_state self.old) (steady_shelf_state self.new) name.now limit result }
+        ensures gives { GivesFile (steady_shelf_state self.old) (steady_shelf_state self.new)
+            name.now limit result }
         ensures never_fails { result ≢ Err ShelfFault.Failed }
     {
         let copy = copy_or_empty(alloc, file_named(self.files.as_slice(), name), limit)?;
@@ -122,7 +125,8 @@ fn file_named<'a>(files: &'a [ShelfFile], name: &str) -> Option<&'a ShelfFile>
 fn copy_or_empty(alloc: Global, kept: Option<&ShelfFile>, limit: u32) -> Result<Vec<u8>, ShelfFault>
     ensures whole { IfOk result (λ v. v.items ≡ bytes_or_empty (option_copied kept.entry)) }
     ensures within { IfOk result (λ v. vec_len v ≤ limit) }
-    ensures too_long { result ≡ Err ShelfFault.TooLong → limit < length (bytes_or_empty (option_copied kept.entry)) }
+    ensures too_long { result ≡ Err ShelfFault.TooLong
+        → limit < length (bytes_or_empty (option_copied kept.entry)) }
     ensures never_fails { result ≢ Err ShelfFault.Failed }
 {
     match kept {
