@@ -56,13 +56,15 @@ of_digits a b c d e f = do
 -- 20YY-MM-DD, by its length and the bytes that are fixed
 abbrev pub is_shape : List ℕ → Bool
 is_shape text = (length text == 10)
-    && ((slice_index text 0 == 50) && ((slice_index text 1 == 48) && ((slice_index text 4 == 45) && (slice_index text 7 == 45))))
+    && ((slice_index text 0 == 50)
+    && ((slice_index text 1 == 48) && ((slice_index text 4 == 45) && (slice_index text 7 == 45))))
 
 -- the date that a text writes as YYYY-MM-DD, of the years 2000 to 2099
 abbrev pub read_date : List ℕ → Option Date
 read_date text =
     if is_shape text
-    then of_digits (slice_index text 2) (slice_index text 3) (slice_index text 5) (slice_index text 6) (slice_index text 8) (slice_index text 9)
+    then of_digits (slice_index text 2) (slice_index text 3) (slice_index text 5)
+    (slice_index text 6) (slice_index text 8) (slice_index text 9)
     else None
 
 -- the date of a day of the plan: day 1 is the first, day 0 the one before
