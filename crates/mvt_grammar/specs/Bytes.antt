@@ -16,7 +16,10 @@ is_station text = length text == 3 && list_all is_capital text
 
 -- the number that a text of two digits writes
 abbrev pub two_digits : List ℕ → Option ℕ
-two_digits text = if length text == 2 && list_all is_digit text then Some (10 * (slice_index text 0 - 48) + (slice_index text 1 - 48)) else None
+two_digits text =
+    if length text == 2 && list_all is_digit text
+    then Some (10 * (slice_index text 0 - 48) + (slice_index text 1 - 48))
+    else None
 
 -- the text before a place and the text after it, if there is a place
 abbrev pub parted_at : List ℕ → Option ℕ → Option (List ℕ × List ℕ)

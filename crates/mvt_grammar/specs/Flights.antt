@@ -13,7 +13,8 @@ is_airline_byte b = is_capital b || is_digit b
 
 -- three capitals; or two capitals or digits, at least one of them a capital
 abbrev pub is_airline : List ℕ → Bool
-is_airline text = (length text == 3 && list_all is_capital text) || (length text == 2 && list_all is_airline_byte text && list_any is_capital text)
+is_airline text = (length text == 3 && list_all is_capital text)
+    || (length text == 2 && list_all is_airline_byte text && list_any is_capital text)
 
 -- the airline has three bytes if the third is a capital, and two otherwise
 abbrev pub airline_len : List ℕ → ℕ
@@ -34,7 +35,8 @@ flight_with airline number suffix =
 abbrev pub flight_after : List ℕ → List ℕ → Option Flight
 flight_after airline text =
     let last = slice_index text (length text - 1) in
-    if is_capital last then flight_with airline (take (length text - 1) text) (Some last) else flight_with airline text None
+    if is_capital last then flight_with airline (take (length text - 1) text) (Some last)
+    else flight_with airline text None
 
 -- the flight that a text writes
 abbrev pub flight_of : List ℕ → Option Flight

@@ -9,11 +9,13 @@ use Rattle.mvt_grammar.specs.declared.message.Mvt.{Mvt}
 
 -- what a text is read as is readable
 abbrev pub ReadingGivesReadable : Type 0
-ReadingGivesReadable = (text : List ℕ) (message : Mvt) → read_mvt_of text ≡ Ok message → IsReadable message
+ReadingGivesReadable =
+    (text : List ℕ) (message : Mvt) → read_mvt_of text ≡ Ok message → IsReadable message
 
 -- the canonical text of a readable message is read as that message
 abbrev pub CanonicalIsReadBack : Type 0
-CanonicalIsReadBack = (message : Mvt) → IsReadable message → read_mvt_of (canonical message) ≡ Ok message
+CanonicalIsReadBack =
+    (message : Mvt) → IsReadable message → read_mvt_of (canonical message) ≡ Ok message
 
 -- two readable messages with the same canonical text are equal
 abbrev pub CanonicalTellsApart : Type 0
@@ -25,4 +27,5 @@ CanonicalIsShort = (message : Mvt) → IsReadable message → length (canonical 
 
 -- the text of a flight in its form is read as that flight
 abbrev pub FlightIsReadBack : Type 0
-FlightIsReadBack = (flight : Flight) → IsFlight flight → flight_of (flight_text flight) ≡ Some flight
+FlightIsReadBack =
+    (flight : Flight) → IsFlight flight → flight_of (flight_text flight) ≡ Some flight

@@ -7,4 +7,5 @@ use Rattle.mvt_grammar.specs.declared.reading.RestOfText.{RestOfText}
 use Rattle.mvt_grammar.specs.declared.words.Mark.{Mark}
 
 abbrev pub left_marks : RestOfText → List Mark
-left_marks left = marks_of_words (left_words left.words) ++ flat_map marks_of_line (rest_lines left.lines)
+left_marks left =
+    marks_of_words (left_words left.words) ++ flat_map marks_of_line (rest_lines left.lines)

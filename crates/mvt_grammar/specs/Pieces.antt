@@ -26,12 +26,15 @@ is_empty (b ∷ bs) = false
 -- without one CR at the end
 abbrev pub without_cr : List ℕ → List ℕ
 without_cr [] = []
-without_cr (b ∷ bs) = if b == 13 then (if is_empty bs then [] else b ∷ without_cr bs) else b ∷ without_cr bs
+without_cr (b ∷ bs) =
+    if b == 13 then (if is_empty bs then [] else b ∷ without_cr bs) else b ∷ without_cr bs
 
 -- without the spaces at the end
 abbrev pub without_spaces : List ℕ → List ℕ
 without_spaces [] = []
-without_spaces (b ∷ bs) = if b == 32 then (if is_empty (without_spaces bs) then [] else b ∷ without_spaces bs) else b ∷ without_spaces bs
+without_spaces (b ∷ bs) =
+    if b == 32 then (if is_empty (without_spaces bs) then [] else b ∷ without_spaces bs)
+    else b ∷ without_spaces bs
 
 -- a line loses one CR at its end, and then the spaces there
 abbrev pub trim_line : Piece → Piece

@@ -30,7 +30,16 @@ is_registration text = is_name text && nat_le (length text) 10
 
 -- a message without elements
 abbrev pub message_head : Flight → ℕ → List ℕ → List ℕ → Mvt
-message_head flight day registration station = record { flight = flight; day = day; registration = registration; station = station; ad = None; aa = None; ea = None; ed = None }
+message_head flight day registration station = record {
+  flight = flight;
+  day = day;
+  registration = registration;
+  station = station;
+  ad = None;
+  aa = None;
+  ea = None;
+  ed = None;
+}
 
 -- the message without elements that the flight line FLIGHT/DD.REGISTRATION.STATION gives
 abbrev pub heading_of : List ℕ → Option Mvt
@@ -40,7 +49,8 @@ heading_of line = do
   dots ← split_once 46 dot.1
   flight ← flight_of slash.0
   day ← read_day dot.0
-  if is_registration dots.0 && is_station dots.1 then Some (message_head flight day dots.0 dots.1) else None
+  if is_registration dots.0 && is_station dots.1 then Some (message_head flight day dots.0 dots.1)
+      else None
 
 abbrev pub is_identifier : Piece → Bool
 is_identifier line = bytes_eq line.text (codes "MVT")
@@ -49,7 +59,8 @@ is_identifier line = bytes_eq line.text (codes "MVT")
 abbrev pub after_identifier : ℕ → List Piece → Result (List Piece) MvtFault
 after_identifier zero lines = Err NoIdentifier
 after_identifier (suc more) [] = Err NoIdentifier
-after_identifier (suc more) (line ∷ lines) = if is_identifier line then Ok lines else after_identifier more lines
+after_identifier (suc more) (line ∷ lines) =
+    if is_identifier line then Ok lines else after_identifier more lines
 
 abbrev pub with_heading : Option Mvt → List Piece → Result (Mvt × List Piece) MvtFault
 with_heading None lines = Err BadFlightLine
@@ -58,7 +69,8 @@ with_heading (Some message) lines = Ok (message, lines)
 -- the message that the first line that is not empty gives, and the lines after it
 abbrev pub after_heading : List Piece → Result (Mvt × List Piece) MvtFault
 after_heading [] = Err BadFlightLine
-after_heading (line ∷ lines) = if is_empty line.text then after_heading lines else with_heading (heading_of line.text) lines
+after_heading (line ∷ lines) =
+    if is_empty line.text then after_heading lines else with_heading (heading_of line.text) lines
 
 -- whether the message has this element already
 abbrev pub has_element : Mvt → Element → Bool
@@ -78,12 +90,18 @@ abbrev pub with_marks : Mvt → List Mark → Result Mvt MvtFault
 with_marks message [] = Ok message
 with_marks message (End ∷ marks) = Ok message
 with_marks message (Bad at ∷ marks) = Err (BadElement at)
-with_marks message (Found at element ∷ marks) = if has_element message element then Err (Twice at) else with_marks (with_element message element) marks
+with_marks message (Found at element ∷ marks) =
+    if has_element message element then Err (Twice at)
+    else with_marks (with_element message element) marks
 
 -- what the lines of a text are read as
 abbrev pub read_lines : List Piece → Result Mvt MvtFault
-read_lines lines = after_identifier 21 lines >>- λ rest. after_heading rest >>- λ opened. with_marks opened.0 (flat_map marks_of_line opened.1)
+read_lines lines =
+    after_identifier 21 lines
+    >>- λ rest. after_heading rest
+    >>- λ opened. with_marks opened.0 (flat_map marks_of_line opened.1)
 
 -- what a text is read as
 abbrev pub read_mvt_of : List ℕ → Result Mvt MvtFault
-read_mvt_of text = if nat_lt 4000 (length text) then Err TooLong else read_lines (lines_of (piece 0 text))
+read_mvt_of text =
+    if nat_lt 4000 (length text) then Err TooLong else read_lines (lines_of (piece 0 text))

@@ -64,8 +64,10 @@ fn place_of_byte(text: &[u8], byte: u8) -> Option<usize>
 
 // The text before the first such byte and the text after it, if there is one.
 pub(crate) fn split_once(text: &[u8], byte: u8) -> Option<(&[u8], &[u8])>
-    ensures parts { option_map (λ parts. (parts.0.now, parts.1.now)) result ≡ split_once byte text.now }
-    ensures lengths { IfSome result (λ parts. length parts.0.now + 1 + length parts.1.now ≡ length text.now) }
+    ensures parts { option_map (λ parts. (parts.0.now, parts.1.now)) result
+        ≡ split_once byte text.now }
+    ensures lengths { IfSome result
+        (λ parts. length parts.0.now + 1 + length parts.1.now ≡ length text.now) }
 {
     match place_of_byte(text, byte) {
         Some(at) => Some((&text[..at], &text[at + 1..])),

@@ -18,7 +18,8 @@ impl<'a> Span<'a> {
 
     // The piece before the first such byte, or the whole, and what is left after that byte.
     fn cut(self, byte: u8) -> (Span<'a>, Option<Span<'a>>)
-        ensures value { split_at byte (piece_of self.entry) ≡ piece_of result.0 ∷ left_cut byte result.1 }
+        ensures value { split_at byte (piece_of self.entry)
+            ≡ piece_of result.0 ∷ left_cut byte result.1 }
     {
         match split_once(self.text, byte) {
             Some((front, rest)) => {

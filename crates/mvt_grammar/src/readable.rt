@@ -69,7 +69,8 @@ fn are_times_or_none(times: &Option<(Clock, Option<Clock>)>) -> bool
 }
 
 fn are_estimates(message: &Mvt) -> bool
-    ensures is { IsTrue result ↔ (IfSome message.now.ea IsEstimate × IfSome message.now.ed IsClock) }
+    ensures is { IsTrue result
+        ↔ (IfSome message.now.ea IsEstimate × IfSome message.now.ed IsClock) }
 {
     let ea = match &message.ea {
         Some(estimate) => is_estimate(estimate),

@@ -49,7 +49,9 @@ fn next_of<'a>(start: RestOfText<'a>) -> Option<(Mark, RestOfText<'a>)>
 
 // The message with one more element, if it does not have that element yet.
 fn with_element(message: Mvt, at: u32, element: Element) -> Result<Mvt, MvtFault>
-    ensures value { result ≡ if has_element message element then Err (MvtFault.Twice at) else Ok (with_element message element) }
+    ensures value { result
+        ≡ if has_element message element then Err (MvtFault.Twice at)
+        else Ok (with_element message element) }
 {
     let mut message = message;
     let had = match element {

@@ -83,7 +83,8 @@ fn push_times_words(
     times: &Option<(Clock, Option<Clock>)>,
 ) -> Result<u8, Memory>
     requires valid { IfSome times.now AreTimes }
-    ensures text { OnOk result (out.new.items ≡ out.old.items ++ words_after gap (times_words pair.now times.now)) }
+    ensures text { OnOk result
+        (out.new.items ≡ out.old.items ++ words_after gap (times_words pair.now times.now)) }
     ensures next { IfOk result (λ next. next ≡ gap_after gap (times_words pair.now times.now)) }
 {
     match times {
@@ -99,7 +100,8 @@ fn push_times_words(
 
 fn push_ea_words(out: &mut Vec<u8>, gap: u8, estimate: &Option<(Clock, Name)>) -> Result<u8, Memory>
     requires valid { IfSome estimate.now IsEstimate }
-    ensures text { OnOk result (out.new.items ≡ out.old.items ++ words_after gap (ea_words estimate.now)) }
+    ensures text { OnOk result
+        (out.new.items ≡ out.old.items ++ words_after gap (ea_words estimate.now)) }
     ensures next { IfOk result (λ next. next ≡ gap_after gap (ea_words estimate.now)) }
 {
     match estimate {
@@ -117,7 +119,8 @@ fn push_ea_words(out: &mut Vec<u8>, gap: u8, estimate: &Option<(Clock, Name)>) -
 
 fn push_ed_words(out: &mut Vec<u8>, gap: u8, clock: &Option<Clock>) -> Result<(), Memory>
     requires valid { IfSome clock.now IsClock }
-    ensures text { OnOk result (out.new.items ≡ out.old.items ++ words_after gap (ed_words clock.now)) }
+    ensures text { OnOk result
+        (out.new.items ≡ out.old.items ++ words_after gap (ed_words clock.now)) }
 {
     if let Some(clock) = clock {
         out.push(gap)?;
@@ -130,7 +133,8 @@ fn push_ed_words(out: &mut Vec<u8>, gap: u8, clock: &Option<Clock>) -> Result<()
 // The words of all elements, the first after a line feed.
 fn push_elements(out: &mut Vec<u8>, message: &Mvt) -> Result<(), Memory>
     requires valid { IsReadable message.now }
-    ensures text { OnOk result (out.new.items ≡ out.old.items ++ words_after 10 (element_words message.now)) }
+    ensures text { OnOk result
+        (out.new.items ≡ out.old.items ++ words_after 10 (element_words message.now)) }
 {
     let gap = push_times_words(out, b'\n', b"AD", &message.ad)?;
     let gap = push_times_words(out, gap, b"AA", &message.aa)?;
