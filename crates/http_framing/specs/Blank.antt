@@ -13,7 +13,9 @@ carriage_return = 13
 abbrev mutual
   pub is_blank : List ℕ → Bool
   is_blank [] = true
-  is_blank (byte ∷ bytes) = if byte == line_feed then is_blank bytes else (if byte == carriage_return then is_blank_after_cr bytes else false)
+  is_blank (byte ∷ bytes) =
+      if byte == line_feed then is_blank bytes
+      else (if byte == carriage_return then is_blank_after_cr bytes else false)
 
   -- the same after a CR
   pub is_blank_after_cr : List ℕ → Bool

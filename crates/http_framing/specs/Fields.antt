@@ -21,7 +21,8 @@ HeaderField = List ℕ × List ℕ
 -- the values of the fields of that name, in order
 abbrev pub values_of : List ℕ → List HeaderField → List (List ℕ)
 values_of name [] = []
-values_of name (field ∷ fields) = if is_same_name field.0 name then field.1 ∷ values_of name fields else values_of name fields
+values_of name (field ∷ fields) =
+    if is_same_name field.0 name then field.1 ∷ values_of name fields else values_of name fields
 
 -- the fields of a head as pairs
 abbrev pub pairs : RequestHead → List HeaderField

@@ -24,7 +24,9 @@ IsHopeless bytes = RequestOverflows max_fields bytes
 -- the longest head is there, and no head ends within it
 pub record IsHeadTooLong (bytes : List ℕ) : Type 0 where
   pub long : max_head ≤ length bytes
-  pub none : (head : RequestHead) (rest : List ℕ) → ReadsRequest bytes head rest → max_head < length (print_request head)
+  pub none : (head : RequestHead) (rest : List ℕ)
+      → ReadsRequest bytes head rest
+      → max_head < length (print_request head)
 
 -- no head within the limits can come
 abbrev pub IsBadHead : List ℕ → Type 0

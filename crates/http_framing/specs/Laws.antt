@@ -19,7 +19,8 @@ IsChoice ending other = ⊥
 
 -- the bytes are these requests and then the front of a head that no bytes complete
 abbrev pub EndsInHopelessHead : List ℕ → List Request → Type 0
-EndsInHopelessHead bytes requests = (rest : List ℕ) × Splits bytes requests rest × IsUnfinished rest × IsHopeless rest
+EndsInHopelessHead bytes requests =
+    (rest : List ℕ) × Splits bytes requests rest × IsUnfinished rest × IsHopeless rest
 
 -- a stream has one list of requests and one ending, except that a stream which ends inside a head
 -- that no bytes complete has the choice
@@ -27,7 +28,8 @@ abbrev pub HaveOneReading : Type 0
 HaveOneReading =
     (bytes : List ℕ) (requests others : List Request) (ending other : Ending)
     → Requests bytes requests ending → Requests bytes others other
-    → (requests ≡ others) × ((ending ≡ other) ⊎ (IsChoice ending other × EndsInHopelessHead bytes requests))
+    → (requests ≡ others)
+    × ((ending ≡ other) ⊎ (IsChoice ending other × EndsInHopelessHead bytes requests))
 
 -- the requests at the front of some bytes stay, whatever bytes follow
 abbrev pub StayWithMore : Type 0
@@ -37,4 +39,7 @@ StayWithMore =
 
 -- so does a refusal
 abbrev pub RefusalsStay : Type 0
-RefusalsStay = (bytes more : List ℕ) (why : RequestRefusal) → IsMalformed bytes why → IsMalformed (bytes ++ more) why
+RefusalsStay =
+    (bytes more : List ℕ) (why : RequestRefusal)
+    → IsMalformed bytes why
+    → IsMalformed (bytes ++ more) why

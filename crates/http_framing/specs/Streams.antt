@@ -30,9 +30,11 @@ abbrev pub Requests : List ℕ → List Request → Ending → Type 0
 Requests bytes [] ending = EndsStream bytes ending
 Requests bytes (request ∷ requests) ending =
     (rest : List ℕ) × HasRequest bytes request rest
-    × (is_closing request.head ≡ true → (requests ≡ []) × (ending ≡ closed)) × (is_closing request.head ≡ false → Requests rest requests ending)
+    × (is_closing request.head ≡ true → (requests ≡ []) × (ending ≡ closed))
+    × (is_closing request.head ≡ false → Requests rest requests ending)
 
 -- the bytes are these requests, one after another, and then rest
 abbrev pub Splits : List ℕ → List Request → List ℕ → Type 0
 Splits bytes [] rest = bytes ≡ rest
-Splits bytes (request ∷ requests) rest = (after : List ℕ) × HasRequest bytes request after × Splits after requests rest
+Splits bytes (request ∷ requests) rest =
+    (after : List ℕ) × HasRequest bytes request after × Splits after requests rest

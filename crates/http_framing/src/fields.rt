@@ -31,7 +31,8 @@ pub enum FieldNumber {
 /// What the fields of a name, in any case, say.
 pub(crate) fn field_text<'b>(bytes: &'b [u8], fields: &[HeaderSpan], name: &[u8]) -> FieldText<'b>
     requires fields { All (IsHeaderWithin (length bytes.now)) fields.now }
-    ensures value { text_shown result ≡ text_field name.now (map (header_bytes bytes.now) fields.now) }
+    ensures value { text_shown result
+        ≡ text_field name.now (map (header_bytes bytes.now) fields.now) }
 {
     let mut found = FieldText::Absent;
     for field in fields {
