@@ -22,7 +22,8 @@ ends_after minute slot = nat_lt minute slot.end
 
 -- a slot of the block starts before end, and one ends after from
 abbrev pub is_reached : ℕ → ℕ → List Slot → Bool
-is_reached from end slots = list_any (slot_starts_before end) slots && list_any (ends_after from) slots
+is_reached from end slots = list_any (slot_starts_before end) slots
+    && list_any (ends_after from) slots
 
 -- the last of the slots ends at this minute, which is 0 if there is none
 abbrev pub IsLastEnd : List Slot → ℕ → Type 0
@@ -30,7 +31,8 @@ IsLastEnd slots last = (minute : ℕ) → list_any (ends_after minute) slots ≡
 
 -- the first blocks of the slots end at these minutes
 abbrev pub AreLastEnds : List Slot → List ℕ → Type 0
-AreLastEnds slots ends = (number : ℕ) → number < length ends → IsLastEnd (block slots number) (slice_index ends number)
+AreLastEnds slots ends =
+    (number : ℕ) → number < length ends → IsLastEnd (block slots number) (slice_index ends number)
 
 -- the slots are in order of their start, and their blocks end at these minutes
 pub record AreInBlocks (slots : List Slot) (ends : List ℕ) : Type 0 where

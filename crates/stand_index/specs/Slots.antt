@@ -58,7 +58,8 @@ is_hit from end slot = nat_lt (max from slot.from) (min end slot.end)
 
 -- the slots of a stand that have a minute in from <= m < end, the planned ones first
 abbrev pub hits_of : StandSlots → ℕ → ℕ → List Slot
-hits_of slots from end = filter (is_hit from end) slots.planned ++ filter (is_hit from end) slots.actual
+hits_of slots from end =
+    filter (is_hit from end) slots.planned ++ filter (is_hit from end) slots.actual
 
 -- no slot starts earlier than one before it
 abbrev pub IsByStart : List Slot → Type 0
@@ -71,7 +72,8 @@ starts_earlier slot other = nat_lt other.from slot.from
 -- the slots that start earlier, then the slot, then the others
 abbrev pub insert_by_start : Slot → List Slot → List Slot
 insert_by_start slot slots =
-    filter (starts_earlier slot) slots ++ slot ∷ filter (λ other. not (starts_earlier slot other)) slots
+    filter (starts_earlier slot) slots ++ slot
+    ∷ filter (λ other. not (starts_earlier slot other)) slots
 
 -- the planned slots with one more, if it is planned
 abbrev pub planned_with : Slot → List Slot → List Slot
@@ -83,7 +85,8 @@ actual_with slot actual = if slot.actual then insert_by_start slot actual else a
 
 -- each planned slot is earlier or later than this one, if this one is planned
 abbrev pub KeepsOrder : Slot → StandSlots → Type 0
-KeepsOrder slot slots = slot.actual ≡ false → All (λ other. IsEarlier other slot ⊎ IsEarlier slot other) slots.planned
+KeepsOrder slot slots = slot.actual ≡ false
+    → All (λ other. IsEarlier other slot ⊎ IsEarlier slot other) slots.planned
 
 -- the slot is of this part
 abbrev pub is_of_part : PartId → Slot → Bool

@@ -20,7 +20,8 @@ block_steps from end slots = if is_reached from end slots then 1 + length slots 
 -- the steps of a look at this many blocks of the slots
 abbrev pub blocks_steps : ℕ → ℕ → List Slot → ℕ → ℕ
 blocks_steps from end slots zero = 0
-blocks_steps from end slots (suc before) = blocks_steps from end slots before + block_steps from end (block slots before)
+blocks_steps from end slots (suc before) =
+    blocks_steps from end slots before + block_steps from end (block slots before)
 
 -- the most steps of one look: as many as the number of planned slots has binary digits, one more,
 -- one for each hit, one for each block of actual slots, and one for each slot of those that are

@@ -66,7 +66,8 @@ impl StandIndex {
         requires spare { 1 ≤ (at_stand self.old slot.stand).spare }
         requires minutes { HasMinutes slot }
         requires order { KeepsOrder slot (at_stand self.old slot.stand) }
-        ensures slots { AddsSlot (at_stand self.old slot.stand) (at_stand self.new slot.stand) slot }
+        ensures slots { AddsSlot (at_stand self.old slot.stand)
+            (at_stand self.new slot.stand) slot }
         ensures others { KeepsOtherStands self.old self.new slot.stand }
     {
         self.stands[slot.stand.0 as usize].insert(slot);
@@ -94,7 +95,8 @@ impl StandIndex {
         steps: &mut Steps<L>,
     ) -> Result<Vec<Slot>, Memory>
         requires stand { stand.0 < length self.now }
-        ensures hits { IfOk result (λ hits. hits.items ≡ hits_of (at_stand self.now stand) from end) }
+        ensures hits { IfOk result
+            (λ hits. hits.items ≡ hits_of (at_stand self.now stand) from end) }
         ensures steps { steps.new ≤ steps.old + most_steps (at_stand self.now stand) from end }
         ensures index { IsIndex self.now }
     {

@@ -21,7 +21,9 @@ pub(crate) fn hits_of_rising<L: Ledger>(
     requires rise { AllPairs IsEarlier slots.now.slots }
     requires minutes { All HasMinutes slots.now.slots }
     ensures hits { IfOk result (λ hits. hits.items ≡ filter (is_hit from end) slots.now.slots) }
-    ensures steps { steps.new ≤ steps.old + binary_digits (length slots.now.slots) + 1 + length (filter (is_hit from end) slots.now.slots) }
+    ensures steps { steps.new
+        ≤ steps.old + binary_digits (length slots.now.slots) + 1
+        + length (filter (is_hit from end) slots.now.slots) }
 {
     let mut hits = Vec::new(alloc);
     let first = count_ended(slots, from, steps);
@@ -40,7 +42,8 @@ fn count_ended<L: Ledger>(slots: &SlotList, minute: Minute, steps: &mut Steps<L>
     requires rise { AllPairs IsEarlier slots.now.slots }
     ensures inside { result ≤ length slots.now.slots }
     ensures before { AllWithin (λ slot. slot.end ≤ minute) slots.now.slots 0 result }
-    ensures after { AllWithin (λ slot. minute < slot.end) slots.now.slots result (length slots.now.slots) }
+    ensures after { AllWithin (λ slot. minute < slot.end) slots.now.slots result
+        (length slots.now.slots) }
     ensures steps { steps.new ≤ steps.old + binary_digits (length slots.now.slots) }
 {
     let mut low = 0;
@@ -65,8 +68,10 @@ pub(crate) fn push_hits<L: Ledger>(
     end: Minute,
     steps: &mut Steps<L>,
 ) -> Result<(), Memory>
-    ensures hits { OnOk result (hits.new.items ≡ hits.old.items ++ filter (is_hit from end) slots.now.slots) }
-    ensures steps { steps.new ≤ steps.old + blocks_steps from end slots.now.slots (count_blocks slots.now.slots) }
+    ensures hits { OnOk result
+        (hits.new.items ≡ hits.old.items ++ filter (is_hit from end) slots.now.slots) }
+    ensures steps { steps.new
+        ≤ steps.old + blocks_steps from end slots.now.slots (count_blocks slots.now.slots) }
 {
     for number in 0..slots.blocks() {
         push_block_hits(hits, slots, number, from, end, steps)?;
@@ -84,7 +89,9 @@ fn push_block_hits<L: Ledger>(
     steps: &mut Steps<L>,
 ) -> Result<(), Memory>
     requires inside { number * 64 < length slots.now.slots }
-    ensures hits { OnOk result (hits.new.items ≡ hits.old.items ++ filter (is_hit from end) (block slots.now.slots number)) }
+    ensures hits { OnOk result
+        (hits.new.items
+        ≡ hits.old.items ++ filter (is_hit from end) (block slots.now.slots number)) }
     ensures steps { steps.new ≤ steps.old + block_steps from end (block slots.now.slots number) }
 {
     if !slots.is_reached(number, from, end, steps) {
@@ -100,7 +107,8 @@ fn push_block_hits<L: Ledger>(
 
 // Adds the slot at the end, if it has a minute in `from <= m < end`.
 fn push_hit(hits: &mut Vec<Slot>, slot: Slot, from: Minute, end: Minute) -> Result<(), Memory>
-    ensures hits { OnOk result (hits.new.items ≡ hits.old.items ++ filter (is_hit from end) (slot ∷ [])) }
+    ensures hits { OnOk result
+        (hits.new.items ≡ hits.old.items ++ filter (is_hit from end) (slot ∷ [])) }
 {
     if is_hit(from, end, &slot) {
         hits.push(slot)?;

@@ -30,7 +30,8 @@ impl Model for SlotList {
 
     ghost view = { λ list. record {
       slots = list.slots.items;
-      spare = min (vec_capacity list.slots - vec_len list.slots) (vec_capacity list.ends - vec_len list.ends);
+      spare = min (vec_capacity list.slots - vec_len list.slots)
+          (vec_capacity list.ends - vec_len list.ends);
     } };
 
     ghost invariant = { λ list. AreInBlocks list.slots.items list.ends.items };
@@ -157,7 +158,9 @@ fn is_of_part(part: PartId, slot: &Slot) -> bool
 fn put_ends(slots: &[Slot], first: usize, ends: &mut Vec<Minute>)
     requires first { first * 64 ≤ length slots.now }
     requires old { first ≤ length ends.old.items }
-    requires ends { (number : ℕ) → number < first → IsLastEnd (block slots.now number) (slice_index ends.old.items number) }
+    requires ends { (number : ℕ)
+        → number < first
+        → IsLastEnd (block slots.now number) (slice_index ends.old.items number) }
     requires room { length slots.now ≤ vec_capacity ends.old * 64 }
     ensures whole { length slots.now ≤ length ends.new.items * 64 }
     ensures last { length ends.new.items * 64 < length slots.now + 64 }
