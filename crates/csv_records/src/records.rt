@@ -24,8 +24,10 @@ pub fn start(alloc: Global, text: &[u8]) -> Reader<&[u8]>
 
 /// Reads the next record into `row`; false at the end of the text. `Err` if there is no memory.
 pub fn read_row(rdr: &mut Reader<&[u8]>, row: &mut ByteRecord) -> Result<bool, Memory>
-    ensures ok { IfOk result (λ found. (s : State) (left : List ℕ) → IsReading (λ b. Some b.now) rdr.old s left
-        → ReadFound (λ b. Some b.now) rdr.new found (fields_of row.new) (next_record default_config s [] [] left)) }
+    ensures ok { IfOk result (λ found. (s : State) (left : List ℕ)
+        → IsReading (λ b. Some b.now) rdr.old s left
+        → ReadFound (λ b. Some b.now) rdr.new found (fields_of row.new)
+        (next_record default_config s [] [] left)) }
 {
     match rdr.read_byte_record(row) {
         Ok(found) => Ok(found),
