@@ -10,7 +10,13 @@ pub record DesksState : Type 0 where
 
 -- what is known of such a listener: it exposes no connection
 abbrev pub tcp_listener_state : {In Out : Type 0} → DesksState → ListenerState In Out
-tcp_listener_state desks = record { to_come = None; finished = None; accepted = desks.accepted; ended = desks.ended; faults = desks.faults }
+tcp_listener_state desks = record {
+  to_come = None;
+  finished = None;
+  accepted = desks.accepted;
+  ended = desks.ended;
+  faults = desks.faults;
+}
 
 -- a listener at which nothing was accepted yet
 abbrev pub new_desks : DesksState

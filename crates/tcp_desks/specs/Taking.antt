@@ -38,14 +38,18 @@ first_lasting [] = None
 first_lasting (cause ∷ causes) = if is_tried_again cause then first_lasting causes else Some cause
 
 -- with these failures to come a doorway gives the first of them, or a connection if there is none
-abbrev pub GivesConnection : {Ends : Type 0} → List Error → Option (List Error) → Result Ends Error → Type 0
+abbrev pub GivesConnection : {Ends : Type 0} → List Error → Option (List Error) → Result Ends Error
+    → Type 0
 GivesConnection [] after result = IsOk result
-GivesConnection (cause ∷ causes) after result = IsErrAnd result (λ failure. failure ≡ cause) × (after ≡ Some causes)
+GivesConnection (cause ∷ causes) after result = IsErrAnd result (λ failure. failure ≡ cause)
+    × (after ≡ Some causes)
 
 -- with these failures to come, taking ends at the first lasting one, or with a connection if
 -- there is none
 abbrev pub EndsTaking : {Ends : Type 0} → List Error → Result Ends Error → Type 0
-EndsTaking causes result = MatchResult result (λ _. first_lasting causes ≡ None) (λ cause. first_lasting causes ≡ Some cause)
+EndsTaking causes result =
+    MatchResult result (λ _. first_lasting causes ≡ None)
+    (λ cause. first_lasting causes ≡ Some cause)
 
 -- what is reported: that no connection can be taken, for which cause, and that one was taken again
 pub data Notice : Type 0 where

@@ -87,7 +87,8 @@ impl TcpDesks {
         rt: &R,
         reporter: &mut N,
     ) -> Result<(ReaderSource<TcpStream>, WriterSink<TcpStream>), Failed>
-        ensures accepts { Accepts (tcp_listener_state self.old) (tcp_listener_state self.new) result }
+        ensures accepts { Accepts (tcp_listener_state self.old)
+            (tcp_listener_state self.new) result }
     {
         match self.next_ends(rt, reporter) {
             Some(ends) if self.accepted < u64::MAX => {

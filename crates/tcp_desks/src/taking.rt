@@ -23,7 +23,8 @@ pub trait Doorway {
 
     /// Takes the next connection. If there is none it waits. `Err` says why none could be taken.
     fn take(&mut self) -> io::Result<Self::Ends>
-        ensures gives { IfSome (failures self.old) (λ causes. GivesConnection causes (failures self.new) result) };
+        ensures gives { IfSome (failures self.old)
+            (λ causes. GivesConnection causes (failures self.new) result) };
 }
 
 /// The place to which it reports that no connection could be taken for a time.
@@ -36,7 +37,8 @@ pub trait Reporter {
 
     /// None could be taken, for this cause. Taking goes on until one comes.
     fn report_waiting(&mut self, cause: &io::Error)
-        ensures reported { IsReported (reported self.old) (reported self.new) (Waits cause.now ∷ []) };
+        ensures reported { IsReported (reported self.old) (reported self.new)
+            (Waits cause.now ∷ []) };
 
     /// One was taken again.
     fn taken_again(&mut self)
@@ -67,7 +69,8 @@ pub fn take_next<R: Wait, D: Doorway, N: Reporter>(
 ) -> io::Result<D::Ends>
     ensures lasting { IfErr result (λ cause. is_tried_again cause ≡ false) }
     ensures ends { IfSome (D.failures doorway.old) (λ causes. EndsTaking causes result) }
-    ensures reports { IfSome (D.failures doorway.old) (λ causes. IsReported (N.reported reporter.old) (N.reported reporter.new) (notices causes)) }
+    ensures reports { IfSome (D.failures doorway.old) (λ causes. IsReported
+        (N.reported reporter.old) (N.reported reporter.new) (notices causes)) }
 {
     let mut is_reported = false;
     for _ in rt.forever() {
