@@ -11,7 +11,8 @@ use Rattle.apron_rules.specs.Rules.{IsAirport}
 
 -- the parts are those of an airport, and the links and the pair restrictions of each stand are
 -- theirs
-pub record IsLinked (parts : AirportParts) (links : List StandLinks) (pairs : List (List StandPair)) : Type 0 where
+pub record IsLinked (parts : AirportParts) (links : List StandLinks)
+    (pairs : List (List StandPair)) : Type 0 where
   pub airport : IsAirport parts
   pub linked : links ≡ map (links_of (frontage_names parts) (stand_names parts)) parts.stands
   pub paired : ArePairs (stand_names parts) parts.pairs pairs
@@ -20,11 +21,15 @@ pub record IsLinked (parts : AirportParts) (links : List StandLinks) (pairs : Li
 -- each stand has its neighbours
 pub record AreAllNeighbours (parts : AirportParts) (neighbours : List (List StandNo)) : Type 0 where
   pub counted : length neighbours ≡ length parts.stands
-  pub each : (s : StandNo) → s.0 < length neighbours → slice_index_or neighbours s.0 [] ≡ neighbours_of parts s
+  pub each : (s : StandNo)
+      → s.0 < length neighbours
+      → slice_index_or neighbours s.0 [] ≡ neighbours_of parts s
 
 -- the parts are those of an airport, and the names, the links, the pair restrictions and the
 -- neighbours of each stand are theirs
-pub record IsKeptAirport (parts : AirportParts) (stands types : List (List ℕ)) (links : List StandLinks) (pairs : List (List StandPair)) (neighbours : List (List StandNo)) : Type 0 where
+pub record IsKeptAirport (parts : AirportParts) (stands types : List (List ℕ))
+    (links : List StandLinks) (pairs : List (List StandPair))
+    (neighbours : List (List StandNo)) : Type 0 where
   pub stands_named : stands ≡ stand_names parts
   pub types_named : types ≡ type_names parts
   pub linked : IsLinked parts links pairs

@@ -27,7 +27,11 @@ whole_of stands row = option_and_then (λ name. place_of name stands) row.half_o
 
 -- the places of a row's frontage and whole among these names, and its centreline
 abbrev pub links_of : List (List ℕ) → List (List ℕ) → StandRow → StandLinks
-links_of frontages stands row = record { frontage = place_of row.frontage frontages; centre = row.centre; whole = whole_of stands row }
+links_of frontages stands row = record {
+  frontage = place_of row.frontage frontages;
+  centre = row.centre;
+  whole = whole_of stands row;
+}
 
 -- one of the stands at the places s and s2 is a half of the other
 abbrev pub is_split_at : ℕ → StandLinks → ℕ → StandLinks → Bool
@@ -37,7 +41,8 @@ is_split_at s x s2 y = is_place s2 x.whole || is_place s y.whole
 -- than the greater clearance
 abbrev pub is_near_at : StandLinks → ℕ → StandLinks → ℕ → Bool
 is_near_at x k y l = is_one_place x.frontage y.frontage
-    && nat_lt (2 * distance x.centre y.centre) (k + l + 2 * max (clearance_of_span k) (clearance_of_span l))
+    && nat_lt (2 * distance x.centre y.centre)
+    (k + l + 2 * max (clearance_of_span k) (clearance_of_span l))
 
 -- the restrictions of the stand at a place
 abbrev pub pairs_at : List (List StandPair) → ℕ → List StandPair
@@ -64,9 +69,11 @@ is_restricted_so_at stands pair s k s2 l =
 
 -- the same in either order
 abbrev pub is_restricted_at : List (List ℕ) → ℕ → ℕ → ℕ → ℕ → PairRow → Bool
-is_restricted_at stands s k s2 l pair = is_restricted_so_at stands pair s k s2 l || is_restricted_so_at stands pair s2 l s k
+is_restricted_at stands s k s2 l pair = is_restricted_so_at stands pair s k s2 l
+    || is_restricted_so_at stands pair s2 l s k
 
 -- each stand has the restrictions that name it
 abbrev pub ArePairs : List (List ℕ) → List PairRow → List (List StandPair) → Type 0
 ArePairs stands rows pairs = (s s2 k l : ℕ)
-    → list_any (is_barred s2 k l) (pairs_at pairs s) ≡ list_any (is_restricted_at stands s k s2 l) rows
+    → list_any (is_barred s2 k l) (pairs_at pairs s)
+    ≡ list_any (is_restricted_at stands s k s2 l) rows

@@ -27,7 +27,8 @@ is_known name names = is_some (place_of name names)
 -- the first of the rest that is among the names before it
 unfoldable pub repeated_after : List (List ℕ) → List (List ℕ) → Option (List ℕ)
 repeated_after before [] = None
-repeated_after before (name ∷ rest) = if is_known name before then Some name else repeated_after (before ++ name ∷ []) rest
+repeated_after before (name ∷ rest) =
+    if is_known name before then Some name else repeated_after (before ++ name ∷ []) rest
 
 -- the first name that repeats an earlier one
 abbrev pub first_repeated : List (List ℕ) → Option (List ℕ)

@@ -21,7 +21,8 @@ first_types (suc n) = first_types n ++ record { 0 = n } ∷ []
 -- tips of both unfolded
 abbrev pub breaks_with : AirportParts → StandNo → StandNo → TypeNo → Bool
 breaks_with airport s s2 t =
-    list_any (λ t2. is_some (breaks_with_wings airport s t Full s2 t2 Full)) (first_types (length airport.types))
+    list_any (λ t2. is_some (breaks_with_wings airport s t Full s2 t2 Full))
+    (first_types (length airport.types))
 
 -- some two types of the table have a rule on the two stands, with wing tips unfolded, whether they
 -- fit there or not

@@ -24,7 +24,9 @@ first_some (found ∷ others) = option_or found (first_some others)
 
 -- a name that occurs twice among the frontages, or else among the stands, or else among the types
 abbrev pub duplicate_of : AirportParts → Option (List ℕ)
-duplicate_of parts = option_or (first_repeated (frontage_names parts)) (option_or (first_repeated (stand_names parts)) (first_repeated (type_names parts)))
+duplicate_of parts =
+    option_or (first_repeated (frontage_names parts))
+    (option_or (first_repeated (stand_names parts)) (first_repeated (type_names parts)))
 
 -- what f finds in the first row in which it finds something
 abbrev pub first_found : {Row Found : Type 0} → (Row → Option Found) → List Row → Option Found
@@ -36,7 +38,9 @@ unless_known names name = if is_known name names then None else Some name
 
 -- the stand's frontage, or else the stand that it is a half of, if unknown
 abbrev pub unknown_of_stand : List (List ℕ) → List (List ℕ) → StandRow → Option (List ℕ)
-unknown_of_stand frontages stands row = option_or (unless_known frontages row.frontage) (option_and_then (unless_known stands) row.half_of)
+unknown_of_stand frontages stands row =
+    option_or (unless_known frontages row.frontage)
+    (option_and_then (unless_known stands) row.half_of)
 
 -- one of the two stands of the restriction, if unknown
 abbrev pub unknown_of_pair : List (List ℕ) → PairRow → Option (List ℕ)
@@ -46,7 +50,9 @@ unknown_of_pair stands pair = option_or (unless_known stands pair.a) (unless_kno
 -- pair restriction
 abbrev pub unknown_of : AirportParts → Option (List ℕ)
 unknown_of parts =
-    option_or (first_found (unknown_of_stand (frontage_names parts) (stand_names parts)) parts.stands) (first_found (unknown_of_pair (stand_names parts)) parts.pairs)
+    option_or
+    (first_found (unknown_of_stand (frontage_names parts) (stand_names parts)) parts.stands)
+    (first_found (unknown_of_pair (stand_names parts)) parts.pairs)
 
 -- how many stands are halves of the stand of this name
 abbrev pub halves_of : List ℕ → List StandRow → ℕ
@@ -65,7 +71,8 @@ stand_row_named stands name = find (λ row. bytes_eq name row.name) stands
 
 -- the stand is a half, but not of a proper whole
 abbrev pub is_bad_half : List StandRow → StandRow → Bool
-is_bad_half stands half = is_bad_whole stands half (option_and_then (stand_row_named stands) half.half_of)
+is_bad_half stands half =
+    is_bad_whole stands half (option_and_then (stand_row_named stands) half.half_of)
 
 -- the first stand that is a half, but not of a proper whole
 abbrev pub bad_half_of : AirportParts → Option (List ℕ)
@@ -110,7 +117,8 @@ limit_of parts = first_some (passed_limits parts)
 
 -- the first type whose span has no code letter
 abbrev pub bad_span_of : AirportParts → Option (List ℕ)
-bad_span_of parts = option_map (λ row. row.name) (find (λ row. is_none (letter_for row.span)) parts.types)
+bad_span_of parts =
+    option_map (λ row. row.name) (find (λ row. is_none (letter_for row.span)) parts.types)
 
 -- the span with folded wing tips is 1 to the wing span, and the minutes to fold are within their
 -- limit
@@ -142,4 +150,5 @@ later_fault_of parts =
 
 -- why the airport is refused; none if it is an airport
 unfoldable pub airport_fault : AirportParts → Option AirportFault
-airport_fault parts = option_or (option_map DuplicateName (duplicate_of parts)) (later_fault_of parts)
+airport_fault parts =
+    option_or (option_map DuplicateName (duplicate_of parts)) (later_fault_of parts)

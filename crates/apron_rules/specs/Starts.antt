@@ -11,7 +11,8 @@ unfolds airport slot = slot.end - buffer_of airport slot.stand - fold_of airport
 
 -- the first minute from this one on at which both slots have begun; then the minutes from which one
 -- of the two aircraft, and from which both, have unfolded their wing tips to leave
-pub record AreStarts (airport : AirportParts) (slot other : Slot) (from : ℕ) (starts : Starts) : Type 0 where
+pub record AreStarts (airport : AirportParts) (slot other : Slot) (from : ℕ)
+    (starts : Starts) : Type 0 where
   pub shared : starts.shared ≡ max from (max slot.from other.from)
   pub unfolded : starts.unfolded
       ≡ min (max starts.shared (unfolds airport slot)) (max starts.shared (unfolds airport other))

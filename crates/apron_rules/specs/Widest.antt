@@ -5,7 +5,10 @@ use Rattle.apron_rules.specs.declared.parts.TypeRow.{TypeRow}
 
 -- no type before this place is wider than the one at w
 abbrev pub IsWidestBelow : List TypeRow → ℕ → ℕ → Type 0
-IsWidestBelow types high w = (i : ℕ) (d : TypeRow) → i < high → (slice_index_or types i d).span ≤ (slice_index_or types w d).span
+IsWidestBelow types high w =
+    (i : ℕ) (d : TypeRow)
+    → i < high
+    → (slice_index_or types i d).span ≤ (slice_index_or types w d).span
 
 -- the type is one of the table, and no other type of it is wider
 pub record IsWidest (types : List TypeRow) (t : TypeNo) : Type 0 where

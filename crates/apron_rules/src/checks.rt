@@ -150,7 +150,8 @@ fn first_unknown_stand<'a>(
     frontages: &NameTable,
     stands: &NameTable,
 ) -> Option<&'a StandRow>
-    ensures is { option_copied result ≡ find (λ row. is_some (unknown_of_stand frontages.now stands.now row)) rows.now }
+    ensures is { option_copied result
+        ≡ find (λ row. is_some (unknown_of_stand frontages.now stands.now row)) rows.now }
 {
     rows.iter()
         .find(|row| unknown_of_stand(row, frontages, stands).is_some())
@@ -175,7 +176,8 @@ fn unknown_of_pairs(rows: &[PairRow], stands: &NameTable) -> Option<Name>
 }
 
 fn first_unknown_pair<'a>(rows: &'a [PairRow], stands: &NameTable) -> Option<&'a PairRow>
-    ensures is { option_copied result ≡ find (λ pair. is_some (unknown_of_pair stands.now pair)) rows.now }
+    ensures is { option_copied result
+        ≡ find (λ pair. is_some (unknown_of_pair stands.now pair)) rows.now }
 {
     rows.iter()
         .find(|pair| unknown_of_pair(pair, stands).is_some())
@@ -204,8 +206,10 @@ fn halves(alloc: Global, rows: &[StandRow]) -> Result<BTreeMap<Name, u64>, Airpo
 
 fn count_half(halves: &mut BTreeMap<Name, u64>, row: &StandRow) -> Result<(), AirportFault>
     requires few { (name : List ℕ) → half_count halves.old name + 1 < 2 ^ 64 }
-    ensures counted { OnOk result ((name : List ℕ)
-        → half_count halves.new name ≡ half_count halves.old name + (if is_named row.now.half_of name then 1 else 0)) }
+    ensures counted { OnOk result
+        ((name : List ℕ)
+        → half_count halves.new name
+        ≡ half_count halves.old name + (if is_named row.now.half_of name then 1 else 0)) }
     ensures memory { IfErr result (λ fault. fault ≡ AirportFault.Memory) }
 {
     let Some(whole) = row.half_of else {
@@ -260,7 +264,8 @@ fn is_bad_half(
 
 fn whole_of<'a>(rows: &'a [StandRow], stands: &NameTable, half: &StandRow) -> Option<&'a StandRow>
     requires stands { stands.now ≡ map (λ row. row.name) rows.now }
-    ensures is { option_copied result ≡ option_and_then (stand_row_named rows.now) half.now.half_of }
+    ensures is { option_copied result
+        ≡ option_and_then (stand_row_named rows.now) half.now.half_of }
 {
     match half.half_of {
         Some(name) => row_named(rows, stands, &name),
@@ -285,7 +290,9 @@ fn halves_of(halves: &BTreeMap<Name, u64>, name: &Name) -> u64
 }
 
 fn is_bad_whole(half: &StandRow, whole: &StandRow, halves: u64) -> bool
-    ensures is { result ≡ (is_some whole.now.half_of || not (bytes_eq half.now.frontage whole.now.frontage)
+    ensures is { result
+        ≡ (is_some whole.now.half_of
+        || not (bytes_eq half.now.frontage whole.now.frontage)
         || nat_lt most_halves halves) }
 {
     whole.half_of.is_some() || !half.frontage.is_same(&whole.frontage) || halves > MAX_HALVES
@@ -379,7 +386,8 @@ fn are_least_kept(rows: &[TypeRow]) -> bool
 }
 
 fn bad_span(rows: &[TypeRow]) -> Option<Name>
-    ensures is { result ≡ option_map (λ row. row.name) (find (λ row. is_none (letter_for row.span)) rows.now) }
+    ensures is { result
+        ≡ option_map (λ row. row.name) (find (λ row. is_none (letter_for row.span)) rows.now) }
 {
     match first_without_letter(rows) {
         Some(row) => Some(row.name),
@@ -394,7 +402,8 @@ fn first_without_letter(rows: &[TypeRow]) -> Option<&TypeRow>
 }
 
 fn bad_fold(rows: &[TypeRow]) -> Option<Name>
-    ensures is { result ≡ option_map (λ row. row.name) (find (λ row. not (is_fold_kept row)) rows.now) }
+    ensures is { result
+        ≡ option_map (λ row. row.name) (find (λ row. not (is_fold_kept row)) rows.now) }
 {
     match first_bad_fold(rows) {
         Some(row) => Some(row.name),

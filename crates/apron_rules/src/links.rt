@@ -41,7 +41,8 @@ pub(crate) fn stand_links(
     frontages: &NameTable,
     stands: &NameTable,
 ) -> Result<Vec<StandLinks>, AirportFault>
-    ensures links { IfOk result (λ links. links.items ≡ map (links_of frontages.now stands.now) rows.now) }
+    ensures links { IfOk result
+        (λ links. links.items ≡ map (links_of frontages.now stands.now) rows.now) }
     ensures memory { IfErr result (λ fault. fault ≡ AirportFault.Memory) }
 {
     match rows
@@ -110,9 +111,11 @@ fn add_row(
 ) -> Result<(), AirportFault>
     requires length { length pairs.old.items ≡ length stands.now }
     ensures length { OnOk result (length pairs.new.items ≡ length pairs.old.items) }
-    ensures added { OnOk result ((s s2 k l : ℕ)
+    ensures added { OnOk result
+        ((s s2 k l : ℕ)
         → list_any (is_barred s2 k l) (pairs_at pairs.new.items s)
-        ≡ (list_any (is_barred s2 k l) (pairs_at pairs.old.items s) || is_restricted_at stands.now s k s2 l row.now)) }
+        ≡ (list_any (is_barred s2 k l) (pairs_at pairs.old.items s)
+        || is_restricted_at stands.now s k s2 l row.now)) }
     ensures memory { IfErr result (λ fault. fault ≡ AirportFault.Memory) }
 {
     let Some(a) = stands.place(&row.a) else {
@@ -202,7 +205,8 @@ fn first_rule(
     l: u32,
     pairs: &[StandPair],
 ) -> Option<Rule>
-    ensures is { result ≡ first_rule (s.0 == s2.0) (is_split_at s.0 x.now s2.0 y.now) (is_near_at x.now k y.now l)
+    ensures is { result
+        ≡ first_rule (s.0 == s2.0) (is_split_at s.0 x.now s2.0 y.now) (is_near_at x.now k y.now l)
         (list_any (is_barred s2.0 k l) pairs.now) }
 {
     if s == s2 {

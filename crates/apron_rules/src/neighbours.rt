@@ -79,7 +79,8 @@ fn push_neighbour_if(
     other: StandNo,
     is_neighbour: bool,
 ) -> Result<(), AirportFault>
-    ensures ok { OnOk result (neighbours.new ≡ (if is_neighbour then neighbours.old ++ other ∷ [] else neighbours.old)) }
+    ensures ok { OnOk result
+        (neighbours.new ≡ (if is_neighbour then neighbours.old ++ other ∷ [] else neighbours.old)) }
     ensures memory { IfErr result (λ fault. fault ≡ AirportFault.Memory) }
 {
     if is_neighbour && neighbours.push(other).is_err() {
@@ -106,9 +107,12 @@ fn widest_of(types: &[TypeRow]) -> TypeNo
 /// The neighbours of a stand of an airport are all the stands with which some types have a rule,
 /// whatever their wing tips, and no others.
 pub fn neighbours_are_all_that_break()
-    ensures all { (airport : AirportParts) (s : StandNo) (t : TypeNo) (w : Wing) (s2 : StandNo) (t2 : TypeNo) (w2 : Wing)
-        → airport_fault airport ≡ None → IsSome (breaks_with_wings airport s t w s2 t2 w2)
+    ensures all { (airport : AirportParts) (s : StandNo) (t : TypeNo) (w : Wing) (s2 : StandNo)
+        (t2 : TypeNo) (w2 : Wing)
+        → airport_fault airport ≡ None
+        → IsSome (breaks_with_wings airport s t w s2 t2 w2)
         → Contains (neighbours_of airport s) s2 }
-    ensures no_others { (airport : AirportParts) (s s2 : StandNo) → Contains (neighbours_of airport s) s2
+    ensures no_others { (airport : AirportParts) (s s2 : StandNo)
+        → Contains (neighbours_of airport s) s2
         → (t t2 : TypeNo) × IsSome (breaks_with_wings airport s t Wing.Full s2 t2 Wing.Full) }
 {}
