@@ -27,7 +27,8 @@ HasPartsOnce slots = (part : PartId) → count_by (is_of_part part) slots ≤ 1
 
 -- the index has the airport's stands; its slots have a stand and a type of the airport, and no two
 -- are of the same part; leaving these visits out, only actual slots clash
-pub record IsClear (airport : AirportParts) (index : List StandSlots) (without : List VisitNo) : Type 0 where
+pub record IsClear (airport : AirportParts) (index : List StandSlots)
+    (without : List VisitNo) : Type 0 where
   pub stands : length index ≡ length airport.stands
   pub slots : All (IsSlotOf airport) (all_slots index)
   pub parts : HasPartsOnce (all_slots index)

@@ -13,7 +13,8 @@ use Rattle.apron_rules.specs.Clash.{rule_at}
 unfoldable pub meeting_from : AirportParts → Slot → Slot → ℕ → ℕ → Option Meeting
 meeting_from airport slot other minute zero = None
 meeting_from airport slot other minute (suc more) =
-    option_or (option_map (λ rule. record { minute = minute; rule = rule }) (rule_at airport slot other minute))
+    option_or (option_map (λ rule. record { minute = minute; rule = rule })
+    (rule_at airport slot other minute))
     (meeting_from airport slot other (minute + 1) more)
 
 -- the first minute at which the slots clash, with its rule: the minutes are tried up to the end of
@@ -23,11 +24,17 @@ meeting airport slot other = meeting_from airport slot other 0 (min slot.end oth
 
 -- the clash of two slots with this meeting: the first one's part is a
 abbrev pub clash_at : Slot → Slot → Meeting → Clash
-clash_at slot other at = record { minute = at.minute; a = slot.part; b = other.part; rule = at.rule }
+clash_at slot other at = record {
+  minute = at.minute;
+  a = slot.part;
+  b = other.part;
+  rule = at.rule;
+}
 
 -- the clash of a slot with another, at their first minute
 abbrev pub clash_with : AirportParts → Slot → Slot → Option Clash
-clash_with airport slot other = option_map (λ at. clash_at slot other at) (meeting airport slot other)
+clash_with airport slot other =
+    option_map (λ at. clash_at slot other at) (meeting airport slot other)
 
 -- the clash of a slot with each of these that it clashes with, actual or planned, in their order
 abbrev pub clashes_with : AirportParts → Slot → List Slot → List Clash
@@ -40,11 +47,13 @@ clash_within airport slot minute more other =
 
 -- the clash of a slot with each of these that it clashes with in these minutes, in their order
 abbrev pub clashes_within : AirportParts → Slot → ℕ → ℕ → List Slot → List Clash
-clashes_within airport slot minute more others = filter_map (clash_within airport slot minute more) others
+clashes_within airport slot minute more others =
+    filter_map (clash_within airport slot minute more) others
 
 -- the part is of a smaller visit, or is a smaller part of the same visit
 abbrev pub is_smaller : PartId → PartId → Bool
-is_smaller part other = nat_lt part.visit.0 other.visit.0 || (part.visit.0 == other.visit.0 && nat_lt part.part other.part)
+is_smaller part other = nat_lt part.visit.0 other.visit.0
+    || (part.visit.0 == other.visit.0 && nat_lt part.part other.part)
 
 -- the slots in order of their parts
 abbrev pub by_part : List Slot → List Slot

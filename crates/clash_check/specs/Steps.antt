@@ -9,7 +9,8 @@ use Rattle.stand_index.specs.Steps.{most_steps}
 -- the most steps of one look at each neighbour of the slot's stand
 abbrev pub steps_near : AirportParts → List StandSlots → Slot → ℕ
 steps_near airport index slot =
-    sum_by (λ stand. most_steps (at_stand index stand) slot.from slot.end) (neighbours_of airport slot.stand)
+    sum_by (λ stand. most_steps (at_stand index stand) slot.from slot.end)
+    (neighbours_of airport slot.stand)
 
 -- the same for the slot's minutes from the first to below the second
 abbrev pub steps_within : AirportParts → List StandSlots → Slot → ℕ → ℕ → ℕ
@@ -25,4 +26,5 @@ pairs_among (suc before) = pairs_among before + before
 -- the most steps for changed slots: for each, a look at each neighbour stand, and one step for each
 -- pair of them
 abbrev pub steps_of : AirportParts → List StandSlots → List Slot → ℕ
-steps_of airport index changed = sum_by (steps_near airport index) changed + pairs_among (length changed)
+steps_of airport index changed =
+    sum_by (steps_near airport index) changed + pairs_among (length changed)

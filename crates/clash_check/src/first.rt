@@ -42,7 +42,8 @@ pub fn first_clash_without<L: Ledger>(
 ) -> Result<Option<Clash>, Memory>
     requires clear { IsClear airport.now index.now without.now }
     requires changed { All (IsSlotOf airport.now) changed.now }
-    ensures first { IfOk result (IsFirstClash airport.now (others_of index.now without.now ++ changed.now)) }
+    ensures first { IfOk result
+        (IsFirstClash airport.now (others_of index.now without.now ++ changed.now)) }
     ensures steps { steps.new ≤ steps.old + steps_of airport.now index.now changed.now }
 {
     let mut first = None;

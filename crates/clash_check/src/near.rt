@@ -28,8 +28,10 @@ pub(crate) fn first_with<L: Ledger>(
     requires clear { IsClear airport.now index.now without.now }
     requires more { All (IsSlotOf airport.now) more.now }
     requires slot { IsSlotOf airport.now slot.now }
-    ensures first { IfOk result (IsFirstWith airport.now slot.now (others_of index.now without.now ++ more.now)) }
-    ensures steps { steps.new ≤ steps.old + steps_near airport.now index.now slot.now + length more.now }
+    ensures first { IfOk result
+        (IsFirstWith airport.now slot.now (others_of index.now without.now ++ more.now)) }
+    ensures steps { steps.new
+        ≤ steps.old + steps_near airport.now index.now slot.now + length more.now }
 {
     let near = first_near(alloc, airport, index, without, slot, steps)?;
     let found = sooner(near, first_among(airport, more, slot, steps));
@@ -47,7 +49,8 @@ fn first_near<L: Ledger>(
 ) -> Result<Option<Clash>, Memory>
     requires clear { IsClear airport.now index.now without.now }
     requires slot { IsSlotOf airport.now slot.now }
-    ensures first { IfOk result (IsFirstWith airport.now slot.now (others_of index.now without.now)) }
+    ensures first { IfOk result
+        (IsFirstWith airport.now slot.now (others_of index.now without.now)) }
     ensures steps { steps.new ≤ steps.old + steps_near airport.now index.now slot.now }
 {
     let neighbours = airport.neighbours(slot.stand);
@@ -80,8 +83,11 @@ fn first_at<L: Ledger>(
     requires stand { stand.0 < length index.now }
     requires slots { All (IsSlotOf airport.now) (all_slots index.now) }
     requires slot { IsSlotOf airport.now slot.now }
-    ensures first { IfOk result (IsFirstWith airport.now slot.now (filter (is_of_other without.now) (slots_at (at_stand index.now stand)))) }
-    ensures steps { steps.new ≤ steps.old + most_steps (at_stand index.now stand) slot.now.from slot.now.end }
+    ensures first { IfOk result
+        (IsFirstWith airport.now slot.now
+        (filter (is_of_other without.now) (slots_at (at_stand index.now stand)))) }
+    ensures steps { steps.new
+        ≤ steps.old + most_steps (at_stand index.now stand) slot.now.from slot.now.end }
     ensures index { IsIndex index.now }
 {
     let hits = index.hits(alloc, stand, slot.from, slot.end, steps)?;
@@ -98,7 +104,8 @@ fn first_of_others(
 ) -> Option<Clash>
     requires slots { All (IsSlotOf airport.now) slots.now }
     requires slot { IsSlotOf airport.now slot.now }
-    ensures first { IsFirstWith airport.now slot.now (filter (is_of_other without.now) slots.now) result }
+    ensures first { IsFirstWith airport.now slot.now (filter (is_of_other without.now) slots.now)
+        result }
 {
     let mut first = None;
     for other in slots {
@@ -116,7 +123,8 @@ fn clash_with_other(
 ) -> Option<Clash>
     requires slot { IsSlotOf airport.now slot.now }
     requires other { IsSlotOf airport.now other.now }
-    ensures first { IsFirstWith airport.now slot.now (filter (is_of_other without.now) (other.now ∷ [])) result }
+    ensures first { IsFirstWith airport.now slot.now
+        (filter (is_of_other without.now) (other.now ∷ [])) result }
 {
     if is_of_any(without, other) {
         None
