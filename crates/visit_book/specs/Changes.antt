@@ -44,12 +44,15 @@ from_part number parts = drop (number - 1) parts
 -- the part of this number starts at this minute, and the later ones are delayed as far as needed
 abbrev pub push_of : AirportParts → ℕ → ℕ → Visit → Visit
 push_of airport number from visit =
-    with_parts visit (before_part number visit.parts ++ pushed_from airport.tow (least_of airport visit.kind) from (from_part number visit.parts))
+    with_parts visit
+    (before_part number visit.parts
+    ++ pushed_from airport.tow (least_of airport visit.kind) from (from_part number visit.parts))
 
 -- the part can be cut at this minute: both pieces have at least the least minutes, with the tow
 -- minutes between them
 abbrev pub is_long_enough : ℕ → ℕ → ℕ → Part → Bool
-is_long_enough tow least at part = nat_le (part.from + least) at && nat_le (at + tow + least) part.to
+is_long_enough tow least at part = nat_le (part.from + least) at
+    && nat_le (at + tow + least) part.to
 
 -- there is room for one more part than these
 abbrev pub has_few : List Part → Bool
@@ -58,13 +61,16 @@ has_few parts = nat_lt (length parts) most_parts
 -- the first part ends at this minute, and an unplaced one follows it
 abbrev pub cut_first : ℕ → ℕ → List Part → List Part
 cut_first tow at [] = []
-cut_first tow at (part ∷ parts) = record part { to = at } ∷ record { from = at + tow; to = part.to; place = Unplaced None } ∷ parts
+cut_first tow at (part ∷ parts) =
+    record part { to = at } ∷ record { from = at + tow; to = part.to; place = Unplaced None }
+    ∷ parts
 
 -- the visit with the part of this number cut at this minute, if that is possible
 abbrev pub cut_of : AirportParts → ℕ → ℕ → Visit → Option Visit
 cut_of airport number at visit = option_and_then (λ part.
     if has_few visit.parts && is_long_enough airport.tow (least_of airport visit.kind) at part
-    then Some (with_parts visit (before_part number visit.parts ++ cut_first airport.tow at (from_part number visit.parts)))
+    then Some (with_parts visit
+    (before_part number visit.parts ++ cut_first airport.tow at (from_part number visit.parts)))
     else None) (part_at visit.parts number)
 
 -- the first part on its stand up to the end of the second, which is removed
@@ -77,7 +83,9 @@ join_first (part ∷ (next ∷ parts)) = record part { to = next.to } ∷ parts
 -- one
 abbrev pub join_of : ℕ → Visit → Option Visit
 join_of number visit =
-    option_map (λ next. with_parts visit (before_part number visit.parts ++ join_first (from_part number visit.parts))) (part_at visit.parts (number + 1))
+    option_map (λ next. with_parts visit
+    (before_part number visit.parts ++ join_first (from_part number visit.parts)))
+    (part_at visit.parts (number + 1))
 
 -- a part after the one of this number is actual
 abbrev pub has_actual_behind : ℕ → Visit → Bool
@@ -86,4 +94,5 @@ has_actual_behind number visit = list_any (λ part. is_actual part.place) (drop 
 -- the part of this number may start at this minute: the part before it, if there is one, ends at
 -- least the tow minutes earlier
 abbrev pub IsTowedBy : AirportParts → ℕ → ℕ → Visit → Type 0
-IsTowedBy airport number from visit = IfSome (part_at visit.parts (number - 1)) (λ part. part.to + airport.tow ≤ from)
+IsTowedBy airport number from visit =
+    IfSome (part_at visit.parts (number - 1)) (λ part. part.to + airport.tow ≤ from)

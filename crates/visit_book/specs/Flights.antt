@@ -9,7 +9,10 @@ use Rattle.visit_book.specs.Ends.{is_live}
 
 -- the airline, the number and the suffix are the same
 abbrev pub is_same_flight : Flight → Flight → Bool
-is_same_flight flight other = bytes_eq flight.airline other.airline && flight.number == other.number && option_eq nat_eq flight.suffix other.suffix
+is_same_flight flight other =
+    bytes_eq flight.airline other.airline
+    && flight.number == other.number
+    && option_eq nat_eq flight.suffix other.suffix
 
 -- the key is of this flight and this day
 abbrev pub is_key_of : Flight → ℕ → Key → Bool

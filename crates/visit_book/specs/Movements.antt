@@ -40,7 +40,8 @@ first_on_block given (part ∷ parts) = made_actual (on_given given part) ∷ pa
 -- the part before the one of this number, if there is one, starts at least one minute plus the tow
 -- minutes before this minute
 abbrev pub has_time_to_tow : ℕ → ℕ → ℕ → List Part → Bool
-has_time_to_tow tow number at parts = option_map_or (λ part. nat_le (part.from + 1 + tow) at) (part_at parts (number - 1)) true
+has_time_to_tow tow number at parts =
+    option_map_or (λ part. nat_le (part.from + 1 + tow) at) (part_at parts (number - 1)) true
 
 -- the visit on block at this minute with the part of this number: the part before it ends the tow
 -- minutes earlier, the parts up to it are on their stands in fact, and the later ones are delayed
@@ -48,7 +49,8 @@ has_time_to_tow tow number at parts = option_map_or (λ part. nat_le (part.from 
 abbrev pub visit_after_arrival : AirportParts → ℕ → ℕ → Option StandNo → Visit → Visit
 visit_after_arrival airport number at given visit = record visit {
   parts = map made_actual (last_ended (at - airport.tow) (before_part number visit.parts))
-      ++ pushed_from airport.tow (least_of airport visit.kind) at (first_on_block given (from_part number visit.parts));
+      ++ pushed_from airport.tow (least_of airport visit.kind) at
+      (first_on_block given (from_part number visit.parts));
   on_block = true;
 }
 
@@ -68,7 +70,8 @@ last_expected least at (part ∷ (next ∷ parts)) = part ∷ last_expected leas
 
 -- the visit, expected off block at this minute
 abbrev pub estimate_off_of : AirportParts → ℕ → Visit → Visit
-estimate_off_of airport at visit = with_parts visit (last_expected (least_of airport visit.kind) at visit.parts)
+estimate_off_of airport at visit =
+    with_parts visit (last_expected (least_of airport visit.kind) at visit.parts)
 
 -- the part starts before this minute
 abbrev pub starts_before : ℕ → Part → Bool
@@ -90,4 +93,5 @@ first_starts_before at (part ∷ parts) = starts_before at part
 
 -- the visit gone at this minute, if that is possible: its first part starts before it
 abbrev pub depart_of : ℕ → Visit → Option Visit
-depart_of at visit = if first_starts_before at visit.parts then Some (visit_after_departure at visit) else None
+depart_of at visit =
+    if first_starts_before at visit.parts then Some (visit_after_departure at visit) else None

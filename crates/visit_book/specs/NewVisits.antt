@@ -23,7 +23,9 @@ is_key_in_time airport key = nat_le key.day airport.days
 -- least the least minutes of the type later; and flights of days of the plan or the day before
 abbrev pub is_in_time : AirportParts → NewVisit → Bool
 is_in_time airport new =
-    nat_lt new.on (plan_end airport) && nat_le new.off (plan_end airport) && nat_le (new.on + least_of airport new.kind) new.off
+    nat_lt new.on (plan_end airport)
+    && nat_le new.off (plan_end airport)
+    && nat_le (new.on + least_of airport new.kind) new.off
     && list_all (is_key_in_time airport) (option_to_list new.arr ++ option_to_list new.dep)
 
 -- what has to hold of a visit's data at any airport: a class, and flights

@@ -17,7 +17,8 @@ greatest_class = 9
 -- least the tow minutes after the one before ends
 abbrev pub IsSpaced : ℕ → ℕ → List Part → Type 0
 IsSpaced tow start [] = Unit {0}
-IsSpaced tow start (part ∷ parts) = (start ≤ part.from) × (part.from < part.to) × IsSpaced tow (part.to + tow) parts
+IsSpaced tow start (part ∷ parts) =
+    (start ≤ part.from) × (part.from < part.to) × IsSpaced tow (part.to + tow) parts
 
 -- the minute after the plan's last
 abbrev pub plan_end : AirportParts → ℕ
@@ -30,7 +31,8 @@ latest_end airport kind = plan_end airport + 3 * least_of airport kind + 2 * air
 
 -- a part that is shorter than the least minutes of the type ends before the plan does
 abbrev pub IsEarlyIfShort : AirportParts → TypeNo → Part → Type 0
-IsEarlyIfShort airport kind part = part.to < part.from + least_of airport kind → part.to < plan_end airport
+IsEarlyIfShort airport kind part = part.to < part.from + least_of airport kind
+    → part.to < plan_end airport
 
 -- a type and stands of the airport; a class; one to three parts that follow one another; none ends
 -- later after the plan than three parts of the type's least minutes with two tows take; none is

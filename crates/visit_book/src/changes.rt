@@ -65,7 +65,9 @@ pub fn join(visit: &Visit, part: u8) -> Result<Visit, BadJoin>
     requires least { 1 ≤ part }
     requires most { part ≤ length visit.now.parts }
     ensures ok { IfOk result (λ joined. join_of part visit.now ≡ Some joined) }
-    ensures well_formed { (airport : AirportParts) → IsWellFormed airport visit.now → IfOk result (IsWellFormed airport) }
+    ensures well_formed { (airport : AirportParts)
+        → IsWellFormed airport visit.now
+        → IfOk result (IsWellFormed airport) }
     ensures err { IfErr result (λ _. join_of part visit.now ≡ None) }
 {
     match join_of(visit, part) {
@@ -130,7 +132,10 @@ pub(crate) fn push_behind(visit: &Visit, airport: &Airport, kept: usize, earlies
     requires well_formed { IsWellFormed airport.now visit.now }
     requires kept { kept ≤ length visit.now.parts }
     requires earliest { earliest < 2 ^ 16 }
-    ensures is { result ≡ take kept visit.now.parts ++ pushed_behind airport.now.tow (least_of airport.now visit.now.kind) earliest (drop kept visit.now.parts) }
+    ensures is { result
+        ≡ take kept visit.now.parts
+        ++ pushed_behind airport.now.tow (least_of airport.now visit.now.kind) earliest
+        (drop kept visit.now.parts) }
     ensures count { length result ≡ length visit.now.parts }
 {
     let tow = airport.parts().tow;

@@ -9,5 +9,7 @@ ghost use Rattle.visit_book.specs.WellFormed.{IsWellFormed};
 /// A visit that is added with data valid at the airport is well formed.
 pub fn added_visits_are_well_formed()
     ensures well_formed { (airport : AirportParts) (number version : ℕ) (new : NewVisit)
-        → IsAirport airport → IsNewVisitOf airport new → IsWellFormed airport (added_visit number version new) }
+        → IsAirport airport
+        → IsNewVisitOf airport new
+        → IsWellFormed airport (added_visit number version new) }
 {}

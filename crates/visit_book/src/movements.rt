@@ -62,7 +62,10 @@ pub fn estimate_off(visit: &Visit, airport: &Airport, at: Minute) -> Visit
 /// last of them ends at this minute, and the later parts are removed. It takes no memory.
 pub fn depart(visit: &Visit, at: Minute) -> Result<Visit, BadTime>
     ensures ok { IfOk result (λ new. depart_of at visit.now ≡ Some new) }
-    ensures well_formed { (airport : AirportParts) → IsWellFormed airport visit.now → at < plan_end airport → IfOk result (IsWellFormed airport) }
+    ensures well_formed { (airport : AirportParts)
+        → IsWellFormed airport visit.now
+        → at < plan_end airport
+        → IfOk result (IsWellFormed airport) }
     ensures err { IfErr result (λ _. depart_of at visit.now ≡ None) }
 {
     match depart_of(visit, at) {
