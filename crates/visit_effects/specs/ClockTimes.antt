@@ -8,7 +8,8 @@ use Rattle.apron_rules.specs.declared.parts.AirportParts.{AirportParts}
 -- the latest of this many days, from this one on, that passes the test
 abbrev pub latest_day : (ℕ → Bool) → ℕ → ℕ → Option ℕ
 latest_day test first zero = None
-latest_day test first (suc more) = if test (first + more) then Some (first + more) else latest_day test first more
+latest_day test first (suc more) =
+    if test (first + more) then Some (first + more) else latest_day test first more
 
 -- a day of the plan has this day of the month
 abbrev pub is_of_month : AirportParts → ℕ → ℕ → Bool
@@ -25,14 +26,17 @@ is_nearest scheduled minute = nat_lt scheduled (minute + 720) && nat_le minute (
 
 -- the day of the plan that brings a minute of the day nearest to the scheduled one
 abbrev pub nearest_day : AirportParts → ℕ → ℕ → Option ℕ
-nearest_day airport scheduled minute = latest_day (λ day. is_nearest scheduled (minute_on minute day)) 1 airport.days
+nearest_day airport scheduled minute =
+    latest_day (λ day. is_nearest scheduled (minute_on minute day)) 1 airport.days
 
 -- the day of the plan that a clock time names: the one of its day of the month, if it has one, or
 -- otherwise the one that brings it nearest to the scheduled minute
 abbrev pub plan_day_of : AirportParts → ℕ → Clock → Option ℕ
 plan_day_of airport scheduled clock =
-    option_map_or (λ number. latest_day (is_of_month airport number) 1 airport.days) clock.day (nearest_day airport scheduled clock.minute)
+    option_map_or (λ number. latest_day (is_of_month airport number) 1 airport.days) clock.day
+    (nearest_day airport scheduled clock.minute)
 
 -- the minute of the plan that a clock time names beside a scheduled minute
 abbrev pub plan_minute_of : AirportParts → ℕ → Clock → Option ℕ
-plan_minute_of airport scheduled clock = option_map (minute_on clock.minute) (plan_day_of airport scheduled clock)
+plan_minute_of airport scheduled clock =
+    option_map (minute_on clock.minute) (plan_day_of airport scheduled clock)

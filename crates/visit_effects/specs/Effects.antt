@@ -37,7 +37,8 @@ facts_of_arrival (touchdown, Some on) = facts_at OnBlock on
 abbrev pub facts_here : Mvt → Option MessageFacts
 facts_here message =
     option_or (option_map facts_of_arrival message.aa)
-    (option_or (option_map (λ times. facts_at OffBlock times.0) message.ad) (option_map (facts_at ExpectedOff) message.ed))
+    (option_or (option_map (λ times. facts_at OffBlock times.0) message.ad)
+    (option_map (facts_at ExpectedOff) message.ed))
 
 -- a message of another station gives the expected arrival, if that is at the airport
 abbrev pub facts_elsewhere : AirportParts → Mvt → Option MessageFacts
@@ -47,7 +48,9 @@ facts_elsewhere airport message = do
 
 -- what the message says at the airport
 abbrev pub facts_of : AirportParts → Mvt → Option MessageFacts
-facts_of airport message = if bytes_eq message.station airport.station then facts_here message else facts_elsewhere airport message
+facts_of airport message =
+    if bytes_eq message.station airport.station then facts_here message
+    else facts_elsewhere airport message
 
 -- Which visit is meant.
 
@@ -61,7 +64,8 @@ flight_key OffBlock visit = visit.dep
 
 -- the visit is live, and has a key of this flight and this day
 abbrev pub is_meant : Happening → Flight → ℕ → Visit → Bool
-is_meant moment flight day visit = is_live visit && option_map_or (is_key_of flight day) (flight_key moment visit) false
+is_meant moment flight day visit = is_live visit
+    && option_map_or (is_key_of flight day) (flight_key moment visit) false
 
 -- the first visit that is meant, on the latest day of the plan, or the day before it, that has the
 -- message's day of the month
@@ -103,7 +107,9 @@ scheduled_minute OffBlock visit = visit.off
 -- which is a minute of the plan
 abbrev pub visit_after_landing : AirportParts → ℕ → Visit → Option Visit
 visit_after_landing airport at visit =
-    if not visit.on_block && nat_lt (at + airport.taxi_in) (plan_end airport) then Some (push_of airport 1 (at + airport.taxi_in) visit) else None
+    if not visit.on_block && nat_lt (at + airport.taxi_in) (plan_end airport)
+    then Some (push_of airport 1 (at + airport.taxi_in) visit)
+    else None
 
 -- the visit, if it is not on block yet, on block at this minute on the stand that it has by the
 -- plan

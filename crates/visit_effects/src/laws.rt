@@ -15,14 +15,18 @@ ghost use Rattle.visit_effects.specs.Happenings.{IsOneOf, IsOneVisit};
 pub fn effects_are_of_one_visit()
     ensures one { (airport : AirportParts) (visits : List Visit) (message : Mvt)
         → effect_of airport visits message
-        ≡ option_and_then (λ visit. effect_of airport (visit ∷ []) message) (option_and_then (live_of visits) (movement_meant airport message)) }
+        ≡ option_and_then (λ visit. effect_of airport (visit ∷ []) message)
+        (option_and_then (live_of visits) (movement_meant airport message)) }
 {}
 
 /// What a message makes of one of some visits is still that visit, and so is what a report makes of
 /// a visit.
 pub fn happenings_keep_visits()
-    ensures messages { (airport : AirportParts) (visits : List Visit) (message : Mvt) (after : Visit)
-        → IsNumbered visits → effect_of airport visits message ≡ Some after → IsOneOf visits after }
+    ensures messages { (airport : AirportParts) (visits : List Visit)
+        (message : Mvt) (after : Visit)
+        → IsNumbered visits
+        → effect_of airport visits message ≡ Some after
+        → IsOneOf visits after }
     ensures reports { (airport : AirportParts) (event : Event) (before after : Visit)
         → report_of airport event before ≡ Ok after → IsOneVisit before after }
 {}
