@@ -17,7 +17,8 @@ is_bumped_by entry place = false
 abbrev pub bumped_from : ℕ → Visit → ℕ → List Part → List PartId
 bumped_from entry visit number [] = []
 bumped_from entry visit number (part ∷ parts) =
-    (if is_bumped_by entry part.place then record { visit = visit.number; part = number } ∷ [] else []) ++ bumped_from entry visit (number + 1) parts
+    (if is_bumped_by entry part.place then record { visit = visit.number; part = number } ∷ []
+    else []) ++ bumped_from entry visit (number + 1) parts
 
 -- the parts of a visit that lost their stands by the entry
 abbrev pub bumped_of : ℕ → Visit → List PartId

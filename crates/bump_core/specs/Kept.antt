@@ -32,7 +32,8 @@ abbrev pub EachMayLose : ℕ → List Part → List Part → Type 0
 EachMayLose entry [] [] = Unit {0}
 EachMayLose entry [] (part ∷ after) = ⊥
 EachMayLose entry (part ∷ before) [] = ⊥
-EachMayLose entry (part ∷ before) (other ∷ after) = MayLose entry part other × EachMayLose entry before after
+EachMayLose entry (part ∷ before) (other ∷ after) = MayLose entry part other
+    × EachMayLose entry before after
 
 -- the visit is as it was, except that some of its planned parts may have lost their stands
 pub record StaysBut (entry : ℕ) (before after : Visit) : Type 0 where
@@ -42,8 +43,12 @@ pub record StaysBut (entry : ℕ) (before after : Visit) : Type 0 where
 -- the visits that the plan's next entry changes, if it changes this visit or none: they can be put
 -- in; the visits with them are settled; each is the changed one or lost a stand by the entry; and
 -- they have all the parts that did
-pub record AreChanges (plan : PlanState) (changed : Option Visit) (changes : List Visit) : Type 0 where
+pub record AreChanges (plan : PlanState) (changed : Option Visit)
+    (changes : List Visit) : Type 0 where
   pub movable : IsMovable plan changes
-  pub settled : put_in plan.visits changes ≡ settle plan.airport (plan.version + 1) (with_changed plan.visits changed)
+  pub settled : put_in plan.visits changes
+      ≡ settle plan.airport (plan.version + 1) (with_changed plan.visits changed)
   pub needed : All (IsChangedBy (plan.version + 1) changed) changes
-  pub bumped : bumped_by (plan.version + 1) changes ≡ bumped_by (plan.version + 1) (settle plan.airport (plan.version + 1) (with_changed plan.visits changed))
+  pub bumped : bumped_by (plan.version + 1) changes
+      ≡ bumped_by (plan.version + 1)
+      (settle plan.airport (plan.version + 1) (with_changed plan.visits changed))

@@ -23,16 +23,22 @@ actual_parts airport visit = filter (λ part. part.slot.actual) (parts_on airpor
 
 -- what the actual parts of the changed visit leave of the parts of the others
 abbrev pub left_by : AirportParts → List Visit → Visit → List Ranked
-left_by airport visits changed = filter (is_free (blocks airport) (actual_parts airport changed)) (all_parts_on airport (others visits changed))
+left_by airport visits changed =
+    filter (is_free (blocks airport) (actual_parts airport changed))
+    (all_parts_on airport (others visits changed))
 
 -- first the changed visit is settled against what its actual parts leave of the others
 abbrev pub changed_near : AirportParts → ℕ → List Visit → Visit → Visit
-changed_near airport entry visits changed = settled_visit airport entry (left_by airport visits changed) changed
+changed_near airport entry visits changed =
+    settled_visit airport entry (left_by airport visits changed) changed
 
 -- then each other visit is settled against what is left of the changed one
 abbrev pub visit_near : AirportParts → ℕ → Visit → Visit → Visit
-visit_near airport entry new visit = if has_number new.number visit then new else settled_visit airport entry (parts_on airport new) visit
+visit_near airport entry new visit =
+    if has_number new.number visit then new
+    else settled_visit airport entry (parts_on airport new) visit
 
 -- the visits with the changed one put in, settled near it
 abbrev pub settled_near : AirportParts → ℕ → List Visit → Visit → List Visit
-settled_near airport entry visits changed = map (visit_near airport entry (changed_near airport entry visits changed)) visits
+settled_near airport entry visits changed =
+    map (visit_near airport entry (changed_near airport entry visits changed)) visits

@@ -26,7 +26,8 @@ all_parts_on airport visits = flat_map (parts_on airport) visits
 abbrev pub is_lower : List ℕ → List ℕ → Bool
 is_lower [] others = false
 is_lower (number ∷ numbers) [] = false
-is_lower (number ∷ numbers) (other ∷ others) = nat_lt number other || (number == other && is_lower numbers others)
+is_lower (number ∷ numbers) (other ∷ others) = nat_lt number other
+    || (number == other && is_lower numbers others)
 
 -- the class, the scheduled minute on block, the visit and the part decide
 abbrev pub part_rank : ℕ → ℕ → PartId → List ℕ
@@ -48,7 +49,9 @@ may_block part other = not other.slot.actual && blocks_before part other
 unfoldable pub conflict : AirportParts → Ranked → Ranked → Option Conflict
 conflict airport part other =
     if may_block part other
-    then option_map (λ at. record { blocker = part; blocked = other; minute = at.minute; rule = at.rule }) (meeting airport part.slot other.slot)
+    then option_map
+    (λ at. record { blocker = part; blocked = other; minute = at.minute; rule = at.rule })
+    (meeting airport part.slot other.slot)
     else None
 
 -- the first part blocks the second
@@ -66,7 +69,8 @@ Stay airport parts kept = kept ≡ filter (is_free (blocks airport) kept) parts
 -- after this many rounds: each round keeps the parts that no part of the round before blocks
 abbrev pub after_rounds : {X : Type 0} → (X → X → Bool) → ℕ → List X → List X
 after_rounds blocks zero parts = parts
-after_rounds blocks (suc rounds) parts = filter (is_free blocks (after_rounds blocks rounds parts)) parts
+after_rounds blocks (suc rounds) parts =
+    filter (is_free blocks (after_rounds blocks rounds parts)) parts
 
 -- the parts that stay: each round settles one more rank
 unfoldable pub kept_of : AirportParts → List Ranked → List Ranked

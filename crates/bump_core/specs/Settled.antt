@@ -35,9 +35,11 @@ pub record IsChanged (plan : PlanState) (visit : Visit) : Type 0 where
 -- that is on a stand, and none if no visit is changed
 abbrev pub settle_steps : AirportParts → List StandSlots → Option Visit → ℕ
 settle_steps airport index None = 0
-settle_steps airport index (Some changed) = sum_by (steps_near airport index) (slots_of_visit airport changed)
+settle_steps airport index (Some changed) =
+    sum_by (steps_near airport index) (slots_of_visit airport changed)
 
 -- the visit is the changed one, or a part of it lost its stand by the entry
 abbrev pub IsChangedBy : ℕ → Option Visit → Visit → Type 0
 IsChangedBy entry None visit = bumped_of entry visit ≢ []
-IsChangedBy entry (Some changed) visit = (visit.number ≡ changed.number) ⊎ (bumped_of entry visit ≢ [])
+IsChangedBy entry (Some changed) visit = (visit.number ≡ changed.number)
+    ⊎ (bumped_of entry visit ≢ [])

@@ -93,7 +93,8 @@ pub(crate) fn changes_by(
     visits: &[Visit],
 ) -> Result<Vec<Visit>, Memory>
     requires numbered { IsNumbered visits.now }
-    ensures ok { IfOk result (λ changes. changes.items ≡ changes_by entry new.now blockings.now visits.now) }
+    ensures ok { IfOk result
+        (λ changes. changes.items ≡ changes_by entry new.now blockings.now visits.now) }
 {
     let mut changes = touched_visits(alloc, blockings, new.number, visits)?;
     put_after(entry, new, blockings, changes.as_mut_slice());
@@ -108,7 +109,8 @@ fn touched_visits(
     visits: &[Visit],
 ) -> Result<Vec<Visit>, Memory>
     requires numbered { IsNumbered visits.now }
-    ensures ok { IfOk result (λ some. some.items ≡ touched_visits blockings.now changed visits.now) }
+    ensures ok { IfOk result
+        (λ some. some.items ≡ touched_visits blockings.now changed visits.now) }
 {
     let mut some = Vec::new(alloc);
     add_numbered(&mut some, visits, changed)?;
@@ -121,8 +123,11 @@ fn touched_visits(
 // Adds the visit of this number in its place, if it exists and isn't there yet.
 fn add_numbered(some: &mut Vec<Visit>, visits: &[Visit], number: VisitNo) -> Result<(), Memory>
     requires numbered { IsNumbered visits.now }
-    ensures ok { OnOk result ((test : ℕ → Bool) → some.old.items ≡ filter (λ visit. test visit.number.0) visits.now
-        → some.new.items ≡ filter (λ visit. test visit.number.0 || number.0 == visit.number.0) visits.now) }
+    ensures ok { OnOk result
+        ((test : ℕ → Bool)
+        → some.old.items ≡ filter (λ visit. test visit.number.0) visits.now
+        → some.new.items
+        ≡ filter (λ visit. test visit.number.0 || number.0 == visit.number.0) visits.now) }
 {
     if let Some(visit) = visit_at(visits, number) {
         add_visit_once(some, *visit)?;

@@ -22,45 +22,64 @@ ghost use Rattle.bump_core.specs.Settled.{IsChanged, with_changed, with_settled}
 /// There is exactly one way for parts to stay: each stays, unless a better one that stays clashes
 /// with it.
 pub fn parts_stay_in_one_way()
-    ensures kept { (airport : AirportParts) (parts kept : List Ranked) → Stay airport parts kept ↔ (kept ≡ kept_of airport parts) }
+    ensures kept { (airport : AirportParts) (parts kept : List Ranked)
+        → Stay airport parts kept ↔ (kept ≡ kept_of airport parts) }
     ensures settled { (airport : AirportParts) (entry : ℕ) (visits : List Visit)
-        → Stay airport (all_parts_on airport visits) (all_parts_on airport (settle airport entry visits)) }
+        → Stay airport (all_parts_on airport visits)
+        (all_parts_on airport (settle airport entry visits)) }
 {}
 
 /// Visits are the settling of others exactly if they are the others settled against the parts that
 /// they themselves have on stands.
 pub fn settling_is_one()
     ensures one { (airport : AirportParts) (entry : ℕ) (visits new : List Visit)
-        → (new ≡ map (settled_visit airport entry (all_parts_on airport new)) visits) ↔ (new ≡ settle airport entry visits) }
+        → (new ≡ map (settled_visit airport entry (all_parts_on airport new)) visits)
+        ↔ (new ≡ settle airport entry visits) }
 {}
 
 /// Settled visits are sound, and sound visits are their own settling.
 pub fn settled_is_sound()
-    ensures sound { (airport : AirportParts) (entry : ℕ) (visits : List Visit) → IsSound airport (slots_of airport (settle airport entry visits)) }
-    ensures own { (airport : AirportParts) (entry : ℕ) (visits : List Visit) → IsSound airport (slots_of airport visits) → settle airport entry visits ≡ visits }
+    ensures sound { (airport : AirportParts) (entry : ℕ) (visits : List Visit)
+        → IsSound airport (slots_of airport (settle airport entry visits)) }
+    ensures own { (airport : AirportParts) (entry : ℕ) (visits : List Visit)
+        → IsSound airport (slots_of airport visits)
+        → settle airport entry visits ≡ visits }
 {}
 
 /// If visits were sound, and one of them is replaced by a changed one, settling near it is
 /// settling.
 pub fn near_is_settled()
-    ensures near { (airport : AirportParts) (entry : ℕ) (visits : List Visit) (changed : Visit) → IsNumbered visits → 1 ≤ changed.number.0
-        → changed.number.0 ≤ length visits → IsSound airport (slots_of airport visits)
-        → settled_near airport entry visits changed ≡ settle airport entry (with_visit visits changed) }
+    ensures near { (airport : AirportParts) (entry : ℕ) (visits : List Visit) (changed : Visit)
+        → IsNumbered visits
+        → 1 ≤ changed.number.0
+        → changed.number.0 ≤ length visits
+        → IsSound airport (slots_of airport visits)
+        → settled_near airport entry visits changed
+        ≡ settle airport entry (with_visit visits changed) }
 {}
 
 /// Settling takes stands from planned parts and changes nothing else, so visits stay well formed
 /// and numbered. They also stay numbered when a changed one is put in.
 pub fn settling_takes_stands_alone()
-    ensures stays { (airport : AirportParts) (entry : ℕ) (kept : List Ranked) (visit : Visit) → StaysBut entry visit (settled_visit airport entry kept visit) }
+    ensures stays { (airport : AirportParts) (entry : ℕ) (kept : List Ranked) (visit : Visit)
+        → StaysBut entry visit (settled_visit airport entry kept visit) }
     ensures well_formed { (airport : AirportParts) (entry : ℕ) (visits : List Visit)
-        → All (IsWellFormed airport) visits → All (IsWellFormed airport) (settle airport entry visits) }
-    ensures numbered { (airport : AirportParts) (entry : ℕ) (visits : List Visit) → IsNumbered visits → IsNumbered (settle airport entry visits) }
-    ensures changed { (visits : List Visit) (changed : Option Visit) → IsNumbered visits → IsNumbered (with_changed visits changed) }
+        → All (IsWellFormed airport) visits
+        → All (IsWellFormed airport) (settle airport entry visits) }
+    ensures numbered { (airport : AirportParts) (entry : ℕ) (visits : List Visit)
+        → IsNumbered visits
+        → IsNumbered (settle airport entry visits) }
+    ensures changed { (visits : List Visit) (changed : Option Visit)
+        → IsNumbered visits
+        → IsNumbered (with_changed visits changed) }
 {}
 
 /// A plan is a plan after an entry that changes one of its visits, or none.
 pub fn settled_plan_is_plan()
-    ensures plan { (plan : PlanState) (changed : Option Visit) → IsPlan plan → IfSome changed (IsChanged plan) → plan.version + 1 < version_limit
+    ensures plan { (plan : PlanState) (changed : Option Visit)
+        → IsPlan plan
+        → IfSome changed (IsChanged plan)
+        → plan.version + 1 < version_limit
         → IsPlan (with_settled plan changed) }
 {}
 
@@ -69,12 +88,22 @@ pub fn settled_plan_is_plan()
 /// than a planned part of the changed visit loses its stand only to actual parts of the changed
 /// visit.
 pub fn changed_visit_decides()
-    ensures untouched { (airport : AirportParts) (entry : ℕ) (visits : List Visit) (changed : Visit) (part : Ranked) → IsNumbered visits → 1 ≤ changed.number.0
-        → changed.number.0 ≤ length visits → IsSound airport (slots_of airport visits)
-        → Contains (all_parts_on airport (others visits changed)) part → All (λ own. meets airport own.slot part.slot ≡ false) (parts_on airport changed)
+    ensures untouched { (airport : AirportParts) (entry : ℕ) (visits : List Visit)
+        (changed : Visit) (part : Ranked)
+        → IsNumbered visits
+        → 1 ≤ changed.number.0
+        → changed.number.0 ≤ length visits
+        → IsSound airport (slots_of airport visits)
+        → Contains (all_parts_on airport (others visits changed)) part
+        → All (λ own. meets airport own.slot part.slot ≡ false) (parts_on airport changed)
         → Contains (all_parts_on airport (settle airport entry (with_visit visits changed))) part }
-    ensures better { (airport : AirportParts) (visit : Visit) (own part other : Ranked) → Contains (parts_on airport visit) own → Contains (parts_on airport visit) other
-        → (part.slot.part.visit.0 ≡ visit.number.0 → ⊥) → other.slot.actual ≡ false → blocks_before part other ≡ true → blocks airport own part ≡ true
+    ensures better { (airport : AirportParts) (visit : Visit) (own part other : Ranked)
+        → Contains (parts_on airport visit) own
+        → Contains (parts_on airport visit) other
+        → (part.slot.part.visit.0 ≡ visit.number.0 → ⊥)
+        → other.slot.actual ≡ false
+        → blocks_before part other ≡ true
+        → blocks airport own part ≡ true
         → own.slot.actual ≡ true }
 {}
 
@@ -83,8 +112,11 @@ pub fn changed_visit_decides()
 /// with the one that lost it: actual parts are better than planned ones, and otherwise the rank
 /// decides.
 pub fn record_names_the_best_blocker()
-    ensures names { (airport : AirportParts) (entry : ℕ) (visits : List Visit) (visit : Visit) (number : ℕ) (part : Part) (stand : StandNo) (bump : Bump)
-        → settled_place airport entry (kept_of airport (all_parts_on airport visits)) visit number part (Planned stand)
+    ensures names { (airport : AirportParts) (entry : ℕ) (visits : List Visit) (visit : Visit)
+        (number : ℕ) (part : Part) (stand : StandNo) (bump : Bump)
+        → settled_place airport entry (kept_of airport (all_parts_on airport visits)) visit number
+        part (Planned stand)
         ≡ Unplaced (Some bump)
-        → IsRecordOf airport (all_parts_on airport (settle airport entry visits)) (ranked_part visit (slot_on airport visit number part stand)) bump }
+        → IsRecordOf airport (all_parts_on airport (settle airport entry visits))
+        (ranked_part visit (slot_on airport visit number part stand)) bump }
 {}

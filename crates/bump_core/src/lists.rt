@@ -65,7 +65,8 @@ pub(crate) fn parts_on(
 
 // Adds the part in this slot at the end, if there is one.
 fn push_ranked(found: &mut Listed<Ranked>, visit: &Visit, slot: Option<Slot>) -> Result<(), Memory>
-    ensures ok { OnOk result (found.new ≡ found.old ++ map (ranked_part visit.now) (option_to_list slot)) }
+    ensures ok { OnOk result
+        (found.new ≡ found.old ++ map (ranked_part visit.now) (option_to_list slot)) }
 {
     match slot {
         Some(slot) => found.push(ranked_part(visit, slot)),
@@ -200,7 +201,11 @@ fn push_unless_taken(
     mets: &[KeptClash],
     met: &KeptClash,
 ) -> Result<(), Memory>
-    ensures ok { OnOk result (blockings.new ≡ blockings.old ++ filter_map by_other (filter (λ met. not (is_taken mets.now met.other)) (met.now ∷ []))) }
+    ensures ok { OnOk result
+        (blockings.new
+        ≡ blockings.old
+        ++ filter_map by_other
+        (filter (λ met. not (is_taken mets.now met.other)) (met.now ∷ []))) }
 {
     let blocking = by_other(met);
     if blocking.is_some() && is_taken(mets, &met.other) {
@@ -252,7 +257,11 @@ fn push_unless_blocked(
     own: &[Conflict],
     met: &KeptClash,
 ) -> Result<(), Memory>
-    ensures ok { OnOk result (blockings.new ≡ blockings.old ++ filter_map by_own (filter (λ met. not (is_blocked own.now met.own.slot.part)) (met.now ∷ []))) }
+    ensures ok { OnOk result
+        (blockings.new
+        ≡ blockings.old
+        ++ filter_map by_own
+        (filter (λ met. not (is_blocked own.now met.own.slot.part)) (met.now ∷ []))) }
 {
     let blocking = by_own(met);
     if blocking.is_some() && is_blocked(own, met.own.slot.part) {

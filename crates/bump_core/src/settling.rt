@@ -39,12 +39,20 @@ pub fn settle<L: Ledger>(
 ) -> Result<Change, Memory>
     requires airport { airport.now ≡ plan.now.plan.airport }
     requires changed { IfSome changed (λ visit. IsChanged plan.now.plan visit.now) }
-    ensures settled { IfOk result (λ change. plan_after_change plan.now.plan change ≡ with_settled plan.now.plan (option_map (λ visit. visit.now) changed.entry)) }
-    ensures fits { IfOk result (λ change. plan.now.plan.version + 1 < version_limit → IsInstallable plan.now.plan change) }
-    ensures changes { IfOk result (λ change. All (IsChangedBy (plan.now.plan.version + 1) (option_map (λ visit. visit.now) changed.entry)) change.visits) }
-    ensures steps { steps.new ≤ steps.old + settle_steps plan.now.plan.airport plan.now.index (option_map (λ visit. visit.now) changed.entry) }
+    ensures settled { IfOk result (λ change. plan_after_change plan.now.plan change
+        ≡ with_settled plan.now.plan (option_map (λ visit. visit.now) changed.entry)) }
+    ensures fits { IfOk result
+        (λ change. plan.now.plan.version + 1 < version_limit → IsInstallable plan.now.plan change) }
+    ensures changes { IfOk result (λ change. All
+        (IsChangedBy (plan.now.plan.version + 1) (option_map (λ visit. visit.now) changed.entry))
+        change.visits) }
+    ensures steps { steps.new
+        ≤ steps.old
+        + settle_steps plan.now.plan.airport plan.now.index
+        (option_map (λ visit. visit.now) changed.entry) }
     ensures bumped { IfOk result (λ change. bumped_by (plan.now.plan.version + 1) change.visits
-        ≡ bumped_by (plan.now.plan.version + 1) (with_settled plan.now.plan (option_map (λ visit. visit.now) changed.entry)).visits) }
+        ≡ bumped_by (plan.now.plan.version + 1)
+        (with_settled plan.now.plan (option_map (λ visit. visit.now) changed.entry)).visits) }
 {
     let changes = changes_of(alloc, airport, plan, changed, steps)?;
     plan.moved(alloc, airport, changes)
@@ -60,8 +68,12 @@ fn changes_of<L: Ledger>(
 ) -> Result<Vec<Visit>, Memory>
     requires airport { airport.now ≡ plan.now.plan.airport }
     requires changed { IfSome changed (λ visit. IsChanged plan.now.plan visit.now) }
-    ensures changes { IfOk result (λ changes. AreChanges plan.now.plan (option_map (λ visit. visit.now) changed.entry) changes.items) }
-    ensures steps { steps.new ≤ steps.old + settle_steps plan.now.plan.airport plan.now.index (option_map (λ visit. visit.now) changed.entry) }
+    ensures changes { IfOk result (λ changes. AreChanges plan.now.plan
+        (option_map (λ visit. visit.now) changed.entry) changes.items) }
+    ensures steps { steps.new
+        ≤ steps.old
+        + settle_steps plan.now.plan.airport plan.now.index
+        (option_map (λ visit. visit.now) changed.entry) }
 {
     let visits = plan.visits();
     match changed {
@@ -93,8 +105,11 @@ fn changes_near<L: Ledger>(
     requires clear { IsClear airport.now index.now [] }
     requires ordered { by_part (all_slots index.now) ≡ slots_of airport.now visits.now }
     requires valid { IsWellFormed airport.now changed.now }
-    ensures ok { IfOk result (λ changes. changes.items ≡ changes_near airport.now entry visits.now changed.now) }
-    ensures steps { steps.new ≤ steps.old + sum_by (steps_near airport.now index.now) (slots_of_visit airport.now changed.now) }
+    ensures ok { IfOk result
+        (λ changes. changes.items ≡ changes_near airport.now entry visits.now changed.now) }
+    ensures steps { steps.new
+        ≤ steps.old
+        + sum_by (steps_near airport.now index.now) (slots_of_visit airport.now changed.now) }
 {
     let mets = kept_clashes(alloc, airport, visits, index, changed, steps)?;
     let own = against_own(alloc, mets.as_slice())?;
@@ -119,7 +134,9 @@ fn kept_clashes<L: Ledger>(
     requires ordered { by_part (all_slots index.now) ≡ slots_of airport.now visits.now }
     requires valid { IsWellFormed airport.now changed.now }
     ensures ok { IfOk result (λ mets. mets ≡ kept_clashes airport.now visits.now changed.now) }
-    ensures steps { steps.new ≤ steps.old + sum_by (steps_near airport.now index.now) (slots_of_visit airport.now changed.now) }
+    ensures steps { steps.new
+        ≤ steps.old
+        + sum_by (steps_near airport.now index.now) (slots_of_visit airport.now changed.now) }
 {
     let owns = parts_on(alloc, airport, changed)?;
     let mut mets = Listed::new(alloc);
@@ -143,7 +160,10 @@ fn push_kept_clashes_of<L: Ledger>(
     requires clear { IsClear airport.now index.now [] }
     requires ordered { by_part (all_slots index.now) ≡ slots_of airport.now visits.now }
     requires own { IsSlotOf airport.now own.now.slot }
-    ensures ok { OnOk result (mets.new ≡ mets.old ++ kept_clashes_of_part airport.now (all_parts_on airport.now visits.now) own.now) }
+    ensures ok { OnOk result
+        (mets.new
+        ≡ mets.old
+        ++ kept_clashes_of_part airport.now (all_parts_on airport.now visits.now) own.now) }
     ensures steps { steps.new ≤ steps.old + steps_near airport.now index.now own.now.slot }
 {
     let clashes = clashes_of(alloc, airport, index, &own.slot, steps)?;
@@ -159,7 +179,9 @@ fn push_kept_clashes(
 ) -> Result<(), Memory>
     requires each { All (IsWellFormed airport.now) visits.now }
     requires numbered { IsNumbered visits.now }
-    ensures ok { OnOk result (mets.new ≡ mets.old ++ filter_map (kept_clash_at airport.now visits.now own.now) clashes.now) }
+    ensures ok { OnOk result
+        (mets.new
+        ≡ mets.old ++ filter_map (kept_clash_at airport.now visits.now own.now) clashes.now) }
 {
     for clash in clashes {
         push_kept_clash(mets, kept_clash_at(airport, visits, own, clash))?;
