@@ -21,7 +21,8 @@ with_rank visit row = record { class = visit.class; on = visit.on; row = row }
 
 -- the parts of the visit that wait for a stand: none if it is gone or cancelled
 abbrev pub waiting_of : Visit → List Waiting
-waiting_of visit = if is_live visit then map (with_rank visit) (filter is_unplaced_row (rows_of visit)) else []
+waiting_of visit =
+    if is_live visit then map (with_rank visit) (filter is_unplaced_row (rows_of visit)) else []
 
 -- its rank: the class, the scheduled minute on block, the visit and the part
 abbrev pub rank_of : Waiting → List ℕ

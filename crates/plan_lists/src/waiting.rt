@@ -60,7 +60,9 @@ fn push_waiting(parts: &mut Vec<Waiting>, visit: &Visit) -> Result<(), Memory>
 }
 
 fn push_waiting_if(parts: &mut Vec<Waiting>, part: Waiting) -> Result<(), Memory>
-    ensures ok { OnOk result (parts.new.items ≡ parts.old.items ++ (if is_unplaced_row part.row then part ∷ [] else [])) }
+    ensures ok { OnOk result
+        (parts.new.items
+        ≡ parts.old.items ++ (if is_unplaced_row part.row then part ∷ [] else [])) }
 {
     if is_unplaced(&part.row) {
         parts.push(part)?;
