@@ -15,13 +15,15 @@ pub data DeviceCall : Type 0 where
 
 -- what a disk of these bytes reads as after a call
 abbrev pub after_call : DeviceCall → List ℕ → List ℕ
-after_call (Write at piece done) bytes = if done && nat_le at (length bytes) then with_piece_at at piece bytes else bytes
+after_call (Write at piece done) bytes =
+    if done && nat_le at (length bytes) then with_piece_at at piece bytes else bytes
 after_call _ bytes = bytes
 
 -- what a crash may leave after a call on a disk that reads as these bytes
 abbrev pub left_after : DeviceCall → List ℕ → (List ℕ → Type 0) → List ℕ → Type 0
 left_after Idle bytes Left image = Left image
-left_after (Write at piece done) bytes Left image = (from : List ℕ) × Left from × Torn at (length piece) from image
+left_after (Write at piece done) bytes Left image =
+    (from : List ℕ) × Left from × Torn at (length piece) from image
 left_after Sync bytes Left image = Left image × (image ≡ bytes)
 
 -- what a disk of these bytes reads as after many calls
@@ -32,11 +34,13 @@ after_calls (call ∷ calls) bytes = after_calls calls (after_call call bytes)
 -- what a crash may leave after many calls on a disk that read as these bytes before them
 abbrev pub left_by_crash : List DeviceCall → List ℕ → (List ℕ → Type 0) → List ℕ → Type 0
 left_by_crash [] bytes Left image = Left image
-left_by_crash (call ∷ calls) bytes Left image = left_by_crash calls (after_call call bytes) (left_after call bytes Left) image
+left_by_crash (call ∷ calls) bytes Left image =
+    left_by_crash calls (after_call call bytes) (left_after call bytes Left) image
 
 -- the images of a moment, which is a number of calls, on a disk that had these bytes at first
 abbrev pub images_at : List ℕ → List DeviceCall → ℕ → List ℕ → Type 0
-images_at first calls moment image = left_by_crash (take moment calls) first (λ bytes. bytes ≡ first) image
+images_at first calls moment image =
+    left_by_crash (take moment calls) first (λ bytes. bytes ≡ first) image
 
 -- what a call may do to an image
 abbrev pub Step : DeviceCall → List ℕ → List ℕ → Type 0
@@ -92,7 +96,8 @@ has_room held call =
 abbrev pub with_pieces : List DiskCall → List ℕ → List DeviceCall
 with_pieces [] pieces = []
 with_pieces (Passed ∷ calls) pieces = Idle ∷ with_pieces calls pieces
-with_pieces (Wrote at size done ∷ calls) pieces = Write at (take size pieces) done ∷ with_pieces calls (drop size pieces)
+with_pieces (Wrote at size done ∷ calls) pieces =
+    Write at (take size pieces) done ∷ with_pieces calls (drop size pieces)
 with_pieces (Synced ∷ calls) pieces = Sync ∷ with_pieces calls pieces
 
 -- a call with its piece

@@ -12,7 +12,12 @@ pub record DiskState : Type 1 where
 -- a disk that exposes nothing of what it reads as, of which a crash may leave anything, after this
 -- many faults
 abbrev pub untold_disk : ℕ → DiskState
-untold_disk faults = record { contents = None; moment = 0; images = λ _ _. Unit {0}; faults = faults }
+untold_disk faults = record {
+  contents = None;
+  moment = 0;
+  images = λ _ _. Unit {0};
+  faults = faults;
+}
 
 -- the fact about what the disk reads as, if it exposes that
 abbrev pub IfExposed : DiskState → (List ℕ → Type 0) → Type 0
@@ -64,13 +69,22 @@ IsDurable before now = IfExposed before (λ bytes. IsSafe bytes now)
 -- time goes on, and what a crash at an earlier moment may have left stays as it was
 pub record Passes (before now : DiskState) : Type 0 where
   pub later : before.moment ≤ now.moment
-  pub past : (moment : ℕ) (image : List ℕ) → moment ≤ before.moment → now.images moment image → before.images moment image
-  pub kept : (moment : ℕ) (image : List ℕ) → moment ≤ before.moment → before.images moment image → now.images moment image
+  pub past : (moment : ℕ) (image : List ℕ)
+      → moment ≤ before.moment
+      → now.images moment image
+      → before.images moment image
+  pub kept : (moment : ℕ) (image : List ℕ)
+      → moment ≤ before.moment
+      → before.images moment image
+      → now.images moment image
 
 -- time goes on, and what a crash since then may leave is an image from before, after one such step
 pub record Goes (Step : List ℕ → List ℕ → Type 0) (before now : DiskState) : Type 0 where
   pub clock : Passes before now
-  pub since : (moment : ℕ) (image : List ℕ) → before.moment < moment → moment ≤ now.moment → now.images moment image
+  pub since : (moment : ℕ) (image : List ℕ)
+      → before.moment < moment
+      → moment ≤ now.moment
+      → now.images moment image
       → (from : List ℕ) × before.images before.moment from × Step from image
 
 -- after some calls: the disk exposes what it reads as exactly if it did before, and time goes on

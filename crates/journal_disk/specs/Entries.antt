@@ -31,7 +31,8 @@ before_rest entry (Ok entries) = Ok (entry ∷ entries)
 before_rest entry (Err number) = Err number
 
 -- the record of this number, if it is whole, and then the rest
-abbrev pub with_record : ℕ → Option (List ℕ × List ℕ) → (List ℕ → Result (List (List ℕ)) ℕ) → Result (List (List ℕ)) ℕ
+abbrev pub with_record : ℕ → Option (List ℕ × List ℕ) → (List ℕ → Result (List (List ℕ)) ℕ)
+    → Result (List (List ℕ)) ℕ
 with_record number None rest_of = Err number
 with_record number (Some (entry, rest)) rest_of = before_rest entry (rest_of rest)
 
@@ -41,7 +42,9 @@ unfoldable pub entries_from : ℕ → List ℕ → Result (List (List ℕ)) ℕ
 entries_from left [] = Err (most_entries + 1 - left)
 entries_from zero (gate ∷ rest) = if gate == open_gate then Err (most_entries + 1) else Ok []
 entries_from (suc left) (gate ∷ rest) =
-    if gate == open_gate then with_record (most_entries - left) (behind_gate rest) (entries_from left) else Ok []
+    if gate == open_gate
+    then with_record (most_entries - left) (behind_gate rest) (entries_from left)
+    else Ok []
 
 -- the entries of a text whose first gate is at this place, or the number of the first record that
 -- isn't whole

@@ -22,7 +22,12 @@ pub record Extent : Type 0 where
 
 -- an extent by its parts
 abbrev pub extent_of : ℕ → ℕ → ℕ → Bool → Extent
-extent_of first place number unclean = record { first = first; place = place; number = number; unclean = unclean }
+extent_of first place number unclean = record {
+  first = first;
+  place = place;
+  number = number;
+  unclean = unclean;
+}
 
 -- a journal as contracts see it
 pub record JournalHeld (D : Type 0) : Type 0 where
@@ -76,7 +81,8 @@ StandsFor extent bytes AtRisk image =
 -- until the next call a crash leaves the journal's entries, or these and the one at risk
 abbrev pub IsCrashSafe : Extent → DiskState → Type 0
 IsCrashSafe extent disk =
-    IfExposed disk (λ bytes. EachImage disk (StandsFor extent bytes (λ entry. entry_at_risk extent disk.contents ≡ Some entry)))
+    IfExposed disk (λ bytes. EachImage disk
+    (StandsFor extent bytes (λ entry. entry_at_risk extent disk.contents ≡ Some entry)))
 
 -- A crash at any moment of an append leaves the journal's entries from before it, or these and one
 -- more: either the one that is appended, or the one that was at risk.

@@ -11,7 +11,9 @@ use Rattle.journal_disk.specs.declared.fault.JournalFault.TheVariants.{DiskFault
 abbrev pub InitFails : DiskState → DiskState → JournalFault → Type 0
 InitFails before now DiskFault = Counts true before.faults now.faults
 InitFails before now NotEmpty =
-    IfExposed before (λ bytes. length bytes ≢ 0) × Stays before now × Counts false before.faults now.faults
+    IfExposed before (λ bytes. length bytes ≢ 0)
+    × Stays before now
+    × Counts false before.faults now.faults
 InitFails before now _ = ⊥
 
 -- why the bytes of a disk aren't read: the disk has failed, or memory has run out
@@ -53,4 +55,5 @@ OldOpenFails digests before now DiskFault = Counts true before.faults now.faults
 OldOpenFails digests before now NotEmpty = ⊥
 OldOpenFails digests before now OldFormat = ⊥
 OldOpenFails digests before now fault =
-    Counts false before.faults now.faults × IfExposed before (λ text. OldTextFails digests text fault)
+    Counts false before.faults now.faults
+    × IfExposed before (λ text. OldTextFails digests text fault)

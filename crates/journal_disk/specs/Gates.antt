@@ -35,9 +35,15 @@ FromClosed place disk Q =
 -- what holds for each front of this length and each entry that a crash leaves whole after it
 abbrev pub FromWhole : ℕ → DiskState → (List ℕ → List ℕ → Type 0) → Type 0
 FromWhole place disk Q =
-    (entry front : List ℕ) → length front ≡ place → EachImage disk (IsWhole entry front) → Q entry front
+    (entry front : List ℕ)
+    → length front ≡ place
+    → EachImage disk (IsWhole entry front)
+    → Q entry front
 
 -- the same for a gate that may have been opened or not
 abbrev pub FromGate : ℕ → Bool → DiskState → (List ℕ → List ℕ → Type 0) → Type 0
 FromGate place unclean disk Q =
-    (entry front : List ℕ) → length front ≡ place → EachImage disk (GateIs unclean entry front) → Q entry front
+    (entry front : List ℕ)
+    → length front ≡ place
+    → EachImage disk (GateIs unclean entry front)
+    → Q entry front

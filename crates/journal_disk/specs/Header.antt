@@ -35,7 +35,8 @@ digests_in bytes = take digests_length (drop magic_length bytes)
 
 -- the bytes begin as a journal of some format does
 abbrev pub has_magic : List ℕ → Bool
-has_magic bytes = starts_with nat_eq bytes magic && starts_with nat_eq (drop line_place bytes) line_end
+has_magic bytes = starts_with nat_eq bytes magic
+    && starts_with nat_eq (drop line_place bytes) line_end
 
 -- the format byte is that of format 2
 abbrev pub is_new : List ℕ → Bool
@@ -70,7 +71,8 @@ old_entries bytes = or_bad_record (entries_of first_gate bytes)
 abbrev pub header_fault : List ℕ → List ℕ → Option JournalFault
 header_fault digests bytes =
     if nat_lt (length bytes) (first_gate + 1) || not (has_magic bytes) then Some NotAJournal
-    else if not (bytes_eq (digests_in bytes) digests) then Some (OtherAirport (digests_in bytes) digests)
+    else if not (bytes_eq (digests_in bytes) digests)
+    then Some (OtherAirport (digests_in bytes) digests)
     else None
 
 -- this, unless a fault comes before it
@@ -85,7 +87,8 @@ opening_of digests bytes =
     unless (header_fault digests bytes) (if is_new bytes then new_entries bytes else Err OldFormat)
 
 -- these entries, as those of a journal of format 1
-abbrev pub as_old : Result (List (List ℕ)) JournalFault → Result (Option (List (List ℕ))) JournalFault
+abbrev pub as_old : Result (List (List ℕ)) JournalFault
+    → Result (Option (List (List ℕ))) JournalFault
 as_old (Ok entries) = Ok (Some entries)
 as_old (Err fault) = Err fault
 
@@ -93,4 +96,5 @@ as_old (Err fault) = Err fault
 -- if it is of format 2, whatever its records are
 abbrev pub old_opening_of : List ℕ → List ℕ → Result (Option (List (List ℕ))) JournalFault
 old_opening_of digests bytes =
-    unless (header_fault digests bytes) (if is_new bytes then Ok None else as_old (old_entries bytes))
+    unless (header_fault digests bytes)
+    (if is_new bytes then Ok None else as_old (old_entries bytes))

@@ -6,4 +6,6 @@ use Rattle.journal_disk.specs.Limits.{digests_length}
 -- a journal that was just made opens, and has no entry
 abbrev pub EmptyOpens : Type 0
 EmptyOpens =
-    (digests : List ℕ) → length digests ≡ digests_length → opening_of digests (empty_journal digests) ≡ Ok []
+    (digests : List ℕ)
+    → length digests ≡ digests_length
+    → opening_of digests (empty_journal digests) ≡ Ok []

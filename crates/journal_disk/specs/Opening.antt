@@ -41,5 +41,6 @@ abbrev pub NextIs : ℕ → List ℕ → Option (List ℕ × List ℕ) → Type 
 NextIs number text None = entries_from (most_entries - number) text ≡ Ok []
 NextIs number text (Some (entry, rest)) =
     (number < most_entries)
-    × (entries_from (most_entries - number) text ≡ before_rest entry (entries_from (most_entries - (number + 1)) rest))
+    × (entries_from (most_entries - number) text
+    ≡ before_rest entry (entries_from (most_entries - (number + 1)) rest))
     × (length text ≡ record_frame + length entry + length rest)

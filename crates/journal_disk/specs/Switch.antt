@@ -36,14 +36,16 @@ with_format format bytes = with_piece_at format_place (format ∷ []) bytes
 
 -- the bytes with a new part of these entries after an old part of this length, in format 2
 abbrev pub after_switch : ℕ → List (List ℕ) → List ℕ → List ℕ
-after_switch size entries bytes = with_format new_format (with_piece_at (behind_part size) (new_part entries) bytes)
+after_switch size entries bytes =
+    with_format new_format (with_piece_at (behind_part size) (new_part entries) bytes)
 
 -- either nothing before the new part was written, or the new part is there, and some format byte
 abbrev pub IsSwitching : ℕ → List (List ℕ) → List ℕ → List ℕ → Type 0
 IsSwitching size entries bytes image =
     KeepsTo (behind_part size) bytes image
     ⊎ ((format : ℕ) × (more : List ℕ)
-    × (image ≡ with_format format (with_piece_at (behind_part size) (new_part entries) bytes) ++ more))
+    × (image
+    ≡ with_format format (with_piece_at (behind_part size) (new_part entries) bytes) ++ more))
 
 -- an image that has the header and the old part of these bytes, except for the format byte, and is
 -- a journal of format 1 with the old entries, or one of format 2 with the new ones
@@ -62,6 +64,7 @@ SwitchesSafely size old new before now =
 
 -- a switch was done: a crash leaves the bytes with the new part, which are a journal of format 2
 -- with its entries
-pub record HasSwitched (size : ℕ) (entries : List (List ℕ)) (bytes : List ℕ) (disk : DiskState) : Type 0 where
+pub record HasSwitched (size : ℕ) (entries : List (List ℕ)) (bytes : List ℕ)
+    (disk : DiskState) : Type 0 where
   pub safe : IsSafe (after_switch size entries bytes) disk
   pub opens : opening_of (digests_in bytes) (after_switch size entries bytes) ≡ Ok entries

@@ -15,13 +15,15 @@ pub trait Disk {
 
     /// How many bytes there are.
     fn length(&mut self) -> Result<u32, Failed>
-        ensures length { IfOk result (λ size. IfExposed (state self.old) (λ bytes. size ≡ length bytes)) }
+        ensures length { IfOk result
+            (λ size. IfExposed (state self.old) (λ bytes. size ≡ length bytes)) }
         ensures stays { Stays (state self.old) (state self.new) }
         ensures counts { Counts (is_err result) (state self.old).faults (state self.new).faults };
 
     /// Fills `into` with the bytes from `at` on. The range is inside the disk.
     fn read(&mut self, at: u32, into: &mut [u8]) -> Result<(), Failed>
-        requires inside { IfExposed (state self.old) (λ bytes. at + length into.old ≤ length bytes) }
+        requires inside { IfExposed (state self.old)
+            (λ bytes. at + length into.old ≤ length bytes) }
         ensures read { OnOk result (IfExposed (state self.old)
             (λ bytes. into.new ≡ take (length into.old) (drop at bytes))) }
         ensures stays { Stays (state self.old) (state self.new) }
@@ -46,5 +48,6 @@ pub trait Disk {
         ensures counts { Counts (is_err result) (state self.old).faults (state self.new).faults };
 
     /// What it reads as is one of the images that a crash now may leave.
-    ghost reads: { (disk : Self) → IfExposed (state disk) ((state disk).images (state disk).moment) };
+    ghost reads: { (disk : Self)
+        → IfExposed (state disk) ((state disk).images (state disk).moment) };
 }

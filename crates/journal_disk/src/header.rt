@@ -38,7 +38,8 @@ pub fn init<D: Disk>(disk: &mut D, digests: &[u8; 64]) -> Result<(), JournalFaul
     ensures empty { OnOk result (IfExposed (D.state disk.old) (λ bytes. length bytes ≡ 0)) }
     ensures made { OnOk result (IfExposed (D.state disk.old)
         (λ _. IsSafe (empty_journal digests.now) (D.state disk.new))) }
-    ensures counts { OnOk result (Counts false (D.state disk.old).faults (D.state disk.new).faults) }
+    ensures counts { OnOk result
+        (Counts false (D.state disk.old).faults (D.state disk.new).faults) }
     ensures refused { IfErr result (InitFails (D.state disk.old) (D.state disk.new)) }
     ensures tells { TellsAlike (D.state disk.old) (D.state disk.new) }
     ensures spares { IfExposed (D.state disk.old)

@@ -35,9 +35,13 @@ impl<D: Disk> Model for Journal<D> {
 
     ghost Value = { JournalHeld D };
 
-    ghost view = { λ j. record { disk = j.disk; extent = extent_of j.first j.place j.number j.unclean } };
+    ghost view = { λ j. record {
+      disk = j.disk;
+      extent = extent_of j.first j.place j.number j.unclean;
+    } };
 
-    ghost invariant = { λ j. IsExtentOf (extent_of j.first j.place j.number j.unclean) (D.state j.disk) };
+    ghost invariant = { λ j. IsExtentOf (extent_of j.first j.place j.number j.unclean)
+        (D.state j.disk) };
 }
 
 impl<D: Disk> Journal<D> {

@@ -166,11 +166,15 @@ impl MemoryDisk {
         requires piece { piece_length call ≡ length piece.now }
         ensures fails { is_err result
             ≡ (is_call_to_fail self.old || not (has_room self.old (with_piece call piece.now))) }
-        ensures kept { self.new ≡ record self.old { calls = self.new.calls; faults = self.new.faults } }
-        ensures ok { OnOk result (self.new.calls ≡ self.old.calls ++ with_piece call piece.now ∷ []) }
-        ensures reads { OnOk result (bytes_of self.new ≡ after_call (with_piece call piece.now) (bytes_of self.old)) }
+        ensures kept { self.new
+            ≡ record self.old { calls = self.new.calls; faults = self.new.faults } }
+        ensures ok { OnOk result
+            (self.new.calls ≡ self.old.calls ++ with_piece call piece.now ∷ []) }
+        ensures reads { OnOk result
+            (bytes_of self.new ≡ after_call (with_piece call piece.now) (bytes_of self.old)) }
         ensures same { OnErr result (bytes_of self.new ≡ bytes_of self.old) }
-        ensures crash { Goes (Step (with_piece call piece.now)) (disk_of self.old) (disk_of self.new) }
+        ensures crash { Goes (Step (with_piece call piece.now))
+            (disk_of self.old) (disk_of self.new) }
         ensures counts { Counts (is_err result) self.old.faults self.new.faults }
     {
         if !self.has_room(call, piece) {
@@ -188,7 +192,8 @@ impl MemoryDisk {
     fn put(&mut self, call: DiskCall, piece: &[u8])
         requires piece { piece_length call ≡ length piece.now }
         requires room { has_room self.old (with_piece call piece.now) ≡ true }
-        ensures kept { self.new ≡ record self.old { calls = self.old.calls ++ with_piece call piece.now ∷ [] } }
+        ensures kept { self.new
+            ≡ record self.old { calls = self.old.calls ++ with_piece call piece.now ∷ [] } }
     {
         do_call(&mut self.bytes, call, piece);
         append_piece(&mut self.pieces, piece);
@@ -267,7 +272,8 @@ fn length_after(bytes: &[u8], call: DiskCall, piece: &[u8]) -> usize
 
 // What a call does to the bytes. There is memory for it.
 fn do_call(bytes: &mut Vec<u8>, call: DiskCall, piece: &[u8])
-    requires fits { length (after_call (with_piece call piece.now) bytes.old.items) ≤ vec_capacity bytes.old }
+    requires fits { length (after_call (with_piece call piece.now) bytes.old.items)
+        ≤ vec_capacity bytes.old }
     ensures bytes { bytes.new.items ≡ after_call (with_piece call piece.now) bytes.old.items }
     ensures capacity { vec_capacity bytes.old ≤ vec_capacity bytes.new }
 {

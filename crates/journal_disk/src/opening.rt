@@ -36,7 +36,8 @@ pub(crate) fn read_journal<D: Disk>(
     ensures few { IfOk result (λ found. length found.records.entries.items ≤ most_entries) }
     ensures within { IfOk result (λ found.
         found.records.length ≤ most_record * length found.records.entries.items) }
-    ensures counts { OnOk result (Counts false (D.state disk.old).faults (D.state disk.new).faults) }
+    ensures counts { OnOk result
+        (Counts false (D.state disk.old).faults (D.state disk.new).faults) }
     ensures refused { IfErr result (OpenFails digests.now (D.state disk.old) (D.state disk.new)) }
 {
     let text = read_all(alloc, disk)?;
@@ -53,7 +54,8 @@ pub(crate) fn read_old_journal<D: Disk>(
 ) -> Result<Option<Records>, JournalFault>
     ensures stays { Stays (D.state disk.old) (D.state disk.new) }
     ensures durable { OnOk result (IsDurable (D.state disk.old) (D.state disk.new)) }
-    ensures opened { IfOk result (λ found. IfExposed (D.state disk.old) (λ bytes. old_opening_of digests.now bytes
+    ensures opened { IfOk result (λ found. IfExposed (D.state disk.old)
+        (λ bytes. old_opening_of digests.now bytes
         ≡ Ok (option_map (λ records. records.entries.items) found))) }
     ensures whole { IfOk result (λ found. IfSome found (λ records. IfExposed (D.state disk.old)
         (λ bytes. IsOldPart bytes records.entries.items records.length))) }
@@ -61,8 +63,10 @@ pub(crate) fn read_old_journal<D: Disk>(
         IfSome found (λ records. length records.entries.items ≤ most_entries)) }
     ensures within { IfOk result (λ found. IfSome found (λ records.
         records.length ≤ most_record * length records.entries.items)) }
-    ensures counts { OnOk result (Counts false (D.state disk.old).faults (D.state disk.new).faults) }
-    ensures refused { IfErr result (OldOpenFails digests.now (D.state disk.old) (D.state disk.new)) }
+    ensures counts { OnOk result
+        (Counts false (D.state disk.old).faults (D.state disk.new).faults) }
+    ensures refused { IfErr result
+        (OldOpenFails digests.now (D.state disk.old) (D.state disk.new)) }
 {
     let text = read_all(alloc, disk)?;
     let found = read_old_text(alloc, &text, digests)?;
@@ -72,9 +76,11 @@ pub(crate) fn read_old_journal<D: Disk>(
 // Makes what the disk reads as safe from a crash, and gives all its bytes.
 fn read_all<D: Disk>(alloc: Global, disk: &mut D) -> Result<Vec<u8>, JournalFault>
     ensures durable { OnOk result (IsDurable (D.state disk.old) (D.state disk.new)) }
-    ensures bytes { IfOk result (λ read. IfExposed (D.state disk.old) (λ bytes. read.items ≡ bytes)) }
+    ensures bytes { IfOk result
+        (λ read. IfExposed (D.state disk.old) (λ bytes. read.items ≡ bytes)) }
     ensures stays { Stays (D.state disk.old) (D.state disk.new) }
-    ensures counts { OnOk result (Counts false (D.state disk.old).faults (D.state disk.new).faults) }
+    ensures counts { OnOk result
+        (Counts false (D.state disk.old).faults (D.state disk.new).faults) }
     ensures refused { IfErr result (ReadFails (D.state disk.old).faults (D.state disk.new).faults) }
 {
     disk.sync()?;

@@ -32,7 +32,8 @@ pub(crate) fn switch_parts<D: Disk>(
     requires inside { IfExposed (D.state disk.old) (λ bytes. behind_part size ≤ length bytes) }
     ensures continues { Continues (D.state disk.old) (D.state disk.new) }
     ensures crash { IfExposed (D.state disk.old) (λ bytes. IsSafe bytes (D.state disk.old)
-        → EachImageSince (D.state disk.old) (D.state disk.new) (IsSwitching size entries.now bytes)) }
+        → EachImageSince (D.state disk.old) (D.state disk.new)
+        (IsSwitching size entries.now bytes)) }
     ensures switched { OnOk result (IfExposed (D.state disk.old)
         (λ bytes. IsSafe (after_switch size entries.now bytes) (D.state disk.new))) }
     ensures counts { Counts (is_err result) (D.state disk.old).faults (D.state disk.new).faults }
@@ -82,8 +83,10 @@ fn put_record<D: Disk>(disk: &mut D, at: u32, entry: &[u8]) -> Result<(), Failed
     requires inside { IfExposed (D.state disk.old) (λ bytes. at ≤ length bytes) }
     ensures tells { TellsAlike (D.state disk.old) (D.state disk.new) }
     ensures crash { Goes (KeepsTo at) (D.state disk.old) (D.state disk.new) }
-    ensures put { OnOk result ((D.state disk.new).contents
-        ≡ option_map (with_piece_at at (open_gate ∷ with_length entry.now)) (D.state disk.old).contents) }
+    ensures put { OnOk result
+        ((D.state disk.new).contents
+        ≡ option_map (with_piece_at at (open_gate ∷ with_length entry.now))
+        (D.state disk.old).contents) }
     ensures counts { Counts (is_err result) (D.state disk.old).faults (D.state disk.new).faults }
 {
     let mut piece = [OPEN; MAX_RECORD];

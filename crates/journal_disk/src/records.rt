@@ -36,7 +36,8 @@ impl From<NotWhole> for JournalFault {
 
 /// The entries from a gate on.
 pub(crate) fn read_records(alloc: Global, text: &[u8]) -> Result<Records, JournalFault>
-    ensures entries { IfOk result (λ found. entries_from most_entries text.now ≡ Ok found.entries.items) }
+    ensures entries { IfOk result
+        (λ found. entries_from most_entries text.now ≡ Ok found.entries.items) }
     ensures whole { IfOk result (λ found. IsReadJournal text.now found.entries.items found.length) }
     ensures refused { IfErr result (RecordFails (entries_from most_entries text.now)) }
 {
@@ -71,7 +72,8 @@ fn next_record(text: &[u8], number: usize) -> Result<Option<(&[u8], &[u8])>, Not
     requires few { number ≤ most_entries }
     ensures next { IfOk result (λ next.
         NextIs number text.now (option_map (λ found. (found.0.now, found.1.now)) next)) }
-    ensures refused { IfErr result (λ bad. entries_from (most_entries - number) text.now ≡ Err bad.number) }
+    ensures refused { IfErr result
+        (λ bad. entries_from (most_entries - number) text.now ≡ Err bad.number) }
 {
     let bad = NotWhole {
         number: number as u32 + 1,
@@ -93,7 +95,8 @@ fn next_record(text: &[u8], number: usize) -> Result<Option<(&[u8], &[u8])>, Not
 
 // The entry after an open gate, and what comes after it, from the next gate on.
 fn behind_gate(bytes: &[u8]) -> Option<(&[u8], &[u8])>
-    ensures value { option_map (λ found. (found.0.now, found.1.now)) result ≡ behind_gate bytes.now }
+    ensures value { option_map (λ found. (found.0.now, found.1.now)) result
+        ≡ behind_gate bytes.now }
 {
     let [low, high, rest @ ..] = bytes else {
         return None;

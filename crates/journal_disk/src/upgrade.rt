@@ -113,7 +113,8 @@ impl<D: Disk> OldJournal<D> {
         ensures switched { OnOk result.0 (IfExposed (D.state self.disk)
             (λ bytes. HasSwitched self.size entries.now bytes (D.state result.1))) }
         ensures fault { IfErr result.0 (λ fault. fault ≡ DiskFault) }
-        ensures counts { Counts (is_err result.0) (D.state self.disk).faults (D.state result.1).faults }
+        ensures counts { Counts (is_err result.0) (D.state self.disk).faults
+            (D.state result.1).faults }
     {
         let mut disk = self.disk;
         match switch_parts(&mut disk, self.size, entries) {
