@@ -12,17 +12,22 @@ use Rattle.turn_board.specs.Views.{after_act, after_count, after_draw, after_end
 
 -- of two calls the later one found no less than the earlier one left
 abbrev pub DoNotOverlap : {Entry : Type 0} → List (Call Entry) → Type 0
-DoNotOverlap {Entry} calls = Every (λ (call : Call Entry). Every (λ (later : Call Entry). call.number < later.number → call.left ≤ later.found) calls) calls
+DoNotOverlap {Entry} calls =
+    Every (λ (call : Call Entry). Every (λ (later : Call Entry). call.number < later.number
+    → call.left ≤ later.found) calls) calls
 
 module _ {Entry Fixed : Type 0} (number : Entry → ℕ) where
   -- a machine that is taken for a ticket: it has all that the seat had seen; the numbers of its
   -- entries, and of an entry at risk, are lower than the ticket; and no count of the seat's calls
   -- is above its own
-  pub record IsMachineTaken (view : View Entry Fixed) (ticket : ℕ) (machine : MachineState Entry Fixed) : Type 0 where
+  pub record IsMachineTaken (view : View Entry Fixed) (ticket : ℕ)
+      (machine : MachineState Entry Fixed) : Type 0 where
     pub extends : Extends number machine.history view.seen view.calls
     pub rises : Rises number 1 ticket machine.history
     pub next : machine.next ≤ ticket
-    pub start : (start : Start Fixed) → view.start ≡ Some start → (machine.fixed ≡ start.fixed) × (start.faults ≤ machine.faults)
+    pub start : (start : Start Fixed)
+        → view.start ≡ Some start
+        → (machine.fixed ≡ start.fixed) × (start.faults ≤ machine.faults)
     pub faults : Every (λ (call : Call Entry). call.left ≤ machine.faults) view.calls
     pub at_risk : IfSome machine.at_risk (λ entry. number entry < ticket)
 
@@ -35,7 +40,12 @@ module _ {M Entry Fixed : Type 0} where
   -- another number
   abbrev pub DrawsNumber : Step (Option M) → Mine M Entry Fixed → ℕ → Mine M Entry Fixed → Type 0
   DrawsNumber step before found after = (found ≡ call_end → after ≡ (run_out before.0, before.1))
-      × (found ≢ call_end → found ≡ step.first → (found < call_end) × (after ≡ (after_draw found before.0, before.1)) × AreBelow found before.0.calls × (before.0.exhausted ≡ false))
+      × (found ≢ call_end
+      → found ≡ step.first
+      → (found < call_end)
+      × (after ≡ (after_draw found before.0, before.1))
+      × AreBelow found before.0.calls
+      × (before.0.exhausted ≡ false))
       × (found ≢ call_end → found ≢ step.first → after ≡ before)
 
   -- an entry is counted
@@ -58,14 +68,21 @@ module _ {M Entry Fixed : Type 0} where
 
     -- a look finds the seat's own number, and it takes the machine; or another one, and nothing
     -- changes
-    abbrev pub Takes : (Entry → ℕ) → Step (Option M) → Mine M Entry Fixed → ℕ → Mine M Entry Fixed → Type 0
+    abbrev pub Takes : (Entry → ℕ) → Step (Option M) → Mine M Entry Fixed → ℕ → Mine M Entry Fixed
+        → Type 0
     Takes number step before found after =
-        (found ≡ before.0.number → (machine : M) × (after.0 ≡ after_take (state machine) before.0) × (after.1 ≡ (0, Some machine) ∷ before.1) × IsMachineTaken number before.0 found (state machine))
+        (found ≡ before.0.number
+        → (machine : M)
+        × (after.0 ≡ after_take (state machine) before.0)
+        × (after.1 ≡ (0, Some machine) ∷ before.1)
+        × IsMachineTaken number before.0 found (state machine))
         × (found ≢ before.0.number → after ≡ before)
 
   -- a look after a meeting: the longer history goes on from the shorter one, no number was called
   -- twice, and the counts of the calls do not overlap
-  abbrev pub LooksAfterMeeting : (Entry → ℕ) → Step (Option M) → Mine M Entry Fixed → ℕ → Mine M Entry Fixed → Type 0
+  abbrev pub LooksAfterMeeting : (Entry → ℕ) → Step (Option M) → Mine M Entry Fixed → ℕ
+      → Mine M Entry Fixed → Type 0
   LooksAfterMeeting number step before found after = (after ≡ (after_look before.0, before.1))
-      × (length before.0.told ≤ length before.0.seen → Extends number before.0.seen before.0.told before.0.late)
+      × (length before.0.told ≤ length before.0.seen
+      → Extends number before.0.seen before.0.told before.0.late)
       × ((call : ℕ) → times call before.0.calls ≤ 1) × DoNotOverlap before.0.calls

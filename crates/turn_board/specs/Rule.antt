@@ -23,14 +23,16 @@ pub record TurnState (Entry : Type 0) : Type 0 where
 module _ {Entry : Type 0} (number : Entry → ℕ) where
   -- the last entry has the number of this call
   abbrev pub LastEntryIs : ℕ → List Entry → Type 0
-  LastEntryIs call history = (front : List Entry) × (last : Entry) × (history ≡ front ++ last ∷ []) × (number last ≡ call)
+  LastEntryIs call history =
+      (front : List Entry) × (last : Entry) × (history ≡ front ++ last ∷ []) × (number last ≡ call)
 
   -- a history goes on from what was seen, and each entry that was not seen has a number above those
   -- of these calls
   pub record Extends (history seen : List Entry) (calls : List (Call Entry)) : Type 0 where
     pub rest : List Entry
     pub is : history ≡ seen ++ rest
-    pub later : Every (λ (call : Call Entry). Every (λ entry. call.number < number entry) rest) calls
+    pub later : Every (λ (call : Call Entry). Every (λ entry. call.number < number entry) rest)
+        calls
 
   -- an entry that the call in flight put at risk
   abbrev pub IsNewAtRisk : {Fixed : Type 0} → View Entry Fixed → Entry → Type 0
@@ -38,7 +40,8 @@ module _ {Entry : Type 0} (number : Entry → ℕ) where
 
 -- a machine at home has the longest history, its next call is served or waited for, and its fixed
 -- part is that of the origin
-pub record IsHome {Entry Fixed : Type 0} (origin : MachineState Entry Fixed) (serving : ℕ) (longest : List Entry) (machine : MachineState Entry Fixed) : Type 0 where
+pub record IsHome {Entry Fixed : Type 0} (origin : MachineState Entry Fixed) (serving : ℕ)
+    (longest : List Entry) (machine : MachineState Entry Fixed) : Type 0 where
   pub history : machine.history ≡ longest
   pub next : machine.next ≤ serving
   pub fixed : machine.fixed ≡ origin.fixed
@@ -48,31 +51,43 @@ module _ {M Entry Fixed : Type 0} where
   abbrev pub IsOut : List (maybe.Option (Option M)) → List (View Entry Fixed) → Type 0
   IsOut homes views = (homes ≡ none ∷ []) × (total turn_of views ≡ 1)
 
-module _ {M Entry Fixed : Type 0} (state : M → MachineState Entry Fixed) (origin : MachineState Entry Fixed) where
+module _ {M Entry Fixed : Type 0} (state : M → MachineState Entry Fixed)
+    (origin : MachineState Entry Fixed) where
   -- the machine is in its slot, and no seat has its turn
-  abbrev pub AtHome : ℕ → List Entry → List (maybe.Option (Option M)) → List (View Entry Fixed) → Type 0
+  abbrev pub AtHome : ℕ → List Entry → List (maybe.Option (Option M)) → List (View Entry Fixed)
+      → Type 0
   AtHome serving longest homes views =
-      (machine : M) × (homes ≡ some (Some machine) ∷ []) × (total turn_of views ≡ 0) × IsHome origin serving longest (state machine)
+      (machine : M)
+      × (homes ≡ some (Some machine) ∷ [])
+      × (total turn_of views ≡ 0)
+      × IsHome origin serving longest (state machine)
 
   -- what the ended calls found and left: along their numbers no count falls, none is below the
   -- first one, and none is above that of the machine at home
-  pub record AreFaults (serving : ℕ) (homes : List (maybe.Option (Option M))) (views : List (View Entry Fixed)) : Type 0 where
+  pub record AreFaults (serving : ℕ) (homes : List (maybe.Option (Option M)))
+      (views : List (View Entry Fixed)) : Type 0 where
     pub found : ℕ → ℕ
     pub left : ℕ → ℕ
     pub top : ℕ
     pub least : origin.faults ≤ top
-    pub each : (call : ℕ) → call < serving → (origin.faults ≤ found call) × (found call ≤ left call) × (left call ≤ top)
+    pub each : (call : ℕ)
+        → call < serving
+        → (origin.faults ≤ found call) × (found call ≤ left call) × (left call ≤ top)
     pub order : (call later : ℕ) → call < later → later < serving → left call ≤ found later
     pub calls : (seat : ℕ) (view : View Entry Fixed) → get_elem? views seat ≡ some view
-        → Every (λ (call : Call Entry). (call.number < serving) × (call.found ≡ found call.number) × (call.left ≡ left call.number)) view.calls
+        → Every (λ (call : Call Entry). (call.number < serving)
+        × (call.found ≡ found call.number)
+        × (call.left ≡ left call.number)) view.calls
     pub turn : (seat : ℕ) (view : View Entry Fixed) → get_elem? views seat ≡ some view
-        → (0 < has_turn view.stage → top ≤ view.found) × (0 < has_acted view.stage → view.found ≤ view.left)
+        → (0 < has_turn view.stage → top ≤ view.found)
+        × (0 < has_acted view.stage → view.found ≤ view.left)
     pub home : (machine : M) → homes ≡ some (Some machine) ∷ [] → top ≤ (state machine).faults
 
 module _ {Entry Fixed : Type 0} (number : Entry → ℕ) (origin : MachineState Entry Fixed) where
   -- an entry at risk after a history: it has the number of an ended call, which left it as the
   -- calls after it did, and each entry of the history has a lower number
-  pub record IsAtRisk (left : ℕ → Option Entry) (serving : ℕ) (history : List Entry) (entry : Entry) : Type 0 where
+  pub record IsAtRisk (left : ℕ → Option Entry) (serving : ℕ) (history : List Entry)
+      (entry : Entry) : Type 0 where
     pub from : origin.next ≤ number entry
     pub ended : number entry < serving
     pub stays : (call : ℕ) → number entry ≤ call → call < serving → left call ≡ Some entry
@@ -80,7 +95,8 @@ module _ {Entry Fixed : Type 0} (number : Entry → ℕ) (origin : MachineState 
 
   -- what is known of one seat, if these are the next ticket, the ticket that is served, and the
   -- longest history
-  pub record HoldsForSeat (ticket serving : ℕ) (longest : List Entry) (view : View Entry Fixed) : Type 0 where
+  pub record HoldsForSeat (ticket serving : ℕ) (longest : List Entry)
+      (view : View Entry Fixed) : Type 0 where
     pub start : 0 < view.share → view.start ≡ Some (start_of origin)
     pub seen : Extends number longest view.seen view.calls
     pub told : Extends number longest view.told view.late
@@ -92,16 +108,24 @@ module _ {Entry Fixed : Type 0} (number : Entry → ℕ) (origin : MachineState 
     pub note : view.exhausted ≡ true → ticket ≡ call_end
     pub spent : view.share ≡ 0 → (view.stage ≡ Idle) × (view.calls ≡ [])
 
-module _ {M Entry Fixed : Type 0} (number : Entry → ℕ) (state : M → MachineState Entry Fixed) (origin : MachineState Entry Fixed) where
+module _ {M Entry Fixed : Type 0} (number : Entry → ℕ) (state : M → MachineState Entry Fixed)
+    (origin : MachineState Entry Fixed) where
   -- what the ended calls left at risk, what a seat that has its turn knows at risk, and what a
   -- machine at home has at risk
-  pub record AreRisks (serving : ℕ) (homes : List (maybe.Option (Option M))) (views : List (View Entry Fixed)) : Type 0 where
+  pub record AreRisks (serving : ℕ) (homes : List (maybe.Option (Option M)))
+      (views : List (View Entry Fixed)) : Type 0 where
     pub left : ℕ → Option Entry
     pub calls : (seat : ℕ) (view : View Entry Fixed) → get_elem? views seat ≡ some view
-        → Every (λ (call : Call Entry). (call.number < serving) × (call.at_risk ≡ left call.number)) view.calls
+        → Every (λ (call : Call Entry). (call.number < serving) × (call.at_risk ≡ left call.number))
+        view.calls
     pub turn : (seat : ℕ) (view : View Entry Fixed) → get_elem? views seat ≡ some view
-        → 0 < has_turn view.stage → IfSome view.at_risk (λ entry. IsNewAtRisk number view entry ⊎ IsAtRisk number origin left serving view.seen entry)
-    pub home : (machine : M) → homes ≡ some (Some machine) ∷ [] → IfSome (state machine).at_risk (IsAtRisk number origin left serving (state machine).history)
+        → 0 < has_turn view.stage
+        → IfSome view.at_risk (λ entry. IsNewAtRisk number view entry
+        ⊎ IsAtRisk number origin left serving view.seen entry)
+    pub home : (machine : M)
+        → homes ≡ some (Some machine) ∷ []
+        → IfSome (state machine).at_risk
+        (IsAtRisk number origin left serving (state machine).history)
 
   -- order: the tickets that were drawn
   -- flights: each number from the one served up to the next ticket is in flight once, and no other
@@ -113,17 +137,24 @@ module _ {M Entry Fixed : Type 0} (number : Entry → ℕ) (state : M → Machin
   -- shares: all shares are with seats
   -- slot, seats, longest: where the machine is, what is known of each seat, and that one seat has
   -- seen the longest history
-  pub record Facts (standing : TurnState Entry) (homes : List (maybe.Option (Option M))) (views : List (View Entry Fixed)) : Type 0 where
+  pub record Facts (standing : TurnState Entry) (homes : List (maybe.Option (Option M)))
+      (views : List (View Entry Fixed)) : Type 0 where
     pub order : (standing.serving ≤ standing.ticket) × (standing.ticket ≤ call_end)
-    pub flights : (call : ℕ) → total (in_flight call) views + below call standing.serving ≡ below call standing.ticket
-    pub calls : (call : ℕ) → total (count_of_call call) views + below call origin.next ≡ below call standing.serving
+    pub flights : (call : ℕ)
+        → total (in_flight call) views + below call standing.serving ≡ below call standing.ticket
+    pub calls : (call : ℕ)
+        → total (count_of_call call) views + below call origin.next ≡ below call standing.serving
     pub counted : standing.count + total owes_of views ≡ length standing.longest
     pub rises : Rises number 1 (standing.serving + total acted_count views) standing.longest
     pub shares : total share_of views ≡ all_shares
     pub slot : AtHome state origin standing.serving standing.longest homes views ⊎ IsOut homes views
     pub seats : (seat : ℕ) (view : View Entry Fixed) → get_elem? views seat ≡ some view
         → HoldsForSeat number origin standing.ticket standing.serving standing.longest view
-    pub longest : (seat : ℕ) × (view : View Entry Fixed) × (get_elem? views seat ≡ some view) × (view.seen ≡ standing.longest) × (0 < view.share)
+    pub longest : (seat : ℕ)
+        × (view : View Entry Fixed)
+        × (get_elem? views seat ≡ some view)
+        × (view.seen ≡ standing.longest)
+        × (0 < view.share)
 
   -- the rule of a table whose board was made with a machine in the state `origin`
   pub record TurnRule (table : State (Option M) (View Entry Fixed)) : Type 0 where

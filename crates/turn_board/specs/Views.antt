@@ -102,7 +102,12 @@ module _ {Entry Fixed : Type 0} where
 
   -- the machine was taken as it was found
   abbrev pub after_take : MachineState Entry Fixed → View Entry Fixed → View Entry Fixed
-  after_take found view = record view { stage = Turn; seen = found.history; found = found.faults; at_risk = found.at_risk }
+  after_take found view = record view {
+    stage = Turn;
+    seen = found.history;
+    found = found.faults;
+    at_risk = found.at_risk;
+  }
 
   -- the machine acted, and what it left is noted; an entry that it added is owed to the count
   abbrev pub after_act : MachineState Entry Fixed → View Entry Fixed → View Entry Fixed
@@ -123,7 +128,14 @@ module _ {Entry Fixed : Type 0} where
   after_end view = record view {
     stage = Idle;
     owes = 0;
-    calls = view.calls ++ record { number = view.number; found = view.found; left = view.left; at_risk = view.at_risk } ∷ [];
+    calls =
+        view.calls
+        ++ record {
+          number = view.number;
+          found = view.found;
+          left = view.left;
+          at_risk = view.at_risk;
+        } ∷ [];
   }
 
   -- a seat whose share is one less

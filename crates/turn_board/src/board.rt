@@ -32,7 +32,9 @@ impl<M: Machine> Model for Seat<M> {
 
     ghost view = { λ s. seat_of s.place.table_id s.place.me.0 };
 
-    ghost invariant = { λ s. (s.place.me.1 ≡ []) × (s.place.me.0.stage ≡ Idle) × (0 < s.place.me.0.share) };
+    ghost invariant = { λ s. (s.place.me.1 ≡ [])
+        × (s.place.me.0.stage ≡ Idle)
+        × (0 < s.place.me.0.share) };
 }
 
 /// A machine that seats ask in turns, from any thread.
@@ -48,7 +50,10 @@ impl<M: Machine> Model for TurnBoard<M> {
 
     ghost Value = { TurnBoardState M.Fixed };
 
-    ghost view = { λ b. record { table = b.table.shared.table_id; start = start_of (M.state b.table.shared.key.value) } };
+    ghost view = { λ b. record {
+      table = b.table.shared.table_id;
+      start = start_of (M.state b.table.shared.key.value);
+    } };
 
     ghost invariant = { λ b. IsTurnTable b.table.shared.table_id };
 }
@@ -106,7 +111,9 @@ impl<M: Machine> TurnBoard<M> {
         ensures share { seat.new.share ≡ seat.old.share }
         ensures spent { result ≡ Spent ↔ (seat.new.exhausted ≡ true) }
         ensures unasked { result ≡ Spent → seat.new ≡ record seat.old { exhausted = true } }
-        ensures answered { result ≢ Spent → GotTurn M.state M.number M.adds M.answers seat.old (record { ask = ask.now; answer = result }) seat.new }
+        ensures answered { result ≢ Spent
+            → GotTurn M.state M.number M.adds M.answers seat.old
+            (record { ask = ask.now; answer = result }) seat.new }
     {
         let table = &self.table.shared;
         let sleepers = &self.sleepers;

@@ -10,5 +10,7 @@ use apron_base::Machine;
 #[tactic(auto, using(crate::proofs::Later::extends_on))]
 pub fn later_histories_go_on_from_earlier_ones<M: Machine>()
     ensures on { (early middle late : List M.Entry) (calls more : List (Call M.Entry))
-        → Extends M.number middle early calls → Extends M.number late middle (calls ++ more) → Extends M.number late early calls }
+        → Extends M.number middle early calls
+        → Extends M.number late middle (calls ++ more)
+        → Extends M.number late early calls }
 {}

@@ -58,8 +58,10 @@ pub(crate) fn draw_number<M: Machine, R: Wait>(
     ensures table { place.new.table_id ≡ place.old.table_id }
     ensures slots { place.new.me.1 ≡ place.old.me.1 }
     ensures none { IfNone result (place.new.me.0 ≡ run_out place.old.me.0) }
-    ensures drawn { IfSome result (λ number. (number < call_end) × (place.new.me.0 ≡ after_draw number place.old.me.0)
-        × AreBelow number place.old.me.0.calls × (place.old.me.0.exhausted ≡ false)) }
+    ensures drawn { IfSome result (λ number. (number < call_end)
+        × (place.new.me.0 ≡ after_draw number place.old.me.0)
+        × AreBelow number place.old.me.0.calls
+        × (place.old.me.0.exhausted ≡ false)) }
 {
     let mut patience = Patience::new();
     for _ in rt.forever() {
@@ -93,7 +95,10 @@ pub(crate) fn take_machine<M: Machine, R: Wait>(
     number: u64,
 ) -> M
     requires table { IsSeatOf table.now.table_id place.old.table_id }
-    requires waits { (place.old.me.0.stage ≡ Waiting) × (0 < place.old.me.0.share) × (place.old.me.0.number ≡ number) × (place.old.me.1 ≡ []) }
+    requires waits { (place.old.me.0.stage ≡ Waiting)
+        × (0 < place.old.me.0.share)
+        × (place.old.me.0.number ≡ number)
+        × (place.old.me.1 ≡ []) }
     ensures table { place.new.table_id ≡ place.old.table_id }
     ensures turn { place.new.me ≡ (after_take (M.state result) place.old.me.0, (0, None) ∷ []) }
     ensures taken { IsMachineTaken M.number place.old.me.0 number (M.state result) }
@@ -118,7 +123,8 @@ fn note_act<M: Machine>(table: &SharedTable<M>, place: &mut SeatHandle<M>, machi
     requires acted { HasActed M.number place.old.me (M.state machine) }
     requires at_risk { HasLeftAtRisk M.number place.old.me (M.state machine) }
     ensures table { place.new.table_id ≡ place.old.table_id }
-    ensures noted { place.new.me ≡ (after_act (M.state machine) place.old.me.0, (0, Some machine) ∷ []) }
+    ensures noted { place.new.me
+        ≡ (after_act (M.state machine) place.old.me.0, (0, Some machine) ∷ []) }
 {
     let left = table.exchange(place, 0, Some(machine));
     let None = left else { unreachable!() };
@@ -128,9 +134,12 @@ fn note_act<M: Machine>(table: &SharedTable<M>, place: &mut SeatHandle<M>, machi
 // Adds to the count if an entry was added.
 fn count_entry<M: Machine>(table: &SharedTable<M>, place: &mut SeatHandle<M>, added: bool)
     requires table { IsSeatOf table.now.table_id place.old.table_id }
-    requires acted { (place.old.me.0.stage ≡ Noted) × (0 < place.old.me.0.share) × (place.old.me.0.owes ≡ cond added 1 0) }
+    requires acted { (place.old.me.0.stage ≡ Noted)
+        × (0 < place.old.me.0.share)
+        × (place.old.me.0.owes ≡ cond added 1 0) }
     ensures table { place.new.table_id ≡ place.old.table_id }
-    ensures counted { place.new.me ≡ (cond added (after_count place.old.me.0) place.old.me.0, place.old.me.1) }
+    ensures counted { place.new.me
+        ≡ (cond added (after_count place.old.me.0) place.old.me.0, place.old.me.1) }
 {
     if added {
         table.fetch_add::<CountStep>(place, COUNT, 1);
@@ -160,9 +169,12 @@ pub(crate) fn finish_call<M: Machine>(
     requires table { IsSeatOf table.now.table_id place.old.table_id }
     requires acted { HasActed M.number place.old.me (M.state machine) }
     requires at_risk { HasLeftAtRisk M.number place.old.me (M.state machine) }
-    requires added { length (M.state machine).history ≡ length place.old.me.0.seen + cond added 1 0 }
+    requires added { length (M.state machine).history
+        ≡ length place.old.me.0.seen + cond added 1 0 }
     requires next { (M.state machine).next ≡ place.old.me.0.number + 1 }
-    requires start { (start : Start M.Fixed) × (place.old.me.0.start ≡ Some start) × ((M.state machine).fixed ≡ start.fixed) }
+    requires start { (start : Start M.Fixed)
+        × (place.old.me.0.start ≡ Some start)
+        × ((M.state machine).fixed ≡ start.fixed) }
     ensures table { place.new.table_id ≡ place.old.table_id }
     ensures ended { place.new.me ≡ (after_end (after_act (M.state machine) place.old.me.0), []) }
 {
