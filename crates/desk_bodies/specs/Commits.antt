@@ -32,20 +32,26 @@ json_part_number d = number_at (codes "part") max_u8 d
 -- {"visit":N,"part":P,"stand":STAND}
 abbrev pub json_put : Data → Option EditSaid
 json_put d =
-    option_and_then (λ visit. option_and_then (λ part. option_map (put visit part) (text_at (codes "stand") d)) (json_part_number d)) (json_visit_number d)
+    option_and_then (λ visit. option_and_then
+    (λ part. option_map (put visit part) (text_at (codes "stand") d)) (json_part_number d))
+    (json_visit_number d)
 
 -- {"visit":N,"part":P}
 abbrev pub json_lift : Data → Option EditSaid
-json_lift d = option_and_then (λ visit. option_map (lift visit) (json_part_number d)) (json_visit_number d)
+json_lift d =
+    option_and_then (λ visit. option_map (lift visit) (json_part_number d)) (json_visit_number d)
 
 -- {"visit":N,"part":P,"at":M}
 abbrev pub json_cut : Data → Option EditSaid
 json_cut d =
-    option_and_then (λ visit. option_and_then (λ part. option_map (cut visit part) (number_at (codes "at") max_u32 d)) (json_part_number d)) (json_visit_number d)
+    option_and_then (λ visit. option_and_then
+    (λ part. option_map (cut visit part) (number_at (codes "at") max_u32 d)) (json_part_number d))
+    (json_visit_number d)
 
 -- {"visit":N,"part":P}
 abbrev pub json_join : Data → Option EditSaid
-json_join d = option_and_then (λ visit. option_map (join visit) (json_part_number d)) (json_visit_number d)
+json_join d =
+    option_and_then (λ visit. option_map (join visit) (json_part_number d)) (json_visit_number d)
 
 -- the edit if exactly one of the four keys is there, whatever the value of the others would be
 abbrev pub only_edit : Option Data → Option Data → Option Data → Option Data → Option EditSaid
@@ -57,16 +63,20 @@ only_edit putting lifting cutting joining = None
 
 -- {"put":..}, {"lift":..}, {"cut":..} or {"join":..}
 unfoldable pub json_edit : Data → Option EditSaid
-json_edit d = only_edit (get (codes "put") d) (get (codes "lift") d) (get (codes "cut") d) (get (codes "join") d)
+json_edit d =
+    only_edit (get (codes "put") d) (get (codes "lift") d) (get (codes "cut") d)
+    (get (codes "join") d)
 
 -- the edits in order
 abbrev pub json_edits : Items → Option (List EditSaid)
 json_edits no_items = Some []
-json_edits (item d ds) = option_and_then (λ e. option_map (λ es. e ∷ es) (json_edits ds)) (json_edit d)
+json_edits (item d ds) =
+    option_and_then (λ e. option_map (λ es. e ∷ es) (json_edits ds)) (json_edit d)
 
 -- 1 to 64 edits
 unfoldable pub edits_within : Items → Option (List EditSaid)
-edits_within ds = if nat_le 1 (items_len ds) && nat_le (items_len ds) most_edits then json_edits ds else None
+edits_within ds =
+    if nat_le 1 (items_len ds) && nat_le (items_len ds) most_edits then json_edits ds else None
 
 -- the text, if it is a name
 abbrev pub if_name : List ℕ → Option (List ℕ)

@@ -15,7 +15,12 @@ edit_shown (Join visit part) = join visit part
 
 -- a commit
 abbrev pub commit_shown : CommitText → CommitSaid
-commit_shown c = record { desk = c.desk; draft = c.draft; base = c.base; edits = map edit_shown c.edits }
+commit_shown c = record {
+  desk = c.desk;
+  draft = c.draft;
+  base = c.base;
+  edits = map edit_shown c.edits;
+}
 
 -- 1 to 64 edits
 abbrev pub HasFewEdits : List EditText → Type 0

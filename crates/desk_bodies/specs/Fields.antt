@@ -24,7 +24,8 @@ at_most most n = if nat_le n most then Some n else None
 
 -- the whole number under a key, written without sign, fraction and exponent, if it is at most that
 abbrev pub number_at : List ℕ → ℕ → Data → Option ℕ
-number_at key most d = option_and_then (at_most most) (option_and_then as_u64 (option_and_then as_number (get key d)))
+number_at key most d =
+    option_and_then (at_most most) (option_and_then as_u64 (option_and_then as_number (get key d)))
 
 -- the text under a key
 abbrev pub text_at : List ℕ → Data → Option (List ℕ)

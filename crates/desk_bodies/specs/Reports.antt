@@ -22,7 +22,8 @@ minute_at d = number_at (codes "minute") max_u32 d
 -- {"part":P,"stand":STAND,"minute":M}
 abbrev pub json_on : Data → Option EventSaid
 json_on d =
-    option_and_then (λ part. option_and_then (λ stand. option_map (on part stand) (minute_at d)) (text_at (codes "stand") d)) (json_part_number d)
+    option_and_then (λ part. option_and_then (λ stand. option_map (on part stand) (minute_at d))
+    (text_at (codes "stand") d)) (json_part_number d)
 
 -- {"minute":M}
 abbrev pub json_off : Data → Option EventSaid
@@ -37,7 +38,8 @@ only_event coming leaving = None
 -- {"visit":N,"on":..} or {"visit":N,"off":..}
 unfoldable pub json_report : Data → Option ReportSaid
 json_report d =
-    option_and_then (λ visit. option_map (λ event. record { visit = visit; event = event }) (only_event (get (codes "on") d) (get (codes "off") d))) (json_visit_number d)
+    option_and_then (λ visit. option_map (λ event. record { visit = visit; event = event })
+    (only_event (get (codes "on") d) (get (codes "off") d))) (json_visit_number d)
 
 -- the report of a body
 abbrev pub body_report : List ℕ → Option ReportSaid

@@ -21,7 +21,8 @@ pub record VisitSaid : Type 0 where
 -- {"flight":FLIGHT,"day":D}
 abbrev pub json_key : Data → Option Key
 json_key d =
-    option_and_then (λ flight. option_map (λ day. record { flight = flight; day = day }) (number_at (codes "day") max_u8 d))
+    option_and_then (λ flight. option_map (λ day. record { flight = flight; day = day })
+    (number_at (codes "day") max_u8 d))
     (option_and_then flight_of (text_at (codes "flight") d))
 
 -- a key, or none if it is null or missing
@@ -43,7 +44,15 @@ json_visit d =
     option_and_then (λ on.
     option_and_then (λ off.
     option_and_then (λ arr.
-    option_map (λ dep. record { name = name; kind = kind; class = class; on = on; off = off; arr = arr; dep = dep })
+    option_map (λ dep. record {
+      name = name;
+      kind = kind;
+      class = class;
+      on = on;
+      off = off;
+      arr = arr;
+      dep = dep;
+    })
     (json_key_at (codes "dep") d))
     (json_key_at (codes "arr") d))
     (number_at (codes "off") max_u32 d))
