@@ -24,7 +24,8 @@ clash_on airport day slot other = clash_within airport slot (day_start day) day_
 -- the alarm of two actual parts, the first of which is the smaller: their clash on the day, if they
 -- clash on it
 abbrev pub alarm : AirportParts → ℕ → Slot → Slot → Option Clash
-alarm airport day slot other = if are_actual slot other then clash_on airport day slot other else None
+alarm airport day slot other =
+    if are_actual slot other then clash_on airport day slot other else None
 
 -- an actual part is held at some minute of the day
 abbrev pub is_actual_on : ℕ → Slot → Bool
@@ -36,7 +37,8 @@ is_in_order clash = is_smaller clash.a clash.b
 
 -- what orders the alarms: the minute, and the two parts
 abbrev pub alarm_order : Clash → List ℕ
-alarm_order clash = clash.minute ∷ clash.a.visit.0 ∷ clash.a.part ∷ clash.b.visit.0 ∷ clash.b.part ∷ []
+alarm_order clash =
+    clash.minute ∷ clash.a.visit.0 ∷ clash.a.part ∷ clash.b.visit.0 ∷ clash.b.part ∷ []
 
 -- the alarms of a slot with any of these
 abbrev pub alarms_with : AirportParts → ℕ → List Slot → Slot → List Clash
@@ -52,4 +54,5 @@ alarm_head clash = time_text clash.minute ++ codes " " ++ part_text clash.a ++ c
 
 -- TIME PART PART RULE
 abbrev pub alarm_line : Clash → List ℕ
-alarm_line clash = alarm_head clash ++ part_text clash.b ++ codes " " ++ rule_word clash.rule ++ codes "\n"
+alarm_line clash =
+    alarm_head clash ++ part_text clash.b ++ codes " " ++ rule_word clash.rule ++ codes "\n"

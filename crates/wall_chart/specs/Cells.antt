@@ -31,7 +31,8 @@ holds_in_fact stand minutes slot = is_on stand slot && slot.actual && is_held_at
 
 -- a planned part does
 abbrev pub holds_by_plan : StandNo → List ℕ → Slot → Bool
-holds_by_plan stand minutes slot = is_on stand slot && not slot.actual && is_held_at_some minutes slot
+holds_by_plan stand minutes slot =
+    is_on stand slot && not slot.actual && is_held_at_some minutes slot
 
 -- a hash: an actual part holds the stand
 abbrev pub actual_mark : ℕ
@@ -53,8 +54,10 @@ cell slots stand minutes =
 
 -- the cells of a stand, a quarter of an hour each
 abbrev pub cells : List Slot → ℕ → StandNo → List ℕ
-cells slots day stand = map (λ quarter. cell slots stand (quarter_minutes day quarter)) (range_with_len 0 cells_of_day)
+cells slots day stand =
+    map (λ quarter. cell slots stand (quarter_minutes day quarter)) (range_with_len 0 cells_of_day)
 
 -- the name of a stand and its cells
 abbrev pub stand_line : AirportParts → List Slot → ℕ → StandNo → List ℕ
-stand_line airport slots day stand = stand_text airport stand ++ codes " " ++ cells slots day stand ++ codes "\n"
+stand_line airport slots day stand =
+    stand_text airport stand ++ codes " " ++ cells slots day stand ++ codes "\n"

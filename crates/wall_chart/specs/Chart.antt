@@ -14,23 +14,28 @@ use Rattle.wall_chart.specs.Unplaced.{unplaced_line, unplaced_on}
 
 -- STAND CHART STATION DATE
 abbrev pub title_text : AirportParts → ℕ → List ℕ
-title_text airport day = codes "STAND CHART " ++ airport.station ++ codes " " ++ plan_date_text airport day
+title_text airport day =
+    codes "STAND CHART " ++ airport.station ++ codes " " ++ plan_date_text airport day
 
 -- the title, and VERSION N
 abbrev pub chart_first_line : AirportParts → ℕ → ℕ → List ℕ
-chart_first_line airport version day = title_text airport day ++ codes " VERSION " ++ decimal version ++ codes "\n"
+chart_first_line airport version day =
+    title_text airport day ++ codes " VERSION " ++ decimal version ++ codes "\n"
 
 -- a line for each stand, in order
 abbrev pub stand_lines : AirportParts → List Slot → ℕ → List ℕ
-stand_lines airport slots day = flat_map (stand_line airport slots day) (first_stands (length airport.stands))
+stand_lines airport slots day =
+    flat_map (stand_line airport slots day) (first_stands (length airport.stands))
 
 -- a line for each part that holds its stand on the day
 abbrev pub part_lines : AirportParts → PlanState → ℕ → List ℕ
-part_lines airport plan day = codes "PARTS\n" ++ flat_map (part_line airport plan.visits) (parts_of_day plan day)
+part_lines airport plan day =
+    codes "PARTS\n" ++ flat_map (part_line airport plan.visits) (parts_of_day plan day)
 
 -- a line for each part that waits for a stand on the day
 abbrev pub unplaced_lines : AirportParts → PlanState → ℕ → List ℕ
-unplaced_lines airport plan day = codes "UNPLACED\n" ++ flat_map (unplaced_line airport plan.visits) (unplaced_on plan day)
+unplaced_lines airport plan day =
+    codes "UNPLACED\n" ++ flat_map (unplaced_line airport plan.visits) (unplaced_on plan day)
 
 -- a line for each two actual parts that clash on the day
 abbrev pub alarm_lines : AirportParts → List Slot → ℕ → List ℕ

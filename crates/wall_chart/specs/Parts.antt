@@ -17,7 +17,8 @@ stand_number (Some stand) = stand.0
 
 -- what orders the parts: the stand, the first minute, the visit and the part
 abbrev pub part_order : PartRow → List ℕ
-part_order row = stand_number (stand_of row.part.place) ∷ row.part.from ∷ row.id.visit.0 ∷ row.id.part ∷ []
+part_order row =
+    stand_number (stand_of row.part.place) ∷ row.part.from ∷ row.id.visit.0 ∷ row.id.part ∷ []
 
 -- the name of a part's stand, filled up
 abbrev pub place_text : AirportParts → Option StandNo → List ℕ
@@ -31,7 +32,8 @@ fact_text actual = if actual then codes "actual" else codes "planned"
 -- STAND PART TYPE FROM-TO, and whether it is there in fact
 abbrev pub part_line : AirportParts → List Visit → PartRow → List ℕ
 part_line airport visits row =
-    place_text airport (stand_of row.part.place) ++ codes " " ++ row_text airport visits row ++ codes " " ++ fact_text (is_actual row.part.place) ++ codes "\n"
+    place_text airport (stand_of row.part.place) ++ codes " " ++ row_text airport visits row
+    ++ codes " " ++ fact_text (is_actual row.part.place) ++ codes "\n"
 
 -- the parts that hold their stand at a minute of the day, in order of stand, first minute, visit
 -- and part

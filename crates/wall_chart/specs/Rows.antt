@@ -25,12 +25,14 @@ name_or_none (Some name) = name
 
 -- the name of a stand, filled up
 abbrev pub stand_text : AirportParts → StandNo → List ℕ
-stand_text airport stand = filled_up (name_or_none (option_map (λ row. row.name) (stand_at airport stand)))
+stand_text airport stand =
+    filled_up (name_or_none (option_map (λ row. row.name) (stand_at airport stand)))
 
 -- the name of the type of the visit of this number
 abbrev pub type_text : AirportParts → List Visit → VisitNo → List ℕ
 type_text airport visits number =
-    name_or_none (option_map (λ row. row.name) (option_and_then (λ visit. type_at airport visit.kind) (visit_at visits number)))
+    name_or_none (option_map (λ row. row.name)
+    (option_and_then (λ visit. type_at airport visit.kind) (visit_at visits number)))
 
 -- VISIT.PART
 abbrev pub part_text : PartId → List ℕ
@@ -39,4 +41,5 @@ part_text part = decimal part.visit.0 ++ codes "." ++ decimal part.part
 -- PART TYPE FROM-TO
 abbrev pub row_text : AirportParts → List Visit → PartRow → List ℕ
 row_text airport visits row =
-    part_text row.id ++ codes " " ++ type_text airport visits row.id.visit ++ codes " " ++ span_text row.part.from row.part.to
+    part_text row.id ++ codes " " ++ type_text airport visits row.id.visit ++ codes " "
+    ++ span_text row.part.from row.part.to

@@ -11,7 +11,8 @@ hour_and_minute minute = two_text (minute / 60) ++ two_text (minute % 60)
 
 -- DAY/HHMM; day 1 is the plan's first
 abbrev pub time_text : ℕ → List ℕ
-time_text minute = decimal (minute / day_length + 1) ++ codes "/" ++ hour_and_minute (minute % day_length)
+time_text minute =
+    decimal (minute / day_length + 1) ++ codes "/" ++ hour_and_minute (minute % day_length)
 
 -- FROM-TO
 abbrev pub span_text : ℕ → ℕ → List ℕ
@@ -19,7 +20,8 @@ span_text from to = time_text from ++ codes "-" ++ time_text to
 
 -- YYYY-MM-DD
 abbrev pub ymd_text : Ymd → List ℕ
-ymd_text (year, month, day) = decimal year ++ codes "-" ++ two_text month ++ codes "-" ++ two_text day
+ymd_text (year, month, day) =
+    decimal year ++ codes "-" ++ two_text month ++ codes "-" ++ two_text day
 
 -- the date of a day of the airport's plan
 abbrev pub plan_date_text : AirportParts → ℕ → List ℕ

@@ -21,11 +21,13 @@ unplaced_on plan day = filter (is_of_day day) (unplaced_parts plan)
 
 -- what took the stand, and in which entry
 abbrev pub blocker_text : Bump → List ℕ
-blocker_text bump = codes " bumped by " ++ part_text bump.blocker ++ codes " in entry " ++ decimal bump.entry
+blocker_text bump =
+    codes " bumped by " ++ part_text bump.blocker ++ codes " in entry " ++ decimal bump.entry
 
 -- the same, with the minute and the rule of the clash
 abbrev pub bump_text : Bump → List ℕ
-bump_text bump = blocker_text bump ++ codes " at " ++ time_text bump.minute ++ codes " " ++ rule_word bump.rule
+bump_text bump =
+    blocker_text bump ++ codes " at " ++ time_text bump.minute ++ codes " " ++ rule_word bump.rule
 
 -- what took the stand of a part, if something did
 abbrev pub place_bump_text : Place → List ℕ
@@ -34,4 +36,5 @@ place_bump_text place = []
 
 -- PART TYPE FROM-TO, and what took its stand
 abbrev pub unplaced_line : AirportParts → List Visit → PartRow → List ℕ
-unplaced_line airport visits row = row_text airport visits row ++ place_bump_text row.part.place ++ codes "\n"
+unplaced_line airport visits row =
+    row_text airport visits row ++ place_bump_text row.part.place ++ codes "\n"

@@ -44,8 +44,10 @@ pub(crate) fn push_alarm_lines<L: Ledger>(
     requires airport { airport.now ≡ plan.now.plan.airport }
     requires first { 1 ≤ day }
     requires last { day ≤ MAX_DAYS }
-    ensures text { OnOk result (text.new.items
-        ≡ text.old.items ++ alarm_lines airport.now (slots_of airport.now plan.now.plan.visits) day) }
+    ensures text { OnOk result
+        (text.new.items
+        ≡ text.old.items
+        ++ alarm_lines airport.now (slots_of airport.now plan.now.plan.visits) day) }
 {
     text.extend_from_slice(b"ALARMS\n")?;
     let found = alarms(alloc, airport, plan, day, steps)?;
@@ -83,7 +85,8 @@ fn set_head(head: &mut Vec<u8>, last: Option<&Alarm>, alarm: &Alarm) -> Result<(
 }
 
 fn push_head(text: &mut Vec<u8>, alarm: &Alarm) -> Result<(), Memory>
-    ensures text { OnOk result (text.new.items ≡ text.old.items ++ alarm_head (clash_of alarm.now)) }
+    ensures text { OnOk result
+        (text.new.items ≡ text.old.items ++ alarm_head (clash_of alarm.now)) }
 {
     push_time(text, alarm.minute)?;
     text.push(b' ')?;
@@ -166,8 +169,10 @@ fn push_alarms_with<L: Ledger>(
     requires actual { slot.now.actual ≡ true }
     requires first { 1 ≤ day }
     requires last { day ≤ MAX_DAYS }
-    ensures ok { OnOk result (map clash_of found.new.items
-        ≡ map clash_of found.old.items ++ alarms_with airport.now day (slots_of airport.now plan.now.plan.visits) slot.now) }
+    ensures ok { OnOk result
+        (map clash_of found.new.items
+        ≡ map clash_of found.old.items
+        ++ alarms_with airport.now day (slots_of airport.now plan.now.plan.visits) slot.now) }
 {
     let start = day_start(day);
     let end = start + DAY_LENGTH;
@@ -187,7 +192,8 @@ fn push_in_order(found: &mut Vec<Alarm>, clashes: &[Clash]) -> Result<(), Memory
 }
 
 fn push_if_in_order(found: &mut Vec<Alarm>, clash: &Clash) -> Result<(), Memory>
-    ensures ok { OnOk result (map clash_of found.new.items ≡ map clash_of found.old.items ++ alarms_in clash.now) }
+    ensures ok { OnOk result
+        (map clash_of found.new.items ≡ map clash_of found.old.items ++ alarms_in clash.now) }
 {
     if is_in_order(clash) {
         found.push(alarm_of(clash))?;

@@ -36,8 +36,10 @@ pub(crate) fn push_stand_lines<L: Ledger>(
     requires stands { length airport.now.stands ≤ MAX_STANDS }
     requires first { 1 ≤ day }
     requires last { day ≤ MAX_DAYS }
-    ensures text { OnOk result (text.new.items
-        ≡ text.old.items ++ stand_lines airport.now (slots_of airport.now plan.now.plan.visits) day) }
+    ensures text { OnOk result
+        (text.new.items
+        ≡ text.old.items
+        ++ stand_lines airport.now (slots_of airport.now plan.now.plan.visits) day) }
 {
     let index = plan.index();
     let start = day_start(day);
@@ -58,7 +60,8 @@ fn push_stand_line(
 ) -> Result<(), Memory>
     requires first { 1 ≤ day }
     requires last { day ≤ MAX_DAYS }
-    ensures text { OnOk result (text.new.items ≡ text.old.items ++ stand_line airport.now slots.now day stand) }
+    ensures text { OnOk result
+        (text.new.items ≡ text.old.items ++ stand_line airport.now slots.now day stand) }
 {
     push_stand(text, airport, stand)?;
     text.push(b' ')?;

@@ -12,7 +12,8 @@ use jiff::civil;
 pub(crate) fn push_date(text: &mut Vec<u8>, first: Date, day: u32) -> Result<(), Memory>
     requires first { IsFirstDay first }
     requires day { day ≤ 28 }
-    ensures text { OnOk result (text.new.items ≡ text.old.items ++ ymd_text (plan_ymd (ymd_of first) day)) }
+    ensures text { OnOk result
+        (text.new.items ≡ text.old.items ++ ymd_text (plan_ymd (ymd_of first) day)) }
 {
     push_ymd(text, plan_date(first, day))
 }

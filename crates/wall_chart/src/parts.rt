@@ -24,7 +24,8 @@ pub(crate) fn push_part_lines(
     requires airport { airport.now ≡ plan.now.plan.airport }
     requires first { 1 ≤ day }
     requires last { day ≤ airport.now.days }
-    ensures text { OnOk result (text.new.items ≡ text.old.items ++ part_lines airport.now plan.now.plan day) }
+    ensures text { OnOk result
+        (text.new.items ≡ text.old.items ++ part_lines airport.now plan.now.plan day) }
 {
     text.extend_from_slice(b"PARTS\n")?;
     let rows = parts_of_day(alloc, airport, plan, day)?;
@@ -65,7 +66,8 @@ pub(crate) fn push_part_line(
     plan: &Plan,
     row: &PartRow,
 ) -> Result<(), Memory>
-    ensures text { OnOk result (text.new.items ≡ text.old.items ++ part_line airport.now plan.now.plan.visits row.now) }
+    ensures text { OnOk result
+        (text.new.items ≡ text.old.items ++ part_line airport.now plan.now.plan.visits row.now) }
 {
     push_place(text, airport, &row.part.place)?;
     text.push(b' ')?;
@@ -83,7 +85,8 @@ fn fact_text(actual: bool) -> &'static str
 }
 
 fn push_place(text: &mut Vec<u8>, airport: &AirportParts, place: &Place) -> Result<(), Memory>
-    ensures text { OnOk result (text.new.items ≡ text.old.items ++ place_text airport.now (stand_of place.now)) }
+    ensures text { OnOk result
+        (text.new.items ≡ text.old.items ++ place_text airport.now (stand_of place.now)) }
 {
     match *place {
         Place::Planned(stand) | Place::Actual(stand) => push_stand(text, airport, stand),

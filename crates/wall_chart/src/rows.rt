@@ -45,7 +45,8 @@ fn push_type(
     plan: &Plan,
     number: VisitNo,
 ) -> Result<(), Memory>
-    ensures text { OnOk result (text.new.items ≡ text.old.items ++ type_text airport.now plan.now.plan.visits number) }
+    ensures text { OnOk result
+        (text.new.items ≡ text.old.items ++ type_text airport.now plan.now.plan.visits number) }
 {
     if let Some(visit) = plan.visit(number) {
         if let Some(row) = airport.types.as_slice().get(visit.kind.0 as usize) {
@@ -71,7 +72,8 @@ pub(crate) fn push_row(
     plan: &Plan,
     row: &PartRow,
 ) -> Result<(), Memory>
-    ensures text { OnOk result (text.new.items ≡ text.old.items ++ row_text airport.now plan.now.plan.visits row.now) }
+    ensures text { OnOk result
+        (text.new.items ≡ text.old.items ++ row_text airport.now plan.now.plan.visits row.now) }
 {
     push_part(text, row.id)?;
     text.push(b' ')?;

@@ -25,7 +25,8 @@ pub(crate) fn actual_slots(
     requires each { All (IsWellFormed airport.now) visits.now }
     requires first { 1 ≤ day }
     requires last { day ≤ MAX_DAYS }
-    ensures are { IfOk result (λ slots. slots.items ≡ filter (is_actual_on day) (slots_of airport.now visits.now)) }
+    ensures are { IfOk result
+        (λ slots. slots.items ≡ filter (is_actual_on day) (slots_of airport.now visits.now)) }
 {
     let mut slots = Vec::new(alloc);
     for visit in visits {
@@ -57,7 +58,8 @@ fn push_slots_of_visit(
     visit: &Visit,
 ) -> Result<(), Memory>
     requires valid { IsWellFormed airport.now visit.now }
-    ensures ok { OnOk result (slots.new.items ≡ slots.old.items ++ slots_of_visit airport.now visit.now) }
+    ensures ok { OnOk result
+        (slots.new.items ≡ slots.old.items ++ slots_of_visit airport.now visit.now) }
 {
     let parts = visit.parts.as_slice();
     for index in 0..parts.len() {

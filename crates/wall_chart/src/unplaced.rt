@@ -22,7 +22,8 @@ pub(crate) fn push_unplaced_lines(
     day: u32,
 ) -> Result<(), Memory>
     requires first { 1 ≤ day }
-    ensures text { OnOk result (text.new.items ≡ text.old.items ++ unplaced_lines airport.now plan.now.plan day) }
+    ensures text { OnOk result
+        (text.new.items ≡ text.old.items ++ unplaced_lines airport.now plan.now.plan day) }
 {
     text.extend_from_slice(b"UNPLACED\n")?;
     let rows = unplaced_on(alloc, plan, day)?;
@@ -47,7 +48,9 @@ pub(crate) fn push_unplaced_line(
     plan: &Plan,
     row: &PartRow,
 ) -> Result<(), Memory>
-    ensures text { OnOk result (text.new.items ≡ text.old.items ++ unplaced_line airport.now plan.now.plan.visits row.now) }
+    ensures text { OnOk result
+        (text.new.items
+        ≡ text.old.items ++ unplaced_line airport.now plan.now.plan.visits row.now) }
 {
     push_row(text, airport, plan, row)?;
     push_place_bump(text, &row.part.place)?;

@@ -65,7 +65,8 @@ fn push_chart_first_line(
 ) -> Result<(), Memory>
     requires airport { IsAirport airport.now }
     requires day { day ≤ airport.now.days }
-    ensures text { OnOk result (text.new.items ≡ text.old.items ++ chart_first_line airport.now version day) }
+    ensures text { OnOk result
+        (text.new.items ≡ text.old.items ++ chart_first_line airport.now version day) }
 {
     push_title(text, airport, day)?;
     text.extend_from_slice(b" VERSION ")?;
