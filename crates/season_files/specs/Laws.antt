@@ -22,5 +22,9 @@ pub record IsVisitOf (airport : AirportParts) (visit : Visit) : Type 0 where
 -- the season file of visits of an airport is read as the data that the uncancelled ones were added
 -- with
 abbrev pub SeasonIsReadBack : Type 0
-SeasonIsReadBack = (airport : AirportParts) (visits : List Visit) → IsAirport airport → All HasName airport.types → All (IsVisitOf airport) visits
+SeasonIsReadBack =
+    (airport : AirportParts) (visits : List Visit)
+    → IsAirport airport
+    → All HasName airport.types
+    → All (IsVisitOf airport) visits
     → season_in airport (season_text airport (season_of visits)) ≡ Ok (season_of visits)

@@ -32,13 +32,17 @@ is_field fields i word = field_is word (field_at fields i)
 -- the columns of what every visit has
 abbrev pub heads_visit : List (List ℕ) → Bool
 heads_visit fields =
-    is_field fields 0 (codes "name") && (is_field fields 1 (codes "type") && (is_field fields 2 (codes "class")
+    is_field fields 0 (codes "name")
+    && (is_field fields 1 (codes "type")
+    && (is_field fields 2 (codes "class")
     && (is_field fields 3 (codes "on") && is_field fields 4 (codes "off"))))
 
 -- the columns of the flights
 abbrev pub heads_flights : List (List ℕ) → Bool
 heads_flights fields =
-    is_field fields 5 (codes "arr") && (is_field fields 6 (codes "arrday") && (is_field fields 7 (codes "dep") && is_field fields 8 (codes "depday")))
+    is_field fields 5 (codes "arr")
+    && (is_field fields 6 (codes "arrday")
+    && (is_field fields 7 (codes "dep") && is_field fields 8 (codes "depday")))
 
 -- the first record: name, type, class, on, off, arr, arrday, dep, depday
 unfoldable pub is_header : List (List ℕ) → Bool
@@ -95,7 +99,9 @@ key_with flight day = do
 
 -- no key if both are empty, or the key of a flight and a day
 abbrev pub key_named : List ℕ → List ℕ → Option (Option Key)
-key_named flight day = if length flight == 0 then (if length day == 0 then Some None else None) else option_map Some (key_with flight day)
+key_named flight day =
+    if length flight == 0 then (if length day == 0 then Some None else None)
+    else option_map Some (key_with flight day)
 
 -- the key of the two fields from this place on
 unfoldable pub key_in : List (List ℕ) → ℕ → Option (Option Key)
@@ -118,7 +124,8 @@ visit_in airport fields = do
   off ← number_in fields 4
   arr ← key_in fields 5
   dep ← key_in fields 7
-  if_in_time airport (record { name = name; kind = kind; class = class; on = on; off = off; arr = arr; dep = dep })
+  if_in_time airport
+      (record { name = name; kind = kind; class = class; on = on; off = off; arr = arr; dep = dep })
 
 -- the visit that a record gives at the airport: a name, a type of the airport, a class, the minutes
 -- on and off block, and the flights that it comes and leaves by, each with its day or both empty

@@ -31,7 +31,8 @@ visits_of airport (header ∷ rows) = if is_header header then visits_from airpo
 -- the same from a state of the reader and the bytes that are left: at most this many records, the
 -- first of which is the k-th
 abbrev pub visits_left : AirportParts → ℕ → ℕ → State → List ℕ → Result (List NewVisit) ℕ
-visits_left airport k turns s left = visits_from airport k (records_from default_config turns s left)
+visits_left airport k turns s left =
+    visits_from airport k (records_from default_config turns s left)
 
 -- the same with the header
 abbrev pub season_left : AirportParts → ℕ → State → List ℕ → Result (List NewVisit) ℕ

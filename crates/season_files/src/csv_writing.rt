@@ -18,8 +18,11 @@ pub(crate) fn start_writing(alloc: Global) -> Writer<Vec<u8>>
 
 /// Writes one record.
 pub(crate) fn write_row(wtr: &mut Writer<Vec<u8>>, fields: &[&[u8]]) -> Result<(), Memory>
-    ensures row { OnOk result (IsWriting wtr.old → IsWriting wtr.new
-        × Appends (written_bytes wtr.old) (written_bytes wtr.new) (row_text default_writer (map (λ field. field.now) fields.now))) }
+    ensures row { OnOk result
+        (IsWriting wtr.old
+        → IsWriting wtr.new
+        × Appends (written_bytes wtr.old) (written_bytes wtr.new)
+        (row_text default_writer (map (λ field. field.now) fields.now))) }
 {
     match wtr.write_fields(fields) {
         Ok(()) => Ok(()),

@@ -20,10 +20,16 @@ fn read_season_header(
     rdr: &mut Reader<&[u8]>,
     row: &mut ByteRecord,
 ) -> Result<(), SeasonFault>
-    ensures ok { OnOk result ((turns : ℕ) (s : State) (left : List ℕ) → IsReading (λ b. Some b.now) rdr.old s left
-        → (t : State) × (rest : List ℕ) × IsReading (λ b. Some b.now) rdr.new t rest
-        × (season_left airport.now (turns + 1) s left ≡ visits_left airport.now 2 turns t rest)) }
-    ensures err { IfErr result (λ e. (turns : ℕ) (s : State) (left : List ℕ) → IsReading (λ b. Some b.now) rdr.old s left
+    ensures ok { OnOk result
+        ((turns : ℕ) (s : State) (left : List ℕ)
+        → IsReading (λ b. Some b.now) rdr.old s left
+        → (t : State)
+        × (rest : List ℕ)
+        × IsReading (λ b. Some b.now) rdr.new t rest
+        × (season_left airport.now (turns + 1) s left
+        ≡ visits_left airport.now 2 turns t rest)) }
+    ensures err { IfErr result (λ e. (turns : ℕ) (s : State) (left : List ℕ)
+        → IsReading (λ b. Some b.now) rdr.old s left
         → RefusesSeason e (season_left airport.now (turns + 1) s left)) }
 {
     if !read_row(rdr, row)? {
@@ -45,7 +51,9 @@ fn read_visits(
     turns: usize,
 ) -> Result<Listed<NewVisit>, SeasonFault>
     requires few { turns < 2 ^ 31 }
-    ensures value { (s : State) (left : List ℕ) → IsReading (λ b. Some b.now) rdr.old s left → ReadsSeason result (visits_left airport.now 2 turns s left) }
+    ensures value { (s : State) (left : List ℕ)
+        → IsReading (λ b. Some b.now) rdr.old s left
+        → ReadsSeason result (visits_left airport.now 2 turns s left) }
     ensures new { IfOk result (All (IsNewVisitOf airport.now)) }
 {
     let mut visits = Listed::new(alloc);

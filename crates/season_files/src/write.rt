@@ -16,7 +16,8 @@ use visit_book::{End, Key, NewVisit, Visit, new_of};
 
 // A writer that has written the header.
 fn write_header(alloc: Global) -> Result<Writer<Vec<u8>>, Memory>
-    ensures header { IfOk result (λ wtr. IsWriting wtr × (written_bytes wtr ≡ Some (line columns))) }
+    ensures header { IfOk result
+        (λ wtr. IsWriting wtr × (written_bytes wtr ≡ Some (line columns))) }
 {
     let mut wtr = start_writing(alloc);
     write_row(
@@ -58,7 +59,11 @@ fn write_visit(
     new: &NewVisit,
 ) -> Result<(), Memory>
     requires new { IsNewVisitOf airport.now new.now }
-    ensures line { OnOk result (IsWriting wtr.old → IsWriting wtr.new × Appends (written_bytes wtr.old) (written_bytes wtr.new) (visit_line airport.now new.now)) }
+    ensures line { OnOk result
+        (IsWriting wtr.old
+        → IsWriting wtr.new
+        × Appends (written_bytes wtr.old) (written_bytes wtr.new)
+        (visit_line airport.now new.now)) }
 {
     let kind = airport.parts().types.as_slice()[new.kind.0 as usize].name;
     let arr = flight_field(alloc, &new.arr)?;
