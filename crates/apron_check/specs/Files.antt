@@ -29,7 +29,8 @@ pub record Make (airport types : Option (List ℕ)) (made : AirportFiles) : Type
   pub digests_are : made.digests ≡ digests_of airport_bytes types_bytes
 
 -- two files that aren't too long mean this together
-pub record Mean (airport types : Option (List ℕ)) (meant : Result AirportParts FileFault) : Type 0 where
+pub record Mean (airport types : Option (List ℕ))
+    (meant : Result AirportParts FileFault) : Type 0 where
   pub airport_bytes : List ℕ
   pub types_bytes : List ℕ
   pub of_airport : AreOfFile airport airport_bytes
@@ -38,15 +39,22 @@ pub record Mean (airport types : Option (List ℕ)) (meant : Result AirportParts
 
 -- a file has more than the most bytes; if the shelf doesn't expose it, more were read
 abbrev pub IsFileTooLong : Option (List ℕ) → ShelfState → ShelfState → Type 0
-IsFileTooLong file before after = MatchOption file (RoseBy (max_file + 1) before.read after.read) (λ kept. max_file < length kept)
+IsFileTooLong file before after =
+    MatchOption file (RoseBy (max_file + 1) before.read after.read) (λ kept. max_file < length kept)
 
 -- why an airport, or a fault in its place, is found in the files of two names: each result except a
 -- lack of memory has its cause, and the cause of a failing shelf is its count
-abbrev pub HasFilesCause : ShelfState → ShelfState → List ℕ → List ℕ → Result AirportFiles FilesFault → Type 0
-HasFilesCause before after airport types (Ok made) = Make (before.file airport) (before.file types) made
-HasFilesCause before after airport types (Err (Faulty fault)) = Mean (before.file airport) (before.file types) (Err fault)
-HasFilesCause before after airport types (Err AirportTooLong) = IsFileTooLong (before.file airport) before after
-HasFilesCause before after airport types (Err TypesTooLong) = ((bytes : List ℕ) × AreOfFile (before.file airport) bytes) × IsFileTooLong (before.file types) before after
+abbrev pub HasFilesCause : ShelfState → ShelfState → List ℕ → List ℕ
+    → Result AirportFiles FilesFault → Type 0
+HasFilesCause before after airport types (Ok made) =
+    Make (before.file airport) (before.file types) made
+HasFilesCause before after airport types (Err (Faulty fault)) =
+    Mean (before.file airport) (before.file types) (Err fault)
+HasFilesCause before after airport types (Err AirportTooLong) =
+    IsFileTooLong (before.file airport) before after
+HasFilesCause before after airport types (Err TypesTooLong) =
+    ((bytes : List ℕ) × AreOfFile (before.file airport) bytes)
+    × IsFileTooLong (before.file types) before after
 HasFilesCause before after airport types (Err ShelfFault) = Unit {0}
 HasFilesCause before after airport types (Err Memory) = Unit {0}
 
@@ -57,7 +65,8 @@ is_files_shelf_fault found = false
 
 -- what is found in the files of two names, and what that does to the shelf: its files stay, and it
 -- fails only if that is reported
-pub record FindsFiles (before after : ShelfState) (airport types : List ℕ) (found : Result AirportFiles FilesFault) : Type 0 where
+pub record FindsFiles (before after : ShelfState) (airport types : List ℕ)
+    (found : Result AirportFiles FilesFault) : Type 0 where
   pub cause : HasFilesCause before after airport types found
   pub counts : Counts (is_files_shelf_fault found) before.faults after.faults
   pub more : before.read ≤ after.read

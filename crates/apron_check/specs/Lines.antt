@@ -62,5 +62,6 @@ fault_line fault = fault_text fault ++ 10 ∷ []
 -- the line with the numbers of an airport's stands, types and days
 abbrev pub counts_line : AirportParts → List ℕ
 counts_line parts =
-    (codes "ok: " ++ decimal (length parts.stands)) ++ (codes " stands, " ++ decimal (length parts.types))
+    (codes "ok: " ++ decimal (length parts.stands))
+    ++ (codes " stands, " ++ decimal (length parts.types))
     ++ (codes " types, " ++ decimal parts.days) ++ codes " days\n"

@@ -33,7 +33,8 @@ pub fn airport_of<F: Shelf>(
     types: &str,
     shelf: &mut F,
 ) -> Result<AirportFiles, FilesFault>
-    ensures finds { FindsFiles (F.state shelf.old) (F.state shelf.new) airport.now types.now result }
+    ensures finds { FindsFiles (F.state shelf.old) (F.state shelf.new)
+        airport.now types.now result }
 {
     let airport = match shelf.read_file(alloc, airport, MAX_FILE) {
         Ok(bytes) => bytes,
