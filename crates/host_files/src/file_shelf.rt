@@ -70,7 +70,8 @@ fn read_up_to<R: Files>(rt: &R, alloc: Global, name: &str, limit: u32) -> io::Re
 
 // The bytes that a reader gives, up to one more than the limit.
 fn read_front<F: Read + Drop>(file: F, alloc: Global, limit: u32) -> io::Result<Vec<u8>>
-    ensures bytes { IfOk result (λ v. IfSome (F.remaining file) (λ left. v.items ≡ take (limit + 1) left)) }
+    ensures bytes { IfOk result
+        (λ v. IfSome (F.remaining file) (λ left. v.items ≡ take (limit + 1) left)) }
 {
     let mut bytes = Vec::new(alloc);
     file.take(u64::from(limit) + 1).read_to_end(&mut bytes)?;
