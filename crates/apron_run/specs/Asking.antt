@@ -42,7 +42,8 @@ NoMoreAtRisk before after = before.at_risk ≡ None → after.at_risk ≡ None
 
 -- if no entry was at risk, only the visit's entry can be now, asked with the next call number
 abbrev pub OnlyAtRisk : Reached → NewVisit → Reached → Type 0
-OnlyAtRisk at new after = at.at_risk ≡ None → IfSome after.at_risk (IsAskedFor at.next (Change (AddVisit new)))
+OnlyAtRisk at new after = at.at_risk ≡ None
+    → IfSome after.at_risk (IsAskedFor at.next (Change (AddVisit new)))
 
 -- a visit of the plan has the name, and was added with the same
 abbrev pub IsThere : PlanState → NewVisit → Type 0
@@ -51,7 +52,8 @@ IsThere plan new = (visit : Visit) × IsSameName plan new visit
 -- why a visit is not there that was not added, with the number of its record: a visit with other
 -- data has its name, or none has it
 abbrev pub IsMissing : PlanState → NewVisit → ℕ → Imported → Type 0
-IsMissing plan new number (Refused told) = (told ≡ number) × ((visit : Visit) × IsOtherName plan new visit)
+IsMissing plan new number (Refused told) = (told ≡ number)
+    × ((visit : Visit) × IsOtherName plan new visit)
 IsMissing plan new number (Full told) = (told ≡ number) × (visit_named plan.visits new.name ≡ None)
 IsMissing plan new number imported = ⊥
 
@@ -68,11 +70,13 @@ record_behind front = length front + 2
 module _ (airport : AirportParts) where
   -- how the plan of the history takes the adding of a visit
   abbrev pub TakesAs : Reached → NewVisit → Stepped → Type 0
-  TakesAs at new stepped = TakenAs (replay airport at.history) (length at.history) (AddVisit new) stepped
+  TakesAs at new stepped =
+      TakenAs (replay airport at.history) (length at.history) (AddVisit new) stepped
 
   -- the visit was asked to be added, with the next call number: it was taken in this way, and if it
   -- was accepted the history has its entry
-  pub record Asks (before : Reached) (new : NewVisit) (stepped : Stepped) (after : Reached) : Type 0 where
+  pub record Asks (before : Reached) (new : NewVisit) (stepped : Stepped)
+      (after : Reached) : Type 0 where
     pub takes : TakesAs before new stepped
     pub history : after.history ≡ before.history ++ added_entries before.next (AddVisit new) stepped
     pub next : after.next ≡ before.next + 1
@@ -88,23 +92,31 @@ module _ (airport : AirportParts) where
   -- each of these visits was asked to be added once, in order, and was added or was there already
   abbrev pub MeetsAll : List NewVisit → Reached → Reached → Type 0
   MeetsAll [] before after = after ≡ before
-  MeetsAll (new ∷ visits) before after = (mid : Reached) × AsksOnce before new mid × MeetsAll visits mid after
+  MeetsAll (new ∷ visits) before after =
+      (mid : Reached) × AsksOnce before new mid × MeetsAll visits mid after
 
   -- why the asks stopped at the visit of the record of this number: another visit has its name; it
   -- is new and there is no place for it; the keeper failed at its entry, which may be at risk then;
   -- there was no call number for it; or memory has run out. Only the first two are asks that were
   -- answered, and none changed the history.
   abbrev pub StopsImport : ℕ → Reached → NewVisit → Reached → Imported → Type 0
-  StopsImport number at new after (Refused told) = (told ≡ number) × ((other : VisitNo) × Asks at new (refused (name other)) after)
+  StopsImport number at new after (Refused told) = (told ≡ number)
+      × ((other : VisitNo) × Asks at new (refused (name other)) after)
   StopsImport number at new after (Full told) = (told ≡ number) × Asks at new full after
-  StopsImport number at new after DiskFault = TakesAs at new accepted × (after.history ≡ at.history) × Counts true at.faults after.faults × OnlyAtRisk at new after
+  StopsImport number at new after DiskFault =
+      TakesAs at new accepted
+      × (after.history ≡ at.history)
+      × Counts true at.faults after.faults
+      × OnlyAtRisk at new after
   StopsImport number at new after Spent = (at.next ≡ call_limit) × (after ≡ at)
-  StopsImport number at new after Memory = (after.history ≡ at.history) × (after.faults ≡ at.faults) × NoMoreAtRisk at after
+  StopsImport number at new after Memory =
+      (after.history ≡ at.history) × (after.faults ≡ at.faults) × NoMoreAtRisk at after
   StopsImport number at new after imported = ⊥
 
   -- the visits before one of these were asked and met, and then the asks stopped: those after it
   -- were not asked
-  pub record StopsAmong (visits : List NewVisit) (before after : Reached) (imported : Imported) : Type 0 where
+  pub record StopsAmong (visits : List NewVisit) (before after : Reached)
+      (imported : Imported) : Type 0 where
     pub front : List NewVisit
     pub new : NewVisit
     pub back : List NewVisit
@@ -115,7 +127,8 @@ module _ (airport : AirportParts) where
 
   -- each visit was asked and met: this many entries came, and the other visits, of this number,
   -- were there already
-  pub record AsksWhole (visits : List NewVisit) (before after : Reached) (added_entries present : ℕ) : Type 0 where
+  pub record AsksWhole (visits : List NewVisit) (before after : Reached)
+      (added_entries present : ℕ) : Type 0 where
     pub met : MeetsAll visits before after
     pub added_are : length after.history ≡ length before.history + added_entries
     pub present_are : added_entries + present ≡ length visits
@@ -123,5 +136,6 @@ module _ (airport : AirportParts) where
   -- these visits were asked to be added, each at most once and in order: all of them, or up to one
   -- at which the asks stopped
   abbrev pub AsksSeason : List NewVisit → Reached → Reached → Imported → Type 0
-  AsksSeason visits before after (Whole added_entries present) = AsksWhole visits before after added_entries present
+  AsksSeason visits before after (Whole added_entries present) =
+      AsksWhole visits before after added_entries present
   AsksSeason visits before after imported = StopsAmong visits before after imported

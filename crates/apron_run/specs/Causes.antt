@@ -15,13 +15,17 @@ FailsInUse used before after = (used ≡ true) × Rose before after
 -- A run ends with the status of the shelf, the source, the sink or the disk only if its count of
 -- faults rose in the run and the run uses it. Every run uses the sink.
 pub record FaultsHaveCause (asked : Subcommand) (before after : World) (code : ℕ) : Type 0 where
-  pub shelf : code ≡ exit_code ShelfFault → FailsInUse (uses_shelf asked) before.shelf.faults after.shelf.faults
-  pub source : code ≡ exit_code ReadFault → FailsInUse (uses_source asked code) before.source.faults after.source.faults
+  pub shelf : code ≡ exit_code ShelfFault
+      → FailsInUse (uses_shelf asked) before.shelf.faults after.shelf.faults
+  pub source : code ≡ exit_code ReadFault
+      → FailsInUse (uses_source asked code) before.source.faults after.source.faults
   pub sink : code ≡ exit_code WriteFault → Rose before.sink.faults after.sink.faults
-  pub disk : code ≡ exit_code DiskFault → FailsInUse (uses_disk asked code) before.disk.faults after.disk.faults
+  pub disk : code ≡ exit_code DiskFault
+      → FailsInUse (uses_disk asked code) before.disk.faults after.disk.faults
 
 -- a run whose shelf, source and sink count no fault ends with none of their statuses
 abbrev pub NoFaultIsTold : Type 0
-NoFaultIsTold = (feeds : FeedTexts) (asked : Subcommand) (before after : World) (code : ℕ) → RunsAs feeds asked before after code
+NoFaultIsTold = (feeds : FeedTexts) (asked : Subcommand) (before after : World) (code : ℕ)
+    → RunsAs feeds asked before after code
     → after.shelf.faults ≡ 0 → after.source.faults ≡ 0 → after.sink.faults ≡ 0
     → (code ≢ exit_code ShelfFault) × (code ≢ exit_code ReadFault) × (code ≢ exit_code WriteFault)

@@ -25,13 +25,16 @@ IsChart day airport history text = text ≡ chart_text airport (replay airport h
 -- written, and the disk is as it was
 abbrev pub ChartsDay : AirportFiles → Option ℕ → SinkAndDisk → SinkAndDisk → Status → Type 0
 ChartsDay files (Some day) before after status = PrintsText (IsChart day) files before after status
-ChartsDay files None before after status = (after.disk ≡ before.disk) × Writes usage_text Usage Usage before.sink after.sink status
+ChartsDay files None before after status = (after.disk ≡ before.disk)
+    × Writes usage_text Usage Usage before.sink after.sink status
 
 -- the chart of the day that the digits name is printed
 abbrev pub ChartsNamed : List ℕ → AirportFiles → SinkAndDisk → SinkAndDisk → Status → Type 0
-ChartsNamed day files before after status = ChartsDay files (day_named files.airport day) before after status
+ChartsNamed day files before after status =
+    ChartsDay files (day_named files.airport day) before after status
 
 -- the airport file and the type file of these names were read, and this was done with what was
 -- found in them
 abbrev pub ChartsFiles : List ℕ → List ℕ → List ℕ → World → World → Status → Type 0
-ChartsFiles airport types day before after status = DoesWithFiles (ChartsNamed day) airport types before after status
+ChartsFiles airport types day before after status =
+    DoesWithFiles (ChartsNamed day) airport types before after status

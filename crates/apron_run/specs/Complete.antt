@@ -30,7 +30,8 @@ use Rattle.apron_run.specs.World.{DiskSeen, World}
 use Rattle.apron_run.specs.declared.status.Status.TheVariants.{Done, Memory}
 
 -- the shelf tells the airport file and the type file of these names, and they make this airport
-pub record HasFiles (shelf : ShelfState) (airport types : List ℕ) (files : AirportFiles) : Type 0 where
+pub record HasFiles (shelf : ShelfState) (airport types : List ℕ)
+    (files : AirportFiles) : Type 0 where
   pub airport_told : IsSome (shelf.file airport)
   pub types_told : IsSome (shelf.file types)
   pub make : Make (shelf.file airport) (shelf.file types) files
@@ -58,7 +59,8 @@ EndsInTime ending count = ⊥
 
 -- the source tells its input, which a session can answer to its end, and the call numbers after the
 -- history are enough for what it asks
-pub record HasInput (airport : AirportParts) (source : SourceState) (history : List Entry) : Type 0 where
+pub record HasInput (airport : AirportParts) (source : SourceState)
+    (history : List Entry) : Type 0 where
   pub input : List ℕ
   pub told : source.left ≡ Some input
   pub requests : List Request
@@ -75,12 +77,16 @@ pub record Admits (plan : PlanState) (entries : ℕ) (new : NewVisit) : Type 0 w
 
 -- each of these visits is admitted after those before it were asked to be added
 abbrev pub AdmitsEach : AirportParts → List NewVisit → Reached → Type 0
-AdmitsEach airport visits before = (front back : List NewVisit) (new : NewVisit) (at : Reached) → visits ≡ front ++ new ∷ back → MeetsAll airport front before at
+AdmitsEach airport visits before =
+    (front back : List NewVisit) (new : NewVisit) (at : Reached)
+    → visits ≡ front ++ new ∷ back
+    → MeetsAll airport front before at
     → Admits (replay airport at.history) (length at.history) new
 
 -- the shelf tells the season file of this name, whose visits are admitted one after another, and
 -- the call numbers are enough for them
-pub record HasSeason (airport : AirportParts) (shelf : ShelfState) (season : List ℕ) (before : Reached) : Type 0 where
+pub record HasSeason (airport : AirportParts) (shelf : ShelfState) (season : List ℕ)
+    (before : Reached) : Type 0 where
   pub visits : List NewVisit
   pub told : IsSome (shelf.file season)
   pub tells : Tells airport (shelf.file season) (Ok visits)
@@ -89,26 +95,33 @@ pub record HasSeason (airport : AirportParts) (shelf : ShelfState) (season : Lis
 
 -- the two files make an airport, and this holds of them
 abbrev pub OnFiles : World → List ℕ → List ℕ → (AirportFiles → Type 0) → Type 0
-OnFiles world airport types Holds = (files : AirportFiles) × HasFiles world.shelf airport types files × Holds files
+OnFiles world airport types Holds =
+    (files : AirportFiles) × HasFiles world.shelf airport types files × Holds files
 
 -- the two files make an airport, the disk opens as the journal of it, and this holds of the files
 -- and of the journal's history
 abbrev pub OnJournal : World → List ℕ → List ℕ → (AirportFiles → List Entry → Type 0) → Type 0
 OnJournal world airport types Holds =
-    OnFiles world airport types (λ files. (history : List Entry) × HasJournal files world.disk history × Holds files history)
+    OnFiles world airport types
+    (λ files. (history : List Entry) × HasJournal files world.disk history × Holds files history)
 
 -- what is asked can be done with what there is at the beginning, within all limits: one line for
 -- each word
 abbrev pub CanBeRun : Subcommand → World → Type 0
-CanBeRun (desk airport types) world = OnJournal world airport types (λ files history. HasInput files.airport world.source history)
+CanBeRun (desk airport types) world =
+    OnJournal world airport types (λ files history. HasInput files.airport world.source history)
 CanBeRun (init airport types) world = OnFiles world airport types (λ files. IsEmpty world.disk)
 CanBeRun (check airport types) world = OnFiles world airport types (λ files. Unit {0})
-CanBeRun (chart airport types day) world = OnJournal world airport types (λ files history. IsSome (day_named files.airport day))
+CanBeRun (chart airport types day) world =
+    OnJournal world airport types (λ files history. IsSome (day_named files.airport day))
 CanBeRun (import airport types season) world =
-    OnJournal world airport types (λ files history. HasSeason files.airport world.shelf season (new_import history world.disk.faults))
+    OnJournal world airport types (λ files history. HasSeason files.airport world.shelf season
+    (new_import history world.disk.faults))
 CanBeRun (export airport types) world = OnJournal world airport types (λ files history. Unit {0})
-CanBeRun (upgrade airport types) world = OnFiles world airport types (λ files. CanUpgrade files world.disk)
-CanBeRun (propose airport types name draft) world = OnJournal world airport types (λ files history. Unit {0})
+CanBeRun (upgrade airport types) world =
+    OnFiles world airport types (λ files. CanUpgrade files world.disk)
+CanBeRun (propose airport types name draft) world =
+    OnJournal world airport types (λ files history. Unit {0})
 CanBeRun (make visits) world = Unit {0}
 CanBeRun help world = Unit {0}
 CanBeRun version world = Unit {0}

@@ -64,7 +64,8 @@ module _ (disk : DiskStates) where
   LeavesAdded (Err fault) season before after status imports = LeavesAll disk
 
   -- what is done with what was found, and what a crash may leave of it
-  abbrev pub ImportsFoundLeaving : Result AirportFiles FilesFault → List ℕ → Around → Around → Status
+  abbrev pub ImportsFoundLeaving : Result AirportFiles FilesFault → List ℕ → Around → Around
+      → Status
       → Type 0
   ImportsFoundLeaving found season before after status =
       (imports : ImportsFound found season before after status)
@@ -82,41 +83,50 @@ module _ (disk : DiskStates) where
   LeavesNew (Err fault) before after status inits = LeavesAll disk
 
   -- what is done with what was found, and what a crash may leave of it
-  abbrev pub InitsFoundLeaving : Result AirportFiles FilesFault → SinkAndDisk → SinkAndDisk → Status → Type 0
-  InitsFoundLeaving found before after status = (inits : DoesFound MakesJournal found before after status)
+  abbrev pub InitsFoundLeaving : Result AirportFiles FilesFault → SinkAndDisk → SinkAndDisk → Status
+      → Type 0
+  InitsFoundLeaving found before after status =
+      (inits : DoesFound MakesJournal found before after status)
       × LeavesNew found before after status inits
 
 -- `feeds` says what the reply to each feed is, by the airport and the history
 module _ (feeds : FeedTexts) (disk : DiskStates) where
   -- a session: its history survives; if there was no journal to work on, nothing is written
-  abbrev pub LeavesOfSession : (files : AirportFiles) (before after : DeskEnds) (met : Result Outcome Unusable)
+  abbrev pub LeavesOfSession : (files : AirportFiles) (before after : DeskEnds)
+      (met : Result Outcome Unusable)
       → MeetsDesk feeds files before after met → Type 0
   LeavesOfSession files before after (Ok outcome) serves =
       Survives files.digests serves.port.seen serves.port.at_risk disk
   LeavesOfSession files before after (Err why) finds = LeavesAll disk
 
   -- such a session, and what a crash may leave of it
-  abbrev pub MeetsDeskLeaving : AirportFiles → DeskEnds → DeskEnds → Result Outcome Unusable → Type 0
+  abbrev pub MeetsDeskLeaving : AirportFiles → DeskEnds → DeskEnds → Result Outcome Unusable
+      → Type 0
   MeetsDeskLeaving files before after met =
-      (meets : MeetsDesk feeds files before after met) × LeavesOfSession files before after met meets
+      (meets : MeetsDesk feeds files before after met)
+      × LeavesOfSession files before after met meets
 
   -- the same, with what was written of its end
   abbrev pub RunsOnJournalLeaving : AirportFiles → DeskEnds → DeskEnds → Status → Type 0
-  RunsOnJournalLeaving files before after status = (runs : RunsOnJournal feeds files before after status)
-      × LeavesOfSession files before (record { source = after.source; sink = runs.sink; disk = after.disk })
+  RunsOnJournalLeaving files before after status =
+      (runs : RunsOnJournal feeds files before after status)
+      × LeavesOfSession files before
+      (record { source = after.source; sink = runs.sink; disk = after.disk })
       runs.met runs.meets
 
   -- the same of what was found in the two files, whose fault writes nothing
   abbrev pub LeavesServed : (found : Result AirportFiles FilesFault) (before after : DeskEnds)
       (status : Status) → RunsFound feeds found before after status → Type 0
   LeavesServed (Ok files) before after status runs =
-      LeavesOfSession files before (record { source = after.source; sink = runs.sink; disk = after.disk })
+      LeavesOfSession files before
+      (record { source = after.source; sink = runs.sink; disk = after.disk })
       runs.met runs.meets
   LeavesServed (Err fault) before after status runs = LeavesAll disk
 
   -- a run of the word `desk`, and what a crash may leave of it
   abbrev pub RunsDeskLeaving : List ℕ → List ℕ → World → World → Status → Type 0
-  RunsDeskLeaving airport types before after status = (runs : RunsDesk feeds airport types before after status)
+  RunsDeskLeaving airport types before after status =
+      (runs : RunsDesk feeds airport types before after status)
       × LeavesServed runs.found (desk_ends before) (desk_ends after) status runs.runs
 
   -- what is done, by what is asked: no other word writes
@@ -127,10 +137,12 @@ module _ (feeds : FeedTexts) (disk : DiskStates) where
   LeavesOnCrash (init airport types) before after status inits =
       LeavesNew disk inits.found (sink_and_disk before) (sink_and_disk after) status inits.does
   LeavesOnCrash (import airport types season) before after status imports =
-      LeavesAdded disk imports.found season (around imports.shelf before) (around after.shelf after) status
+      LeavesAdded disk imports.found season (around imports.shelf before)
+      (around after.shelf after) status
       imports.imports
   LeavesOnCrash (upgrade airport types) before after status upgrades =
-      LeavesUpgrade disk upgrades.found (sink_and_disk before) (sink_and_disk after) status upgrades.does
+      LeavesUpgrade disk upgrades.found (sink_and_disk before) (sink_and_disk after)
+      status upgrades.does
   LeavesOnCrash asked before after status does = LeavesAll disk
 
   -- what the program does for what is asked of it, the status of its number, and what

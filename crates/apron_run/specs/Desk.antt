@@ -35,11 +35,19 @@ moment ends port = record { source = ends.source; sink = ends.sink; port = port 
 -- a desk that has made no call yet: it has seen the opened history, no entry is at risk, its calls
 -- go on from the last entry's number, and the disk has failed this often
 abbrev pub new_port : List Entry → ℕ → PortState
-new_port opened faults = record { first = next_after opened; seen = opened; at_risk = None; calls = []; spent = next_after opened == call_limit; faults = faults }
+new_port opened faults = record {
+  first = next_after opened;
+  seen = opened;
+  at_risk = None;
+  calls = [];
+  spent = next_after opened == call_limit;
+  faults = faults;
+}
 
 -- there is no journal to work on: nothing was taken and nothing written, and the disk reads as
 -- before
-pub record DeskFindsNoJournal (files : AirportFiles) (before after : DeskEnds) (why : Unusable) : Type 0 where
+pub record DeskFindsNoJournal (files : AirportFiles) (before after : DeskEnds)
+    (why : Unusable) : Type 0 where
   pub source : after.source ≡ before.source
   pub sink : after.sink ≡ before.sink
   pub disk : NotOpened files before.disk after.disk why
@@ -58,7 +66,8 @@ PrintsSessionEnd (Err why) before after status = TellsUnusable why before after 
 -- the disk's count of faults: it may rise in a session, and the replies then say so; it rose if the
 -- status says that the disk failed; otherwise it is as before
 abbrev pub ServedCounts : Status → ℕ → ℕ → Type 0
-ServedCounts status before now = MatchBool (may_serve status) (before ≤ now) (Counts (is_disk_fault status) before now)
+ServedCounts status before now =
+    MatchBool (may_serve status) (before ≤ now) (Counts (is_disk_fault status) before now)
 
 -- `feeds` says what the reply to each feed is, by the airport and the history
 module _ (feeds : FeedTexts) where
@@ -70,7 +79,8 @@ module _ (feeds : FeedTexts) where
   -- One session with feeds of a desk alone: it began with the history that the disk opened to, and
   -- left the disk with the history at its end. If the desk's call numbers ran out, all of them were
   -- used.
-  pub record ServesDesk (files : AirportFiles) (before after : DeskEnds) (outcome : Outcome) : Type 0 where
+  pub record ServesDesk (files : AirportFiles) (before after : DeskEnds)
+      (outcome : Outcome) : Type 0 where
     pub opened : List Entry
     pub opens : OpensTo files before.disk opened
     pub port : PortState
@@ -86,21 +96,27 @@ module _ (feeds : FeedTexts) where
   MeetsDesk files before after (Err why) = DeskFindsNoJournal files before after why
 
   -- a session on the journal of these files, or none, and what is written of either
-  pub record RunsOnJournal (files : AirportFiles) (before after : DeskEnds) (status : Status) : Type 0 where
+  pub record RunsOnJournal (files : AirportFiles) (before after : DeskEnds)
+      (status : Status) : Type 0 where
     pub met : Result Outcome Unusable
     pub sink : SinkState
-    pub meets : MeetsDesk files before (record { source = after.source; sink = sink; disk = after.disk }) met
+    pub meets : MeetsDesk files before
+        (record { source = after.source; sink = sink; disk = after.disk }) met
     pub tells : PrintsSessionEnd met sink after.sink status
 
   -- what is done with what was found in the two files: a session on their journal; or the line of
   -- their fault is written, and the source and the disk are as they were
   abbrev pub RunsFound : Result AirportFiles FilesFault → DeskEnds → DeskEnds → Status → Type 0
   RunsFound (Ok files) before after status = RunsOnJournal files before after status
-  RunsFound (Err fault) before after status = (after.source ≡ before.source) × (after.disk ≡ before.disk) × TellsFault fault before.sink after.sink status
+  RunsFound (Err fault) before after status =
+      (after.source ≡ before.source)
+      × (after.disk ≡ before.disk)
+      × TellsFault fault before.sink after.sink status
 
   -- the airport file and the type file of these names were read, and this was done with what was
   -- found in them
-  pub record RunsDesk (airport types : List ℕ) (before after : World) (status : Status) : Type 0 where
+  pub record RunsDesk (airport types : List ℕ) (before after : World)
+      (status : Status) : Type 0 where
     pub found : Result AirportFiles FilesFault
     pub finds : FindsFiles before.shelf after.shelf airport types found
     pub runs : RunsFound found (desk_ends before) (desk_ends after) status

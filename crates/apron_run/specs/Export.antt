@@ -10,8 +10,10 @@ use Rattle.apron_run.specs.declared.status.Status.{Status}
 
 -- the season file of the visits of the plan that the history makes, without cancelled ones
 abbrev pub IsSeason : AirportParts → List Entry → List ℕ → Type 0
-IsSeason airport history text = text ≡ season_text airport (season_of (replay airport history).visits)
+IsSeason airport history text =
+    text ≡ season_text airport (season_of (replay airport history).visits)
 
 -- the season file of the airport of two files of these names was printed, or why there is none
 abbrev pub ExportsFiles : List ℕ → List ℕ → World → World → Status → Type 0
-ExportsFiles airport types before after status = PrintsFiles IsSeason airport types before after status
+ExportsFiles airport types before after status =
+    PrintsFiles IsSeason airport types before after status

@@ -80,7 +80,8 @@ is_asking (Some feed) asked = is_ok feed
 -- whether the request asks something of the plan of the airport, or asks for a feed: then it takes
 -- a call number
 abbrev pub takes_number : AirportParts → Request → Bool
-takes_number airport request = is_asking (feed_asked (said_in request)) (ask_of_request airport request)
+takes_number airport request =
+    is_asking (feed_asked (said_in request)) (ask_of_request airport request)
 
 -- a request stands whole at the front of the bytes that takes a call number
 pub record TakesCall (airport : AirportParts) (bytes : List ℕ) : Type 0 where
@@ -113,7 +114,8 @@ pub record CountsUnkept (unkept before after : ℕ) : Type 0 where
 
 -- one place of an exchange: what was sent there for a request, and the requests and what was sent
 -- before it
-pub record IsPlace (exchange : Exchange) (front : List Request) (told : List Sent) (request : Request) (sent : Sent) : Type 0 where
+pub record IsPlace (exchange : Exchange) (front : List Request) (told : List Sent)
+    (request : Request) (sent : Sent) : Type 0 where
   pub back : List Request
   pub later : List Sent
   pub requests_are : exchange.requests ≡ front ++ request ∷ back
@@ -152,24 +154,40 @@ module _ (airport : AirportParts) where
   -- beginning of it, follows the replies.
   abbrev pub StopsWith : Status → Carried → Exchange → Type 0
   StopsWith Done carried exchange =
-      (GoesOn exchange × Requests carried.input exchange.requests ended ⊎ Requests carried.input exchange.requests closed)
+      (GoesOn exchange × Requests carried.input exchange.requests ended
+      ⊎ Requests carried.input exchange.requests closed)
       × (carried.output ≡ replies_text exchange)
-  StopsWith Cut carried exchange = GoesOn exchange × Requests carried.input exchange.requests cut × (carried.output ≡ replies_text exchange)
+  StopsWith Cut carried exchange =
+      GoesOn exchange
+      × Requests carried.input exchange.requests cut
+      × (carried.output ≡ replies_text exchange)
   StopsWith Malformed carried exchange = GoesOn exchange
-      × ((why : RequestRefusal) × Requests carried.input exchange.requests (malformed why) × (carried.output ≡ replies_text exchange ++ refusal_text why))
+      × ((why : RequestRefusal)
+      × Requests carried.input exchange.requests (malformed why)
+      × (carried.output ≡ replies_text exchange ++ refusal_text why))
   StopsWith Limit carried exchange =
-      All IsOpen exchange.requests × (length exchange.requests ≡ most_requests) × (carried.output ≡ replies_text exchange)
-  StopsWith ReadFault carried exchange = GoesOn exchange × StopsInside exchange.rest carried.left × (carried.output ≡ replies_text exchange)
-  StopsWith WriteFault carried exchange = CutsReply exchange carried.output ⊎ CutsRefusal exchange carried.output
-  StopsWith Memory carried exchange = GoesOn exchange × ((exchange.requests ≡ []) × (carried.left ≡ carried.input) ⊎ IsUnread exchange.rest)
-      × ((count : ℕ) × (carried.output ≡ replies_text exchange ++ take count (fault_line files.Memory)))
-  StopsWith Spent carried exchange = GoesOn exchange × TakesCall airport exchange.rest × (carried.output ≡ replies_text exchange)
+      All IsOpen exchange.requests
+      × (length exchange.requests ≡ most_requests)
+      × (carried.output ≡ replies_text exchange)
+  StopsWith ReadFault carried exchange =
+      GoesOn exchange
+      × StopsInside exchange.rest carried.left
+      × (carried.output ≡ replies_text exchange)
+  StopsWith WriteFault carried exchange = CutsReply exchange carried.output
+      ⊎ CutsRefusal exchange carried.output
+  StopsWith Memory carried exchange = GoesOn exchange
+      × ((exchange.requests ≡ []) × (carried.left ≡ carried.input) ⊎ IsUnread exchange.rest)
+      × ((count : ℕ)
+      × (carried.output ≡ replies_text exchange ++ take count (fault_line files.Memory)))
+  StopsWith Spent carried exchange =
+      GoesOn exchange × TakesCall airport exchange.rest × (carried.output ≡ replies_text exchange)
   StopsWith status carried exchange = ⊥
 
   -- An entry that could not be kept, in an exchange whose calls are numbered from `first` on: one
   -- request asked this command as the call of this number, and its reply says so. All entries of
   -- the history are of earlier calls, so none was added since.
-  pub record IsUnkept (first : ℕ) (exchange : Exchange) (history : List Entry) (entry : Entry) : Type 0 where
+  pub record IsUnkept (first : ℕ) (exchange : Exchange) (history : List Entry)
+      (entry : Entry) : Type 0 where
     pub front : List Request
     pub told : List Sent
     pub request : Request
@@ -181,21 +199,25 @@ module _ (airport : AirportParts) where
 
   -- the plan is sound after each entry of the history
   abbrev pub AllSound : List Entry → Type 0
-  AllSound history = (front back : List Entry) → history ≡ front ++ back → IsSoundPlan (replay airport front)
+  AllSound history =
+      (front back : List Entry) → history ≡ front ++ back → IsSoundPlan (replay airport front)
 
   -- a draft made a version of the plan exactly if the entry of that number is its commit
   abbrev pub HasItsEntry : List Entry → List ℕ → ℕ → ℕ → Type 0
   HasItsEntry history desk number version =
-      (draft_version (replay airport history).drafts desk number ≡ Some version) ↔ HasCommit history version desk number
+      (draft_version (replay airport history).drafts desk number ≡ Some version)
+      ↔ HasCommit history version desk number
 
   -- a visit of the plan was added with this, by the entry of this number, exactly if that entry
   -- adds one with it
   abbrev pub IsOfItsEntry : List Entry → ℕ → NewVisit → Type 0
-  IsOfItsEntry history version added = HasVisit (replay airport history).visits version added ↔ HasAdded history version added
+  IsOfItsEntry history version added = HasVisit (replay airport history).visits version added
+      ↔ HasAdded history version added
 
 -- what is sent for a request, and the port after it
 abbrev pub Sends : FeedTexts → AirportParts → PortState → Request → Sent → PortState → Type 0
-Sends feeds airport before request sent after = DeskAnswers feeds airport before request (sends sent) after
+Sends feeds airport before request sent after =
+    DeskAnswers feeds airport before request (sends sent) after
 
 -- `feeds` says what the reply to each feed is, by the airport and the history
 module _ (feeds : FeedTexts) (files : AirportFiles) where
@@ -226,22 +248,26 @@ module _ (feeds : FeedTexts) (files : AirportFiles) where
   -- sound. At the end the disk is a journal of the same two files with the history; or, if it has
   -- failed, with the history and perhaps one more entry, with which it is still legal. This is the
   -- entry of a request whose reply said that it could not be kept, and no entry was added after it.
-  pub record Headline (opened : List Entry) (before after : DiskSeen) (carried : Carried) (code : ℕ) : Type 0 where
+  pub record Headline (opened : List Entry) (before after : DiskSeen) (carried : Carried)
+      (code : ℕ) : Type 0 where
     pub status : Status
     pub code_is : code ≡ exit_code status
     pub exchange : Exchange
     pub new : PortState
     pub splits : Splits carried.input exchange.requests exchange.rest
     pub few : length exchange.requests ≤ most_requests
-    pub runs : Runs (Sends feeds files.airport) (new_port opened before.faults) exchange.requests exchange.sents new
+    pub runs : Runs (Sends feeds files.airport) (new_port opened before.faults)
+        exchange.requests exchange.sents new
     pub stops : StopsWith files.airport status carried exchange
     pub begins : GoesOnFrom opened new.seen
     pub calls : new.calls ≡ numbers_from (next_after opened) (count_by is_given exchange.sents)
     pub spent : status ≡ Spent → next_after opened + count_by is_given exchange.sents ≡ call_limit
     pub legal : IsLegal files.airport new.seen
     pub sound : AllSound files.airport new.seen
-    pub drafts : (desk : List ℕ) (number version : ℕ) → HasItsEntry files.airport new.seen desk number version
-    pub visits : (version : ℕ) (added : NewVisit) → IsOfItsEntry files.airport new.seen version added
+    pub drafts : (desk : List ℕ) (number version : ℕ)
+        → HasItsEntry files.airport new.seen desk number version
+    pub visits : (version : ℕ) (added : NewVisit)
+        → IsOfItsEntry files.airport new.seen version added
     pub faults : new.faults ≡ after.faults
     pub unkept : CountsUnkept (count_by tells_unkept exchange.sents) before.faults after.faults
     pub keeps : KeepsHistory files new.seen new.at_risk after
@@ -250,8 +276,12 @@ module _ (feeds : FeedTexts) (files : AirportFiles) where
   -- the headline of this input, with what the source and the sink tell afterwards; what the sink
   -- told before it tells then too
   abbrev pub TellsOf : List Entry → List ℕ → DeskEnds → DeskEnds → ℕ → Type 0
-  TellsOf opened input before after code = (left output : List ℕ) × (after.source.left ≡ Some left) × Appends before.sink.told after.sink.told output
-      × Headline opened before.disk after.disk (record { input = input; left = left; output = output }) code
+  TellsOf opened input before after code =
+      (left output : List ℕ)
+      × (after.source.left ≡ Some left)
+      × Appends before.sink.told after.sink.told output
+      × Headline opened before.disk after.disk
+      (record { input = input; left = left; output = output }) code
 
   -- the journal of the files opened, and the headline begins with its history, if the source tells
   -- its bytes

@@ -10,7 +10,8 @@ use Rattle.apron_run.specs.declared.status.Status.TheVariants.{Done, WriteFault,
 
 -- the text that says how an import ended: nothing if the call numbers have run out
 abbrev pub imported_text : Imported → List ℕ
-imported_text (imported.Whole added present) = (codes "added " ++ decimal added) ++ (codes " present " ++ decimal present)
+imported_text (imported.Whole added present) =
+    (codes "added " ++ decimal added) ++ (codes " present " ++ decimal present)
 imported_text imported.ShelfFault = codes "shelf fault"
 imported_text imported.TooLong = codes "season: too long"
 imported_text (imported.Refused number) = codes "season: record " ++ decimal number
@@ -37,6 +38,8 @@ status_of_imported imported.Memory = Memory
 -- the line that says how an import ended, with its status, which stays if the sink fails at the
 -- line, unless all was done; no line if the call numbers have run out
 abbrev pub TellsImported : Imported → SinkState → SinkState → Status → Type 0
-TellsImported (imported.Whole added present) before after status = Writes (imported_line (imported.Whole added present)) Done WriteFault before after status
+TellsImported (imported.Whole added present) before after status =
+    Writes (imported_line (imported.Whole added present)) Done WriteFault before after status
 TellsImported imported.Spent before after status = (after ≡ before) × (status ≡ Spent)
-TellsImported end before after status = Writes (imported_line end) (status_of_imported end) (status_of_imported end) before after status
+TellsImported end before after status =
+    Writes (imported_line end) (status_of_imported end) (status_of_imported end) before after status

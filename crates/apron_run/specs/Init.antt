@@ -45,7 +45,8 @@ TellsMade None before after status = Writes made_text Done WriteFault before aft
 TellsMade (Some fault) before after status = TellsUnusable (Journal fault) before after status
 
 -- a journal was made of these files, or refused, and the line says so
-pub record MakesJournal (files : AirportFiles) (before after : SinkAndDisk) (status : Status) : Type 0 where
+pub record MakesJournal (files : AirportFiles) (before after : SinkAndDisk)
+    (status : Status) : Type 0 where
   pub refused : Option JournalFault
   pub makes : Makes files.digests before.disk after.disk refused
   pub tells : TellsMade refused before.sink after.sink status
@@ -53,4 +54,5 @@ pub record MakesJournal (files : AirportFiles) (before after : SinkAndDisk) (sta
 -- the airport file and the type file of these names were read, and this was done with what was
 -- found in them
 abbrev pub InitsJournal : List ℕ → List ℕ → World → World → Status → Type 0
-InitsJournal airport types before after status = DoesWithFiles MakesJournal airport types before after status
+InitsJournal airport types before after status =
+    DoesWithFiles MakesJournal airport types before after status

@@ -12,7 +12,8 @@ use Rattle.apron_run.specs.declared.status.Status.TheVariants.{Done, WriteFault}
 
 -- the bytes are the line of the summary of a generated day of this many visits
 abbrev pub IsDayLine : ℕ → List ℕ → Type 0
-IsDayLine visits line = (summary : Summary) × MakesDay visits summary × (line ≡ summary_text summary)
+IsDayLine visits line =
+    (summary : Summary) × MakesDay visits summary × (line ≡ summary_text summary)
 
 -- the summary of a generated day of this many visits was written
 pub record WritesDay (visits : ℕ) (before after : SinkState) (status : Status) : Type 0 where
@@ -22,4 +23,5 @@ pub record WritesDay (visits : ℕ) (before after : SinkState) (status : Status)
 
 -- the same, or the line that says that memory has run out
 abbrev pub TellsDay : ℕ → SinkState → SinkState → Status → Type 0
-TellsDay visits before after status = WritesDay visits before after status ⊎ TellsFault files.Memory before after status
+TellsDay visits before after status = WritesDay visits before after status
+    ⊎ TellsFault files.Memory before after status

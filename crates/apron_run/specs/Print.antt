@@ -7,7 +7,8 @@ use Rattle.apron_run.specs.declared.status.Status.{Status}
 -- the other status
 abbrev pub Writes : List ℕ → Status → Status → SinkState → SinkState → Status → Type 0
 Writes text whole cut before after status =
-    ((status ≡ whole) × Wrote false before after text) ⊎ ((status ≡ cut) × ((count : ℕ) × Wrote true before after (take count text)))
+    ((status ≡ whole) × Wrote false before after text)
+    ⊎ ((status ≡ cut) × ((count : ℕ) × Wrote true before after (take count text)))
 
 -- what the word `--help` prints
 unfoldable pub help_text : List ℕ

@@ -21,7 +21,8 @@ use Rattle.apron_run.specs.declared.status.Status.TheVariants.{Done, Usage, Writ
 -- the sink's count of faults: it rose if the status says that the sink failed, it may have risen if
 -- a line reports the status, and otherwise it is as before
 abbrev pub SinkCounts : Status → ℕ → ℕ → Type 0
-SinkCounts status before now = MatchBool (is_told status) (before ≤ now) (Counts (is_sink_status status) before now)
+SinkCounts status before now =
+    MatchBool (is_told status) (before ≤ now) (Counts (is_sink_status status) before now)
 
 -- the disk's count of faults: a session's if one is asked for; otherwise it rose if the status says
 -- that the disk failed, or is as before
@@ -36,14 +37,18 @@ module _ (feeds : FeedTexts) where
   Does (desk airport types) before after status = RunsDesk feeds airport types before after status
   Does (init airport types) before after status = InitsJournal airport types before after status
   Does (check airport types) before after status = ChecksFiles airport types before after status
-  Does (chart airport types day) before after status = ChartsFiles airport types day before after status
-  Does (import airport types season) before after status = ImportsFiles airport types season before after status
+  Does (chart airport types day) before after status =
+      ChartsFiles airport types day before after status
+  Does (import airport types season) before after status =
+      ImportsFiles airport types season before after status
   Does (export airport types) before after status = ExportsFiles airport types before after status
   Does (upgrade airport types) before after status = UpgradesFiles airport types before after status
-  Does (propose airport types name draft) before after status = ProposesFiles airport types name draft before after status
+  Does (propose airport types name draft) before after status =
+      ProposesFiles airport types name draft before after status
   Does (make visits) before after status = TellsDay visits before.sink after.sink status
   Does help before after status = Writes help_text Done WriteFault before.sink after.sink status
-  Does version before after status = Writes version_text Done WriteFault before.sink after.sink status
+  Does version before after status =
+      Writes version_text Done WriteFault before.sink after.sink status
   Does faulty before after status = Writes usage_text Usage Usage before.sink after.sink status
 
   -- what the program does for what is asked of it, from one moment to the other, and the status of

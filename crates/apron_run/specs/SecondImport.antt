@@ -10,7 +10,8 @@ use Rattle.apron_run.specs.declared.imported.Imported.TheVariants.{Whole, Spent,
 
 -- after an import that met each visit all of them are there
 abbrev pub AllAreThere : Type 0
-AllAreThere = (airport : AirportParts) (visits : List NewVisit) (before after : Reached) → IsLegal airport after.history
+AllAreThere = (airport : AirportParts) (visits : List NewVisit) (before after : Reached)
+    → IsLegal airport after.history
     → MeetsAll airport visits before after → Every (IsThere (replay airport after.history)) visits
 
 -- an import of this many visits found all of them there, or it ran out of memory or of call numbers
@@ -22,6 +23,11 @@ AddsNothing visits imported = ⊥
 
 -- a second import of the same visits, into the history that the first one left, adds nothing
 abbrev pub SecondAddsNothing : Type 0
-SecondAddsNothing = (airport : AirportParts) (visits : List NewVisit) (before after again left : Reached) (imported : Imported) → IsLegal airport after.history
-    → MeetsAll airport visits before after → again.history ≡ after.history → AsksSeason airport visits again left imported
+SecondAddsNothing =
+    (airport : AirportParts) (visits : List NewVisit) (before after again left : Reached)
+    (imported : Imported)
+    → IsLegal airport after.history
+    → MeetsAll airport visits before after
+    → again.history ≡ after.history
+    → AsksSeason airport visits again left imported
     → (left.history ≡ after.history) × AddsNothing (length visits) imported

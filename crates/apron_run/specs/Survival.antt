@@ -31,7 +31,8 @@ OpensWith digests entries IsMore image =
 
 -- the image opens to the first of these entries, at least this number of them, or to these and one
 -- more
-pub record OpensToFront (digests : List ℕ) (least : ℕ) (entries : List (List ℕ)) (image : List ℕ) : Type 0 where
+pub record OpensToFront (digests : List ℕ) (least : ℕ) (entries : List (List ℕ))
+    (image : List ℕ) : Type 0 where
   pub count : ℕ
   pub some : least ≤ count
   pub few : count ≤ length entries
@@ -41,7 +42,8 @@ pub record OpensToFront (digests : List ℕ) (least : ℕ) (entries : List (List
 -- disk tell its entries. Up to the moment at which it was open: what it could leave when the call
 -- began. From then on: the first of the entries, no fewer than it was opened with, or these and one
 -- more.
-pub record LeavesFronts (digests : List ℕ) (entries : List ℕ → List (List ℕ)) (begun now : DiskState) : Type 0 where
+pub record LeavesFronts (digests : List ℕ) (entries : List ℕ → List (List ℕ))
+    (begun now : DiskState) : Type 0 where
   pub opened : List (List ℕ)
   pub opens : IfExposed begun (λ bytes. opening_of digests bytes ≡ Ok opened)
   pub tells : TellsAlike begun now
@@ -59,7 +61,8 @@ IsTextOf at_risk text = (entry : Entry) × (at_risk ≡ Some entry) × (text ≡
 -- What a crash may leave of the journal of the files of these digests, which a run opened and left
 -- with this history and this entry at risk: during the run, as just said; and after it the history,
 -- or this and the entry at risk.
-pub record Survives (digests : List ℕ) (history : List Entry) (at_risk : Option Entry) (disk : DiskStates) : Type 0 where
+pub record Survives (digests : List ℕ) (history : List Entry) (at_risk : Option Entry)
+    (disk : DiskStates) : Type 0 where
   pub fronts : LeavesFronts digests (λ bytes. entry_texts history) disk.before disk.after
   pub last : IfExposed disk.after (λ bytes.
       EachImage disk.after (OpensWith digests (entry_texts history) (IsTextOf at_risk)))

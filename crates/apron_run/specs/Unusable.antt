@@ -19,15 +19,18 @@ abbrev pub journal_text : JournalFault → List ℕ
 journal_text journal.DiskFault = codes "disk fault"
 journal_text journal.NotEmpty = codes "journal not empty"
 journal_text journal.NotAJournal = codes "journal: not a journal"
-journal_text (journal.OtherAirport kept given) = (codes "journal: other airport " ++ encode_lower kept) ++ (codes " " ++ encode_lower given)
+journal_text (journal.OtherAirport kept given) =
+    (codes "journal: other airport " ++ encode_lower kept) ++ (codes " " ++ encode_lower given)
 journal_text journal.OldFormat = codes "journal: old format"
 journal_text (journal.BadRecord number) = codes "journal: record " ++ decimal number
 journal_text journal.Memory = memory_text
 
 -- what tells why the entries of a journal are no history
 abbrev pub entries_text : OpenFault → List ℕ
-entries_text (entries.BadEntry number) = (codes "journal: entry " ++ decimal number) ++ codes " unreadable"
-entries_text (entries.WrongEntry number) = (codes "journal: entry " ++ decimal number) ++ codes " refused"
+entries_text (entries.BadEntry number) =
+    (codes "journal: entry " ++ decimal number) ++ codes " unreadable"
+entries_text (entries.WrongEntry number) =
+    (codes "journal: entry " ++ decimal number) ++ codes " refused"
 entries_text entries.Memory = memory_text
 
 -- what tells why there is no journal to work on
@@ -58,4 +61,5 @@ status_of_unusable (Entries fault) = status_of_entries fault
 
 -- the line that says why, with its status, which stays if the sink fails at the line
 abbrev pub TellsUnusable : Unusable → SinkState → SinkState → Status → Type 0
-TellsUnusable why before after status = Writes (unusable_line why) (status_of_unusable why) (status_of_unusable why) before after status
+TellsUnusable why before after status =
+    Writes (unusable_line why) (status_of_unusable why) (status_of_unusable why) before after status

@@ -38,7 +38,8 @@ pub record HasLifted (airport : AirportParts) (old new : List (List ℕ)) : Type
   pub sizes : Every IsEntry new
 
 -- one entry more was lifted, and put after the others
-pub record LiftsNext (airport : AirportParts) (bytes : List ℕ) (before after : List (List ℕ)) : Type 0 where
+pub record LiftsNext (airport : AirportParts) (bytes : List ℕ)
+    (before after : List (List ℕ)) : Type 0 where
   pub new : List ℕ
   pub after_is : after ≡ before ++ new ∷ []
   pub lifts : lift_entry airport bytes ≡ Ok new
@@ -53,7 +54,8 @@ NotLifted airport number bytes (entries.WrongEntry told) = ⊥
 NotLifted airport number bytes entries.Memory = Unit {0}
 
 -- these entries of format 1 are read as this history, which is legal
-pub record WasHistory (airport : AirportParts) (old : List (List ℕ)) (history : List Entry) : Type 0 where
+pub record WasHistory (airport : AirportParts) (old : List (List ℕ))
+    (history : List Entry) : Type 0 where
   pub legal : IsLegal airport history
   pub spells : map (decode_former_entry airport) old ≡ map Ok history
 
@@ -72,7 +74,9 @@ pub record HasUpgraded (files : AirportFiles) (before after : DiskSeen) (count :
   pub was : IfSome before.contents (λ bytes. old_opening_of files.digests bytes ≡ Ok (Some old))
   pub lifts : Lifts files.airport old new
   pub has : IfSome after.contents (λ bytes. opening_of files.digests bytes ≡ Ok new)
-  pub same : (history : List Entry) → WasHistory files.airport old history → OpensTo files after history
+  pub same : (history : List Entry)
+      → WasHistory files.airport old history
+      → OpensTo files after history
   pub count_is : count ≡ length old
   pub counts : Counts false before.faults after.faults
 
@@ -114,8 +118,10 @@ NotUpgraded files before after (Journal journal.DiskFault) = Counts true before.
 NotUpgraded files before after (Journal journal.NotEmpty) = ⊥
 NotUpgraded files before after (Journal journal.OldFormat) = ⊥
 NotUpgraded files before after (Journal fault) =
-    ReadsAsBefore before after × IfSome before.contents (λ bytes. OldTextFails files.digests bytes fault)
-NotUpgraded files before after (Entries fault) = ReadsAsBefore before after × LiftsInVain files before fault
+    ReadsAsBefore before after
+    × IfSome before.contents (λ bytes. OldTextFails files.digests bytes fault)
+NotUpgraded files before after (Entries fault) = ReadsAsBefore before after
+    × LiftsInVain files before fault
 
 -- the journal of the files was upgraded, with this number of entries, or is of format 2 already; or
 -- why neither
@@ -134,12 +140,14 @@ already_text = codes "already format 2\n"
 
 -- the line that tells it, with its status
 abbrev pub TellsUpgrade : Result (Option ℕ) Unusable → SinkState → SinkState → Status → Type 0
-TellsUpgrade (Ok (Some count)) before after status = Writes (upgraded_text count) Done WriteFault before after status
+TellsUpgrade (Ok (Some count)) before after status =
+    Writes (upgraded_text count) Done WriteFault before after status
 TellsUpgrade (Ok None) before after status = Writes already_text Done WriteFault before after status
 TellsUpgrade (Err why) before after status = TellsUnusable why before after status
 
 -- the journal of these files was upgraded, or not, and the line says so
-pub record UpgradesJournal (files : AirportFiles) (before after : SinkAndDisk) (status : Status) : Type 0 where
+pub record UpgradesJournal (files : AirportFiles) (before after : SinkAndDisk)
+    (status : Status) : Type 0 where
   pub met : Result (Option ℕ) Unusable
   pub meets : MeetsUpgrade files before.disk after.disk met
   pub tells : TellsUpgrade met before.sink after.sink status

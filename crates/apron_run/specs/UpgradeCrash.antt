@@ -22,18 +22,22 @@ IsOldOrNew digests old new image =
 -- What a crash may leave of a journal while it is upgraded. Up to the moment at which it was open:
 -- what it could leave when the call began. From then on: the old entries in format 1, or the new
 -- ones in format 2.
-pub record LeavesEither (digests : List ℕ) (old new : List (List ℕ)) (disk : DiskStates) : Type 0 where
+pub record LeavesEither (digests : List ℕ) (old new : List (List ℕ))
+    (disk : DiskStates) : Type 0 where
   pub tells : TellsAlike disk.before disk.after
   pub moment : ℕ
   pub order : (disk.before.moment ≤ moment) × (moment ≤ disk.after.moment)
-  pub earlier : EachImageFrom disk.before.moment moment disk.after (disk.before.images disk.before.moment)
+  pub earlier : EachImageFrom disk.before.moment moment disk.after
+      (disk.before.images disk.before.moment)
   pub later : IfExposed disk.before (λ bytes.
       EachImageFrom moment disk.after.moment disk.after (IsOldOrNew digests old new))
 
 -- the same, and once it was upgraded a crash leaves the new entries in format 2
-pub record LeavesUpgraded (digests : List ℕ) (old new : List (List ℕ)) (disk : DiskStates) : Type 0 where
+pub record LeavesUpgraded (digests : List ℕ) (old new : List (List ℕ))
+    (disk : DiskStates) : Type 0 where
   pub either : LeavesEither digests old new disk
-  pub last : IfExposed disk.before (λ bytes. EachImage disk.after (λ image. opening_of digests image ≡ Ok new))
+  pub last : IfExposed disk.before
+      (λ bytes. EachImage disk.after (λ image. opening_of digests image ≡ Ok new))
 
 -- an upgrade that the disk stopped: before it wrote anything, or while it wrote the lifted entries
 abbrev pub LeavesStopped : AirportFiles → DiskStates → Type 0
@@ -76,6 +80,8 @@ module _ (disk : DiskStates) where
   LeavesUpgrade (Err fault) before after status tells = Stays disk.before disk.after
 
   -- what is done with what was found, and what a crash may leave of it
-  abbrev pub UpgradesFoundLeaving : Result AirportFiles FilesFault → SinkAndDisk → SinkAndDisk → Status → Type 0
-  UpgradesFoundLeaving found before after status = (upgrades : DoesFound UpgradesJournal found before after status)
+  abbrev pub UpgradesFoundLeaving : Result AirportFiles FilesFault → SinkAndDisk → SinkAndDisk
+      → Status → Type 0
+  UpgradesFoundLeaving found before after status =
+      (upgrades : DoesFound UpgradesJournal found before after status)
       × LeavesUpgrade found before after status upgrades

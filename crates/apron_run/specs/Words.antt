@@ -32,7 +32,9 @@ pub data Subcommand : Type 0 where
 
 -- what one word asks for
 abbrev pub asked_by_one : List ℕ → Subcommand
-asked_by_one word = if bytes_eq word (codes "--help") then help else (if bytes_eq word (codes "--version") then version else faulty)
+asked_by_one word =
+    if bytes_eq word (codes "--help") then help
+    else (if bytes_eq word (codes "--version") then version else faulty)
 
 -- what a word asks for that has the names of an airport file and a type file after it
 abbrev pub asked_of_files : List ℕ → List ℕ → List ℕ → Subcommand
@@ -50,11 +52,13 @@ is_padded text = nat_le 2 (length text) && slice_index text 0 == 48
 
 -- decimal digits, of which the first is no zero unless it is alone
 abbrev pub is_plain_number : List ℕ → Bool
-is_plain_number text = nat_le 1 (length text) && list_all is_ascii_digit text && not (is_padded text)
+is_plain_number text =
+    nat_le 1 (length text) && list_all is_ascii_digit text && not (is_padded text)
 
 -- the number, if it is from the first to the last
 abbrev pub if_within : ℕ → ℕ → ℕ → Option ℕ
-if_within first last number = if nat_le first number && nat_le number last then Some number else None
+if_within first last number =
+    if nat_le first number && nat_le number last then Some number else None
 
 -- the number from the first to the last that the digits write, if they write one
 abbrev pub number_within : List ℕ → ℕ → ℕ → Option ℕ
@@ -77,7 +81,9 @@ make_subcommand (Some visits) = make visits
 -- what a word asks for that has digits after it: `make` a generated day of 1 to 5,000 visits
 abbrev pub asked_with_number : List ℕ → List ℕ → Subcommand
 asked_with_number word number =
-    if bytes_eq word (codes "make") && is_plain_number number then make_subcommand (number_within number 1 most_made) else faulty
+    if bytes_eq word (codes "make") && is_plain_number number
+    then make_subcommand (number_within number 1 most_made)
+    else faulty
 
 -- the greatest number of a draft
 abbrev pub last_draft : ℕ
@@ -108,7 +114,8 @@ subcommand_of (word ∷ []) = asked_by_one word
 subcommand_of (word ∷ number ∷ []) = asked_with_number word number
 subcommand_of (word ∷ airport ∷ types ∷ []) = asked_of_files word airport types
 subcommand_of (word ∷ airport ∷ types ∷ more ∷ []) = asked_of_more word airport types more
-subcommand_of (word ∷ airport ∷ types ∷ name ∷ draft ∷ []) = asked_of_draft word airport types name draft
+subcommand_of (word ∷ airport ∷ types ∷ name ∷ draft ∷ []) =
+    asked_of_draft word airport types name draft
 subcommand_of words = faulty
 
 -- the program ends with this number since two files give no airport, or the shelf none of them
@@ -117,7 +124,8 @@ ends_at_files code = code == exit_code FileFault || code == exit_code ShelfFault
 
 -- the program ends with this number since there is no airport, or no journal of it
 abbrev pub ends_at_journal : ℕ → Bool
-ends_at_journal code = ends_at_files code || code == exit_code DiskFault || code == exit_code JournalFault
+ends_at_journal code =
+    ends_at_files code || code == exit_code DiskFault || code == exit_code JournalFault
 
 -- the program ends with this number before it comes to making a journal
 abbrev pub ends_before_journal : ℕ → Bool

@@ -28,7 +28,12 @@ pub record DeskEnds : Type 0 where
 
 -- the outside with the disk in this state
 abbrev pub world_at : ShelfState → SourceState → SinkState → DiskState → World
-world_at shelf source sink disk = record { shelf = shelf; source = source; sink = sink; disk = disk_seen disk }
+world_at shelf source sink disk = record {
+  shelf = shelf;
+  source = source;
+  sink = sink;
+  disk = disk_seen disk;
+}
 
 -- the same without the shelf
 abbrev pub desk_ends_at : SourceState → SinkState → DiskState → DeskEnds

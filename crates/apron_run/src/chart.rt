@@ -37,7 +37,8 @@ pub(crate) fn run_chart<F: Shelf, W: Sink, D: Disk>(
 ) -> Status
     ensures charts { (found : Result AirportFiles FilesFault)
         × FindsFiles (F.state shelf.old) (F.state shelf.new) airport.now types.now found
-        × DoesFound (ChartsNamed day.now) found (sink_and_disk_at (W.state sink.old) (D.state disk.old))
+        × DoesFound (ChartsNamed day.now) found
+        (sink_and_disk_at (W.state sink.old) (D.state disk.old))
         (sink_and_disk_at (W.state sink.new) (D.state disk.new)) result }
     ensures crash { Stays (D.state disk.old) (D.state disk.new) }
     ensures kept { KeptUnless (not (ends_before_chart (exit_code result))) disk.old disk.new }

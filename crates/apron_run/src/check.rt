@@ -20,7 +20,8 @@ pub(crate) fn run_check<F: Shelf, W: Sink>(
     shelf: &mut F,
     sink: &mut W,
 ) -> Status
-    ensures checks { (found : Result AirportFiles FilesFault) × FindsFiles (F.state shelf.old) (F.state shelf.new) airport.now types.now found
+    ensures checks { (found : Result AirportFiles FilesFault)
+        × FindsFiles (F.state shelf.old) (F.state shelf.new) airport.now types.now found
         × TellsFound found (W.state sink.old) (W.state sink.new) result }
 {
     match airport_of(alloc, airport, types, shelf) {

@@ -38,8 +38,8 @@ pub(crate) fn run_desk<F: Shelf, S: Source, W: Sink, D: Disk, R: Stated, T: Note
     sink: &mut W,
     disk: &mut D,
 ) -> Status
-    ensures runs { RunsDeskLeaving (feed_texts R.tells watches.now) (from_to (D.state disk.old) (D.state disk.new))
-        airport.now types.now
+    ensures runs { RunsDeskLeaving (feed_texts R.tells watches.now)
+        (from_to (D.state disk.old) (D.state disk.new)) airport.now types.now
         (world_at (F.state shelf.old) (S.state source.old) (W.state sink.old) (D.state disk.old))
         (world_at (F.state shelf.new) (S.state source.new) (W.state sink.new) (D.state disk.new))
         result }

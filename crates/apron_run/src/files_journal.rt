@@ -50,14 +50,16 @@ impl<N: OfFiles, D: Disk> Model for FilesJournal<N, D> {
     ghost view = { λ f. f.journal };
 
     ghost invariant = { λ f. IfSome (D.state f.journal.disk).contents (IsOf N.digests)
-        × LeavesFronts N.digests (entries_within f.journal.extent) N.begun (D.state f.journal.disk) };
+        × LeavesFronts N.digests (entries_within f.journal.extent) N.begun
+        (D.state f.journal.disk) };
 }
 
 impl<N: OfFiles, D: Disk> FilesJournal<N, D> {
     /// The journal of these files, as it was opened.
     pub(crate) fn new(journal: Journal<D>) -> FilesJournal<N, D>
         requires digests { IfSome (D.state journal.disk).contents (IsOf N.digests) }
-        requires fronts { LeavesFronts N.digests (entries_within journal.extent) N.begun (D.state journal.disk) }
+        requires fronts { LeavesFronts N.digests (entries_within journal.extent) N.begun
+            (D.state journal.disk) }
         ensures journal { result ≡ journal }
     {
         FilesJournal {
@@ -72,7 +74,8 @@ impl<N: OfFiles, D: Disk> FilesJournal<N, D> {
         ensures disk { result ≡ self.disk }
         ensures entries { IsCrashSafe self.extent (D.state result) }
         ensures digests { IfSome (D.state result).contents (IsOf N.digests) }
-        ensures fronts { LeavesFronts N.digests (entries_within self.extent) N.begun (D.state result) }
+        ensures fronts { LeavesFronts N.digests (entries_within self.extent)
+            N.begun (D.state result) }
     {
         self.journal.into_disk()
     }

@@ -25,10 +25,11 @@ pub fn open_board<'f, N: OfFiles, D: Disk>(
 ) -> Result<Board<'f, FilesJournal<N, D>>, (Unusable, D)>
     requires digests { files.now.digests ≡ N.digests }
     requires begun { Stays N.begun (D.state disk) }
-    ensures opened { IfOk result (IsOpened (journal_tells D.state) files.entry.now (disk_seen (D.state disk))) }
+    ensures opened { IfOk result
+        (IsOpened (journal_tells D.state) files.entry.now (disk_seen (D.state disk))) }
     ensures stays { IfOk result (λ board. Stays (D.state disk) (D.state board.keeper.disk)) }
-    ensures refused { IfErr result (λ refusal.
-        NotOpened files.entry.now (disk_seen (D.state disk)) (disk_seen (D.state refusal.1)) refusal.0) }
+    ensures refused { IfErr result (λ refusal. NotOpened files.entry.now (disk_seen (D.state disk))
+        (disk_seen (D.state refusal.1)) refusal.0) }
     ensures unwritten { IfErr result (λ refusal. Stays (D.state disk) (D.state refusal.1)) }
 {
     let (journal, entries) = open_journal(alloc, files, disk)?;
@@ -52,8 +53,8 @@ pub fn open_watched<'f, N: OfFiles, D: Disk, R: Stated, T: NoteTest>(
     ensures watches { IfOk result (λ made. made.watches ≡ watches.entry.now) }
     ensures next { IfOk result (λ made. made.next ≡ made.board.next) }
     ensures stays { IfOk result (λ made. Stays (D.state disk) (D.state made.board.keeper.disk)) }
-    ensures refused { IfErr result (λ refusal.
-        NotOpened files.entry.now (disk_seen (D.state disk)) (disk_seen (D.state refusal.1)) refusal.0) }
+    ensures refused { IfErr result (λ refusal. NotOpened files.entry.now (disk_seen (D.state disk))
+        (disk_seen (D.state refusal.1)) refusal.0) }
     ensures unwritten { IfErr result (λ refusal. Stays (D.state disk) (D.state refusal.1)) }
 {
     let (journal, entries) = open_journal(alloc, files, disk)?;
@@ -89,8 +90,10 @@ fn open_journal<N: OfFiles, D: Disk>(
 /// this and the entry at risk after it, as the journal of these files; and so does what a crash
 /// leaves.
 pub fn close_board<N: OfFiles, D: Disk>(board: Board<'_, FilesJournal<N, D>>) -> D
-    ensures keeps { KeepsHistory (record { airport = board.entry.airport; digests = N.digests }) board.entry.history
-        (read_entry_at_risk board.entry.airport (journal_tells D.state board.entry.keeper)) (disk_seen (D.state result)) }
+    ensures keeps { KeepsHistory (record { airport = board.entry.airport; digests = N.digests })
+        board.entry.history
+        (read_entry_at_risk board.entry.airport (journal_tells D.state board.entry.keeper))
+        (disk_seen (D.state result)) }
     ensures survives { Survives N.digests board.entry.history
         (read_entry_at_risk board.entry.airport (journal_tells D.state board.entry.keeper))
         (from_to N.begun (D.state result)) }

@@ -67,7 +67,8 @@ pub(crate) fn print_of_files<T: PlanText, F: Shelf, W: Sink, D: Disk>(
     requires fits { (airport : AirportParts) → T.fits asked.now airport }
     ensures prints { (found : Result AirportFiles FilesFault)
         × FindsFiles (F.state shelf.old) (F.state shelf.new) airport.now types.now found
-        × DoesFound (PrintsText (T.answers asked.now)) found (sink_and_disk_at (W.state sink.old) (D.state disk.old))
+        × DoesFound (PrintsText (T.answers asked.now)) found
+        (sink_and_disk_at (W.state sink.old) (D.state disk.old))
         (sink_and_disk_at (W.state sink.new) (D.state disk.new)) result }
     ensures crash { Stays (D.state disk.old) (D.state disk.new) }
     ensures kept { KeptUnless (not (ends_at_files (exit_code result))) disk.old disk.new }
@@ -88,7 +89,8 @@ pub(crate) fn print_of_journal<T: PlanText, W: Sink, D: Disk>(
     disk: &mut D,
 ) -> Status
     requires fits { T.fits asked.now files.now.airport }
-    ensures prints { PrintsText (T.answers asked.now) files.now (sink_and_disk_at (W.state sink.old) (D.state disk.old))
+    ensures prints { PrintsText (T.answers asked.now) files.now
+        (sink_and_disk_at (W.state sink.old) (D.state disk.old))
         (sink_and_disk_at (W.state sink.new) (D.state disk.new)) result }
     ensures crash { Stays (D.state disk.old) (D.state disk.new) }
     ensures comes { ends_before_chart (exit_code result) ≡ false }

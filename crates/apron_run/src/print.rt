@@ -7,28 +7,32 @@ use apron_base::{Failed, Sink};
 
 /// Prints what `--help` asks for.
 pub(crate) fn print_help<W: Sink>(sink: &mut W) -> Status
-    ensures writes { Writes help_text Status.Done Status.WriteFault (W.state sink.old) (W.state sink.new) result }
+    ensures writes { Writes help_text Status.Done Status.WriteFault (W.state sink.old)
+        (W.state sink.new) result }
 {
     print(sink, help())
 }
 
 /// Prints what `--version` asks for.
 pub(crate) fn print_version<W: Sink>(sink: &mut W) -> Status
-    ensures writes { Writes version_text Status.Done Status.WriteFault (W.state sink.old) (W.state sink.new) result }
+    ensures writes { Writes version_text Status.Done Status.WriteFault (W.state sink.old)
+        (W.state sink.new) result }
 {
     print(sink, version_text())
 }
 
 /// Prints that a journal was made.
 pub(crate) fn print_made<W: Sink>(sink: &mut W) -> Status
-    ensures writes { Writes made_text Status.Done Status.WriteFault (W.state sink.old) (W.state sink.new) result }
+    ensures writes { Writes made_text Status.Done Status.WriteFault (W.state sink.old)
+        (W.state sink.new) result }
 {
     print(sink, made_text())
 }
 
 /// Prints the line for faulty words. The status stays theirs if the sink fails at it.
 pub fn print_usage<W: Sink>(sink: &mut W) -> Status
-    ensures writes { Writes usage_text Status.Usage Status.Usage (W.state sink.old) (W.state sink.new) result }
+    ensures writes { Writes usage_text Status.Usage Status.Usage (W.state sink.old)
+        (W.state sink.new) result }
     ensures usage { result ≡ Status.Usage }
 {
     let _ = sink.put(usage());
@@ -37,7 +41,8 @@ pub fn print_usage<W: Sink>(sink: &mut W) -> Status
 
 /// Prints this text.
 pub(crate) fn print<W: Sink>(sink: &mut W, text: &[u8]) -> Status
-    ensures writes { Writes text.now Status.Done Status.WriteFault (W.state sink.old) (W.state sink.new) result }
+    ensures writes { Writes text.now Status.Done Status.WriteFault (W.state sink.old)
+        (W.state sink.new) result }
 {
     match sink.put(text) {
         Ok(()) => Status::Done,

@@ -99,9 +99,11 @@ pub fn run_with<F: Shelf, S: Source, W: Sink, D: Disk, R: Stated, T: NoteTest>(
         (world_at (F.state shelf.new) (S.state source.new) (W.state sink.new) (D.state disk.new))
         result }
     ensures usage { subcommand_of words.now ≡ faulty → result ≡ exit_code Status.Usage }
-    ensures usage_alone { result ≡ exit_code Status.Usage → may_be_usage (subcommand_of words.now) ≡ true }
+    ensures usage_alone { result ≡ exit_code Status.Usage
+        → may_be_usage (subcommand_of words.now) ≡ true }
     ensures shelf_kept { KeptUnless (uses_shelf (subcommand_of words.now)) shelf.old shelf.new }
-    ensures source_kept { KeptUnless (uses_source (subcommand_of words.now) result) source.old source.new }
+    ensures source_kept { KeptUnless (uses_source (subcommand_of words.now) result)
+        source.old source.new }
     ensures disk_kept { KeptUnless (uses_disk (subcommand_of words.now) result) disk.old disk.new }
 {
     run_words(alloc, words, watches, shelf, source, sink, disk).code()
@@ -139,9 +141,11 @@ pub fn run<F: Shelf, S: Source, W: Sink, D: Disk>(
         (world_at (F.state shelf.new) (S.state source.new) (W.state sink.new) (D.state disk.new))
         result }
     ensures usage { subcommand_of words.now ≡ faulty → result ≡ exit_code Status.Usage }
-    ensures usage_alone { result ≡ exit_code Status.Usage → may_be_usage (subcommand_of words.now) ≡ true }
+    ensures usage_alone { result ≡ exit_code Status.Usage
+        → may_be_usage (subcommand_of words.now) ≡ true }
     ensures shelf_kept { KeptUnless (uses_shelf (subcommand_of words.now)) shelf.old shelf.new }
-    ensures source_kept { KeptUnless (uses_source (subcommand_of words.now) result) source.old source.new }
+    ensures source_kept { KeptUnless (uses_source (subcommand_of words.now) result)
+        source.old source.new }
     ensures disk_kept { KeptUnless (uses_disk (subcommand_of words.now) result) disk.old disk.new }
 {
     let watches = Watches::<Shown, Shown>::none(alloc);
@@ -168,10 +172,13 @@ fn run_words<F: Shelf, S: Source, W: Sink, D: Disk, R: Stated, T: NoteTest>(
         (world_at (F.state shelf.new) (S.state source.new) (W.state sink.new) (D.state disk.new))
         (exit_code result) }
     ensures usage { subcommand_of words.now ≡ faulty → result ≡ Status.Usage }
-    ensures usage_alone { exit_code result ≡ exit_code Status.Usage → may_be_usage (subcommand_of words.now) ≡ true }
+    ensures usage_alone { exit_code result ≡ exit_code Status.Usage
+        → may_be_usage (subcommand_of words.now) ≡ true }
     ensures shelf_kept { KeptUnless (uses_shelf (subcommand_of words.now)) shelf.old shelf.new }
-    ensures source_kept { KeptUnless (uses_source (subcommand_of words.now) (exit_code result)) source.old source.new }
-    ensures disk_kept { KeptUnless (uses_disk (subcommand_of words.now) (exit_code result)) disk.old disk.new }
+    ensures source_kept { KeptUnless (uses_source (subcommand_of words.now) (exit_code result))
+        source.old source.new }
+    ensures disk_kept { KeptUnless (uses_disk (subcommand_of words.now) (exit_code result))
+        disk.old disk.new }
 {
     match subcommand_of(words) {
         Subcommand::Desk(airport, types) => {

@@ -28,8 +28,10 @@ pub(crate) fn add_season<F: Shelf, K: Keeper>(
     season: &str,
     shelf: &mut F,
 ) -> Imported
-    ensures adds { (found : Result (List NewVisit) Imported) × FindsSeason board.old.airport season.now (F.state shelf.old) (F.state shelf.new) found
-        × AsksFound board.old.airport found (reached_by K.state board.old) (reached_by K.state board.new) result }
+    ensures adds { (found : Result (List NewVisit) Imported)
+        × FindsSeason board.old.airport season.now (F.state shelf.old) (F.state shelf.new) found
+        × AsksFound board.old.airport found (reached_by K.state board.old)
+        (reached_by K.state board.new) result }
     ensures airport { board.new.airport ≡ board.old.airport }
 {
     match find_season(alloc, board.airport(), season, shelf) {
@@ -45,7 +47,8 @@ fn find_season<F: Shelf>(
     season: &str,
     shelf: &mut F,
 ) -> Result<Listed<NewVisit>, Imported>
-    ensures finds { FindsSeason airport.now season.now (F.state shelf.old) (F.state shelf.new) result }
+    ensures finds { FindsSeason airport.now season.now (F.state shelf.old)
+        (F.state shelf.new) result }
     ensures new { IfOk result (All (IsNewVisitOf airport.now)) }
 {
     let text = match shelf.read_file(alloc, season, MAX_SEASON) {
@@ -65,7 +68,8 @@ fn find_season<F: Shelf>(
 // already.
 fn ask_season<K: Keeper>(alloc: Global, board: &mut Board<'_, K>, visits: &[NewVisit]) -> Imported
     requires new { All (IsNewVisitOf board.old.airport) visits.now }
-    ensures asks { AsksSeason board.old.airport visits.now (reached_by K.state board.old) (reached_by K.state board.new) result }
+    ensures asks { AsksSeason board.old.airport visits.now (reached_by K.state board.old)
+        (reached_by K.state board.new) result }
     ensures airport { board.new.airport ≡ board.old.airport }
 {
     let before = board.history().len();
@@ -90,8 +94,12 @@ fn ask_visit<K: Keeper>(
     number: u64,
 ) -> Result<(), Imported>
     requires new { IsNewVisitOf board.old.airport new.now }
-    ensures met { OnOk result (AsksOnce board.old.airport (reached_by K.state board.old) new.now (reached_by K.state board.new)) }
-    ensures stops { IfErr result (StopsImport board.old.airport number (reached_by K.state board.old) new.now (reached_by K.state board.new)) }
+    ensures met { OnOk result
+        (AsksOnce board.old.airport (reached_by K.state board.old) new.now
+        (reached_by K.state board.new)) }
+    ensures stops { IfErr result
+        (StopsImport board.old.airport number (reached_by K.state board.old) new.now
+        (reached_by K.state board.new)) }
     ensures airport { board.new.airport ≡ board.old.airport }
 {
     let call = board.next_call();

@@ -92,7 +92,8 @@ fn put_journal_fault<W: Sink>(sink: &mut W, fault: &JournalFault) -> Result<(), 
 
 fn put_other_airport<W: Sink>(sink: &mut W, kept: &[u8; 64], given: &[u8; 64]) -> Result<(), Failed>
     ensures puts { Puts (W.state sink.old) (W.state sink.new) result
-        ((codes "journal: other airport " ++ encode_lower kept.now) ++ (codes " " ++ encode_lower given.now)) }
+        ((codes "journal: other airport " ++ encode_lower kept.now)
+        ++ (codes " " ++ encode_lower given.now)) }
 {
     put_both(sink, b"journal: other airport ", &in_hex(kept))?;
     put_both(sink, b" ", &in_hex(given))

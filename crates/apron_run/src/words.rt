@@ -95,7 +95,8 @@ fn asked_of_files<'w>(word: &str, airport: &'w str, types: &'w str) -> Subcomman
 }
 
 fn asked_of_more<'w>(word: &str, airport: &'w str, types: &'w str, more: &'w Word) -> Subcommand<'w>
-    ensures asked { subcommand_shown result ≡ asked_of_more word.now airport.now types.now more.now }
+    ensures asked { subcommand_shown result
+        ≡ asked_of_more word.now airport.now types.now more.now }
     ensures fits { IsFitting result }
 {
     if word == "import" {
