@@ -23,7 +23,13 @@ use Rattle.apron_serve.specs.World.{ServeEnds}
 -- a board that was opened with this history, after which no entry is at risk, over a disk that had
 -- failed this often
 abbrev pub opened_board : AirportParts → List Entry → ℕ → MachineState Entry AirportParts
-opened_board airport opened faults = record { fixed = airport; history = opened; at_risk = None; next = next_after opened; faults = faults }
+opened_board airport opened faults = record {
+  fixed = airport;
+  history = opened;
+  at_risk = None;
+  next = next_after opened;
+  faults = faults;
+}
 
 -- how the ends of connections are seen, and what the reply to each feed is
 pub record Service (In Out : Type 0) : Type 0 where
@@ -38,7 +44,8 @@ served_end work.Done false = Done
 
 -- there is no journal to work on, or no memory for the turns at it: no listener was called, and the
 -- disk reads as before
-pub record ServeFindsNoJournal {In Out : Type 0} (files : AirportFiles) (before after : ServeEnds In Out) (why : Unusable) : Type 0 where
+pub record ServeFindsNoJournal {In Out : Type 0} (files : AirportFiles)
+    (before after : ServeEnds In Out) (why : Unusable) : Type 0 where
   pub listeners : after.listeners ≡ before.listeners
   pub screens : after.screens ≡ before.screens
   pub disk : NotOpened files before.disk after.disk why
@@ -68,18 +75,24 @@ module _ {In Out : Type 0} (service : Service In Out) (files : AirportFiles) (ta
     pub board : MachineState Entry AirportParts
     pub desks : WorkEnd
     pub serves : ServesBoard service.states (fed_sessions service.feeds) task.connections
-        (record { listeners = before.listeners; board = opened_board files.airport opened before.disk.faults })
+        (record {
+          listeners = before.listeners;
+          board = opened_board files.airport opened before.disk.faults;
+        })
         (record { listeners = after.listeners; board = board }) desks
     pub looks : WorkEnd
-    pub shows : ShowsFrom service.states (record { airport = files.airport; history = opened }) task before.screens after.screens looks
+    pub shows : ShowsFrom service.states (record { airport = files.airport; history = opened }) task
+        before.screens after.screens looks
     pub missed : Bool
     pub screens : missed ≡ true → 0 < length before.screens
     pub end_is : end ≡ served_end (end_of (desks ∷ looks ∷ [])) missed
     pub faults : after.disk.faults ≡ board.faults
     pub keeps : KeepsHistory files board.history board.at_risk after.disk
     pub sound : AllSound files.airport board.history
-    pub drafts : (desk : List ℕ) (number version : ℕ) → HasItsEntry files.airport board.history desk number version
-    pub visits : (version : ℕ) (added : NewVisit) → IsOfItsEntry files.airport board.history version added
+    pub drafts : (desk : List ℕ) (number version : ℕ)
+        → HasItsEntry files.airport board.history desk number version
+    pub visits : (version : ℕ) (added : NewVisit)
+        → IsOfItsEntry files.airport board.history version added
 
   -- desks served at the journal of these files, or why there is none to work on
   abbrev pub MeetsDesks : ServeEnds In Out → ServeEnds In Out → Result ServeEnd Unusable → Type 0

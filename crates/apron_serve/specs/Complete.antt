@@ -15,7 +15,8 @@ module _ {In Out : Type 0} where
   CanBeServed None world = ⊥
   CanBeServed (Some order) world =
       (files : AirportFiles) × HasFiles world.shelf order.airport order.types files
-      × IsSome (day_shown files.airport order.day) × ((history : List Entry) × HasJournal files world.disk history)
+      × IsSome (day_shown files.airport order.day)
+      × ((history : List Entry) × HasJournal files world.disk history)
 
   -- the count of faults of the shelf, of a listener or of the disk neither rose nor is at its
   -- greatest value
@@ -27,4 +28,5 @@ module _ {In Out : Type 0} where
 
   -- what is valid ends well, if nothing fails
   abbrev pub IsServeComplete : Option Order → ServeWorld In Out → ServeWorld In Out → ℕ → Type 0
-  IsServeComplete asked before after code = CanBeServed asked before → NoneFailsInServe before after → EndsWell code
+  IsServeComplete asked before after code =
+      CanBeServed asked before → NoneFailsInServe before after → EndsWell code

@@ -32,12 +32,14 @@ no_memory = Entries entries.Memory
 -- and otherwise a line
 abbrev pub PrintsServeEnd : Result ServeEnd Unusable → SinkState → SinkState → Status → Type 0
 PrintsServeEnd (Ok Done) before after told = (after ≡ before) × (told ≡ status.Done)
-PrintsServeEnd (Ok ListenerFault) before after told = Writes listener_line status.ListenerFault status.ListenerFault before after told
+PrintsServeEnd (Ok ListenerFault) before after told =
+    Writes listener_line status.ListenerFault status.ListenerFault before after told
 PrintsServeEnd (Ok Missed) before after told = TellsUnusable no_memory before after told
 PrintsServeEnd (Err why) before after told = TellsUnusable why before after told
 
 -- the line of a fault of the files was written, and the listeners and the disk are as they were
-pub record TellsFiles {In Out : Type 0} (fault : FilesFault) (before after : ServeOuts In Out) (told : Status) : Type 0 where
+pub record TellsFiles {In Out : Type 0} (fault : FilesFault) (before after : ServeOuts In Out)
+    (told : Status) : Type 0 where
   pub listeners : after.listeners ≡ before.listeners
   pub screens : after.screens ≡ before.screens
   pub disk : after.disk ≡ before.disk
@@ -45,7 +47,8 @@ pub record TellsFiles {In Out : Type 0} (fault : FilesFault) (before after : Ser
 
 -- the plan has no such day: the line for faulty words was written, and the listeners and the disk
 -- are as they were
-pub record TellsNoDay {In Out : Type 0} (before after : ServeOuts In Out) (told : Status) : Type 0 where
+pub record TellsNoDay {In Out : Type 0} (before after : ServeOuts In Out)
+    (told : Status) : Type 0 where
   pub listeners : after.listeners ≡ before.listeners
   pub screens : after.screens ≡ before.screens
   pub disk : after.disk ≡ before.disk
@@ -53,28 +56,35 @@ pub record TellsNoDay {In Out : Type 0} (before after : ServeOuts In Out) (told 
 
 -- what is to be done at an airport, if its plan has the day that is ordered
 abbrev pub task_at : AirportFiles → Order → Option Task
-task_at files order = option_map (λ day. record { connections = order.connections; day = day }) (day_shown files.airport order.day)
+task_at files order =
+    option_map (λ day. record { connections = order.connections; day = day })
+    (day_shown files.airport order.day)
 
 module _ {In Out : Type 0} (service : Service In Out) where
   -- desks and screens served at the journal of these files, or none, and what is printed about
   -- either
-  pub record ServesJournal (files : AirportFiles) (task : Task) (before after : ServeOuts In Out) (told : Status) : Type 0 where
+  pub record ServesJournal (files : AirportFiles) (task : Task) (before after : ServeOuts In Out)
+      (told : Status) : Type 0 where
     pub met : Result ServeEnd Unusable
     pub meets : MeetsDesks service files task (serve_ends before) (serve_ends after) met
     pub tells : PrintsServeEnd met before.sink after.sink told
 
   -- the same, or there is no such day
-  abbrev pub ServesTask : AirportFiles → Option Task → ServeOuts In Out → ServeOuts In Out → Status → Type 0
+  abbrev pub ServesTask : AirportFiles → Option Task → ServeOuts In Out → ServeOuts In Out → Status
+      → Type 0
   ServesTask files (Some task) before after told = ServesJournal files task before after told
   ServesTask files None before after told = TellsNoDay before after told
 
   -- what is done with what was found in the two files
-  abbrev pub ServesFound : Order → Result AirportFiles FilesFault → ServeOuts In Out → ServeOuts In Out → Status → Type 0
-  ServesFound order (Ok files) before after told = ServesTask files (task_at files order) before after told
+  abbrev pub ServesFound : Order → Result AirportFiles FilesFault → ServeOuts In Out
+      → ServeOuts In Out → Status → Type 0
+  ServesFound order (Ok files) before after told =
+      ServesTask files (task_at files order) before after told
   ServesFound order (Err fault) before after told = TellsFiles fault before after told
 
   -- the two files of the order were read, and this was done with what was found in them
-  pub record ServesFiles (order : Order) (before after : ServeWorld In Out) (told : Status) : Type 0 where
+  pub record ServesFiles (order : Order) (before after : ServeWorld In Out)
+      (told : Status) : Type 0 where
     pub found : Result AirportFiles FilesFault
     pub finds : FindsFiles before.shelf after.shelf order.airport order.types found
     pub serves : ServesFound order found (serve_outs before) (serve_outs after) told

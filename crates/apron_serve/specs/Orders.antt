@@ -31,19 +31,24 @@ abbrev pub order_if_counted : List ℕ → List ℕ → Option (List ℕ) → Op
 order_if_counted airport types day None = None
 order_if_counted airport types day (Some connections) =
     if nat_le 1 connections && nat_le connections most_connections
-    then Some (record { airport = airport; types = types; connections = connections; day = day }) else None
+    then Some (record { airport = airport; types = types; connections = connections; day = day })
+    else None
 
 -- what a word orders that has the names of two files and then digits after it
 abbrev pub ordered_by : List ℕ → List ℕ → List ℕ → List ℕ → Option (List ℕ) → Option Order
 ordered_by word airport types number day =
-    if bytes_eq word (codes "serve") && is_plain_number number then order_if_counted airport types day (number_of number MAX_DIGITS) else None
+    if bytes_eq word (codes "serve") && is_plain_number number
+    then order_if_counted airport types day (number_of number MAX_DIGITS)
+    else None
 
 -- what the words order: `serve` with the names of two files and a number, and perhaps `screen` and
 -- a number
 abbrev pub order_of_words : List (List ℕ) → Option Order
 order_of_words (word ∷ airport ∷ types ∷ number ∷ []) = ordered_by word airport types number None
 order_of_words (word ∷ airport ∷ types ∷ number ∷ screen ∷ day ∷ []) =
-    if bytes_eq screen (codes "screen") && is_plain_number day then ordered_by word airport types number (Some day) else None
+    if bytes_eq screen (codes "screen") && is_plain_number day
+    then ordered_by word airport types number (Some day)
+    else None
 order_of_words words = None
 
 -- there may be this many screens: none if no day is shown, and otherwise 1 to 8
@@ -59,7 +64,9 @@ order_with screens (Some order) = if may_have screens order.day then Some order 
 -- what the words order of this many listeners of desks, 1 to 16, and this many of screens
 abbrev pub order_of : List (List ℕ) → ℕ → ℕ → Option Order
 order_of words listeners screens =
-    if nat_le 1 listeners && nat_le listeners most_listeners then order_with screens (order_of_words words) else None
+    if nat_le 1 listeners && nat_le listeners most_listeners
+    then order_with screens (order_of_words words)
+    else None
 
 -- the day that screens show at an airport: the one that the digits name, if it is a day of the
 -- plan; if there are no screens, the first

@@ -26,11 +26,15 @@ may_end_serve status = false
 
 -- `serve` with this many screens may end with this number after desks were served
 abbrev pub has_served : ℕ → ℕ → Bool
-has_served screens code = code == exit_code Done || code == exit_code ListenerFault || (code == exit_code Memory && nat_lt 0 screens)
+has_served screens code =
+    code == exit_code Done
+    || code == exit_code ListenerFault
+    || (code == exit_code Memory && nat_lt 0 screens)
 
 -- `serve` ends with this number before it comes to the journal
 abbrev pub serve_ends_before_journal : ℕ → Bool
-serve_ends_before_journal code = code == exit_code Usage || code == exit_code FileFault || code == exit_code ShelfFault
+serve_ends_before_journal code =
+    code == exit_code Usage || code == exit_code FileFault || code == exit_code ShelfFault
 
 -- there is an order
 abbrev pub is_order : Option Order → Bool
@@ -49,24 +53,28 @@ module _ {In Out : Type 0} where
 
   -- each listener has finished this many connections more
   abbrev pub HaveFinished : ℕ → List (ListenerState In Out) → List (ListenerState In Out) → Type 0
-  HaveFinished connections before after = map ended_of after ≡ map (λ (listener : ListenerState In Out). listener.ended + connections) before
+  HaveFinished connections before after = map ended_of after
+      ≡ map (λ (listener : ListenerState In Out). listener.ended + connections) before
 
   -- the count of faults of one of the listeners rose
   abbrev pub SomeFailed : List (ListenerState In Out) → List (ListenerState In Out) → Type 0
-  SomeFailed (before ∷ befores) (after ∷ afters) = Rose before.faults after.faults ⊎ SomeFailed befores afters
+  SomeFailed (before ∷ befores) (after ∷ afters) = Rose before.faults after.faults
+      ⊎ SomeFailed befores afters
   SomeFailed befores afters = ⊥
 
 module _ {In Out : Type 0} (service : Service In Out) where
   -- what is done if there is an order; if there is none the line `usage` is written, and nothing
   -- else is touched
   abbrev pub CarriesOut : Option Order → ServeWorld In Out → ServeWorld In Out → Status → Type 0
-  CarriesOut None before after status = (after ≡ record before { sink = after.sink }) × Writes usage_text Usage Usage before.sink after.sink status
+  CarriesOut None before after status = (after ≡ record before { sink = after.sink })
+      × Writes usage_text Usage Usage before.sink after.sink status
   CarriesOut (Some order) before after status = ServesFiles service order before after status
 
   -- What `serve` does for an order, and the status of its number. The shelf fails only if the
   -- status says so, the sink only at the line that reports a status, and the disk if the status
   -- says so or desks were served.
-  pub record ServesAs (order : Option Order) (before after : ServeWorld In Out) (code : ℕ) : Type 0 where
+  pub record ServesAs (order : Option Order) (before after : ServeWorld In Out)
+      (code : ℕ) : Type 0 where
     pub status : Status
     pub code_is : code ≡ exit_code status
     pub may : may_end_serve status ≡ true

@@ -30,21 +30,43 @@ pub record ServeEnds (In Out : Type 0) : Type 0 where
 
 module _ {In Out : Type 0} where
   -- the outside with the disk in this state
-  abbrev pub serve_world_at : ShelfState → List (ListenerState In Out) → List (ListenerState In Out) → SinkState → DiskState → ServeWorld In Out
-  serve_world_at shelf listeners screens sink disk =
-      record { shelf = shelf; listeners = listeners; screens = screens; sink = sink; disk = disk_seen disk }
+  abbrev pub serve_world_at : ShelfState → List (ListenerState In Out) → List (ListenerState In Out)
+      → SinkState → DiskState → ServeWorld In Out
+  serve_world_at shelf listeners screens sink disk = record {
+    shelf = shelf;
+    listeners = listeners;
+    screens = screens;
+    sink = sink;
+    disk = disk_seen disk;
+  }
 
   -- the same without the shelf
-  abbrev pub serve_outs_at : List (ListenerState In Out) → List (ListenerState In Out) → SinkState → DiskState → ServeOuts In Out
-  serve_outs_at listeners screens sink disk = record { listeners = listeners; screens = screens; sink = sink; disk = disk_seen disk }
+  abbrev pub serve_outs_at : List (ListenerState In Out) → List (ListenerState In Out) → SinkState
+      → DiskState → ServeOuts In Out
+  serve_outs_at listeners screens sink disk = record {
+    listeners = listeners;
+    screens = screens;
+    sink = sink;
+    disk = disk_seen disk;
+  }
 
   -- the listeners and the disk alone
-  abbrev pub serve_ends_at : List (ListenerState In Out) → List (ListenerState In Out) → DiskState → ServeEnds In Out
-  serve_ends_at listeners screens disk = record { listeners = listeners; screens = screens; disk = disk_seen disk }
+  abbrev pub serve_ends_at : List (ListenerState In Out) → List (ListenerState In Out) → DiskState
+      → ServeEnds In Out
+  serve_ends_at listeners screens disk = record {
+    listeners = listeners;
+    screens = screens;
+    disk = disk_seen disk;
+  }
 
   -- those of the outside
   abbrev pub serve_outs : ServeWorld In Out → ServeOuts In Out
-  serve_outs world = record { listeners = world.listeners; screens = world.screens; sink = world.sink; disk = world.disk }
+  serve_outs world = record {
+    listeners = world.listeners;
+    screens = world.screens;
+    sink = world.sink;
+    disk = world.disk;
+  }
 
   -- those of the outside
   abbrev pub serve_ends : ServeOuts In Out → ServeEnds In Out

@@ -58,14 +58,27 @@ pub(crate) fn serve_desks<
     requires begun { Stays N.begun (D.state disk) }
     requires few { length listeners.old ≤ most_listeners }
     requires day { 0 < length screens.old → (1 ≤ task.day) × (task.day ≤ files.now.airport.days) }
-    ensures meets { MeetsDesks (record { states = L.states; feeds = feed_texts R.tells watches.now }) files.now task
-        (record { listeners = map L.state listeners.old; screens = map L.state screens.old; disk = disk_seen (D.state disk) })
-        (record { listeners = map L.state listeners.new; screens = map L.state screens.new; disk = disk_seen (D.state result.1) }) result.0 }
-    ensures crash { let before = serve_ends_at (map L.state listeners.old) (map L.state screens.old) (D.state disk) in
-        let after = serve_ends_at (map L.state listeners.new) (map L.state screens.new) (D.state result.1) in
-        (meets : MeetsDesks (record { states = L.states; feeds = feed_texts R.tells watches.now }) files.now task before after result.0)
+    ensures meets { MeetsDesks
+        (record { states = L.states; feeds = feed_texts R.tells watches.now }) files.now task
+        (record {
+          listeners = map L.state listeners.old;
+          screens = map L.state screens.old;
+          disk = disk_seen (D.state disk);
+        })
+        (record {
+          listeners = map L.state listeners.new;
+          screens = map L.state screens.new;
+          disk = disk_seen (D.state result.1);
+        }) result.0 }
+    ensures crash { let before = serve_ends_at (map L.state listeners.old)
+        (map L.state screens.old) (D.state disk) in
+        let after = serve_ends_at (map L.state listeners.new)
+        (map L.state screens.new) (D.state result.1) in
+        (meets : MeetsDesks (record { states = L.states; feeds = feed_texts R.tells watches.now })
+        files.now task before after result.0)
         × LeavesOfService (record { states = L.states; feeds = feed_texts R.tells watches.now })
-        (record { before = N.begun; after = D.state result.1 }) files.now task before after result.0 meets }
+        (record { before = N.begun; after = D.state result.1 }) files.now task before
+        after result.0 meets }
     ensures unserved { OnErr result.0 (listeners.new ≡ listeners.old) }
     ensures unshown { OnErr result.0 (screens.new ≡ screens.old) }
 {
@@ -83,7 +96,8 @@ pub(crate) fn serve_desks<
 
 // How serving ended, by how its workers did: those of desks come before those of screens.
 fn served_end(ends: &ShownEnd) -> ServeEnd
-    ensures is { result ≡ served_end (end_of (ends.now.desks ∷ ends.now.screens ∷ [])) ends.now.missed }
+    ensures is { result
+        ≡ served_end (end_of (ends.now.desks ∷ ends.now.screens ∷ [])) ends.now.missed }
 {
     match first_end(ends.desks, ends.screens) {
         WorkEnd::ListenerFault => ServeEnd::ListenerFault,

@@ -55,20 +55,55 @@ pub fn serve<F: Shelf, L: Wall + Send, W: Sink, D: Disk + Send, Rt: Wait + Threa
     sink: &mut W,
     disk: D,
 ) -> (u8, D)
-    ensures headline { ServesAs (record { states = L.states; feeds = no_feeds }) (order_of words.now (length listeners.old) 0)
-        (record { shelf = F.state shelf.old; listeners = map L.state listeners.old; screens = []; sink = W.state sink.old; disk = disk_seen (D.state disk) })
-        (record { shelf = F.state shelf.new; listeners = map L.state listeners.new; screens = []; sink = W.state sink.new; disk = disk_seen (D.state result.1) }) result.0 }
-    ensures done { (order : Ordered) → order_of words.now (length listeners.old) 0 ≡ Some order
-        → (result.0 ≡ exit_code Status.Done ↔ HaveFinished order.connections (map L.state listeners.old) (map L.state listeners.new)) }
-    ensures failed { result.0 ≡ exit_code Status.ListenerFault → SomeFailed (map L.state listeners.old) (map L.state listeners.new) }
-    ensures usage { result.0 ≡ exit_code Status.Usage ↔ order_of words.now (length listeners.old) 0 ≡ None }
+    ensures headline { ServesAs (record { states = L.states; feeds = no_feeds })
+        (order_of words.now (length listeners.old) 0)
+        (record {
+          shelf = F.state shelf.old;
+          listeners = map L.state listeners.old;
+          screens = [];
+          sink = W.state sink.old;
+          disk = disk_seen (D.state disk);
+        })
+        (record {
+          shelf = F.state shelf.new;
+          listeners = map L.state listeners.new;
+          screens = [];
+          sink = W.state sink.new;
+          disk = disk_seen (D.state result.1);
+        }) result.0 }
+    ensures done { (order : Ordered)
+        → order_of words.now (length listeners.old) 0 ≡ Some order
+        → (result.0 ≡ exit_code Status.Done
+        ↔ HaveFinished order.connections (map L.state listeners.old)
+        (map L.state listeners.new)) }
+    ensures failed { result.0 ≡ exit_code Status.ListenerFault
+        → SomeFailed (map L.state listeners.old) (map L.state listeners.new) }
+    ensures usage { result.0 ≡ exit_code Status.Usage
+        ↔ order_of words.now (length listeners.old) 0 ≡ None }
     ensures complete { IsServeComplete (order_of words.now (length listeners.old) 0)
-        (record { shelf = F.state shelf.old; listeners = map L.state listeners.old; screens = []; sink = W.state sink.old; disk = disk_seen (D.state disk) })
-        (record { shelf = F.state shelf.new; listeners = map L.state listeners.new; screens = []; sink = W.state sink.new; disk = disk_seen (D.state result.1) }) result.0 }
-    ensures crash { ServeCrashesAs (record { states = L.states; feeds = no_feeds }) (record { before = D.state disk; after = D.state result.1 }) (order_of words.now (length listeners.old) 0)
-        (serve_world_at (F.state shelf.old) (map L.state listeners.old) [] (W.state sink.old) (D.state disk))
-        (serve_world_at (F.state shelf.new) (map L.state listeners.new) [] (W.state sink.new) (D.state result.1)) result.0 }
-    ensures shelf_kept { KeptUnless (is_order (order_of words.now (length listeners.old) 0)) shelf.old shelf.new }
+        (record {
+          shelf = F.state shelf.old;
+          listeners = map L.state listeners.old;
+          screens = [];
+          sink = W.state sink.old;
+          disk = disk_seen (D.state disk);
+        })
+        (record {
+          shelf = F.state shelf.new;
+          listeners = map L.state listeners.new;
+          screens = [];
+          sink = W.state sink.new;
+          disk = disk_seen (D.state result.1);
+        }) result.0 }
+    ensures crash { ServeCrashesAs (record { states = L.states; feeds = no_feeds })
+        (record { before = D.state disk; after = D.state result.1 })
+        (order_of words.now (length listeners.old) 0)
+        (serve_world_at (F.state shelf.old) (map L.state listeners.old) []
+        (W.state sink.old) (D.state disk))
+        (serve_world_at (F.state shelf.new) (map L.state listeners.new) []
+        (W.state sink.new) (D.state result.1)) result.0 }
+    ensures shelf_kept { KeptUnless (is_order (order_of words.now (length listeners.old) 0))
+        shelf.old shelf.new }
     ensures listeners_kept { KeptUnless (has_served 0 result.0) listeners.old listeners.new }
     ensures disk_kept { KeptUnless (not (serve_ends_before_journal result.0)) disk result.1 }
 {
@@ -95,20 +130,57 @@ pub fn serve_with<
     sink: &mut W,
     disk: D,
 ) -> (u8, D)
-    ensures headline { ServesAs (record { states = L.states; feeds = feed_texts R.tells watches.now }) (order_of words.now (length listeners.old) 0)
-        (record { shelf = F.state shelf.old; listeners = map L.state listeners.old; screens = []; sink = W.state sink.old; disk = disk_seen (D.state disk) })
-        (record { shelf = F.state shelf.new; listeners = map L.state listeners.new; screens = []; sink = W.state sink.new; disk = disk_seen (D.state result.1) }) result.0 }
-    ensures done { (order : Ordered) → order_of words.now (length listeners.old) 0 ≡ Some order
-        → (result.0 ≡ exit_code Status.Done ↔ HaveFinished order.connections (map L.state listeners.old) (map L.state listeners.new)) }
-    ensures failed { result.0 ≡ exit_code Status.ListenerFault → SomeFailed (map L.state listeners.old) (map L.state listeners.new) }
-    ensures usage { result.0 ≡ exit_code Status.Usage ↔ order_of words.now (length listeners.old) 0 ≡ None }
+    ensures headline { ServesAs
+        (record { states = L.states; feeds = feed_texts R.tells watches.now })
+        (order_of words.now (length listeners.old) 0)
+        (record {
+          shelf = F.state shelf.old;
+          listeners = map L.state listeners.old;
+          screens = [];
+          sink = W.state sink.old;
+          disk = disk_seen (D.state disk);
+        })
+        (record {
+          shelf = F.state shelf.new;
+          listeners = map L.state listeners.new;
+          screens = [];
+          sink = W.state sink.new;
+          disk = disk_seen (D.state result.1);
+        }) result.0 }
+    ensures done { (order : Ordered)
+        → order_of words.now (length listeners.old) 0 ≡ Some order
+        → (result.0 ≡ exit_code Status.Done
+        ↔ HaveFinished order.connections (map L.state listeners.old)
+        (map L.state listeners.new)) }
+    ensures failed { result.0 ≡ exit_code Status.ListenerFault
+        → SomeFailed (map L.state listeners.old) (map L.state listeners.new) }
+    ensures usage { result.0 ≡ exit_code Status.Usage
+        ↔ order_of words.now (length listeners.old) 0 ≡ None }
     ensures complete { IsServeComplete (order_of words.now (length listeners.old) 0)
-        (record { shelf = F.state shelf.old; listeners = map L.state listeners.old; screens = []; sink = W.state sink.old; disk = disk_seen (D.state disk) })
-        (record { shelf = F.state shelf.new; listeners = map L.state listeners.new; screens = []; sink = W.state sink.new; disk = disk_seen (D.state result.1) }) result.0 }
-    ensures crash { ServeCrashesAs (record { states = L.states; feeds = feed_texts R.tells watches.now }) (record { before = D.state disk; after = D.state result.1 }) (order_of words.now (length listeners.old) 0)
-        (serve_world_at (F.state shelf.old) (map L.state listeners.old) [] (W.state sink.old) (D.state disk))
-        (serve_world_at (F.state shelf.new) (map L.state listeners.new) [] (W.state sink.new) (D.state result.1)) result.0 }
-    ensures shelf_kept { KeptUnless (is_order (order_of words.now (length listeners.old) 0)) shelf.old shelf.new }
+        (record {
+          shelf = F.state shelf.old;
+          listeners = map L.state listeners.old;
+          screens = [];
+          sink = W.state sink.old;
+          disk = disk_seen (D.state disk);
+        })
+        (record {
+          shelf = F.state shelf.new;
+          listeners = map L.state listeners.new;
+          screens = [];
+          sink = W.state sink.new;
+          disk = disk_seen (D.state result.1);
+        }) result.0 }
+    ensures crash { ServeCrashesAs
+        (record { states = L.states; feeds = feed_texts R.tells watches.now })
+        (record { before = D.state disk; after = D.state result.1 })
+        (order_of words.now (length listeners.old) 0)
+        (serve_world_at (F.state shelf.old) (map L.state listeners.old) []
+        (W.state sink.old) (D.state disk))
+        (serve_world_at (F.state shelf.new) (map L.state listeners.new) []
+        (W.state sink.new) (D.state result.1)) result.0 }
+    ensures shelf_kept { KeptUnless (is_order (order_of words.now (length listeners.old) 0))
+        shelf.old shelf.new }
     ensures listeners_kept { KeptUnless (has_served 0 result.0) listeners.old listeners.new }
     ensures disk_kept { KeptUnless (not (serve_ends_before_journal result.0)) disk result.1 }
 {
@@ -149,31 +221,74 @@ pub fn serve_all<
     sink: &mut W,
     disk: D,
 ) -> (u8, D)
-    ensures headline { ServesAs (record { states = L.states; feeds = feed_texts R.tells watches.now }) (order_of words.now (length listeners.old) (length screens.old))
-        (record { shelf = F.state shelf.old; listeners = map L.state listeners.old; screens = map L.state screens.old; sink = W.state sink.old; disk = disk_seen (D.state disk) })
-        (record { shelf = F.state shelf.new; listeners = map L.state listeners.new; screens = map L.state screens.new; sink = W.state sink.new; disk = disk_seen (D.state result.1) }) result.0 }
-    ensures done { (order : Ordered) → order_of words.now (length listeners.old) (length screens.old) ≡ Some order → result.0 ≡ exit_code Status.Done
+    ensures headline { ServesAs
+        (record { states = L.states; feeds = feed_texts R.tells watches.now })
+        (order_of words.now (length listeners.old) (length screens.old))
+        (record {
+          shelf = F.state shelf.old;
+          listeners = map L.state listeners.old;
+          screens = map L.state screens.old;
+          sink = W.state sink.old;
+          disk = disk_seen (D.state disk);
+        })
+        (record {
+          shelf = F.state shelf.new;
+          listeners = map L.state listeners.new;
+          screens = map L.state screens.new;
+          sink = W.state sink.new;
+          disk = disk_seen (D.state result.1);
+        }) result.0 }
+    ensures done { (order : Ordered)
+        → order_of words.now (length listeners.old) (length screens.old) ≡ Some order
+        → result.0 ≡ exit_code Status.Done
         → HaveFinished order.connections (map L.state listeners.old) (map L.state listeners.new)
         × HaveFinished order.connections (map L.state screens.old) (map L.state screens.new) }
-    ensures finished { (order : Ordered) → order_of words.now (length listeners.old) (length screens.old) ≡ Some order
+    ensures finished { (order : Ordered)
+        → order_of words.now (length listeners.old) (length screens.old) ≡ Some order
         → HaveFinished order.connections (map L.state listeners.old) (map L.state listeners.new)
         → HaveFinished order.connections (map L.state screens.old) (map L.state screens.new)
-        → (result.0 ≡ exit_code Status.Done) ⊎ ((result.0 ≡ exit_code Status.Memory) × (0 < length screens.old)) }
+        → (result.0 ≡ exit_code Status.Done)
+        ⊎ ((result.0 ≡ exit_code Status.Memory) × (0 < length screens.old)) }
     ensures failed { result.0 ≡ exit_code Status.ListenerFault
         → SomeFailed (map L.state listeners.old) (map L.state listeners.new)
         ⊎ SomeFailed (map L.state screens.old) (map L.state screens.new) }
-    ensures usage { order_of words.now (length listeners.old) (length screens.old) ≡ None → result.0 ≡ exit_code Status.Usage }
+    ensures usage { order_of words.now (length listeners.old) (length screens.old) ≡ None
+        → result.0 ≡ exit_code Status.Usage }
     ensures usage_alone { result.0 ≡ exit_code Status.Usage
-        → (order_of words.now (length listeners.old) (length screens.old) ≡ None) ⊎ (is_screen_order (order_of words.now (length listeners.old) (length screens.old)) ≡ true) }
-    ensures complete { IsServeComplete (order_of words.now (length listeners.old) (length screens.old))
-        (record { shelf = F.state shelf.old; listeners = map L.state listeners.old; screens = map L.state screens.old; sink = W.state sink.old; disk = disk_seen (D.state disk) })
-        (record { shelf = F.state shelf.new; listeners = map L.state listeners.new; screens = map L.state screens.new; sink = W.state sink.new; disk = disk_seen (D.state result.1) }) result.0 }
-    ensures crash { ServeCrashesAs (record { states = L.states; feeds = feed_texts R.tells watches.now }) (record { before = D.state disk; after = D.state result.1 }) (order_of words.now (length listeners.old) (length screens.old))
-        (serve_world_at (F.state shelf.old) (map L.state listeners.old) (map L.state screens.old) (W.state sink.old) (D.state disk))
-        (serve_world_at (F.state shelf.new) (map L.state listeners.new) (map L.state screens.new) (W.state sink.new) (D.state result.1)) result.0 }
-    ensures shelf_kept { KeptUnless (is_order (order_of words.now (length listeners.old) (length screens.old))) shelf.old shelf.new }
-    ensures listeners_kept { KeptUnless (has_served (length screens.old) result.0) listeners.old listeners.new }
-    ensures screens_kept { KeptUnless (has_served (length screens.old) result.0) screens.old screens.new }
+        → (order_of words.now (length listeners.old) (length screens.old) ≡ None)
+        ⊎ (is_screen_order (order_of words.now (length listeners.old) (length screens.old))
+        ≡ true) }
+    ensures complete { IsServeComplete
+        (order_of words.now (length listeners.old) (length screens.old))
+        (record {
+          shelf = F.state shelf.old;
+          listeners = map L.state listeners.old;
+          screens = map L.state screens.old;
+          sink = W.state sink.old;
+          disk = disk_seen (D.state disk);
+        })
+        (record {
+          shelf = F.state shelf.new;
+          listeners = map L.state listeners.new;
+          screens = map L.state screens.new;
+          sink = W.state sink.new;
+          disk = disk_seen (D.state result.1);
+        }) result.0 }
+    ensures crash { ServeCrashesAs
+        (record { states = L.states; feeds = feed_texts R.tells watches.now })
+        (record { before = D.state disk; after = D.state result.1 })
+        (order_of words.now (length listeners.old) (length screens.old))
+        (serve_world_at (F.state shelf.old) (map L.state listeners.old) (map L.state screens.old)
+        (W.state sink.old) (D.state disk))
+        (serve_world_at (F.state shelf.new) (map L.state listeners.new) (map L.state screens.new)
+        (W.state sink.new) (D.state result.1)) result.0 }
+    ensures shelf_kept { KeptUnless
+        (is_order (order_of words.now (length listeners.old) (length screens.old))) shelf.old
+        shelf.new }
+    ensures listeners_kept { KeptUnless (has_served (length screens.old) result.0)
+        listeners.old listeners.new }
+    ensures screens_kept { KeptUnless (has_served (length screens.old) result.0)
+        screens.old screens.new }
     ensures disk_kept { KeptUnless (not (serve_ends_before_journal result.0)) disk result.1 }
 {
     match order_of(words, listeners.len(), screens.len()) {
@@ -209,17 +324,38 @@ fn serve_files<
 ) -> (Status, D)
     requires few { length listeners.old ≤ most_listeners }
     requires screens { may_have (length screens.old) (order_shown order.now).day ≡ true }
-    ensures serves { ServesFiles (record { states = L.states; feeds = feed_texts R.tells watches.now }) (order_shown order.now)
-        (record { shelf = F.state shelf.old; listeners = map L.state listeners.old; screens = map L.state screens.old; sink = W.state sink.old; disk = disk_seen (D.state disk) })
-        (record { shelf = F.state shelf.new; listeners = map L.state listeners.new; screens = map L.state screens.new; sink = W.state sink.new; disk = disk_seen (D.state result.1) }) result.0 }
-    ensures crash { let before = serve_world_at (F.state shelf.old) (map L.state listeners.old) (map L.state screens.old) (W.state sink.old) (D.state disk) in
-        let after = serve_world_at (F.state shelf.new) (map L.state listeners.new) (map L.state screens.new) (W.state sink.new) (D.state result.1) in
-        (serves : ServesFiles (record { states = L.states; feeds = feed_texts R.tells watches.now }) (order_shown order.now) before after result.0)
-        × LeavesFound (record { states = L.states; feeds = feed_texts R.tells watches.now }) (record { before = D.state disk; after = D.state result.1 }) (order_shown order.now)
+    ensures serves { ServesFiles
+        (record { states = L.states; feeds = feed_texts R.tells watches.now })
+        (order_shown order.now)
+        (record {
+          shelf = F.state shelf.old;
+          listeners = map L.state listeners.old;
+          screens = map L.state screens.old;
+          sink = W.state sink.old;
+          disk = disk_seen (D.state disk);
+        })
+        (record {
+          shelf = F.state shelf.new;
+          listeners = map L.state listeners.new;
+          screens = map L.state screens.new;
+          sink = W.state sink.new;
+          disk = disk_seen (D.state result.1);
+        }) result.0 }
+    ensures crash { let before = serve_world_at (F.state shelf.old) (map L.state listeners.old)
+        (map L.state screens.old) (W.state sink.old) (D.state disk) in
+        let after = serve_world_at (F.state shelf.new) (map L.state listeners.new)
+        (map L.state screens.new) (W.state sink.new) (D.state result.1) in
+        (serves : ServesFiles (record { states = L.states; feeds = feed_texts R.tells watches.now })
+        (order_shown order.now) before after result.0)
+        × LeavesFound (record { states = L.states; feeds = feed_texts R.tells watches.now })
+        (record { before = D.state disk; after = D.state result.1 }) (order_shown order.now)
         serves.found (serve_outs before) (serve_outs after) result.0 serves.serves }
-    ensures listeners_kept { KeptUnless (has_served (length screens.old) (exit_code result.0)) listeners.old listeners.new }
-    ensures screens_kept { KeptUnless (has_served (length screens.old) (exit_code result.0)) screens.old screens.new }
-    ensures disk_kept { KeptUnless (not (serve_ends_before_journal (exit_code result.0))) disk result.1 }
+    ensures listeners_kept { KeptUnless (has_served (length screens.old) (exit_code result.0))
+        listeners.old listeners.new }
+    ensures screens_kept { KeptUnless (has_served (length screens.old) (exit_code result.0))
+        screens.old screens.new }
+    ensures disk_kept { KeptUnless (not (serve_ends_before_journal (exit_code result.0)))
+        disk result.1 }
 {
     match airport_of(alloc, order.airport.text(), order.types.text(), shelf) {
         Ok(files) => serve_day(
@@ -250,17 +386,36 @@ fn serve_day<
 ) -> (Status, D)
     requires few { length listeners.old ≤ most_listeners }
     requires screens { may_have (length screens.old) (order_shown order.now).day ≡ true }
-    ensures serves { ServesTask (record { states = L.states; feeds = feed_texts R.tells watches.now }) files.now (task_at files.now (order_shown order.now))
-        (record { listeners = map L.state listeners.old; screens = map L.state screens.old; sink = W.state sink.old; disk = disk_seen (D.state disk) })
-        (record { listeners = map L.state listeners.new; screens = map L.state screens.new; sink = W.state sink.new; disk = disk_seen (D.state result.1) }) result.0 }
-    ensures crash { let before = serve_outs_at (map L.state listeners.old) (map L.state screens.old) (W.state sink.old) (D.state disk) in
-        let after = serve_outs_at (map L.state listeners.new) (map L.state screens.new) (W.state sink.new) (D.state result.1) in
-        (serves : ServesTask (record { states = L.states; feeds = feed_texts R.tells watches.now }) files.now (task_at files.now (order_shown order.now)) before after result.0)
-        × LeavesTask (record { states = L.states; feeds = feed_texts R.tells watches.now }) (record { before = D.state disk; after = D.state result.1 }) files.now
+    ensures serves { ServesTask
+        (record { states = L.states; feeds = feed_texts R.tells watches.now }) files.now
+        (task_at files.now (order_shown order.now))
+        (record {
+          listeners = map L.state listeners.old;
+          screens = map L.state screens.old;
+          sink = W.state sink.old;
+          disk = disk_seen (D.state disk);
+        })
+        (record {
+          listeners = map L.state listeners.new;
+          screens = map L.state screens.new;
+          sink = W.state sink.new;
+          disk = disk_seen (D.state result.1);
+        }) result.0 }
+    ensures crash { let before = serve_outs_at (map L.state listeners.old) (map L.state screens.old)
+        (W.state sink.old) (D.state disk) in
+        let after = serve_outs_at (map L.state listeners.new) (map L.state screens.new)
+        (W.state sink.new) (D.state result.1) in
+        (serves : ServesTask (record { states = L.states; feeds = feed_texts R.tells watches.now })
+        files.now (task_at files.now (order_shown order.now)) before after result.0)
+        × LeavesTask (record { states = L.states; feeds = feed_texts R.tells watches.now })
+        (record { before = D.state disk; after = D.state result.1 }) files.now
         (task_at files.now (order_shown order.now)) before after result.0 serves }
-    ensures listeners_kept { KeptUnless (has_served (length screens.old) (exit_code result.0)) listeners.old listeners.new }
-    ensures screens_kept { KeptUnless (has_served (length screens.old) (exit_code result.0)) screens.old screens.new }
-    ensures disk_kept { KeptUnless (not (serve_ends_before_journal (exit_code result.0))) disk result.1 }
+    ensures listeners_kept { KeptUnless (has_served (length screens.old) (exit_code result.0))
+        listeners.old listeners.new }
+    ensures screens_kept { KeptUnless (has_served (length screens.old) (exit_code result.0))
+        screens.old screens.new }
+    ensures disk_kept { KeptUnless (not (serve_ends_before_journal (exit_code result.0)))
+        disk result.1 }
 {
     match order.shown_day(files.airport.parts().days) {
         Some(day) => {
@@ -298,16 +453,34 @@ fn serve_journal<
 ) -> (Status, D)
     requires few { length listeners.old ≤ most_listeners }
     requires day { 0 < length screens.old → (1 ≤ task.day) × (task.day ≤ files.now.airport.days) }
-    ensures serves { ServesJournal (record { states = L.states; feeds = feed_texts R.tells watches.now }) files.now task
-        (record { listeners = map L.state listeners.old; screens = map L.state screens.old; sink = W.state sink.old; disk = disk_seen (D.state disk) })
-        (record { listeners = map L.state listeners.new; screens = map L.state screens.new; sink = W.state sink.new; disk = disk_seen (D.state result.1) }) result.0 }
-    ensures crash { let before = serve_outs_at (map L.state listeners.old) (map L.state screens.old) (W.state sink.old) (D.state disk) in
-        let after = serve_outs_at (map L.state listeners.new) (map L.state screens.new) (W.state sink.new) (D.state result.1) in
-        (serves : ServesJournal (record { states = L.states; feeds = feed_texts R.tells watches.now }) files.now task before after result.0)
-        × LeavesOfService (record { states = L.states; feeds = feed_texts R.tells watches.now }) (record { before = D.state disk; after = D.state result.1 }) files.now task
+    ensures serves { ServesJournal
+        (record { states = L.states; feeds = feed_texts R.tells watches.now }) files.now task
+        (record {
+          listeners = map L.state listeners.old;
+          screens = map L.state screens.old;
+          sink = W.state sink.old;
+          disk = disk_seen (D.state disk);
+        })
+        (record {
+          listeners = map L.state listeners.new;
+          screens = map L.state screens.new;
+          sink = W.state sink.new;
+          disk = disk_seen (D.state result.1);
+        }) result.0 }
+    ensures crash { let before = serve_outs_at (map L.state listeners.old) (map L.state screens.old)
+        (W.state sink.old) (D.state disk) in
+        let after = serve_outs_at (map L.state listeners.new) (map L.state screens.new)
+        (W.state sink.new) (D.state result.1) in
+        (serves : ServesJournal
+        (record { states = L.states; feeds = feed_texts R.tells watches.now }) files.now task
+        before after result.0)
+        × LeavesOfService (record { states = L.states; feeds = feed_texts R.tells watches.now })
+        (record { before = D.state disk; after = D.state result.1 }) files.now task
         (serve_ends before) (serve_ends after) serves.met serves.meets }
-    ensures listeners_kept { KeptUnless (has_served (length screens.old) (exit_code result.0)) listeners.old listeners.new }
-    ensures screens_kept { KeptUnless (has_served (length screens.old) (exit_code result.0)) screens.old screens.new }
+    ensures listeners_kept { KeptUnless (has_served (length screens.old) (exit_code result.0))
+        listeners.old listeners.new }
+    ensures screens_kept { KeptUnless (has_served (length screens.old) (exit_code result.0))
+        screens.old screens.new }
     ensures comes { serve_ends_before_journal (exit_code result.0) ≡ false }
 {
     let (met, disk) = serve_desks::<Brand, L, D, R, T, Rt>(
@@ -330,7 +503,8 @@ fn tell_met<W: Sink>(sink: &mut W, met: &Result<ServeEnd, Unusable>) -> Status
 }
 
 fn print_listener_fault<W: Sink>(sink: &mut W) -> Status
-    ensures tells { PrintsServeEnd (Ok ServeEnd.ListenerFault) (W.state sink.old) (W.state sink.new) result }
+    ensures tells { PrintsServeEnd (Ok ServeEnd.ListenerFault) (W.state sink.old)
+        (W.state sink.new) result }
 {
     let _ = sink.put(listener_line());
     Status::ListenerFault

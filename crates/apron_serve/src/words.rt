@@ -40,9 +40,13 @@ impl<'w> Order<'w> {
     /// The day that screens show of a plan of this many days, or none if it has no such day.
     /// Without screens it is the first.
     pub(crate) fn shown_day(&self, days: u32) -> Option<u32>
-        ensures screens { (screens : ℕ) → may_have screens (option_copied self.now.day) ≡ true → 0 < screens
+        ensures screens { (screens : ℕ)
+            → may_have screens (option_copied self.now.day) ≡ true
+            → 0 < screens
             → IfSome result (λ day. (1 ≤ day) × (day ≤ days)) }
-        ensures is { (airport : AirportParts) → airport.days ≡ days → result ≡ day_shown airport (option_copied self.now.day) }
+        ensures is { (airport : AirportParts)
+            → airport.days ≡ days
+            → result ≡ day_shown airport (option_copied self.now.day) }
     {
         match self.day {
             Some(digits) => day_within(digits.text().as_bytes(), days),
@@ -109,7 +113,8 @@ fn ordered_by<'w>(
     number: &Word,
     day: Option<&'w Word>,
 ) -> Option<Order<'w>>
-    ensures order { option_map order_shown result ≡ ordered_by word.now airport.now types.now number.now (option_copied day.entry) }
+    ensures order { option_map order_shown result
+        ≡ ordered_by word.now airport.now types.now number.now (option_copied day.entry) }
     ensures some { IfSome result (λ order. 1 ≤ order.connections) }
 {
     let number = number.text().as_bytes();
@@ -126,7 +131,8 @@ fn order_if_counted<'w>(
     day: Option<&'w Word>,
     number: Option<u64>,
 ) -> Option<Order<'w>>
-    ensures order { option_map order_shown result ≡ order_if_counted airport.now types.now (option_copied day.entry) number }
+    ensures order { option_map order_shown result
+        ≡ order_if_counted airport.now types.now (option_copied day.entry) number }
     ensures some { IfSome result (λ order. 1 ≤ order.connections) }
 {
     match number {
