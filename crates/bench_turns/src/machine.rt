@@ -21,7 +21,13 @@ impl<'r, R: Clock> Model for Worker<'r, R> {
 
     ghost Value = { MachineState (Unit {0}) (Unit {0}) };
 
-    ghost view = { λ w. record { fixed = tt; history = []; at_risk = None; next = w.next; faults = 0 } };
+    ghost view = { λ w. record {
+      fixed = tt;
+      history = [];
+      at_risk = None;
+      next = w.next;
+      faults = 0;
+    } };
 
     ghost invariant = { λ w. 1 ≤ w.next };
 }

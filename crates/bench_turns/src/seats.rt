@@ -74,11 +74,13 @@ fn ask_in_threads<'s, 'r, R: Threads + Wait + Clock + Sync>(
         rt,
         &mut ||
             requires { Sits board.now mine.now }
-            ensures { Sits board.entry.now mine.exit.now × (mine.exit.now.share ≡ mine.entry.now.share) }
+            ensures { Sits board.entry.now mine.exit.now
+                × (mine.exit.now.share ≡ mine.entry.now.share) }
         { ask_often(rt, alloc, board, mine, times) },
         &mut ||
             requires { IsSync R.row × Sits board.now seat.now × (fewer < seat.now.share) }
-            ensures { Sits board.entry.now seat.exit.now × (seat.exit.now.share ≡ seat.entry.now.share) }
+            ensures { Sits board.entry.now seat.exit.now
+                × (seat.exit.now.share ≡ seat.entry.now.share) }
         { ask_in_threads(rt, alloc, board, seat, fewer, times) },
     );
     board.meet(seat, own);
