@@ -73,7 +73,8 @@ impl<'a> Sink for Replies<'a> {
     ghost state = { λ _. record { told = None; faults = 0 } };
 
     fn put(&mut self, piece: &[u8]) -> Result<(), Failed>
-        ensures puts { Puts (record { told = None; faults = 0 }) (record { told = None; faults = 0 }) result piece.now }
+        ensures puts { Puts (record { told = None; faults = 0 })
+            (record { told = None; faults = 0 }) result piece.now }
         ensures never_fails { IsOk result }
     {
         if piece.starts_with(b"HTTP/1.1 200 ") {
