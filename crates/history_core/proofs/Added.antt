@@ -53,14 +53,14 @@ module _ (whole : List Entry) where
   command_added plan before entry after (AddVisit new) is here counted taken numbered all =
       let has : HasEntry whole (plan.version + 1) entry = record { before = before; after = after; is = here; counted = omega arith } in
       all_last IsAdded plan.visits (next_visit plan new) all (entry, has, is)
-  command_added plan before entry after (Commit desk draft base edits) is here counted taken numbered all =
-      let made = commits plan desk draft base edits taken in
-      let left = edits_leave IsAdded (λ visit parts added. added) plan.airport base 1 edits plan.visits made.new made.apply all in
-      subst (λ (p : PlanState). Every IsAdded p.visits) (sym made.makes) (stamped_added (plan.version + 1) edits made.new left)
-  command_added plan before entry after (Message desk message) is here counted taken numbered all =
-      all_kept IsAdded kept_one plan.visits (after_command plan (Message desk message)).visits (message_keeps plan message numbered) all
-  command_added plan before entry after (Report desk number event) is here counted taken numbered all =
-      all_kept IsAdded kept_one plan.visits (after_command plan (Report desk number event)).visits (report_keeps plan number event) all
+  command_added plan before entry after (Commit draft) is here counted taken numbered all =
+      let made = commits plan draft taken in
+      let left = edits_leave IsAdded (λ visit parts added. added) plan.airport draft.base 1 draft.edits plan.visits made.new made.apply all in
+      subst (λ (p : PlanState). Every IsAdded p.visits) (sym made.makes) (stamped_added (plan.version + 1) draft.edits made.new left)
+  command_added plan before entry after (Message passed) is here counted taken numbered all =
+      all_kept IsAdded kept_one plan.visits (after_command plan (Message passed)).visits (message_keeps plan passed.message numbered) all
+  command_added plan before entry after (Report report) is here counted taken numbered all =
+      all_kept IsAdded kept_one plan.visits (after_command plan (Report report)).visits (report_keeps plan report) all
   command_added plan before entry after (Cancel number) is here counted taken numbered all =
       all_kept IsAdded kept_one plan.visits (after_command plan (Cancel number)).visits (cancel_keeps plan number numbered) all
 
@@ -165,15 +165,15 @@ module _ (version : ℕ) (added : NewVisit) where
 
   command_finds : (plan : PlanState) (command : Command) → IsTaken plan command → IsNumbered plan.visits → Finds plan.visits → Finds (after_command plan command).visits
   command_finds plan (AddVisit new) taken numbered finds = last_stays plan.visits (next_visit plan new) finds
-  command_finds plan (Commit desk draft base edits) taken numbered finds =
-      let made = commits plan desk draft base edits taken in
-      let follows = edits_follow plan.airport base 1 edits plan.visits made.new numbered made.apply in
+  command_finds plan (Commit draft) taken numbered finds =
+      let made = commits plan draft taken in
+      let follows = edits_follow plan.airport draft.base 1 draft.edits plan.visits made.new numbered made.apply in
       subst (λ (p : PlanState). Finds p.visits) (sym made.makes)
-      (stamped_finds (plan.version + 1) edits made.new (follows_finds (is_edited edits) 0 plan.visits made.new follows finds))
-  command_finds plan (Message desk message) taken numbered finds =
-      kept_finds plan.visits (after_command plan (Message desk message)).visits (message_keeps plan message numbered) finds
-  command_finds plan (Report desk number event) taken numbered finds =
-      kept_finds plan.visits (after_command plan (Report desk number event)).visits (report_keeps plan number event) finds
+      (stamped_finds (plan.version + 1) draft.edits made.new (follows_finds (is_edited draft.edits) 0 plan.visits made.new follows finds))
+  command_finds plan (Message passed) taken numbered finds =
+      kept_finds plan.visits (after_command plan (Message passed)).visits (message_keeps plan passed.message numbered) finds
+  command_finds plan (Report report) taken numbered finds =
+      kept_finds plan.visits (after_command plan (Report report)).visits (report_keeps plan report) finds
   command_finds plan (Cancel number) taken numbered finds =
       kept_finds plan.visits (after_command plan (Cancel number)).visits (cancel_keeps plan number numbered) finds
 

@@ -8,6 +8,7 @@ use Rattle.std.proofs.lemmas.List.Elements.{All-from_recursion}
 use Rattle.apron_base.specs.Histories.{Every}
 use Rattle.apron_base.specs.declared.numbers.StandNo.{StandNo}
 use Rattle.apron_rules.specs.declared.parts.AirportParts.{AirportParts}
+use Rattle.visit_book.specs.declared.drafts.Draft.{Draft}
 use Rattle.visit_book.specs.declared.visits.Bump.{Bump}
 use Rattle.visit_book.specs.declared.visits.NewVisit.{NewVisit}
 use Rattle.visit_book.specs.declared.visits.Part.{Part}
@@ -172,13 +173,13 @@ quiet_visit : (plan : PlanState) (new : NewVisit) → Every (VisitIsOf plan.vers
 quiet_visit plan new all =
     all_last (VisitIsOf plan.version) plan.visits (next_visit plan new) all (unplaced_of plan.version new.on new.off)
 
-quiet_commit : (plan : PlanState) (desk : List ℕ) (draft base : ℕ) (edits : List Edit) → IsTaken plan (Commit desk draft base edits)
-    → Every (VisitIsOf plan.version) plan.visits → Every (VisitIsOf plan.version) (after_command plan (Commit desk draft base edits)).visits
-quiet_commit plan desk draft base edits taken all =
-    let made = commits plan desk draft base edits taken in
-    let kept = edits_keep (VisitIsOf plan.version) (edit_of plan.version) plan.airport base 1 edits plan.visits made.new made.apply all in
+quiet_commit : (plan : PlanState) (draft : Draft) → IsTaken plan (Commit draft)
+    → Every (VisitIsOf plan.version) plan.visits → Every (VisitIsOf plan.version) (after_command plan (Commit draft)).visits
+quiet_commit plan draft taken all =
+    let made = commits plan draft taken in
+    let kept = edits_keep (VisitIsOf plan.version) (edit_of plan.version) plan.airport draft.base 1 draft.edits plan.visits made.new made.apply all in
     subst (λ (p : PlanState). Every (VisitIsOf plan.version) p.visits) (sym made.makes)
-    (stamped_of plan.version (plan.version + 1) edits made.new kept)
+    (stamped_of plan.version (plan.version + 1) draft.edits made.new kept)
 
 quiet_cancel : (plan : PlanState) (found : Result Visit Denial) → Every (VisitIsOf plan.version) plan.visits
     → Every (VisitIsOf plan.version) (cancelled_if plan found).visits
@@ -189,10 +190,10 @@ quiet_cancel plan (Err why) all = all
 command_of : (plan : PlanState) (command : Command) → IsTaken plan command → IsNumbered plan.visits → Every (VisitIsOf plan.version) plan.visits
     → Every (VisitIsOf (plan.version + 1)) (after_command plan command).visits
 command_of plan (AddVisit new) taken numbered all = all_later plan.version (after_command plan (AddVisit new)).visits (quiet_visit plan new all)
-command_of plan (Commit desk draft base edits) taken numbered all =
-    all_later plan.version (after_command plan (Commit desk draft base edits)).visits (quiet_commit plan desk draft base edits taken all)
-command_of plan (Message desk message) taken numbered all = happened_of plan (visit_after_message plan message) (message_changes plan message numbered) all
-command_of plan (Report desk number event) taken numbered all = happened_of plan (result_ok (visit_after_report plan number event)) (report_changes plan number event) all
+command_of plan (Commit draft) taken numbered all =
+    all_later plan.version (after_command plan (Commit draft)).visits (quiet_commit plan draft taken all)
+command_of plan (Message passed) taken numbered all = happened_of plan (visit_after_message plan passed.message) (message_changes plan passed.message numbered) all
+command_of plan (Report report) taken numbered all = happened_of plan (result_ok (visit_after_report plan report)) (report_changes plan report) all
 command_of plan (Cancel number) taken numbered all =
     all_later plan.version (after_command plan (Cancel number)).visits (quiet_cancel plan (cancellable plan number) all)
 
@@ -238,11 +239,11 @@ quiet_bumped plan after next all = ap (λ (n : ℕ). bumped_by n after.visits) n
 made_bumped : (plan : PlanState) (command : Command) → IsTaken plan command → Every (VisitIsOf plan.version) plan.visits
     → bumped_in (made_told plan (plan.version + 1) command) ≡ last_bumped (after_command plan command)
 made_bumped plan (AddVisit new) taken all = sym (quiet_bumped plan (after_command plan (AddVisit new)) refl (quiet_visit plan new all))
-made_bumped plan (Commit desk draft base edits) taken all =
-    sym (quiet_bumped plan (after_command plan (Commit desk draft base edits)) (command_version plan (Commit desk draft base edits) taken)
-    (quiet_commit plan desk draft base edits taken all))
-made_bumped plan (Message desk message) taken all = refl
-made_bumped plan (Report desk number event) taken all = refl
+made_bumped plan (Commit draft) taken all =
+    sym (quiet_bumped plan (after_command plan (Commit draft)) (command_version plan (Commit draft) taken)
+    (quiet_commit plan draft taken all))
+made_bumped plan (Message passed) taken all = refl
+made_bumped plan (Report report) taken all = refl
 made_bumped plan (Cancel number) taken all =
     sym (quiet_bumped plan (after_command plan (Cancel number)) (command_version plan (Cancel number) taken)
     (quiet_cancel plan (cancellable plan number) all))

@@ -14,9 +14,9 @@ use Rattle.history_core.specs.Steps.{TakenAs, accepted, after_command}
 -- a command does the same without a desk
 same_after : (plan : PlanState) (command : Command) → after_command plan (without_desk command) ≡ after_command plan command
 same_after plan (AddVisit new) = refl
-same_after plan (Commit desk draft base edits) = refl
-same_after plan (Message desk message) = refl
-same_after plan (Report desk visit event) = refl
+same_after plan (Commit draft) = refl
+same_after plan (Message passed) = refl
+same_after plan (Report report) = refl
 same_after plan (Cancel visit) = refl
 
 after_without : (plan : PlanState) (history : List Entry) → after_entries plan (without_desks history) ≡ after_entries plan history
@@ -35,16 +35,16 @@ IsNextAt plan count command = IsCommandOf plan.airport command × TakenAs plan c
 -- a command is accepted with a desk exactly if it is accepted without one
 next_without : (plan : PlanState) (count : ℕ) (command : Command) → IsNextAt plan count command → IsNextAt plan count (without_desk command)
 next_without plan count (AddVisit new) next = next
-next_without plan count (Commit desk draft base edits) next = next
-next_without plan count (Message desk message) next = next
-next_without plan count (Report desk visit event) next = next
+next_without plan count (Commit draft) next = next
+next_without plan count (Message passed) next = next
+next_without plan count (Report report) next = next
 next_without plan count (Cancel visit) next = next
 
 next_with : (plan : PlanState) (count : ℕ) (command : Command) → IsNextAt plan count (without_desk command) → IsNextAt plan count command
 next_with plan count (AddVisit new) next = next
-next_with plan count (Commit desk draft base edits) next = next
-next_with plan count (Message desk message) next = next
-next_with plan count (Report desk visit event) next = next
+next_with plan count (Commit draft) next = next
+next_with plan count (Message passed) next = next
+next_with plan count (Report report) next = next
 next_with plan count (Cancel visit) next = next
 
 taken_without : (plan : PlanState) (count : ℕ) (history : List Entry) → AreTakenFrom plan count history → AreTakenFrom plan count (without_desks history)

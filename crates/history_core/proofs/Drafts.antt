@@ -4,9 +4,9 @@ use Rattle.std.specs.Cmp.Lexicographic.{bytes_decides}
 use Rattle.std.specs.Str.{bytes_eq}
 use Rattle.std.proofs.lemmas.Bool.Decides.{nat_tests}
 use Rattle.apron_rules.specs.declared.parts.AirportParts.{AirportParts}
-use Rattle.visit_book.specs.declared.edits.Edit.{Edit}
+use Rattle.visit_book.specs.declared.drafts.Draft.{Draft}
 use Rattle.visit_book.specs.declared.visits.Visit.{Visit}
-use Rattle.plan_core.specs.Drafts.{Draft, draft_of, draft_version, id_of, is_draft}
+use Rattle.plan_core.specs.Drafts.{draft_version, id_of, is_draft}
 use Rattle.plan_core.specs.PlanState.{PlanState, empty_plan}
 use Rattle.plan_core.proofs.DraftIndex.{version_pushed}
 use Rattle.desk_words.specs.declared.asks.Command.{Command}
@@ -60,19 +60,17 @@ module _ (desk : List ℕ) (number : ℕ) where
 
   -- the version of this draft after a commit that is taken
   pushed : (plan : PlanState) (draft : Draft) (made : Commits plan draft) (this : Bool) → is_draft desk number (id_of draft) ≡ this
-      → version_in (after_command plan (Commit draft.desk draft.number draft.base draft.edits)) ≡ cond this (Some (plan.version + 1)) (version_in plan)
+      → version_in (after_command plan (Commit draft)) ≡ cond this (Some (plan.version + 1)) (version_in plan)
   pushed plan draft made this is =
       ap version_in made.makes
       ∙ version_pushed plan.drafts (record { id = id_of draft; version = plan.version + 1 }) desk number this is (λ this_one. unused_this plan draft made.unused (is ∙ this_one))
 
-  commit_does : (plan : PlanState) (of_desk : List ℕ) (draft base : ℕ) (edits : List Edit) → Commits plan (draft_of of_desk draft base edits)
-      → (this : Bool) → is_draft desk number (id_of (draft_of of_desk draft base edits)) ≡ this → DoesToThis plan (Commit of_desk draft base edits)
-  commit_does plan of_desk draft base edits made true is =
-      let sent = draft_of of_desk draft base edits in
-      inl (record { is = is_this sent is; before = unused_this plan sent made.unused is; after = pushed plan sent made true is })
-  commit_does plan of_desk draft base edits made false is =
-      let sent = draft_of of_desk draft base edits in
-      inr (record { other = λ same. absurd (let this_one = this_is sent same.0 same.1 in cc); same = pushed plan sent made false is })
+  commit_does : (plan : PlanState) (draft : Draft) → Commits plan draft
+      → (this : Bool) → is_draft desk number (id_of draft) ≡ this → DoesToThis plan (Commit draft)
+  commit_does plan draft made true is =
+      inl (record { is = is_this draft is; before = unused_this plan draft made.unused is; after = pushed plan draft made true is })
+  commit_does plan draft made false is =
+      inr (record { other = λ same. absurd (let this_one = this_is draft same.0 same.1 in cc); same = pushed plan draft made false is })
 
   cancelled_leaves : (plan : PlanState) (found : Result Visit Denial) → version_in (cancelled_if plan found) ≡ version_in plan
   cancelled_leaves plan (Ok visit) = refl
@@ -81,11 +79,10 @@ module _ (desk : List ℕ) (number : ℕ) where
   -- a taken command makes the version of this draft, or leaves it
   does_to_this : (plan : PlanState) (command : Command) → IsTaken plan command → DoesToThis plan command
   does_to_this plan (AddVisit new) taken = inr (record { other = λ same. same; same = refl })
-  does_to_this plan (Commit of_desk draft base edits) taken =
-      commit_does plan of_desk draft base edits (commits plan of_desk draft base edits taken)
-      (is_draft desk number (id_of (draft_of of_desk draft base edits))) refl
-  does_to_this plan (Message desk message) taken = inr (record { other = λ same. same; same = refl })
-  does_to_this plan (Report desk visit event) taken = inr (record { other = λ same. same; same = refl })
+  does_to_this plan (Commit draft) taken =
+      commit_does plan draft (commits plan draft taken) (is_draft desk number (id_of draft)) refl
+  does_to_this plan (Message passed) taken = inr (record { other = λ same. same; same = refl })
+  does_to_this plan (Report report) taken = inr (record { other = λ same. same; same = refl })
   does_to_this plan (Cancel visit) taken = inr (record { other = λ same. same; same = cancelled_leaves plan (cancellable plan visit) })
 
   -- this draft made the version, by the entry of this number among these; this many entries came

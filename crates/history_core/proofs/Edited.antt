@@ -117,24 +117,24 @@ command_edited last plan (AddVisit new) taken numbered all = record {
   edited = all_last (IsEditedBy last) plan.visits (next_visit plan new) all.edited (sym (all.none (length plan.visits + 1) (omega arith)));
   none = λ number above. all.none number (let longer = length-append plan.visits (next_visit plan new ∷ []) in omega (arith, above, longer));
 }
-command_edited last plan (Commit desk draft base edits) taken numbered all =
-    let made = commits plan desk draft base edits taken in
-    let follows = edits_follow plan.airport base 1 edits plan.visits made.new numbered made.apply in
-    let left = edits_leave (IsEditedBy last) (λ visit parts is. is) plan.airport base 1 edits plan.visits made.new made.apply all.edited in
-    let within = edited_up_to plan.airport base 1 edits plan.visits made.new (length plan.visits) in
-    let size : length (visits_after_commit (plan.version + 1) edits made.new) ≡ length plan.visits =
-    length-map made.new _ ∙ follows_length (is_edited edits) 0 plan.visits made.new follows in
-    subst (λ (p : PlanState). AreEditedBy (last_after last (plan.version + 1) (Commit desk draft base edits)) p.visits) (sym made.makes)
+command_edited last plan (Commit draft) taken numbered all =
+    let made = commits plan draft taken in
+    let follows = edits_follow plan.airport draft.base 1 draft.edits plan.visits made.new numbered made.apply in
+    let left = edits_leave (IsEditedBy last) (λ visit parts is. is) plan.airport draft.base 1 draft.edits plan.visits made.new made.apply all.edited in
+    let within = edited_up_to plan.airport draft.base 1 draft.edits plan.visits made.new (length plan.visits) in
+    let size : length (visits_after_commit (plan.version + 1) draft.edits made.new) ≡ length plan.visits =
+    length-map made.new _ ∙ follows_length (is_edited draft.edits) 0 plan.visits made.new follows in
+    subst (λ (p : PlanState). AreEditedBy (last_after last (plan.version + 1) (Commit draft)) p.visits) (sym made.makes)
     (record {
-      edited = stamped_edited last (plan.version + 1) edits made.new left;
-      none = λ number above. none_after last (length plan.visits) (plan.version + 1) number (is_edited edits number)
+      edited = stamped_edited last (plan.version + 1) draft.edits made.new left;
+      none = λ number above. none_after last (length plan.visits) (plan.version + 1) number (is_edited draft.edits number)
           (within number made.apply (numbered_up_to 0 (length plan.visits) plan.visits numbered (omega arith)))
           (omega (arith, above, size)) (all.none number (omega (arith, above, size)));
     })
-command_edited last plan (Message desk message) taken numbered all =
-    kept_edited last plan.visits (after_command plan (Message desk message)).visits (message_keeps plan message numbered) all
-command_edited last plan (Report desk number event) taken numbered all =
-    kept_edited last plan.visits (after_command plan (Report desk number event)).visits (report_keeps plan number event) all
+command_edited last plan (Message passed) taken numbered all =
+    kept_edited last plan.visits (after_command plan (Message passed)).visits (message_keeps plan passed.message numbered) all
+command_edited last plan (Report report) taken numbered all =
+    kept_edited last plan.visits (after_command plan (Report report)).visits (report_keeps plan report) all
 command_edited last plan (Cancel number) taken numbered all =
     kept_edited last plan.visits (after_command plan (Cancel number)).visits (cancel_keeps plan number numbered) all
 

@@ -9,7 +9,6 @@ use Rattle.apron_base.specs.ResultChain.{◌>>=◌, refuse_if}
 use Rattle.apron_base.specs.declared.numbers.VisitNo.{VisitNo}
 use Rattle.apron_rules.specs.declared.parts.AirportParts.{AirportParts}
 use Rattle.mvt_grammar.specs.declared.message.Mvt.{Mvt}
-use Rattle.visit_book.specs.declared.reports.Event.{Event}
 use Rattle.visit_book.specs.declared.visits.Bump.{Bump}
 use Rattle.visit_book.specs.declared.reports.ReportFault.{ReportFault}
 use Rattle.visit_book.specs.declared.visits.Visit.{Visit}
@@ -36,6 +35,7 @@ use Rattle.bump_core.specs.Settled.{IsChanged, with_changed, with_settled}
 use Rattle.bump_core.specs.declared.ranks.Ranked.{Ranked}
 use Rattle.desk_words.specs.declared.asks.Command.{Command}
 use Rattle.desk_words.specs.declared.asks.Command.TheVariants.{AddVisit, Commit, Message, Report, Cancel}
+use Rattle.desk_words.specs.declared.asks.DeskReport.{DeskReport}
 use Rattle.desk_words.specs.declared.replies.Denial.{Denial}
 use Rattle.desk_words.specs.declared.replies.Denial.TheVariants as denial
 use Rattle.history_core.specs.Steps.{IsTaken, after_command, cancellable, cancelled_if, denial_of, visit_after_message, visit_after_report}
@@ -132,19 +132,19 @@ ok_some (Ok visit) new is = cc
 ok_some (Err why) new is = absurd (cc)
 
 -- and so does a report of one of them
-pub report_one : (plan : PlanState) (number : VisitNo) (event : Event) (before new : Visit) → visit_at plan.visits number ≡ Some before
-    → report_of plan.airport event before ≡ Ok new → Changes plan.visits new
-report_one plan number event before new at is =
-    let one : IsOneVisit before new = report_is_one plan.airport event before new is in
-    let same : new.number ≡ number = one.number ∙ number_is before.number number (found_number plan.visits number before at) in
+pub report_one : (plan : PlanState) (report : DeskReport) (before new : Visit) → visit_at plan.visits report.visit ≡ Some before
+    → report_of plan.airport report.event before ≡ Ok new → Changes plan.visits new
+report_one plan report before new at is =
+    let one : IsOneVisit before new = report_is_one plan.airport report.event before new is in
+    let same : new.number ≡ report.visit = one.number ∙ number_is before.number report.visit (found_number plan.visits report.visit before at) in
     record { before = before; at = ap (visit_at plan.visits) same ∙ at; kept = one_kept before new one; bumps = one_bumps before new one }
 
-pub report_changes : (plan : PlanState) (number : VisitNo) (event : Event) → MayChange plan.visits (result_ok (visit_after_report plan number event))
-report_changes plan number event new some =
-    let found = then_ok (ok_or (visit_at plan.visits number) denial.Unknown)
-    (λ visit. result_map_both (λ visit. visit) denial_of (report_of plan.airport event visit)) new (ok_some (visit_after_report plan number event) new some) in
-    let at : visit_at plan.visits number ≡ Some found.0 = found_ok (visit_at plan.visits number) denial.Unknown found.0 found.1 in
-    report_one plan number event found.0 new at (told_ok (report_of plan.airport event found.0) new found.2)
+pub report_changes : (plan : PlanState) (report : DeskReport) → MayChange plan.visits (result_ok (visit_after_report plan report))
+report_changes plan report new some =
+    let found = then_ok (ok_or (visit_at plan.visits report.visit) denial.Unknown)
+    (λ visit. result_map_both (λ visit. visit) denial_of (report_of plan.airport report.event visit)) new (ok_some (visit_after_report plan report) new some) in
+    let at : visit_at plan.visits report.visit ≡ Some found.0 = found_ok (visit_at plan.visits report.visit) denial.Unknown found.0 found.1 in
+    report_one plan report found.0 new at (told_ok (report_of plan.airport report.event found.0) new found.2)
 
 not_refused : {E : Type 0} (test : Bool) (fault : E) (done : Unit {0}) → refuse_if test fault ≡ Ok done → test ≡ false
 not_refused true fault done is = absurd (cc)
@@ -181,8 +181,8 @@ cancelled_kept plan (Err why) is numbered = all_themselves plan.visits
 pub message_keeps : (plan : PlanState) (message : Mvt) → IsNumbered plan.visits → AreKept plan.visits (with_settled plan (visit_after_message plan message)).visits
 message_keeps plan message numbered = happened_kept plan (visit_after_message plan message) (message_changes plan message numbered)
 
-pub report_keeps : (plan : PlanState) (number : VisitNo) (event : Event) → AreKept plan.visits (with_settled plan (result_ok (visit_after_report plan number event))).visits
-report_keeps plan number event = happened_kept plan (result_ok (visit_after_report plan number event)) (report_changes plan number event)
+pub report_keeps : (plan : PlanState) (report : DeskReport) → AreKept plan.visits (with_settled plan (result_ok (visit_after_report plan report))).visits
+report_keeps plan report = happened_kept plan (result_ok (visit_after_report plan report)) (report_changes plan report)
 
 pub cancel_keeps : (plan : PlanState) (number : VisitNo) → IsNumbered plan.visits → AreKept plan.visits (after_command plan (Cancel number)).visits
 cancel_keeps plan number numbered = cancelled_kept plan (cancellable plan number) (cancellable_is plan number) numbered

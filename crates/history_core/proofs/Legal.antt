@@ -8,7 +8,6 @@ use Rattle.visit_book.specs.declared.visits.Visit.{Visit}
 use Rattle.visit_book.specs.declared.edits.EditFault.{EditFault}
 use Rattle.visit_book.specs.Slots.{slots_of}
 use Rattle.plan_core.specs.Adding.{next_visit}
-use Rattle.plan_core.specs.Drafts.{draft_of}
 use Rattle.plan_core.specs.PlanState.{PlanState, empty_plan}
 use Rattle.bump_core.specs.Settled.{with_changed}
 use Rattle.bump_core.proofs.Settled.{settled_sound}
@@ -33,12 +32,12 @@ command_sound : (plan : PlanState) (command : Command) → IsTaken plan command 
 command_sound plan (AddVisit new) taken sound =
     let pushed = slots_of-push plan.airport plan.visits (next_visit plan new) ∙ append-nil (slots_of plan.airport plan.visits) in
     subst (IsSound plan.airport) (sym pushed) sound
-command_sound plan (Commit desk draft base edits) (new, (visits, rebases)) sound =
-    subst (λ (r : Result (List Visit) EditFault). IsSoundPlan (committed_if plan (draft_of desk draft base edits) r)) (sym rebases.apply)
-    (subst (λ slots. IsSound plan.airport slots) (sym (stamped_slots plan.airport (plan.version + 1) edits visits)) rebases.sound)
-command_sound plan (Message desk message) taken sound = settled_sound plan.airport (plan.version + 1) (with_changed plan.visits (visit_after_message plan message))
-command_sound plan (Report desk number event) taken sound =
-    settled_sound plan.airport (plan.version + 1) (with_changed plan.visits (result_ok (visit_after_report plan number event)))
+command_sound plan (Commit draft) (new, (visits, rebases)) sound =
+    subst (λ (r : Result (List Visit) EditFault). IsSoundPlan (committed_if plan draft r)) (sym rebases.apply)
+    (subst (λ slots. IsSound plan.airport slots) (sym (stamped_slots plan.airport (plan.version + 1) draft.edits visits)) rebases.sound)
+command_sound plan (Message passed) taken sound = settled_sound plan.airport (plan.version + 1) (with_changed plan.visits (visit_after_message plan passed.message))
+command_sound plan (Report report) taken sound =
+    settled_sound plan.airport (plan.version + 1) (with_changed plan.visits (result_ok (visit_after_report plan report)))
 command_sound plan (Cancel number) taken sound = cancelled_if_sound plan (cancellable plan number) sound
 
 taken_sound : (plan : PlanState) (count : ℕ) (history : List Entry) → IsSoundPlan plan → AreTakenFrom plan count history → IsSoundPlan (after_entries plan history)

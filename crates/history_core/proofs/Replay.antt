@@ -3,12 +3,13 @@ use Rattle.std.proofs.Common.{◌≡◌, ◌∙◌, ◌+◌, ℕ, Bool, true, fa
 use Rattle.std.specs.Result.{IsOk}
 use Rattle.apron_base.specs.declared.numbers.VisitNo.{VisitNo}
 use Rattle.apron_rules.specs.declared.parts.AirportParts.{AirportParts}
+use Rattle.visit_book.specs.declared.drafts.Draft.{Draft}
 use Rattle.visit_book.specs.declared.visits.Visit.{Visit}
 use Rattle.visit_book.specs.declared.edits.Edit.{Edit}
 use Rattle.visit_book.specs.declared.edits.EditFault.{EditFault}
 use Rattle.visit_book.specs.Numbers.{IsNumbered, IsNumberedAbove}
 use Rattle.plan_core.specs.Adding.{next_visit}
-use Rattle.plan_core.specs.Drafts.{Draft, draft_of, draft_version}
+use Rattle.plan_core.specs.Drafts.{draft_version}
 use Rattle.plan_core.specs.Edits.{after_all_edits, is_edited}
 use Rattle.plan_core.specs.PlanState.{PlanState, empty_plan}
 use Rattle.plan_core.specs.Rebase.{edited_last, plan_after_commit, visits_after_commit}
@@ -39,10 +40,10 @@ cancelled_airport plan (Err why) = refl
 
 command_airport : (plan : PlanState) (command : Command) → (after_command plan command).airport ≡ plan.airport
 command_airport plan (AddVisit new) = refl
-command_airport plan (Commit desk draft base edits) =
-    committed_airport plan (draft_of desk draft base edits) (after_all_edits plan.airport base edits plan.visits)
-command_airport plan (Message desk message) = refl
-command_airport plan (Report desk number event) = refl
+command_airport plan (Commit draft) =
+    committed_airport plan draft (after_all_edits plan.airport draft.base draft.edits plan.visits)
+command_airport plan (Message passed) = refl
+command_airport plan (Report report) = refl
 command_airport plan (Cancel number) = cancelled_airport plan (cancellable plan number)
 
 after-airport : (plan : PlanState) (history : List Entry) → (after_entries plan history).airport ≡ plan.airport
@@ -77,11 +78,11 @@ pub record Commits (plan : PlanState) (draft : Draft) : Type 0 where
   pub new : List Visit
   pub apply : after_all_edits plan.airport draft.base draft.edits plan.visits ≡ Ok new
   pub unused : draft_version plan.drafts draft.desk draft.number ≡ None
-  pub makes : after_command plan (Commit draft.desk draft.number draft.base draft.edits) ≡ plan_after_commit plan draft new
+  pub makes : after_command plan (Commit draft) ≡ plan_after_commit plan draft new
 
-pub commits : (plan : PlanState) (desk : List ℕ) (draft base : ℕ) (edits : List Edit) → IsTaken plan (Commit desk draft base edits)
-    → Commits plan (draft_of desk draft base edits)
-commits plan desk draft base edits (new, (visits, rebases)) = record {
+pub commits : (plan : PlanState) (draft : Draft) → IsTaken plan (Commit draft)
+    → Commits plan draft
+commits plan draft (new, (visits, rebases)) = record {
   new = visits;
   apply = rebases.apply;
   unused = new.unused;
@@ -94,10 +95,10 @@ cancelled_version plan (Err why) some = absurd (cc)
 
 pub command_version : (plan : PlanState) (command : Command) → IsTaken plan command → (after_command plan command).version ≡ plan.version + 1
 command_version plan (AddVisit new) taken = refl
-command_version plan (Commit desk draft base edits) taken =
-    let made = commits plan desk draft base edits taken in ap (λ (p : PlanState). p.version) made.makes
-command_version plan (Message desk message) taken = refl
-command_version plan (Report desk number event) taken = refl
+command_version plan (Commit draft) taken =
+    let made = commits plan draft taken in ap (λ (p : PlanState). p.version) made.makes
+command_version plan (Message passed) taken = refl
+command_version plan (Report report) taken = refl
 command_version plan (Cancel number) taken = cancelled_version plan (cancellable plan number) taken
 
 -- each entry makes the next version
@@ -121,15 +122,15 @@ stamped_numbered number version edits (visit ∷ visits) h =
 -- a taken command keeps the visits numbered
 pub command_numbered : (plan : PlanState) (command : Command) → IsTaken plan command → IsNumbered plan.visits → IsNumbered (after_command plan command).visits
 command_numbered plan (AddVisit new) taken h = last_numbered 0 plan.visits (next_visit plan new) h (omega arith)
-command_numbered plan (Commit desk draft base edits) taken h =
-    let made = commits plan desk draft base edits taken in
-    let follows = edits_follow plan.airport base 1 edits plan.visits made.new h made.apply in
+command_numbered plan (Commit draft) taken h =
+    let made = commits plan draft taken in
+    let follows = edits_follow plan.airport draft.base 1 draft.edits plan.visits made.new h made.apply in
     subst (λ (p : PlanState). IsNumbered p.visits) (sym made.makes)
-    (stamped_numbered 0 (plan.version + 1) edits made.new (follows_numbered (is_edited edits) 0 plan.visits made.new follows))
-command_numbered plan (Message desk message) taken h =
-    kept_numbered 0 plan.visits (after_command plan (Message desk message)).visits (message_keeps plan message h) h
-command_numbered plan (Report desk number event) taken h =
-    kept_numbered 0 plan.visits (after_command plan (Report desk number event)).visits (report_keeps plan number event) h
+    (stamped_numbered 0 (plan.version + 1) draft.edits made.new (follows_numbered (is_edited draft.edits) 0 plan.visits made.new follows))
+command_numbered plan (Message passed) taken h =
+    kept_numbered 0 plan.visits (after_command plan (Message passed)).visits (message_keeps plan passed.message h) h
+command_numbered plan (Report report) taken h =
+    kept_numbered 0 plan.visits (after_command plan (Report report)).visits (report_keeps plan report) h
 command_numbered plan (Cancel number) taken h =
     kept_numbered 0 plan.visits (after_command plan (Cancel number)).visits (cancel_keeps plan number h) h
 

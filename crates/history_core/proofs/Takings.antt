@@ -3,16 +3,14 @@ use Rattle.std.proofs.Common.{◌≡◌, ◌≢◌, ◌∙◌, ◌⊎◌, ◌<�
 use Rattle.std.proofs.lemmas.Bool.{cases_lt}
 use Rattle.std.specs.Result.{IsOk, is_ok}
 use Rattle.apron_base.specs.declared.numbers.VisitNo.{VisitNo}
-use Rattle.mvt_grammar.specs.declared.message.Mvt.{Mvt}
-use Rattle.visit_book.specs.declared.edits.Edit.{Edit}
+use Rattle.visit_book.specs.declared.drafts.Draft.{Draft}
 use Rattle.visit_book.specs.declared.edits.EditFault.{EditFault}
 use Rattle.visit_book.specs.declared.edits.EditFault.TheVariants.{Memory}
-use Rattle.visit_book.specs.declared.reports.Event.{Event}
 use Rattle.visit_book.specs.declared.visits.NewVisit.{NewVisit}
 use Rattle.visit_book.specs.declared.visits.Visit.{Visit}
 use Rattle.visit_book.specs.NewVisits.{new_of}
 use Rattle.visit_book.specs.Numbers.{IsNumbered}
-use Rattle.plan_core.specs.Drafts.{Draft, draft_of, draft_version}
+use Rattle.plan_core.specs.Drafts.{draft_version}
 use Rattle.plan_core.specs.Names.{visit_named}
 use Rattle.plan_core.specs.PlanState.{ChangeState, IsInstallable, PlanState, most_visits, version_limit}
 use Rattle.plan_core.specs.Rebase.{IsRebased, Rebases, RefusesDraft}
@@ -21,6 +19,8 @@ use Rattle.plan_core.proofs.Kept.{rebase_commits}
 use Rattle.plan_core.proofs.OneRefusal.{rebased_or_refused, refusals_are_one}
 use Rattle.desk_words.specs.declared.asks.Command.{Command}
 use Rattle.desk_words.specs.declared.asks.Command.TheVariants.{AddVisit, Commit, Message, Report, Cancel}
+use Rattle.desk_words.specs.declared.asks.DeskMessage.{DeskMessage}
+use Rattle.desk_words.specs.declared.asks.DeskReport.{DeskReport}
 use Rattle.desk_words.specs.declared.replies.Denial.{Denial}
 use Rattle.desk_words.specs.declared.replies.ReplyBody.{ReplyBody}
 use Rattle.desk_words.specs.declared.replies.ReplyBody.TheVariants.{Added, Committed, Denied, Full, OtherName, Edit as Refused}
@@ -34,12 +34,12 @@ pub rebased_taken : (plan : PlanState) (draft : Draft) (change : ChangeState) �
 rebased_taken plan draft change rebased = (rebased.new, rebased.rebases)
 
 -- the change of a rebase makes of the plan what the commit makes of it
-pub rebased_makes : (plan : PlanState) (desk : List ℕ) (draft base : ℕ) (edits : List Edit) (change : ChangeState) → IsNumbered plan.visits
-    → IsInstallable plan change → IsRebased plan (draft_of desk draft base edits) change → IsChangeOf plan (Commit desk draft base edits) change
-rebased_makes plan desk draft base edits change numbered installable rebased = record {
+pub rebased_makes : (plan : PlanState) (draft : Draft) (change : ChangeState) → IsNumbered plan.visits
+    → IsInstallable plan change → IsRebased plan draft change → IsChangeOf plan (Commit draft) change
+rebased_makes plan draft change numbered installable rebased = record {
   installable = installable;
-  makes = rebase_commits plan (draft_of desk draft base edits) change numbered rebased
-      ∙ ap (committed_if plan (draft_of desk draft base edits)) (sym rebased.rebases.apply);
+  makes = rebase_commits plan draft change numbered rebased
+      ∙ ap (committed_if plan draft) (sym rebased.rebases.apply);
 }
 
 -- a plan has a place for a command, or it has none
@@ -57,9 +57,9 @@ visit_placed entries count (inl entry) (inr many) = inr (λ has. absurd (let few
 
 abbrev placed : (plan : PlanState) (entries : ℕ) (command : Command) → IsPlaced plan entries command
 placed plan entries (AddVisit new) = visit_placed entries (length plan.visits) (entry_placed entries) (cases_lt (length plan.visits) most_visits)
-placed plan entries (Commit desk draft base edits) = entry_placed entries
-placed plan entries (Message desk message) = entry_placed entries
-placed plan entries (Report desk number event) = entry_placed entries
+placed plan entries (Commit draft) = entry_placed entries
+placed plan entries (Message passed) = entry_placed entries
+placed plan entries (Report report) = entry_placed entries
 placed plan entries (Cancel number) = entry_placed entries
 
 -- a taken command is accepted if there is a place for it, and full if there is none
@@ -83,30 +83,30 @@ visit_step plan entries new (Some visit) is = named_step plan entries new visit 
 abbrev HasAnswer : PlanState → Draft → Type 0
 HasAnswer plan draft = ((new : List Visit) × Rebases plan draft new) ⊎ ((fault : EditFault) × (fault ≢ Memory) × RefusesDraft plan draft fault)
 
-abbrev new_step : (plan : PlanState) (entries : ℕ) (desk : List ℕ) (draft base : ℕ) (edits : List Edit) → IsNew plan (draft_of desk draft base edits)
-    → HasAnswer plan (draft_of desk draft base edits) → (stepped : Stepped) × TakenAs plan entries (Commit desk draft base edits) stepped
-new_step plan entries desk draft base edits new (inl rebases) =
-    placed_step plan entries (Commit desk draft base edits) (new, rebases) (placed plan entries (Commit desk draft base edits))
-new_step plan entries desk draft base edits new (inr (fault, some, refuses)) = (refused (edit fault), (new, refuses, some))
+abbrev new_step : (plan : PlanState) (entries : ℕ) (draft : Draft) → IsNew plan draft
+    → HasAnswer plan draft → (stepped : Stepped) × TakenAs plan entries (Commit draft) stepped
+new_step plan entries draft new (inl rebases) =
+    placed_step plan entries (Commit draft) (new, rebases) (placed plan entries (Commit draft))
+new_step plan entries draft new (inr (fault, some, refuses)) = (refused (edit fault), (new, refuses, some))
 
-abbrev drafted_step : (plan : PlanState) (entries : ℕ) (desk : List ℕ) (draft base : ℕ) (edits : List Edit) (made : Option ℕ) → draft_version plan.drafts desk draft ≡ made
-    → base ≤ plan.version → (stepped : Stepped) × TakenAs plan entries (Commit desk draft base edits) stepped
-drafted_step plan entries desk draft base edits (Some entry) is over = (repeated entry, (over, is))
-drafted_step plan entries desk draft base edits None is over =
-    new_step plan entries desk draft base edits (record { made_over = over; unused = is }) (answer plan (draft_of desk draft base edits))
+abbrev drafted_step : (plan : PlanState) (entries : ℕ) (draft : Draft) (made : Option ℕ) → draft_version plan.drafts draft.desk draft.number ≡ made
+    → draft.base ≤ plan.version → (stepped : Stepped) × TakenAs plan entries (Commit draft) stepped
+drafted_step plan entries draft (Some entry) is over = (repeated entry, (over, is))
+drafted_step plan entries draft None is over =
+    new_step plan entries draft (record { made_over = over; unused = is }) (answer plan draft)
 
-abbrev based_step : (plan : PlanState) (entries : ℕ) (desk : List ℕ) (draft base : ℕ) (edits : List Edit) → (plan.version < base) ⊎ (base ≤ plan.version)
-    → (stepped : Stepped) × TakenAs plan entries (Commit desk draft base edits) stepped
-based_step plan entries desk draft base edits (inl later) = (ahead, later)
-based_step plan entries desk draft base edits (inr over) =
-    drafted_step plan entries desk draft base edits (draft_version plan.drafts desk draft) refl over
+abbrev based_step : (plan : PlanState) (entries : ℕ) (draft : Draft) → (plan.version < draft.base) ⊎ (draft.base ≤ plan.version)
+    → (stepped : Stepped) × TakenAs plan entries (Commit draft) stepped
+based_step plan entries draft (inl later) = (ahead, later)
+based_step plan entries draft (inr over) =
+    drafted_step plan entries draft (draft_version plan.drafts draft.desk draft.number) refl over
 
 -- a report can have happened, or it is refused
-abbrev report_step : (plan : PlanState) (entries : ℕ) (desk : List ℕ) (number : VisitNo) (event : Event) (found : Result Visit Denial) → visit_after_report plan number event ≡ found
-    → (stepped : Stepped) × TakenAs plan entries (Report desk number event) stepped
-report_step plan entries desk number event (Ok visit) is =
-    placed_step plan entries (Report desk number event) (ap is_ok is) (placed plan entries (Report desk number event))
-report_step plan entries desk number event (Err why) is = (refused (denied why), is)
+abbrev report_step : (plan : PlanState) (entries : ℕ) (report : DeskReport) (found : Result Visit Denial) → visit_after_report plan report ≡ found
+    → (stepped : Stepped) × TakenAs plan entries (Report report) stepped
+report_step plan entries report (Ok visit) is =
+    placed_step plan entries (Report report) (ap is_ok is) (placed plan entries (Report report))
+report_step plan entries report (Err why) is = (refused (denied why), is)
 
 -- a visit can be cancelled, or that is refused
 abbrev cancel_step : (plan : PlanState) (entries : ℕ) (number : VisitNo) (found : Result Visit Denial) → cancellable plan number ≡ found
@@ -117,9 +117,9 @@ cancel_step plan entries number (Err why) is = (refused (denied why), is)
 -- each command has a step
 abbrev pub some_step : (plan : PlanState) (entries : ℕ) (command : Command) → (stepped : Stepped) × TakenAs plan entries command stepped
 some_step plan entries (AddVisit new) = visit_step plan entries new (visit_named plan.visits new.name) refl
-some_step plan entries (Commit desk draft base edits) = based_step plan entries desk draft base edits (cases_lt plan.version base)
-some_step plan entries (Message desk message) = placed_step plan entries (Message desk message) tt (placed plan entries (Message desk message))
-some_step plan entries (Report desk number event) = report_step plan entries desk number event (visit_after_report plan number event) refl
+some_step plan entries (Commit draft) = based_step plan entries draft (cases_lt plan.version draft.base)
+some_step plan entries (Message passed) = placed_step plan entries (Message passed) tt (placed plan entries (Message passed))
+some_step plan entries (Report report) = report_step plan entries report (visit_after_report plan report) refl
 some_step plan entries (Cancel number) = cancel_step plan entries number (cancellable plan number) refl
 
 -- and only one
@@ -171,11 +171,11 @@ module _ (plan : PlanState) (entries : ℕ) (new : NewVisit) where
   only_visit stepped None is steps = only_unnamed stepped is steps
   only_visit stepped (Some visit) is steps = only_named stepped visit is (new_decided (new_of visit) new) steps
 
-module _ (plan : PlanState) (entries : ℕ) (desk : List ℕ) (draft base : ℕ) (edits : List Edit) where
-  not_over : {A : Type 0} → base ≤ plan.version → plan.version < base → A
+module _ (plan : PlanState) (entries : ℕ) (draft : Draft) where
+  not_over : {A : Type 0} → draft.base ≤ plan.version → plan.version < draft.base → A
   not_over over later = absurd (omega arith)
 
-  only_ahead : (stepped : Stepped) → TakenAs plan entries (Commit desk draft base edits) stepped → plan.version < base → stepped ≡ ahead
+  only_ahead : (stepped : Stepped) → TakenAs plan entries (Commit draft) stepped → plan.version < draft.base → stepped ≡ ahead
   only_ahead ahead steps later = refl
   only_ahead (repeated entry) steps later = not_over steps.0 later
   only_ahead (refused (name number)) steps later = absurd steps
@@ -184,14 +184,15 @@ module _ (plan : PlanState) (entries : ℕ) (desk : List ℕ) (draft base : ℕ)
   only_ahead full steps later = let new = steps.0.0 in not_over new.made_over later
   only_ahead accepted steps later = let new = steps.0.0 in not_over new.made_over later
 
-  not_new : {A : Type 0} (entry : ℕ) → draft_version plan.drafts desk draft ≡ Some entry → IsNew plan (draft_of desk draft base edits) → A
+  not_new : {A : Type 0} (entry : ℕ) → draft_version plan.drafts draft.desk draft.number ≡ Some entry → IsNew plan draft → A
   not_new entry is new = let none = new.unused in absurd (cc)
 
-  same_entry : (entry other : ℕ) → draft_version plan.drafts desk draft ≡ Some entry → draft_version plan.drafts desk draft ≡ Some other → other ≡ entry
+  same_entry : (entry other : ℕ) → draft_version plan.drafts draft.desk draft.number ≡ Some entry → draft_version plan.drafts draft.desk draft.number ≡ Some other
+      → other ≡ entry
   same_entry entry other is also = cc
 
-  only_repeated : (stepped : Stepped) (entry : ℕ) → TakenAs plan entries (Commit desk draft base edits) stepped → base ≤ plan.version
-      → draft_version plan.drafts desk draft ≡ Some entry → stepped ≡ repeated entry
+  only_repeated : (stepped : Stepped) (entry : ℕ) → TakenAs plan entries (Commit draft) stepped → draft.base ≤ plan.version
+      → draft_version plan.drafts draft.desk draft.number ≡ Some entry → stepped ≡ repeated entry
   only_repeated ahead entry steps over is = not_over over steps
   only_repeated (repeated other) entry steps over is = ap repeated (same_entry entry other is steps.1)
   only_repeated (refused (name number)) entry steps over is = absurd steps
@@ -200,44 +201,44 @@ module _ (plan : PlanState) (entries : ℕ) (desk : List ℕ) (draft base : ℕ)
   only_repeated full entry steps over is = not_new entry is steps.0.0
   only_repeated accepted entry steps over is = not_new entry is steps.0.0
 
-  only_new : (stepped : Stepped) (new : IsNew plan (draft_of desk draft base edits)) (answered : HasAnswer plan (draft_of desk draft base edits))
-      → IsNumbered plan.visits → TakenAs plan entries (Commit desk draft base edits) stepped → stepped ≡ (new_step plan entries desk draft base edits new answered).0
+  only_new : (stepped : Stepped) (new : IsNew plan draft) (answered : HasAnswer plan draft)
+      → IsNumbered plan.visits → TakenAs plan entries (Commit draft) stepped → stepped ≡ (new_step plan entries draft new answered).0
   only_new ahead new answered numbered steps = not_over new.made_over steps
   only_new (repeated entry) new answered numbered steps = not_new entry steps.1 new
   only_new (refused (name number)) new answered numbered steps = absurd steps
   only_new (refused (edit fault)) new (inl rebases) numbered steps =
-      absurd (rebased_or_refused plan (draft_of desk draft base edits) rebases.0 fault steps.2 rebases.1 steps.1)
+      absurd (rebased_or_refused plan draft rebases.0 fault steps.2 rebases.1 steps.1)
   only_new (refused (edit fault)) new (inr (other, some, refuses)) numbered steps =
-      ap (λ (f : EditFault). refused (edit f)) (refusals_are_one plan (draft_of desk draft base edits) fault other numbered steps.2 some steps.1 refuses)
+      ap (λ (f : EditFault). refused (edit f)) (refusals_are_one plan draft fault other numbered steps.2 some steps.1 refuses)
   only_new (refused (denied why)) new answered numbered steps = absurd steps
-  only_new full new (inl rebases) numbered steps = only_full plan entries (Commit desk draft base edits) (new, rebases) (placed plan entries (Commit desk draft base edits)) steps.1
+  only_new full new (inl rebases) numbered steps = only_full plan entries (Commit draft) (new, rebases) (placed plan entries (Commit draft)) steps.1
   only_new full new (inr (fault, some, refuses)) numbered steps =
-      let rebases = steps.0.1 in absurd (rebased_or_refused plan (draft_of desk draft base edits) rebases.0 fault some rebases.1 refuses)
-  only_new accepted new (inl rebases) numbered steps = only_accepted plan entries (Commit desk draft base edits) (new, rebases) (placed plan entries (Commit desk draft base edits)) steps.1
+      let rebases = steps.0.1 in absurd (rebased_or_refused plan draft rebases.0 fault some rebases.1 refuses)
+  only_new accepted new (inl rebases) numbered steps = only_accepted plan entries (Commit draft) (new, rebases) (placed plan entries (Commit draft)) steps.1
   only_new accepted new (inr (fault, some, refuses)) numbered steps =
-      let rebases = steps.0.1 in absurd (rebased_or_refused plan (draft_of desk draft base edits) rebases.0 fault some rebases.1 refuses)
+      let rebases = steps.0.1 in absurd (rebased_or_refused plan draft rebases.0 fault some rebases.1 refuses)
 
-  only_drafted : (stepped : Stepped) (made : Option ℕ) (is : draft_version plan.drafts desk draft ≡ made) (over : base ≤ plan.version) → IsNumbered plan.visits
-      → TakenAs plan entries (Commit desk draft base edits) stepped → stepped ≡ (drafted_step plan entries desk draft base edits made is over).0
+  only_drafted : (stepped : Stepped) (made : Option ℕ) (is : draft_version plan.drafts draft.desk draft.number ≡ made) (over : draft.base ≤ plan.version) → IsNumbered plan.visits
+      → TakenAs plan entries (Commit draft) stepped → stepped ≡ (drafted_step plan entries draft made is over).0
   only_drafted stepped (Some entry) is over numbered steps = only_repeated stepped entry steps over is
   only_drafted stepped None is over numbered steps =
-      only_new stepped (record { made_over = over; unused = is }) (answer plan (draft_of desk draft base edits)) numbered steps
+      only_new stepped (record { made_over = over; unused = is }) (answer plan draft) numbered steps
 
-  only_based : (stepped : Stepped) (based : (plan.version < base) ⊎ (base ≤ plan.version)) → IsNumbered plan.visits
-      → TakenAs plan entries (Commit desk draft base edits) stepped → stepped ≡ (based_step plan entries desk draft base edits based).0
+  only_based : (stepped : Stepped) (based : (plan.version < draft.base) ⊎ (draft.base ≤ plan.version)) → IsNumbered plan.visits
+      → TakenAs plan entries (Commit draft) stepped → stepped ≡ (based_step plan entries draft based).0
   only_based stepped (inl later) numbered steps = only_ahead stepped steps later
-  only_based stepped (inr over) numbered steps = only_drafted stepped (draft_version plan.drafts desk draft) refl over numbered steps
+  only_based stepped (inr over) numbered steps = only_drafted stepped (draft_version plan.drafts draft.desk draft.number) refl over numbered steps
 
 -- a message is accepted, or there is no place for it
-only_message : (plan : PlanState) (entries : ℕ) (desk : List ℕ) (message : Mvt) (stepped : Stepped) → TakenAs plan entries (Message desk message) stepped
-    → stepped ≡ (some_step plan entries (Message desk message)).0
-only_message plan entries desk message ahead steps = absurd steps
-only_message plan entries desk message (repeated entry) steps = absurd steps
-only_message plan entries desk message (refused (name number)) steps = absurd steps
-only_message plan entries desk message (refused (edit fault)) steps = absurd steps
-only_message plan entries desk message (refused (denied why)) steps = absurd steps
-only_message plan entries desk message full steps = only_full plan entries (Message desk message) tt (placed plan entries (Message desk message)) steps.1
-only_message plan entries desk message accepted steps = only_accepted plan entries (Message desk message) tt (placed plan entries (Message desk message)) steps.1
+only_message : (plan : PlanState) (entries : ℕ) (passed : DeskMessage) (stepped : Stepped) → TakenAs plan entries (Message passed) stepped
+    → stepped ≡ (some_step plan entries (Message passed)).0
+only_message plan entries passed ahead steps = absurd steps
+only_message plan entries passed (repeated entry) steps = absurd steps
+only_message plan entries passed (refused (name number)) steps = absurd steps
+only_message plan entries passed (refused (edit fault)) steps = absurd steps
+only_message plan entries passed (refused (denied why)) steps = absurd steps
+only_message plan entries passed full steps = only_full plan entries (Message passed) tt (placed plan entries (Message passed)) steps.1
+only_message plan entries passed accepted steps = only_accepted plan entries (Message passed) tt (placed plan entries (Message passed)) steps.1
 
 -- what a report or a cancel finds decides its step
 module _ (found : Result Visit Denial) where
@@ -250,12 +251,12 @@ module _ (found : Result Visit Denial) where
   not_taken : {A : Type 0} (why : Denial) → found ≡ Err why → IsOk found → A
   not_taken why is some = absurd (let none = ap is_ok is in cc)
 
-module _ (plan : PlanState) (entries : ℕ) (desk : List ℕ) (number : VisitNo) (event : Event) where
+module _ (plan : PlanState) (entries : ℕ) (report : DeskReport) where
   abbrev at_number : Result Visit Denial
-  at_number = visit_after_report plan number event
+  at_number = visit_after_report plan report
 
-  only_report : (stepped : Stepped) (found : Result Visit Denial) (is : at_number ≡ found) → TakenAs plan entries (Report desk number event) stepped
-      → stepped ≡ (report_step plan entries desk number event found is).0
+  only_report : (stepped : Stepped) (found : Result Visit Denial) (is : at_number ≡ found) → TakenAs plan entries (Report report) stepped
+      → stepped ≡ (report_step plan entries report found is).0
   only_report ahead found is steps = absurd steps
   only_report (repeated entry) found is steps = absurd steps
   only_report (refused (name other)) found is steps = absurd steps
@@ -263,10 +264,10 @@ module _ (plan : PlanState) (entries : ℕ) (desk : List ℕ) (number : VisitNo)
   only_report (refused (denied why)) (Ok visit) is steps = not_denied at_number why visit is steps
   only_report (refused (denied why)) (Err other) is steps = ap (λ (d : Denial). refused (denied d)) (same_denial at_number why other is steps)
   only_report full (Ok visit) is steps =
-      only_full plan entries (Report desk number event) (ap is_ok is) (placed plan entries (Report desk number event)) steps.1
+      only_full plan entries (Report report) (ap is_ok is) (placed plan entries (Report report)) steps.1
   only_report full (Err why) is steps = not_taken at_number why is steps.0
   only_report accepted (Ok visit) is steps =
-      only_accepted plan entries (Report desk number event) (ap is_ok is) (placed plan entries (Report desk number event)) steps.1
+      only_accepted plan entries (Report report) (ap is_ok is) (placed plan entries (Report report)) steps.1
   only_report accepted (Err why) is steps = not_taken at_number why is steps.0
 
 module _ (plan : PlanState) (entries : ℕ) (number : VisitNo) where
@@ -287,11 +288,11 @@ module _ (plan : PlanState) (entries : ℕ) (number : VisitNo) where
 the_step : (plan : PlanState) (entries : ℕ) (command : Command) (stepped : Stepped) → IsNumbered plan.visits → TakenAs plan entries command stepped
     → stepped ≡ (some_step plan entries command).0
 the_step plan entries (AddVisit new) stepped numbered steps = only_visit plan entries new stepped (visit_named plan.visits new.name) refl steps
-the_step plan entries (Commit desk draft base edits) stepped numbered steps =
-    only_based plan entries desk draft base edits stepped (cases_lt plan.version base) numbered steps
-the_step plan entries (Message desk message) stepped numbered steps = only_message plan entries desk message stepped steps
-the_step plan entries (Report desk number event) stepped numbered steps =
-    only_report plan entries desk number event stepped (visit_after_report plan number event) refl steps
+the_step plan entries (Commit draft) stepped numbered steps =
+    only_based plan entries draft stepped (cases_lt plan.version draft.base) numbered steps
+the_step plan entries (Message passed) stepped numbered steps = only_message plan entries passed stepped steps
+the_step plan entries (Report report) stepped numbered steps =
+    only_report plan entries report stepped (visit_after_report plan report) refl steps
 the_step plan entries (Cancel number) stepped numbered steps = only_cancel plan entries number stepped (cancellable plan number) refl steps
 
 -- each command has at most one step
@@ -301,20 +302,20 @@ one_step plan entries command stepped other numbered steps also =
     the_step plan entries command stepped numbered steps ∙ sym (the_step plan entries command other numbered also)
 
 -- the answers to commits that are not accepted
-pub repeated_answered : (plan : PlanState) (entries : ℕ) (desk : List ℕ) (draft base : ℕ) (edits : List Edit) (entry version : ℕ) → base ≤ plan.version
-    → draft_version plan.drafts desk draft ≡ Some entry → version ≡ plan.version
-    → IsAnswered plan entries (Commit desk draft base edits) (record { version = version; told = Committed entry })
-repeated_answered plan entries desk draft base edits entry version over made is = record {
+pub repeated_answered : (plan : PlanState) (entries : ℕ) (draft : Draft) (entry version : ℕ) → draft.base ≤ plan.version
+    → draft_version plan.drafts draft.desk draft.number ≡ Some entry → version ≡ plan.version
+    → IsAnswered plan entries (Commit draft) (record { version = version; told = Committed entry })
+repeated_answered plan entries draft entry version over made is = record {
   stepped = repeated entry;
   steps = (over, made);
   other = λ same. absurd (cc);
   is = ap (λ (v : ℕ). record { version = v; told = Committed entry }) is;
 }
 
-pub refused_answered : (plan : PlanState) (entries : ℕ) (desk : List ℕ) (draft base : ℕ) (edits : List Edit) (fault : EditFault) (version : ℕ) → base ≤ plan.version
-    → draft_version plan.drafts desk draft ≡ None → RefusesDraft plan (draft_of desk draft base edits) fault → fault ≢ Memory → version ≡ plan.version
-    → IsAnswered plan entries (Commit desk draft base edits) (record { version = version; told = Refused fault })
-refused_answered plan entries desk draft base edits fault version over unused refuses some is = record {
+pub refused_answered : (plan : PlanState) (entries : ℕ) (draft : Draft) (fault : EditFault) (version : ℕ) → draft.base ≤ plan.version
+    → draft_version plan.drafts draft.desk draft.number ≡ None → RefusesDraft plan draft fault → fault ≢ Memory → version ≡ plan.version
+    → IsAnswered plan entries (Commit draft) (record { version = version; told = Refused fault })
+refused_answered plan entries draft fault version over unused refuses some is = record {
   stepped = refused (edit fault);
   steps = (record { made_over = over; unused = unused }, refuses, some);
   other = λ same. absurd (cc);
@@ -322,17 +323,17 @@ refused_answered plan entries desk draft base edits fault version over unused re
 }
 
 -- a report and a cancel that are refused, and a report for which there is no place
-pub report_denied : (plan : PlanState) (entries : ℕ) (desk : List ℕ) (number : VisitNo) (event : Event) (why : Denial) → visit_after_report plan number event ≡ Err why
-    → IsAnswered plan entries (Report desk number event) (reply_at plan.version (Denied why))
-report_denied plan entries desk number event why is = record { stepped = refused (denied why); steps = is; other = λ same. absurd (cc); is = refl }
+pub report_denied : (plan : PlanState) (entries : ℕ) (report : DeskReport) (why : Denial) → visit_after_report plan report ≡ Err why
+    → IsAnswered plan entries (Report report) (reply_at plan.version (Denied why))
+report_denied plan entries report why is = record { stepped = refused (denied why); steps = is; other = λ same. absurd (cc); is = refl }
 
 pub cancel_denied : (plan : PlanState) (entries : ℕ) (number : VisitNo) (why : Denial) → cancellable plan number ≡ Err why
     → IsAnswered plan entries (Cancel number) (reply_at plan.version (Denied why))
 cancel_denied plan entries number why is = record { stepped = refused (denied why); steps = is; other = λ same. absurd (cc); is = refl }
 
-pub report_full : (plan : PlanState) (entries : ℕ) (desk : List ℕ) (number : VisitNo) (event : Event) (visit : Visit) → visit_after_report plan number event ≡ Ok visit
-    → ¬ (TakesEntry entries) → IsAnswered plan entries (Report desk number event) (reply_at plan.version Full)
-report_full plan entries desk number event visit is none = record { stepped = full; steps = (ap is_ok is, none); other = λ same. absurd (cc); is = refl }
+pub report_full : (plan : PlanState) (entries : ℕ) (report : DeskReport) (visit : Visit) → visit_after_report plan report ≡ Ok visit
+    → ¬ (TakesEntry entries) → IsAnswered plan entries (Report report) (reply_at plan.version Full)
+report_full plan entries report visit is none = record { stepped = full; steps = (ap is_ok is, none); other = λ same. absurd (cc); is = refl }
 
 -- the answer if a visit has the name of the one to be added
 same_answered : (plan : PlanState) (entries : ℕ) (new : NewVisit) (visit : Visit) (version : ℕ) → visit_named plan.visits new.name ≡ Some visit → new_of visit ≡ new
@@ -369,13 +370,13 @@ pub named_answered : (plan : PlanState) (entries : ℕ) (new : NewVisit) (visit 
 named_answered plan entries new visit version told = decided_answered plan entries new visit version told (new_decided (new_of visit) new)
 
 -- what a rebased draft comes to, if the history takes one more entry
-pub committed_finds : (plan : PlanState) (entries : ℕ) (desk : List ℕ) (draft base : ℕ) (edits : List Edit) (change : ChangeState) → IsNumbered plan.visits
-    → plan.version ≡ entries → base ≤ plan.version → draft_version plan.drafts desk draft ≡ None → TakesEntry entries
-    → IsRebased plan (draft_of desk draft base edits) change → (plan.version + 1 < version_limit → IsInstallable plan change)
-    → ComesTo plan entries (Commit desk draft base edits) (Accepted change (record { version = change.version; told = Committed change.version }))
-committed_finds plan entries desk draft base edits change numbered counted over unused place rebased fits =
+pub committed_finds : (plan : PlanState) (entries : ℕ) (draft : Draft) (change : ChangeState) → IsNumbered plan.visits
+    → plan.version ≡ entries → draft.base ≤ plan.version → draft_version plan.drafts draft.desk draft.number ≡ None → TakesEntry entries
+    → IsRebased plan draft change → (plan.version + 1 < version_limit → IsInstallable plan change)
+    → ComesTo plan entries (Commit draft) (Accepted change (record { version = change.version; told = Committed change.version }))
+committed_finds plan entries draft change numbered counted over unused place rebased fits =
     let last : plan.version + 1 < version_limit = omega (arith, counted, place) in (
-      ((record { made_over = over; unused = unused }, rebased_taken plan (draft_of desk draft base edits) change rebased), place),
-      rebased_makes plan desk draft base edits change numbered (fits last) rebased,
+      ((record { made_over = over; unused = unused }, rebased_taken plan draft change rebased), place),
+      rebased_makes plan draft change numbered (fits last) rebased,
       ap (λ (v : ℕ). record { version = v; told = Committed v }) rebased.version,
     )

@@ -18,7 +18,7 @@ pub record HasEntry (history : List Entry) (number : ℕ) (entry : Entry) : Type
 
 -- the command is a commit of this desk's draft of this number
 abbrev pub IsCommitOf : List ℕ → ℕ → Command → Type 0
-IsCommitOf desk number (Commit of_desk draft base edits) = (of_desk ≡ desk) × (draft ≡ number)
+IsCommitOf desk number (Commit draft) = (draft.desk ≡ desk) × (draft.number ≡ number)
 IsCommitOf desk number command = ⊥
 
 -- the entry of this number is a commit of this desk's draft
@@ -39,7 +39,7 @@ HasVisit visits version new = (visit : Visit) × (visit_named visits new.name �
 
 -- whether a command edits the visit of this number
 abbrev pub edits_visit : Command → ℕ → Bool
-edits_visit (Commit desk draft base edits) number = is_edited edits number
+edits_visit (Commit draft) number = is_edited draft.edits number
 edits_visit command number = false
 
 -- the number of the last of these entries that edits the visit of this number, counting this many
@@ -50,8 +50,8 @@ last_edit number count last (entry ∷ entries) = last_edit number (count + 1) (
 
 -- the command without the desk that a message or a report names
 abbrev pub without_desk : Command → Command
-without_desk (Message desk message) = Message [] message
-without_desk (Report desk visit event) = Report [] visit event
+without_desk (Message passed) = Message (record passed { desk = [] })
+without_desk (Report report) = Report (record report { desk = [] })
 without_desk command = command
 
 -- the entries without the desks that messages and reports name

@@ -5,11 +5,11 @@ use Rattle.apron_base.specs.ResultChain.{◌>>=◌, refuse_if}
 use Rattle.apron_base.specs.declared.keeper.TheConstants.{MAX_ENTRIES}
 use Rattle.apron_base.specs.declared.numbers.VisitNo.{VisitNo}
 use Rattle.mvt_grammar.specs.declared.message.Mvt.{Mvt}
+use Rattle.visit_book.specs.declared.drafts.Draft.{Draft}
 use Rattle.visit_book.specs.declared.edits.EditFault.{EditFault}
 use Rattle.visit_book.specs.declared.edits.EditFault.TheVariants.{Memory}
-use Rattle.visit_book.specs.declared.reports.Event.{Event}
 use Rattle.visit_book.specs.declared.reports.ReportFault.{ReportFault}
-use Rattle.visit_book.specs.declared.reports.ReportFault.TheVariants as report
+use Rattle.visit_book.specs.declared.reports.ReportFault.TheVariants.{Gone, NoSuchPart, Time}
 use Rattle.visit_book.specs.declared.visits.NewVisit.{NewVisit}
 use Rattle.visit_book.specs.declared.visits.Visit.{Visit}
 use Rattle.visit_book.specs.Ends.{is_live}
@@ -18,7 +18,7 @@ use Rattle.visit_book.specs.Numbers.{visit_at}
 use Rattle.visit_book.specs.Reports.{report_of}
 use Rattle.visit_effects.specs.Effects.{effect_of}
 use Rattle.plan_core.specs.Adding.{with_added}
-use Rattle.plan_core.specs.Drafts.{Draft, draft_of, draft_version}
+use Rattle.plan_core.specs.Drafts.{draft_version}
 use Rattle.plan_core.specs.Edits.{after_all_edits}
 use Rattle.plan_core.specs.Moving.{with_cancelled}
 use Rattle.plan_core.specs.Names.{visit_named}
@@ -28,6 +28,7 @@ use Rattle.bump_core.specs.Bumped.{bumped_by}
 use Rattle.bump_core.specs.Settled.{with_settled}
 use Rattle.desk_words.specs.declared.asks.Command.{Command}
 use Rattle.desk_words.specs.declared.asks.Command.TheVariants.{AddVisit, Commit, Message, Report, Cancel}
+use Rattle.desk_words.specs.declared.asks.DeskReport.{DeskReport}
 use Rattle.desk_words.specs.declared.replies.Denial.{Denial}
 use Rattle.desk_words.specs.declared.replies.Denial.TheVariants as denial
 use Rattle.desk_words.specs.declared.replies.Reply.{Reply}
@@ -56,19 +57,19 @@ pub data Refusal : Type 0 where
 
 -- why a report is refused, as a reply says it
 abbrev pub denial_of : ReportFault → Denial
-denial_of report.Gone = denial.Gone
-denial_of report.NoSuchPart = denial.NoSuchPart
-denial_of report.Time = denial.Time
+denial_of Gone = denial.Gone
+denial_of NoSuchPart = denial.NoSuchPart
+denial_of Time = denial.Time
 
 -- the plan's visit as the message changes it, or none if it does nothing
 abbrev pub visit_after_message : PlanState → Mvt → Option Visit
 visit_after_message plan message = effect_of plan.airport plan.visits message
 
--- what an event makes of the plan's visit of this number, or why its report is refused
-abbrev pub visit_after_report : PlanState → VisitNo → Event → Result Visit Denial
-visit_after_report plan number event = do
-  visit ← ok_or (visit_at plan.visits number) denial.Unknown
-  result_map_both (λ visit. visit) denial_of (report_of plan.airport event visit)
+-- what a report makes of the plan's visit of its number, or why it is refused
+abbrev pub visit_after_report : PlanState → DeskReport → Result Visit Denial
+visit_after_report plan report = do
+  visit ← ok_or (visit_at plan.visits report.visit) denial.Unknown
+  result_map_both (λ visit. visit) denial_of (report_of plan.airport report.event visit)
 
 -- the plan's visit of this number if it can be cancelled, or why not
 abbrev pub cancellable : PlanState → VisitNo → Result Visit Denial
@@ -94,7 +95,7 @@ pub record IsNew (plan : PlanState) (draft : Draft) : Type 0 where
 
 -- the command was made over a version later than the plan's
 abbrev pub IsAhead : PlanState → Command → Type 0
-IsAhead plan (Commit desk draft base edits) = plan.version < base
+IsAhead plan (Commit draft) = plan.version < draft.base
 IsAhead plan command = ⊥
 
 -- a visit of the plan has the name, and was added with the same data
@@ -108,15 +109,15 @@ IsOtherName plan new visit = (visit_named plan.visits new.name ≡ Some visit) �
 -- the entry of this number added the same visit, or is of the same draft, whatever its edits are
 abbrev pub IsRepeated : PlanState → Command → ℕ → Type 0
 IsRepeated plan (AddVisit new) entry = (visit : Visit) × IsSameName plan new visit × (entry ≡ visit.added)
-IsRepeated plan (Commit desk draft base edits) entry = (base ≤ plan.version) × (draft_version plan.drafts desk draft ≡ Some entry)
+IsRepeated plan (Commit draft) entry =
+    (draft.base ≤ plan.version) × (draft_version plan.drafts draft.desk draft.number ≡ Some entry)
 IsRepeated plan command entry = ⊥
 
 -- the command is refused for this cause; a lack of memory is no cause
 abbrev pub IsRefused : PlanState → Command → Refusal → Type 0
 IsRefused plan (AddVisit new) (name number) = (visit : Visit) × IsOtherName plan new visit × (number ≡ visit.number)
-IsRefused plan (Commit desk draft base edits) (edit fault) =
-    IsNew plan (draft_of desk draft base edits) × RefusesDraft plan (draft_of desk draft base edits) fault × (fault ≢ Memory)
-IsRefused plan (Report desk visit event) (denied why) = visit_after_report plan visit event ≡ Err why
+IsRefused plan (Commit draft) (edit fault) = IsNew plan draft × RefusesDraft plan draft fault × (fault ≢ Memory)
+IsRefused plan (Report report) (denied why) = visit_after_report plan report ≡ Err why
 IsRefused plan (Cancel visit) (denied why) = cancellable plan visit ≡ Err why
 IsRefused plan command why = ⊥
 
@@ -125,10 +126,9 @@ IsRefused plan command why = ⊥
 -- to its visit; and a visit that is cancelled can be cancelled
 abbrev pub IsTaken : PlanState → Command → Type 0
 IsTaken plan (AddVisit new) = visit_named plan.visits new.name ≡ None
-IsTaken plan (Commit desk draft base edits) =
-    IsNew plan (draft_of desk draft base edits) × ((new : List Visit) × Rebases plan (draft_of desk draft base edits) new)
-IsTaken plan (Message desk message) = Unit {0}
-IsTaken plan (Report desk visit event) = IsOk (visit_after_report plan visit event)
+IsTaken plan (Commit draft) = IsNew plan draft × ((new : List Visit) × Rebases plan draft new)
+IsTaken plan (Message passed) = Unit {0}
+IsTaken plan (Report report) = IsOk (visit_after_report plan report)
 IsTaken plan (Cancel visit) = IsOk (cancellable plan visit)
 
 -- how a plan, whose history has this many entries, takes a command: a line for each cause, in order
@@ -151,10 +151,12 @@ number_for visits text = unwrap_or (option_map (λ visit. visit.number) (visit_n
 -- it is taken
 abbrev pub made_told : PlanState → ℕ → Command → ReplyBody
 made_told plan entry (AddVisit new) = Added entry (number_for plan.visits new.name)
-made_told plan entry (Commit desk draft base edits) = Committed entry
-made_told plan entry (Message desk message) =
-    MessageTaken (bumped_by entry (with_settled plan (visit_after_message plan message)).visits) (option_map (λ visit. visit.number) (visit_after_message plan message))
-made_told plan entry (Report desk visit event) = Reported (bumped_by entry (with_settled plan (result_ok (visit_after_report plan visit event))).visits)
+made_told plan entry (Commit draft) = Committed entry
+made_told plan entry (Message passed) =
+    MessageTaken (bumped_by entry (with_settled plan (visit_after_message plan passed.message)).visits)
+    (option_map (λ visit. visit.number) (visit_after_message plan passed.message))
+made_told plan entry (Report report) =
+    Reported (bumped_by entry (with_settled plan (result_ok (visit_after_report plan report))).visits)
 made_told plan entry (Cancel visit) = Cancelled
 
 -- what the reply says of a refusal
@@ -185,7 +187,8 @@ cancelled_if plan (Err why) = plan
 -- the plan after a command that is taken
 abbrev pub after_command : PlanState → Command → PlanState
 after_command plan (AddVisit new) = with_added plan new
-after_command plan (Commit desk draft base edits) = committed_if plan (draft_of desk draft base edits) (after_all_edits plan.airport base edits plan.visits)
-after_command plan (Message desk message) = with_settled plan (visit_after_message plan message)
-after_command plan (Report desk visit event) = with_settled plan (result_ok (visit_after_report plan visit event))
+after_command plan (Commit draft) =
+    committed_if plan draft (after_all_edits plan.airport draft.base draft.edits plan.visits)
+after_command plan (Message passed) = with_settled plan (visit_after_message plan passed.message)
+after_command plan (Report report) = with_settled plan (result_ok (visit_after_report plan report))
 after_command plan (Cancel visit) = cancelled_if plan (cancellable plan visit)

@@ -1,22 +1,11 @@
 -- What a command comes to.
 use Rattle.std.specs.Prelude.{◌≡◌, ◌≢◌, ℕ}
-use Rattle.plan_core.specs.Drafts.{Draft, draft_of}
 use Rattle.plan_core.specs.PlanState.{ChangeState, IsInstallable, PlanState, plan_after_change}
 use Rattle.desk_words.specs.declared.asks.Command.{Command}
-use Rattle.desk_words.specs.declared.asks.Command.TheVariants.{Commit}
 use Rattle.desk_words.specs.declared.replies.Reply.{Reply}
 use Rattle.history_core.specs.declared.taking.Taken.{Taken}
 use Rattle.history_core.specs.declared.taking.Taken.TheVariants.{Accepted, Answered}
-use Rattle.history_core.specs.declared.taking.commit.SentDraft.{SentDraft as SentDraft}
 use Rattle.history_core.specs.Steps.{Stepped, TakenAs, accepted, after_command, stepped_reply}
-
--- the command that commits the draft
-abbrev pub commit_command : SentDraft → Command
-commit_command draft = Commit draft.desk.now draft.number draft.base draft.edits.now
-
--- the draft as the plan sees it
-abbrev pub draft_sent : SentDraft → Draft
-draft_sent draft = draft_of draft.desk.now draft.number draft.base draft.edits.now
 
 -- the change makes of the plan what the command makes of it
 pub record IsChangeOf (plan : PlanState) (command : Command) (change : ChangeState) : Type 0 where

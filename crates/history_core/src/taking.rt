@@ -16,7 +16,7 @@ mod visit;
 use apron_base::{MAX_ENTRIES, Memory};
 use apron_rules::Airport;
 use cancel::take_cancel;
-use commit::{SentDraft, take_commit};
+use commit::take_commit;
 use desk_words::asks::Command;
 use desk_words::replies::{Reply, ReplyBody};
 use message::take_message;
@@ -50,25 +50,10 @@ pub(crate) fn take_command(
 {
     match command {
         Command::AddVisit(new) => take_visit(alloc, airport, plan, entries, new),
-        Command::Commit {
-            desk,
-            draft,
-            base,
-            edits,
-        } => {
-            let draft = SentDraft {
-                desk,
-                number: *draft,
-                base: *base,
-                edits: edits.as_slice(),
-            };
-            take_commit(alloc, airport, plan, entries, &draft)
-        }
-        Command::Message { message, .. } => take_message(alloc, airport, plan, entries, message),
-        Command::Report { visit, event, .. } => {
-            take_report(alloc, airport, plan, entries, *visit, event)
-        }
-        Command::Cancel { visit } => take_cancel(alloc, plan, entries, *visit),
+        Command::Commit(draft) => take_commit(alloc, airport, plan, entries, draft),
+        Command::Message(passed) => take_message(alloc, airport, plan, entries, passed),
+        Command::Report(report) => take_report(alloc, airport, plan, entries, report),
+        Command::Cancel(visit) => take_cancel(alloc, plan, entries, *visit),
     }
 }
 

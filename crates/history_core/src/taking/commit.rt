@@ -4,27 +4,18 @@ ghost use Rattle.visit_book.specs.Numbers.{IsNumbered};
 ghost use Rattle.plan_core.specs.PlanState.{IsInstallable, version_limit};
 ghost use Rattle.plan_core.specs.Rebase.{IsDraftFor, IsRebased, RefusesDraft};
 ghost use Rattle.desk_words.specs.Commands.{IsCommandOf};
-ghost use Rattle.history_core.specs.Taking.{ComesTo, commit_command, draft_sent};
+ghost use Rattle.desk_words.specs.declared.asks.Command.TheVariants.{Commit};
+ghost use Rattle.history_core.specs.Taking.{ComesTo};
 
 use super::{Taken, takes_entry};
-use apron_base::{Memory, Name, Steps};
+use apron_base::{Memory, Steps};
 use apron_rules::Airport;
 use desk_words::replies::{Reply, ReplyBody};
 use plan_core::{Change, Plan};
 use std::alloc::Global;
 use std::marker::Brand;
 use std::sync::ledger::{Blank, Ledger};
-use visit_book::{Edit, EditFault};
-
-/// A desk's draft as its commit has it: the desk, the draft's number, the version over which it was
-/// made, and its edits.
-#[derive(Clone, Copy)]
-pub(super) struct SentDraft<'c> {
-    pub(super) desk: &'c Name,
-    pub(super) number: u32,
-    pub(super) base: u32,
-    pub(super) edits: &'c [Edit],
-}
+use visit_book::{Draft, EditFault};
 
 /// What the commit of a draft comes to, at a plan whose history has this many entries.
 pub(super) fn take_commit(
@@ -32,13 +23,13 @@ pub(super) fn take_commit(
     airport: &Airport,
     plan: &Plan,
     entries: usize,
-    draft: &SentDraft,
+    draft: &Draft,
 ) -> Result<Taken, Memory>
     requires airport { airport.now ≡ plan.now.plan.airport }
-    requires valid { IsCommandOf airport.now (commit_command draft.now) }
+    requires valid { IsCommandOf airport.now (Commit draft.now) }
     requires numbered { IsNumbered plan.now.plan.visits }
     requires entries { plan.now.plan.version ≡ entries }
-    ensures finds { IfOk result (ComesTo plan.now.plan entries (commit_command draft.now)) }
+    ensures finds { IfOk result (ComesTo plan.now.plan entries (Commit draft.now)) }
 {
     let version = plan.version();
     if draft.base > version {
@@ -47,7 +38,7 @@ pub(super) fn take_commit(
             told: ReplyBody::Ahead,
         }));
     }
-    if let Some(entry) = plan.draft(draft.desk, draft.number) {
+    if let Some(entry) = plan.draft(&draft.desk, draft.number) {
         return Ok(Taken::Answered(Reply {
             version,
             told: ReplyBody::Committed { entry },
@@ -93,13 +84,13 @@ fn rebase_uncounted(
     alloc: Global,
     airport: &Airport,
     plan: &Plan,
-    draft: &SentDraft,
+    draft: &Draft,
 ) -> Result<Change, EditFault>
     requires airport { airport.now ≡ plan.now.plan.airport }
-    requires draft { IsDraftFor plan.now.plan (draft_sent draft.now) }
-    ensures ok { IfOk result (IsRebased plan.now.plan (draft_sent draft.now)) }
+    requires draft { IsDraftFor plan.now.plan draft.now }
+    ensures ok { IfOk result (IsRebased plan.now.plan draft.now) }
     ensures fits { IfOk result (λ change. plan.now.plan.version + 1 < version_limit → IsInstallable plan.now.plan change) }
-    ensures err { IfErr result (RefusesDraft plan.now.plan (draft_sent draft.now)) }
+    ensures err { IfErr result (RefusesDraft plan.now.plan draft.now) }
 {
     rebase_from::<Brand>(alloc, airport, plan, draft, Blank::new(1))
 }
@@ -108,26 +99,18 @@ fn rebase_from<L: Ledger>(
     alloc: Global,
     airport: &Airport,
     plan: &Plan,
-    draft: &SentDraft,
+    draft: &Draft,
     blank: Blank,
 ) -> Result<Change, EditFault>
     requires airport { airport.now ≡ plan.now.plan.airport }
-    requires draft { IsDraftFor plan.now.plan (draft_sent draft.now) }
+    requires draft { IsDraftFor plan.now.plan draft.now }
     requires name { blank.name ≡ L.name }
     requires parts { blank.parts ≡ L.parts }
     requires open { 0 < L.parts }
-    ensures ok { IfOk result (IsRebased plan.now.plan (draft_sent draft.now)) }
+    ensures ok { IfOk result (IsRebased plan.now.plan draft.now) }
     ensures fits { IfOk result (λ change. plan.now.plan.version + 1 < version_limit → IsInstallable plan.now.plan change) }
-    ensures err { IfErr result (RefusesDraft plan.now.plan (draft_sent draft.now)) }
+    ensures err { IfErr result (RefusesDraft plan.now.plan draft.now) }
 {
     let mut steps = Steps::<L>::new(blank);
-    plan.rebase(
-        alloc,
-        airport,
-        draft.desk,
-        draft.number,
-        draft.base,
-        draft.edits,
-        &mut steps,
-    )
+    plan.rebase(alloc, airport, draft, &mut steps)
 }

@@ -1,5 +1,5 @@
 // A movement message comes.
-ghost use Rattle.std.specs.Prelude.{◌≡◌, IfOk, IfSome, List, ℕ, option_map};
+ghost use Rattle.std.specs.Prelude.{◌≡◌, IfOk, IfSome, option_map};
 ghost use Rattle.std.specs.Option.{option_copied};
 ghost use Rattle.mvt_grammar.specs.Readable.{IsReadable};
 ghost use Rattle.visit_book.specs.Numbers.{IsNumbered};
@@ -13,6 +13,7 @@ use super::settling::settle_changed;
 use super::{Taken, answer_unchanged, taken_with_body, takes_entry};
 use apron_base::{Memory, VisitNo};
 use apron_rules::Airport;
+use desk_words::asks::DeskMessage;
 use desk_words::replies::ReplyBody;
 use mvt_grammar::Mvt;
 use plan_core::Plan;
@@ -20,23 +21,21 @@ use std::alloc::Global;
 use visit_book::Visit;
 use visit_effects::{Movement, effect_of, movement_meant};
 
-/// What a message comes to, at a plan whose history has this many entries, whichever desk passed it
-/// on.
+/// What a message comes to, at a plan whose history has this many entries.
 pub(super) fn take_message(
     alloc: Global,
     airport: &Airport,
     plan: &Plan,
     entries: usize,
-    message: &Mvt,
+    passed: &DeskMessage,
 ) -> Result<Taken, Memory>
     requires airport { airport.now ≡ plan.now.plan.airport }
-    requires readable { IsReadable message.now }
+    requires readable { IsReadable passed.now.message }
     requires numbered { IsNumbered plan.now.plan.visits }
     requires entries { plan.now.plan.version ≡ entries }
-    ensures finds { (desk : List ℕ)
-        → IfOk result (ComesTo plan.now.plan entries (Message desk message.now)) }
+    ensures finds { IfOk result (ComesTo plan.now.plan entries (Message passed.now)) }
 {
-    let changed = visit_after_message(airport, plan, message);
+    let changed = visit_after_message(airport, plan, &passed.message);
     if !takes_entry(entries) {
         return Ok(answer_unchanged(plan, ReplyBody::Full));
     }

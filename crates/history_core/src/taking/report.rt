@@ -1,5 +1,5 @@
 // A visit came on block or went off block.
-ghost use Rattle.std.specs.Prelude.{◌≡◌, IfOk, List, ℕ};
+ghost use Rattle.std.specs.Prelude.{◌≡◌, IfOk};
 ghost use Rattle.visit_book.specs.Reports.{IsEventOf};
 ghost use Rattle.desk_words.specs.declared.asks.Command.TheVariants.{Report};
 ghost use Rattle.bump_core.specs.Settled.{IsChanged};
@@ -8,30 +8,28 @@ ghost use Rattle.history_core.specs.Taking.{ComesTo};
 
 use super::settling::settle_changed;
 use super::{Taken, answer_unchanged, taken_with_body, takes_entry};
-use apron_base::{Memory, VisitNo};
+use apron_base::Memory;
 use apron_rules::Airport;
+use desk_words::asks::DeskReport;
 use desk_words::replies::{Denial, ReplyBody};
 use plan_core::Plan;
 use std::alloc::Global;
-use visit_book::{Event, ReportFault, Visit, report};
+use visit_book::{ReportFault, Visit};
 
-/// What the report of an event of the visit of this number comes to, at a plan whose history has
-/// this many entries, whichever desk sent it.
+/// What a report comes to, at a plan whose history has this many entries.
 pub(super) fn take_report(
     alloc: Global,
     airport: &Airport,
     plan: &Plan,
     entries: usize,
-    number: VisitNo,
-    event: &Event,
+    report: &DeskReport,
 ) -> Result<Taken, Memory>
     requires airport { airport.now ≡ plan.now.plan.airport }
-    requires event { IsEventOf airport.now event.now }
+    requires event { IsEventOf airport.now report.now.event }
     requires entries { plan.now.plan.version ≡ entries }
-    ensures finds { (desk : List ℕ)
-        → IfOk result (ComesTo plan.now.plan entries (Report desk number event.now)) }
+    ensures finds { IfOk result (ComesTo plan.now.plan entries (Report report.now)) }
 {
-    let visit = match visit_after_report(airport, plan, number, event) {
+    let visit = match visit_after_report(airport, plan, report) {
         Ok(visit) => visit,
         Err(why) => return Ok(answer_unchanged(plan, ReplyBody::Denied(why))),
     };
@@ -42,24 +40,19 @@ pub(super) fn take_report(
     Ok(taken_with_body(change, ReplyBody::Reported { bumped }))
 }
 
-// What the event makes of the plan's visit of this number, or why its report is refused.
-fn visit_after_report(
-    airport: &Airport,
-    plan: &Plan,
-    number: VisitNo,
-    event: &Event,
-) -> Result<Visit, Denial>
+// What the report makes of the plan's visit of its number, or why it is refused.
+fn visit_after_report(airport: &Airport, plan: &Plan, report: &DeskReport) -> Result<Visit, Denial>
     requires airport { airport.now ≡ plan.now.plan.airport }
-    requires event { IsEventOf airport.now event.now }
-    ensures is { result ≡ visit_after_report plan.now.plan number event.now }
+    requires event { IsEventOf airport.now report.now.event }
+    ensures is { result ≡ visit_after_report plan.now.plan report.now }
     ensures changed { IfOk result (IsChanged plan.now.plan) }
 {
     // What holds of every plan shows that its visits are well formed.
     let _known = plan.visits();
-    let Some(visit) = plan.visit(number) else {
+    let Some(visit) = plan.visit(report.visit) else {
         return Err(Denial::Unknown);
     };
-    match report(visit, airport, event) {
+    match visit_book::report(visit, airport, &report.event) {
         Ok(new) => Ok(new),
         Err(fault) => Err(denial_of(fault)),
     }

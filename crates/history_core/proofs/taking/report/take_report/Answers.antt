@@ -8,8 +8,8 @@ pub returns-in-Err : goal.returns-in-Err
 returns-in-Err c =
     let plan = c.args.plan.now.plan in
     record {
-      finds = λ desk. subst (ComesTo plan c.args.entries (Report desk c.args.number c.args.event.now)) (sym c.answer_unchanged.ensures.is)
-          (report_denied plan c.args.entries desk c.args.number c.args.event.now c.in-Err.why (sym c.visit_after_report.ensures.is ∙ c.in-Err.is));
+      finds = subst (ComesTo plan c.args.entries (Report c.args.report.now)) (sym c.answer_unchanged.ensures.is)
+          (report_denied plan c.args.entries c.args.report.now c.in-Err.why (sym c.visit_after_report.ensures.is ∙ c.in-Err.is));
     }
 
 pub returns-then-not-takes_entry : goal.returns-then-not-takes_entry
@@ -17,7 +17,7 @@ returns-then-not-takes_entry c =
     let plan = c.args.plan.now.plan in
     let none = c.if-not-takes_entry.true in
     record {
-      finds = λ desk. subst (ComesTo plan c.args.entries (Report desk c.args.number c.args.event.now)) (sym c.answer_unchanged-then-not-takes_entry.ensures.is)
-          (report_full plan c.args.entries desk c.args.number c.args.event.now c.in-Ok.visit (sym c.visit_after_report.ensures.is ∙ c.in-Ok.is)
+      finds = subst (ComesTo plan c.args.entries (Report c.args.report.now)) (sym c.answer_unchanged-then-not-takes_entry.ensures.is)
+          (report_full plan c.args.entries c.args.report.now c.in-Ok.visit (sym c.visit_after_report.ensures.is ∙ c.in-Ok.is)
           (λ has. let takes = c.takes_entry.ensures.is.1 has in absurd (cc)));
     }

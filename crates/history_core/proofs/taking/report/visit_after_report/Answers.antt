@@ -14,7 +14,7 @@ report-requires-clause-well_formed c =
     let plan = c.args.plan.now.plan in
     let visit = c.in-Some.visit.now in
     let at : IsVisitAt plan.airport plan.version visit =
-    found_has (IsVisitAt plan.airport plan.version) plan.visits c.args.number visit c.visits-known.ensures.plan.each
+    found_has (IsVisitAt plan.airport plan.version) plan.visits c.args.report.now.visit visit c.visits-known.ensures.plan.each
     (sym c.visit.ensures.is ∙ ap option_copied c.in-Some.is) in
     subst (λ (a : AirportParts). IsWellFormed a visit) (sym c.requires.airport) at.well_formed
 
@@ -23,7 +23,7 @@ returns-in-Ok-clause-changed c =
     let plan = c.args.plan.now.plan in
     let before = c.in-Some.visit.now in
     let new = c.in-Ok.new in
-    let at : visit_at plan.visits c.args.number ≡ Some before = sym c.visit.ensures.is ∙ ap option_copied c.in-Some.is in
-    let made = subst (λ (a : AirportParts). report_of a c.args.event.now before ≡ Ok new) c.requires.airport (sym c.report.ensures.is ∙ c.in-Ok.is) in
+    let at : visit_at plan.visits c.args.report.now.visit ≡ Some before = sym c.visit.ensures.is ∙ ap option_copied c.in-Some.is in
+    let made = subst (λ (a : AirportParts). report_of a c.args.report.now.event before ≡ Ok new) c.requires.airport (sym c.report.ensures.is ∙ c.in-Ok.is) in
     changed_is plan new c.visits-known.ensures.plan (subst (λ (a : AirportParts). IsWellFormed a new) c.requires.airport c.in-Ok.ensures.well_formed)
-    (report_one plan c.args.number c.args.event.now before new at made)
+    (report_one plan c.args.report.now before new at made)
