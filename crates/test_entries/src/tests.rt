@@ -152,14 +152,7 @@ fn a_visit_is_read_with_all_that_it_was_added_with(rt: HostRuntime) -> Result<()
 
 #[test]
 fn a_commit_is_read_with_its_edits(rt: HostRuntime) -> Result<(), Fail> {
-    let read = command_of(rt.alloc(), EDITED, 0x3FFF_FFFF_FFFF_FFFF)?;
-    let Command::Commit {
-        desk,
-        draft,
-        base,
-        edits,
-    } = read
-    else {
+    let Command::Commit(draft) = command_of(rt.alloc(), EDITED, 0x3FFF_FFFF_FFFF_FFFF)? else {
         return Err(Fail::new("a commit"));
     };
     let wanted = [
@@ -182,9 +175,9 @@ fn a_commit_is_read_with_its_edits(rt: HostRuntime) -> Result<(), Fail> {
             part: 1,
         },
     ];
-    assert!(rt; desk == Name::literal(b"D"));
-    assert_eq!(rt; (draft, base), (2, 9));
-    assert!(rt; edits.as_slice() == wanted.as_slice());
+    assert!(rt; draft.desk == Name::literal(b"D"));
+    assert_eq!(rt; (draft.number, draft.base), (2, 9));
+    assert!(rt; draft.edits.as_slice() == wanted.as_slice());
     Ok(())
 }
 
@@ -209,11 +202,11 @@ fn a_message_is_read_with_its_desk_and_its_estimate(rt: HostRuntime) -> Result<(
         (NO_DESKS_MESSAGE, Name::literal(b"-")),
     ];
     for (bytes, name) in messages {
-        let Command::Message { desk, message } = command_of(rt.alloc(), bytes, 4)? else {
+        let Command::Message(passed) = command_of(rt.alloc(), bytes, 4)? else {
             return Err(Fail::new("a message"));
         };
-        assert!(rt; desk == name);
-        assert!(rt; message == wanted);
+        assert!(rt; passed.desk == name);
+        assert!(rt; passed.message == wanted);
     }
     Ok(())
 }
@@ -235,14 +228,14 @@ fn reports_are_read_with_their_desks_and_cancels_with_their_visits(
         (NO_DESK_WENT, 6, Name::literal(b"-"), off),
     ];
     for (bytes, call, name, wanted) in reports {
-        let Command::Report { desk, visit, event } = command_of(rt.alloc(), bytes, call)? else {
+        let Command::Report(report) = command_of(rt.alloc(), bytes, call)? else {
             return Err(Fail::new("a report"));
         };
-        assert!(rt; desk == name);
-        assert_eq!(rt; visit, VisitNo(2));
-        assert_eq!(rt; event, wanted);
+        assert!(rt; report.desk == name);
+        assert_eq!(rt; report.visit, VisitNo(2));
+        assert_eq!(rt; report.event, wanted);
     }
-    let Command::Cancel { visit } = command_of(rt.alloc(), CANCELLED, 7)? else {
+    let Command::Cancel(visit) = command_of(rt.alloc(), CANCELLED, 7)? else {
         return Err(Fail::new("a cancel"));
     };
     assert_eq!(rt; visit, VisitNo(258));
