@@ -20,7 +20,8 @@ letter_text letter = (65 + letter_rank letter) ∷ []
 
 -- YYYY-MM-DD
 abbrev pub date_text : Date → List ℕ
-date_text date = decimal date.year ++ codes "-" ++ two_text date.month ++ codes "-" ++ two_text date.day
+date_text date =
+    decimal date.year ++ codes "-" ++ two_text date.month ++ codes "-" ++ two_text date.day
 
 -- {"name":F,"objects":[X, ..]}
 abbrev pub frontage_data : Frontage → Data

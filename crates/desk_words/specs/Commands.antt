@@ -42,7 +42,9 @@ IsCommand (Cancel visit) = Unit {0}
 abbrev pub IsCommandOf : AirportParts → Command → Type 0
 IsCommandOf airport (AddVisit new) = IsNewVisitOf airport new
 IsCommandOf airport (Commit draft) =
-    (1 ≤ length draft.edits) × (length draft.edits ≤ most_edits) × All (IsEditOf airport) draft.edits
+    (1 ≤ length draft.edits)
+    × (length draft.edits ≤ most_edits)
+    × All (IsEditOf airport) draft.edits
 IsCommandOf airport (Message passed) = IsReadable passed.message
 IsCommandOf airport (Report report) = IsEventOf airport report.event
 IsCommandOf airport (Cancel visit) = Unit {0}

@@ -16,11 +16,15 @@ method_text allow = text_of 405 json_media (allow ∷ []) (compact_text (error_d
 
 -- {"edit":K,"error":"stand"}
 abbrev pub stand_error_data : ℕ → Data
-stand_error_data edit = object (member (codes "edit") (whole edit) (member (codes "error") (string (codes "stand")) no_members))
+stand_error_data edit =
+    object (member (codes "edit") (whole edit)
+    (member (codes "error") (string (codes "stand")) no_members))
 
 -- {"error":"mvt","fault":WORD}
 abbrev pub mvt_error_data : List ℕ → Data
-mvt_error_data fault = object (member (codes "error") (string (codes "mvt")) (member (codes "fault") (string fault) no_members))
+mvt_error_data fault =
+    object (member (codes "error") (string (codes "mvt"))
+    (member (codes "fault") (string fault) no_members))
 
 -- {"at":PLACE,"error":"mvt","fault":WORD}
 abbrev pub mvt_error_data_at : ℕ → List ℕ → Data

@@ -13,7 +13,9 @@ use Rattle.desk_words.specs.PartObjects.{part_data, rule_word, whole}
 
 -- {"error":WORD,"version":N}
 abbrev pub refused_data : List ℕ → ℕ → Data
-refused_data error version = object (member (codes "error") (string error) (member (codes "version") (whole version) no_members))
+refused_data error version =
+    object
+    (member (codes "error") (string error) (member (codes "version") (whole version) no_members))
 
 -- {"edit":K,"error":WORD,"version":N}
 abbrev pub edit_data : ℕ → List ℕ → ℕ → Data

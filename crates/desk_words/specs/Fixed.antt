@@ -22,7 +22,8 @@ keeper_fault_text = plain_text 503 (error_data (codes "keeper"))
 
 -- a code with this error, after which the connection ends
 abbrev pub closing_text : ℕ → List ℕ → List ℕ
-closing_text code error = text_of code json_media (codes "Connection: close" ∷ []) (compact_text (error_data error))
+closing_text code error =
+    text_of code json_media (codes "Connection: close" ∷ []) (compact_text (error_data error))
 
 -- the head is malformed, exceeds its limits, or doesn't give a length as it has to
 unfoldable pub bad_head_text : List ℕ
@@ -42,4 +43,6 @@ no_length_text = closing_text 411 (codes "length")
 
 -- all of them
 abbrev pub fixed_texts : List (List ℕ)
-fixed_texts = no_memory_text ∷ keeper_fault_text ∷ bad_head_text ∷ bad_encoding_text ∷ large_body_text ∷ no_length_text ∷ []
+fixed_texts =
+    no_memory_text ∷ keeper_fault_text ∷ bad_head_text ∷ bad_encoding_text ∷ large_body_text
+    ∷ no_length_text ∷ []

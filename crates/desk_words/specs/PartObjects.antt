@@ -15,7 +15,9 @@ whole value = number (unsigned value)
 
 -- {"part":P,"visit":N}
 abbrev pub part_data : PartId → Data
-part_data part = object (member (codes "part") (whole part.part) (member (codes "visit") (whole part.visit.0) no_members))
+part_data part =
+    object (member (codes "part") (whole part.part)
+    (member (codes "visit") (whole part.visit.0) no_members))
 
 -- the word of a rule
 abbrev pub rule_word : Rule → List ℕ

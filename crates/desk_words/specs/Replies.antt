@@ -27,7 +27,9 @@ version_data version = object (member (codes "version") (whole version) no_membe
 
 -- {"version":K,"visit":N}
 abbrev pub added_data : ℕ → VisitNo → Data
-added_data entry visit = object (member (codes "version") (whole entry) (member (codes "visit") (whole visit.0) no_members))
+added_data entry visit =
+    object
+    (member (codes "version") (whole entry) (member (codes "visit") (whole visit.0) no_members))
 
 -- a visit's number, or null
 abbrev pub visit_if : Option VisitNo → Data
@@ -125,4 +127,5 @@ body_text airport version told = compact_text (reply_data airport version told)
 -- a reply's whole text
 unfoldable pub reply_text : AirportParts → Reply → List ℕ
 reply_text airport reply =
-    text_of (status_code reply.told) (media_of reply.told) (version_line reply.version ∷ []) (body_text airport reply.version reply.told)
+    text_of (status_code reply.told) (media_of reply.told) (version_line reply.version ∷ [])
+    (body_text airport reply.version reply.told)

@@ -29,7 +29,9 @@ waiting_data airport row =
 
 -- {"parts":[..],"version":N}
 abbrev pub list_data : List Data → ℕ → Data
-list_data parts version = object (member (codes "parts") (array (items_of parts)) (member (codes "version") (whole version) no_members))
+list_data parts version =
+    object (member (codes "parts") (array (items_of parts))
+    (member (codes "version") (whole version) no_members))
 
 -- the parts of a plan on a day
 abbrev pub plan_data : AirportParts → List PartRow → ℕ → Data

@@ -26,7 +26,14 @@ CommittedIsSpelt =
 
 -- a stand
 abbrev pub example_stand : StandRow
-example_stand = record { name = codes "N1"; frontage = codes "N"; centre = 4000; letter = C; buffer = 10; half_of = None }
+example_stand = record {
+  name = codes "N1";
+  frontage = codes "N";
+  centre = 4000;
+  letter = C;
+  buffer = 10;
+  half_of = None;
+}
 
 -- a type
 abbrev pub example_type : TypeRow
@@ -98,7 +105,13 @@ PlanIsSpelt =
 
 -- what took the stand of a part: by entry 5 it clashed with part 1 of visit 1 from minute 680 on
 abbrev pub example_bump : Bump
-example_bump = record { stand = record { 0 = 0 }; entry = 5; blocker = record { visit = record { 0 = 1 }; part = 1 }; minute = 680; rule = Same }
+example_bump = record {
+  stand = record { 0 = 0 };
+  entry = 5;
+  blocker = record { visit = record { 0 = 1 }; part = 1 };
+  minute = 680;
+  rule = Same;
+}
 
 -- part 1 of visit 2, which lost its stand that way
 abbrev pub example_bumped : PartRow
@@ -117,20 +130,23 @@ example_waiting = record {
 -- those two parts wait for a stand of that airport, at version 5
 abbrev pub UnplacedIsSpelt : Type 0
 UnplacedIsSpelt =
-    reply_text example_airport (record { version = 5; told = Unplaced (example_bumped ∷ example_waiting ∷ []) })
+    reply_text example_airport
+    (record { version = 5; told = Unplaced (example_bumped ∷ example_waiting ∷ []) })
     ≡ codes "HTTP/1.1 200 OK\r\nContent-Type: application/json\r\nContent-Length: 205\r\nX-Version: 5\r\n\r\n{\"parts\":[{\"bump\":{\"blocker\":{\"part\":1,\"visit\":1},\"entry\":5,\"minute\":680,\"rule\":\"same\",\"stand\":\"N1\"},\"from\":680,\"part\":1,\"to\":740,\"visit\":2},{\"bump\":null,\"from\":10,\"part\":3,\"to\":20,\"visit\":1}],\"version\":5}"
 
 -- a chart is sent as its text
 abbrev pub ChartIsSpelt : Type 0
 ChartIsSpelt =
-    (airport : AirportParts) → reply_text airport (record { version = 7; told = Chart (codes "END\n") })
+    (airport : AirportParts)
+    → reply_text airport (record { version = 7; told = Chart (codes "END\n") })
     ≡ codes "HTTP/1.1 200 OK\r\nContent-Type: text/plain\r\nContent-Length: 4\r\nX-Version: 7\r\n\r\nEND\n"
 
 -- edit 2 is refused at version 10, since its type would come too near to object 3 of the stand's
 -- frontage
 abbrev pub UnfitIsSpelt : Type 0
 UnfitIsSpelt =
-    (airport : AirportParts) → reply_text airport (record { version = 10; told = Edit (Unfit 2 (Object 3)) })
+    (airport : AirportParts)
+    → reply_text airport (record { version = 10; told = Edit (Unfit 2 (Object 3)) })
     ≡ codes "HTTP/1.1 422 Unprocessable Entity\r\nContent-Type: application/json\r\nContent-Length: 57\r\nX-Version: 10\r\n\r\n{\"by\":{\"object\":3},\"edit\":2,\"error\":\"unfit\",\"version\":10}"
 
 -- part 1 of visit 3 and part 2 of visit 40 come too near to each other from minute 480 on
@@ -145,5 +161,6 @@ example_clash = record {
 -- that clash, at version 12
 abbrev pub ClashIsSpelt : Type 0
 ClashIsSpelt =
-    (airport : AirportParts) → reply_text airport (record { version = 12; told = Edit (Clash example_clash) })
+    (airport : AirportParts)
+    → reply_text airport (record { version = 12; told = Edit (Clash example_clash) })
     ≡ codes "HTTP/1.1 422 Unprocessable Entity\r\nContent-Type: application/json\r\nContent-Length: 113\r\nX-Version: 12\r\n\r\n{\"a\":{\"part\":1,\"visit\":3},\"b\":{\"part\":2,\"visit\":40},\"error\":\"clash\",\"minute\":480,\"rule\":\"clearance\",\"version\":12}"

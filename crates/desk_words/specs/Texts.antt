@@ -19,11 +19,13 @@ with_line_end line = line ++ codes "\r\n"
 -- and the extra lines
 abbrev pub head_lines : ℕ → List ℕ → List (List ℕ) → ℕ → List (List ℕ)
 head_lines code media extra length_of_body =
-    (codes "HTTP/1.1 " ++ status_text code) ∷ (codes "Content-Type: " ++ media) ∷ (codes "Content-Length: " ++ decimal length_of_body) ∷ extra
+    (codes "HTTP/1.1 " ++ status_text code) ∷ (codes "Content-Type: " ++ media)
+    ∷ (codes "Content-Length: " ++ decimal length_of_body) ∷ extra
 
 -- the lines and the empty one
 abbrev pub reply_head : ℕ → List ℕ → List (List ℕ) → ℕ → List ℕ
-reply_head code media extra length_of_body = flat_map with_line_end (head_lines code media extra length_of_body) ++ codes "\r\n"
+reply_head code media extra length_of_body =
+    flat_map with_line_end (head_lines code media extra length_of_body) ++ codes "\r\n"
 
 -- the text of a reply of this code, with a body of this media type and these extra lines
 abbrev pub text_of : ℕ → List ℕ → List (List ℕ) → List ℕ → List ℕ
@@ -40,4 +42,5 @@ after_line (byte ∷ text) = if byte == 10 then text else after_line text
 
 -- whether the first of the extra lines of a text gives a version
 abbrev pub shows_version : List ℕ → Bool
-shows_version text = starts_with nat_eq (after_line (after_line (after_line text))) (codes "X-Version: ")
+shows_version text =
+    starts_with nat_eq (after_line (after_line (after_line text))) (codes "X-Version: ")

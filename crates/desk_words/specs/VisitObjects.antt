@@ -55,7 +55,9 @@ state_word Live on_block = if on_block then codes "onblock" else codes "expected
 -- {"day":D,"flight":FLIGHT}, the number of the flight without leading zeros, or null
 abbrev pub key_data : Option Key → Data
 key_data None = null
-key_data (Some key) = object (member (codes "day") (whole key.day) (member (codes "flight") (string (flight_text key.flight)) no_members))
+key_data (Some key) =
+    object (member (codes "day") (whole key.day)
+    (member (codes "flight") (string (flight_text key.flight)) no_members))
 
 -- what replies say of a visit with its parts: the members in order, with these after its type
 abbrev pub visit_members : AirportParts → Visit → Members → Members
@@ -87,7 +89,8 @@ listed_visit_members airport visit = visit_members airport visit (number_member 
 -- a visit alone: its object has the plan's version
 abbrev pub visit_data : AirportParts → Visit → ℕ → Data
 visit_data airport visit version =
-    object (visit_members airport visit (member (codes "version") (whole version) (number_member visit)))
+    object
+    (visit_members airport visit (member (codes "version") (whole version) (number_member visit)))
 
 -- a visit among others
 abbrev pub listed_visit_data : AirportParts → Visit → Data

@@ -124,7 +124,9 @@ fn bad_stand(edit: u8) -> ShortText
 // The reply of this status whose body has a number between its start and its end.
 fn reply_with_number(status: &[u8], start: &[u8], number: u32, end: &[u8]) -> ShortText
     requires short { length status.now + length start.now + length end.now ≤ 100 }
-    ensures text { (code : ℕ) → status_text code ≡ status.now → result ≡ text_of code json_media [] (start.now ++ (decimal number ++ end.now)) }
+    ensures text { (code : ℕ)
+        → status_text code ≡ status.now
+        → result ≡ text_of code json_media [] (start.now ++ (decimal number ++ end.now)) }
 {
     let mut number_digits = Buffer::new();
     let number = number_digits.format(number).as_bytes();

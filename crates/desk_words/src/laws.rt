@@ -12,15 +12,18 @@ ghost use Rattle.desk_words.specs.Texts.{shows_version};
 
 /// Each reply whose cause the plan gave shows a version, and no other one does.
 pub fn replies_of_plans_show_a_version()
-    ensures replies { (airport : AirportParts) (reply : Reply) → shows_version (reply_text airport reply) ≡ true }
+    ensures replies { (airport : AirportParts) (reply : Reply)
+        → shows_version (reply_text airport reply) ≡ true }
     ensures early { (early : EarlyReply) → shows_version (early_text early) ≡ false }
     ensures fixed { All (λ text. shows_version text ≡ false) fixed_texts }
 {}
 
 /// So no reply whose cause the plan gave has the text of an early or a fixed reply.
 pub fn no_reply_is_early_or_fixed()
-    ensures early { (airport : AirportParts) (reply : Reply) (early : EarlyReply) → reply_text airport reply ≢ early_text early }
-    ensures fixed { (airport : AirportParts) (reply : Reply) → All (λ text. reply_text airport reply ≢ text) fixed_texts }
+    ensures early { (airport : AirportParts) (reply : Reply) (early : EarlyReply)
+        → reply_text airport reply ≢ early_text early }
+    ensures fixed { (airport : AirportParts) (reply : Reply)
+        → All (λ text. reply_text airport reply ≢ text) fixed_texts }
 {}
 
 /// No two of the fixed texts are the same, and none is that of an early reply. The text of an early
@@ -28,7 +31,11 @@ pub fn no_reply_is_early_or_fixed()
 pub fn fixed_texts_differ()
     ensures fixed { AllPairs (λ text other. text ≢ other) fixed_texts }
     ensures early { (early : EarlyReply) → All (λ text. early_text early ≢ text) fixed_texts }
-    ensures one { (early other : EarlyReply) → IsEarly early → IsEarly other → early_text early ≡ early_text other → early ≡ other }
+    ensures one { (early other : EarlyReply)
+        → IsEarly early
+        → IsEarly other
+        → early_text early ≡ early_text other
+        → early ≡ other }
 {}
 
 /// Some replies, spelt out.

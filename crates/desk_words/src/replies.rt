@@ -154,7 +154,9 @@ pub fn reply_bytes(alloc: Global, airport: &Airport, reply: &Reply) -> Result<Li
 }
 
 fn with_body(alloc: Global, reply: &Reply, body: &[u8]) -> Result<Listed<u8>, Memory>
-    ensures text { IfOk result (λ bytes. bytes ≡ text_of (status_code reply.now.told) (media_of reply.now.told) (version_line reply.now.version ∷ []) body.now) }
+    ensures text { IfOk result (λ bytes. bytes
+        ≡ text_of (status_code reply.now.told) (media_of reply.now.told)
+        (version_line reply.now.version ∷ []) body.now) }
 {
     text_of(
         alloc,

@@ -27,7 +27,8 @@ edit_text (Join visit part) = 4 ∷ part_bytes visit part
 -- all that a commit has, in this order
 abbrev pub commit_text : Draft → List ℕ
 commit_text draft =
-    sized_text draft.desk ++ to_le_bytes w32 draft.number ++ to_le_bytes w32 draft.base ++ length draft.edits ∷ []
+    sized_text draft.desk ++ to_le_bytes w32 draft.number ++ to_le_bytes w32 draft.base
+    ++ length draft.edits ∷ []
     ++ flat_map edit_text draft.edits
 
 -- what comes after the tag of a put, on a stand of the airport

@@ -73,7 +73,8 @@ parse_entry kinds = do
 
 -- nothing may be left over
 abbrev pub with_none_left : Result (Entry × RestOfEntry) EntryFault → Result Entry EntryFault
-with_none_left (Ok read) = if length read.1.bytes == 0 then Ok read.0 else Err (TrailingBytes read.1.at)
+with_none_left (Ok read) =
+    if length read.1.bytes == 0 then Ok read.0 else Err (TrailingBytes read.1.at)
 with_none_left (Err fault) = Err fault
 
 -- the entry that all of the bytes together spell, with these kinds of commands

@@ -56,7 +56,8 @@ former_text entry = to_le_bytes w64 entry.call ++ former_command_text entry.comm
 
 -- the bytes that spell the same entry now, or the fault of those that spelt it
 abbrev pub lift_entry : AirportParts → List ℕ → Result (List ℕ) EntryFault
-lift_entry airport bytes = result_map_both entry_text (λ fault. fault) (decode_former_entry airport bytes)
+lift_entry airport bytes =
+    result_map_both entry_text (λ fault. fault) (decode_former_entry airport bytes)
 
 -- the command existed then: a message or a report is of no desk
 abbrev pub NamesNoDesk : Command → Type 0
@@ -66,17 +67,24 @@ NamesNoDesk command = Unit {0}
 
 -- an entry of the airport that existed then was read back from the bytes that it had
 abbrev pub FormerEntryIsReadBack : Type 0
-FormerEntryIsReadBack = (airport : AirportParts) (entry : Entry) → IsEntryOf airport entry → NamesNoDesk entry.command
+FormerEntryIsReadBack =
+    (airport : AirportParts) (entry : Entry) → IsEntryOf airport entry → NamesNoDesk entry.command
     → decode_former_entry airport (former_text entry) ≡ Ok entry
 
 -- bytes that were read as an entry are the bytes that it had, and it is one of the airport, of no
 -- desk if it is a message or a report
 abbrev pub FormerEntryIsSpelt : Type 0
-FormerEntryIsSpelt = (airport : AirportParts) (bytes : List ℕ) (entry : Entry) → AreBytes bytes → decode_former_entry airport bytes ≡ Ok entry
+FormerEntryIsSpelt =
+    (airport : AirportParts) (bytes : List ℕ) (entry : Entry)
+    → AreBytes bytes
+    → decode_former_entry airport bytes ≡ Ok entry
     → (bytes ≡ former_text entry) × IsEntryOf airport entry × NamesNoDesk entry.command
 
 -- a fault in what was an entry is among as many first bytes as an entry can have, or right after
 -- them
 abbrev pub FormerFaultIsNear : Type 0
-FormerFaultIsNear = (airport : AirportParts) (bytes : List ℕ) (fault : EntryFault) → AreBytes bytes → decode_former_entry airport bytes ≡ Err fault
+FormerFaultIsNear =
+    (airport : AirportParts) (bytes : List ℕ) (fault : EntryFault)
+    → AreBytes bytes
+    → decode_former_entry airport bytes ≡ Err fault
     → IsWithin most_bytes fault

@@ -19,10 +19,12 @@ ReadsEntry (Ok value) read = read ≡ Ok value
 ReadsEntry (Err fault) read = FailsReading fault read
 
 -- the result, in this view, and what is left are those of the reading
-abbrev pub GivesAs : {X A : Type 0} → (X → A) → Result X ReadFault → RestOfEntry → Result (A × RestOfEntry) EntryFault → Type 0
+abbrev pub GivesAs : {X A : Type 0} → (X → A) → Result X ReadFault → RestOfEntry
+    → Result (A × RestOfEntry) EntryFault → Type 0
 GivesAs view (Ok value) left read = read ≡ Ok (view value, left)
 GivesAs view (Err fault) left read = FailsReading fault read
 
 -- the result and what is left are those of the reading
-abbrev pub GivesReading : {A : Type 0} → Result A ReadFault → RestOfEntry → Result (A × RestOfEntry) EntryFault → Type 0
+abbrev pub GivesReading : {A : Type 0} → Result A ReadFault → RestOfEntry
+    → Result (A × RestOfEntry) EntryFault → Type 0
 GivesReading result left read = GivesAs (λ value. value) result left read

@@ -20,7 +20,9 @@ suffix_byte (Some suffix) = suffix
 
 -- a key: its airline as such a text, the number and the suffix of its flight, and its day
 abbrev pub key_bytes : Key → List ℕ
-key_bytes key = sized_text key.flight.airline ++ to_le_bytes w16 key.flight.number ++ suffix_byte key.flight.suffix ∷ key.day ∷ []
+key_bytes key =
+    sized_text key.flight.airline ++ to_le_bytes w16 key.flight.number
+    ++ suffix_byte key.flight.suffix ∷ key.day ∷ []
 
 -- 0 for no key; 1 and the key
 abbrev pub optional_key_text : Option Key → List ℕ
@@ -42,7 +44,11 @@ parse_key airport = do
   number ← such_that (λ number. nat_lt number 10000) (number w16)
   suffix ← such_that is_suffix_byte byte
   day ← such_that (λ day. nat_le day airport.days) byte
-  give (record { flight = record { airline = airline; number = number; suffix = suffix_of suffix }; day = day })
+  give
+  (record {
+    flight = record { airline = airline; number = number; suffix = suffix_of suffix };
+    day = day;
+  })
 
 -- what a tag says of a key
 abbrev pub optional_key_of : AirportParts → ℕ → Option (Reading (Option Key))

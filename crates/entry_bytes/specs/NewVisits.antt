@@ -12,13 +12,15 @@ use Rattle.entry_bytes.specs.Keys.{optional_key_text, parse_optional_key, sized_
 -- all that a visit is added with, in this order
 abbrev pub new_visit_text : NewVisit → List ℕ
 new_visit_text new =
-    sized_text new.name ++ to_le_bytes w16 new.kind.0 ++ new.class ∷ [] ++ to_le_bytes w32 new.on ++ to_le_bytes w32 new.off
+    sized_text new.name ++ to_le_bytes w16 new.kind.0 ++ new.class ∷ [] ++ to_le_bytes w32 new.on
+    ++ to_le_bytes w32 new.off
     ++ optional_key_text new.arr ++ optional_key_text new.dep
 
 -- the minute off block of a visit of this type that comes on block at this minute: not after the
 -- plan's end, and not sooner than the least minutes of the type
 abbrev pub is_off_of : AirportParts → ℕ → ℕ → ℕ → Bool
-is_off_of airport kind on off = nat_le off (plan_end airport) && nat_le (on + least_of airport (record { 0 = kind })) off
+is_off_of airport kind on off = nat_le off (plan_end airport)
+    && nat_le (on + least_of airport (record { 0 = kind })) off
 
 -- a visit that can be added at the airport
 unfoldable pub parse_new_visit : AirportParts → Reading NewVisit
@@ -30,4 +32,13 @@ parse_new_visit airport = do
   off ← such_that (is_off_of airport kind on) (number w32)
   arr ← parse_optional_key airport
   dep ← parse_optional_key airport
-  give (record { name = name; kind = record { 0 = kind }; class = class; on = on; off = off; arr = arr; dep = dep })
+  give
+  (record {
+    name = name;
+    kind = record { 0 = kind };
+    class = class;
+    on = on;
+    off = off;
+    arr = arr;
+    dep = dep;
+  })

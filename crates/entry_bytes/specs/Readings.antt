@@ -15,7 +15,8 @@ abbrev pub Reading : Type 0 → Type 0
 Reading A = RestOfEntry → Result (A × RestOfEntry) EntryFault
 
 -- if there was no fault, reading goes on after what was read
-abbrev pub going_on : {A B : Type 0} → Result (A × RestOfEntry) EntryFault → (A → Reading B) → Result (B × RestOfEntry) EntryFault
+abbrev pub going_on : {A B : Type 0} → Result (A × RestOfEntry) EntryFault → (A → Reading B)
+    → Result (B × RestOfEntry) EntryFault
 going_on (Ok read) next = next read.0 read.1
 going_on (Err fault) next = Err fault
 
@@ -34,7 +35,8 @@ bad_at at = λ left. Err (BadField at)
 
 -- a field in its form
 abbrev pub such_that : {A : Type 0} → (A → Bool) → Reading A → Reading A
-such_that test field = λ left. going_on (field left) (λ value. if test value then give value else bad_at left.at)
+such_that test field =
+    λ left. going_on (field left) (λ value. if test value then give value else bad_at left.at)
 
 -- what there is, or the field that begins at this place is bad
 abbrev pub or_bad_field : {A : Type 0} → ℕ → Option A → Reading A
@@ -43,11 +45,14 @@ or_bad_field at (Some value) = give value
 
 -- what a field means, if it means something
 abbrev pub meaning_of_field : {A B : Type 0} → (A → Option B) → Reading A → Reading B
-meaning_of_field told field = λ left. going_on (field left) (λ value. or_bad_field left.at (told value))
+meaning_of_field told field =
+    λ left. going_on (field left) (λ value. or_bad_field left.at (told value))
 
 -- this many bytes of the field that begins at this place
 unfoldable pub field_bytes : ℕ → ℕ → Reading (List ℕ)
-field_bytes at count = λ left. if nat_lt (length left.bytes) count then Err (BadField at) else Ok (take count left.bytes, record { at = left.at + count; bytes = drop count left.bytes })
+field_bytes at count =
+    λ left. if nat_lt (length left.bytes) count then Err (BadField at)
+    else Ok (take count left.bytes, record { at = left.at + count; bytes = drop count left.bytes })
 
 -- the first byte, if there is one
 abbrev pub first_byte : ℕ → List ℕ → Result (ℕ × RestOfEntry) EntryFault
@@ -60,7 +65,9 @@ byte = λ left. first_byte left.at left.bytes
 
 -- a number, its lowest byte first
 unfoldable pub number : Width → Reading ℕ
-number width = λ left. going_on (field_bytes left.at (byte_len width) left) (λ bytes. give (from_le_bytes width bytes))
+number width =
+    λ left. going_on (field_bytes left.at (byte_len width) left)
+    (λ bytes. give (from_le_bytes width bytes))
 
 -- a text: a byte that says how many bytes it has, and these bytes
 unfoldable pub text : Reading (List ℕ)
@@ -77,9 +84,11 @@ or_no_kind fault (Some field) = field
 
 -- a byte that announces what comes after it, or has a fault at its place
 abbrev pub by_tag : {A : Type 0} → (ℕ → EntryFault) → (ℕ → Option (Reading A)) → Reading A
-by_tag fault_at field_of = λ left. going_on (byte left) (λ tag. or_no_kind (fault_at left.at) (field_of tag))
+by_tag fault_at field_of =
+    λ left. going_on (byte left) (λ tag. or_no_kind (fault_at left.at) (field_of tag))
 
 -- this many of them
 unfoldable pub parse_many : {A : Type 0} → ℕ → Reading A → Reading (List A)
 parse_many zero field = give []
-parse_many (suc count) field = field >>= λ first. parse_many count field >>= λ others. give (first ∷ others)
+parse_many (suc count) field = field
+    >>= λ first. parse_many count field >>= λ others. give (first ∷ others)

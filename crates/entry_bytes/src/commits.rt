@@ -128,7 +128,8 @@ fn parse_edits_of_count(
     reader: &mut Reader<'_>,
     airport: &Airport,
 ) -> Result<Listed<Edit>, ReadFault>
-    ensures is { GivesReading result reader.new (parse_many count (parse_edit airport.now) reader.old) }
+    ensures is { GivesReading result reader.new
+        (parse_many count (parse_edit airport.now) reader.old) }
 {
     let mut edits = Listed::new(alloc);
     for _taken in 0..count {

@@ -60,7 +60,9 @@ pub fn encode_entry(alloc: Global, entry: &Entry) -> Result<Listed<u8>, Memory>
     ensures text { IfOk result (λ bytes. bytes ≡ entry_text entry.now) }
     ensures some { IfOk result (λ bytes. 1 ≤ length bytes) }
     ensures most { IfOk result (λ bytes. length bytes ≤ most_bytes) }
-    ensures read_back { IfOk result (λ bytes. (airport : AirportParts) → IsCommandOf airport entry.now.command → decode_entry airport bytes ≡ Ok entry.now) }
+    ensures read_back { IfOk result (λ bytes. (airport : AirportParts)
+        → IsCommandOf airport entry.now.command
+        → decode_entry airport bytes ≡ Ok entry.now) }
 {
     let mut out = Vec::new(alloc);
     out.extend_from_slice(&entry.call.to_le_bytes())?;

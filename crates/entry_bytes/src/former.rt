@@ -32,7 +32,8 @@ fn former_command_at(
     reader: &mut Reader<'_>,
     airport: &Airport,
 ) -> Result<Command, ReadFault>
-    ensures is { GivesReading result reader.new (parse_command (former_fields_of airport.now) reader.old) }
+    ensures is { GivesReading result reader.new
+        (parse_command (former_fields_of airport.now) reader.old) }
 {
     match reader.byte()? {
         1 => Ok(Command::AddVisit(parse_new_visit(reader, airport)?)),
@@ -65,7 +66,8 @@ pub fn lift_entry(alloc: Global, airport: &Airport, bytes: &[u8]) -> Result<List
     ensures is { result ≢ Err EntryFault.Memory → result ≡ lift_entry airport.now bytes.now }
     ensures some { IfOk result (λ new. 1 ≤ length new) }
     ensures most { IfOk result (λ new. length new ≤ most_bytes) }
-    ensures same { IfOk result (λ new. decode_entry airport.now new ≡ decode_former_entry airport.now bytes.now) }
+    ensures same { IfOk result
+        (λ new. decode_entry airport.now new ≡ decode_former_entry airport.now bytes.now) }
 {
     match read_former(alloc, airport, bytes) {
         Ok(entry) => match encode_entry(alloc, &entry) {

@@ -40,13 +40,15 @@ visit_told (Some visit) = ToldVisit visit
 -- the entry of this number, or that there is none
 abbrev pub entry_told : ℕ → Option Entry → ReplyBody
 entry_told number None = NoEntry
-entry_told number (Some entry) = ToldEntry number entry.call (desk_of entry.command) (kind_of entry.command)
+entry_told number (Some entry) =
+    ToldEntry number entry.call (desk_of entry.command) (kind_of entry.command)
 
 -- what is sought of a history and the plan that it makes, a line for each question
 abbrev pub sought_of : PlanState → List Entry → What → Sought
 sought_of plan history (Change command) = changes command
 sought_of plan history AskVersion = told ToldVersion
-sought_of plan history (AskVisit number) = told (visit_told (visit_at plan.visits (record { 0 = number })))
+sought_of plan history (AskVisit number) =
+    told (visit_told (visit_at plan.visits (record { 0 = number })))
 sought_of plan history (AskPlan day) = told (ToldPlan (held_on plan day))
 sought_of plan history AskUnplaced = told (ToldUnplaced (unplaced_parts plan))
 sought_of plan history (AskChart day) = told (ToldChart (chart_text plan.airport plan day))
@@ -57,7 +59,8 @@ sought_of plan history (AskDay day) = told (ToldDay (visits_on plan day))
 -- what an ask comes to: one that has seen a version later than the plan's is ahead, whatever it
 -- asks
 abbrev pub ask_outcome : PlanState → List Entry → Ask → Sought
-ask_outcome plan history ask = if nat_lt plan.version ask.seen then told Ahead else sought_of plan history ask.what
+ask_outcome plan history ask =
+    if nat_lt plan.version ask.seen then told Ahead else sought_of plan history ask.what
 
 -- the entries that a command adds: one if it is accepted
 abbrev pub added_entries : ℕ → Command → Stepped → List Entry
@@ -67,9 +70,12 @@ added_entries call command _ = []
 -- the reply of a plan to what is sought with this call number, and the history before and after it:
 -- a question changes nothing
 abbrev pub Replies : PlanState → List Entry → ℕ → Sought → Reply → List Entry → Type 0
-Replies plan before call (told what) reply after = (reply ≡ reply_at plan.version what) × (after ≡ before)
+Replies plan before call (told what) reply after = (reply ≡ reply_at plan.version what)
+    × (after ≡ before)
 Replies plan before call (changes command) reply after =
-    (stepped : Stepped) × TakenAs plan (length before) command stepped × (reply ≡ stepped_reply plan command stepped)
+    (stepped : Stepped)
+    × TakenAs plan (length before) command stepped
+    × (reply ≡ stepped_reply plan command stepped)
     × (after ≡ before ++ added_entries call command stepped)
 
 -- a command is sought that the plan accepts, if its history has this many entries
@@ -95,11 +101,14 @@ given_text airport keeper_fault = keeper_fault_text
 abbrev pub GivesAt : PlanState → List Entry → ℕ → Sought → Given → List Entry → Type 0
 GivesAt plan before call asked (replied reply) after = Replies plan before call asked reply after
 GivesAt plan before call asked no_memory after = after ≡ before
-GivesAt plan before call asked keeper_fault after = IsAccepted plan (length before) asked × (after ≡ before)
+GivesAt plan before call asked keeper_fault after = IsAccepted plan (length before) asked
+    × (after ≡ before)
 
 -- what an ask with this call number is given at the history before it, and the history after it
 abbrev pub GivesAnswer : AirportParts → List Entry → ℕ → Ask → Given → List Entry → Type 0
-GivesAnswer airport before call ask given after = GivesAt (replay airport before) before call (ask_outcome (replay airport before) before ask) given after
+GivesAnswer airport before call ask given after =
+    GivesAt (replay airport before) before call (ask_outcome (replay airport before) before ask)
+    given after
 
 -- how an act shows what is given
 abbrev pub acted_from : AirportParts → Given → Acted
@@ -109,10 +118,14 @@ acted_from airport keeper_fault = Fault
 
 -- an act that got its turn shows what the ask is given
 abbrev pub ActsAs : AirportParts → List Entry → ℕ → Ask → Acted → List Entry → Type 0
-ActsAs airport before call ask acted after = (given : Given) × (acted ≡ acted_from airport given) × GivesAnswer airport before call ask given after
+ActsAs airport before call ask acted after =
+    (given : Given)
+    × (acted ≡ acted_from airport given)
+    × GivesAnswer airport before call ask given after
 
 -- the same for an act that found a legal history and left one
-pub record ActsLegally (airport : AirportParts) (before : List Entry) (call : ℕ) (ask : Ask) (acted : Acted) (after : List Entry) : Type 0 where
+pub record ActsLegally (airport : AirportParts) (before : List Entry) (call : ℕ) (ask : Ask)
+    (acted : Acted) (after : List Entry) : Type 0 where
   pub found : IsLegal airport before
   pub acts : ActsAs airport before call ask acted after
   pub left : IsLegal airport after
@@ -120,15 +133,20 @@ pub record ActsLegally (airport : AirportParts) (before : List Entry) (call : �
 -- the bytes are those of the plan's reply to what is sought with this call number, with the history
 -- before and after it
 abbrev pub TextOf : PlanState → List Entry → ℕ → Sought → List ℕ → List Entry → Type 0
-TextOf plan before call asked bytes after = (reply : Reply) × (bytes ≡ reply_text plan.airport reply) × Replies plan before call asked reply after
+TextOf plan before call asked bytes after =
+    (reply : Reply)
+    × (bytes ≡ reply_text plan.airport reply)
+    × Replies plan before call asked reply after
 
 -- what comes of what is sought with this call number, with the history before and after it: the
 -- bytes of the plan's reply, or none if there is no memory or the append of an accepted command
 -- failed
-abbrev pub GivesText : PlanState → List Entry → ℕ → Sought → Result (List ℕ) AskFault → List Entry → Type 0
+abbrev pub GivesText : PlanState → List Entry → ℕ → Sought → Result (List ℕ) AskFault → List Entry
+    → Type 0
 GivesText plan before call asked (Ok bytes) after = TextOf plan before call asked bytes after
 GivesText plan before call asked (Err unanswered.Memory) after = after ≡ before
-GivesText plan before call asked (Err unanswered.Fault) after = IsAccepted plan (length before) asked × (after ≡ before)
+GivesText plan before call asked (Err unanswered.Fault) after =
+    IsAccepted plan (length before) asked × (after ≡ before)
 
 -- an append failed
 abbrev pub is_keeper_fault : Result (List ℕ) AskFault → Bool

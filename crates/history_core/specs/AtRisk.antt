@@ -12,7 +12,8 @@ use Rattle.entry_bytes.specs.Entries.{decode_entry}
 
 -- the entry at risk after those of a keeper: what its bytes are read as
 abbrev pub read_entry_at_risk : AirportParts → KeeperState → Option Entry
-read_entry_at_risk airport keeper = option_and_then (λ bytes. result_ok (decode_entry airport bytes)) keeper.at_risk
+read_entry_at_risk airport keeper =
+    option_and_then (λ bytes. result_ok (decode_entry airport bytes)) keeper.at_risk
 
 -- what is asked with this call number is a command, and its entry is this one
 abbrev pub IsAskedFor : ℕ → What → Entry → Type 0

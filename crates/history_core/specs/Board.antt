@@ -28,7 +28,8 @@ abbrev pub Spells : AirportParts → List (List ℕ) → List Entry → Type 0
 Spells airport entries history = map (decode_entry airport) entries ≡ map Ok history
 
 -- the bytes of an entry with which the history is still legal, and which is read back from them
-pub record IsNextText (airport : AirportParts) (history : List Entry) (bytes : List ℕ) : Type 0 where
+pub record IsNextText (airport : AirportParts) (history : List Entry)
+    (bytes : List ℕ) : Type 0 where
   pub entry : Entry
   pub is : bytes ≡ entry_text entry
   pub read : decode_entry airport bytes ≡ Ok entry
@@ -37,7 +38,8 @@ pub record IsNextText (airport : AirportParts) (history : List Entry) (bytes : L
 -- a keeper of the history: its entries, if it exposes them, are the bytes of the history's entries,
 -- which are read as it; it counts as many; an entry at risk can come next; and there is none at
 -- risk as long as no call has failed
-pub record IsKeeperOf (airport : AirportParts) (history : List Entry) (keeper : KeeperState) : Type 0 where
+pub record IsKeeperOf (airport : AirportParts) (history : List Entry)
+    (keeper : KeeperState) : Type 0 where
   pub entries : IfSome keeper.entries (λ entries. entries ≡ entry_texts history)
   pub spells : Spells airport (entry_texts history) history
   pub number : keeper.number ≡ length history
@@ -47,7 +49,8 @@ pub record IsKeeperOf (airport : AirportParts) (history : List Entry) (keeper : 
 -- what holds of every board, with its plan, the parts that it keeps as bumped, and what its keeper
 -- exposes: its history is legal, the plan is what the history makes, the parts lost their stands by
 -- the last entry, the entries are of calls before the next one, and the keeper keeps them
-pub record IsBoard {K : Type 0} (plan : PlanState) (bumped : List PartId) (keeper : KeeperState) (board : BoardHeld K) : Type 0 where
+pub record IsBoard {K : Type 0} (plan : PlanState) (bumped : List PartId) (keeper : KeeperState)
+    (board : BoardHeld K) : Type 0 where
   pub legal : IsLegal board.airport board.history
   pub plan_is : plan ≡ replay board.airport board.history
   pub bumped_is : bumped ≡ last_bumped plan
@@ -57,7 +60,8 @@ pub record IsBoard {K : Type 0} (plan : PlanState) (bumped : List PartId) (keepe
 
 -- a board as a machine, by what its keeper exposes: no call changes its airport, the entry at risk
 -- is the keeper's, and it fails if the keeper does
-abbrev pub machine_state : {K : Type 0} → (K → KeeperState) → BoardHeld K → MachineState Entry AirportParts
+abbrev pub machine_state : {K : Type 0} → (K → KeeperState) → BoardHeld K
+    → MachineState Entry AirportParts
 machine_state tells board = record {
   fixed = board.airport;
   history = board.history;

@@ -49,7 +49,9 @@ replay airport history = after_entries (empty_plan airport) history
 abbrev pub AreTakenFrom : PlanState → ℕ → List Entry → Type 0
 AreTakenFrom plan count [] = Unit {0}
 AreTakenFrom plan count (entry ∷ entries) =
-    IsCommandOf plan.airport entry.command × TakenAs plan count entry.command accepted × AreTakenFrom (after_command plan entry.command) (count + 1) entries
+    IsCommandOf plan.airport entry.command
+    × TakenAs plan count entry.command accepted
+    × AreTakenFrom (after_command plan entry.command) (count + 1) entries
 
 -- each command of a history is taken at the entries before it
 abbrev pub AreTaken : AirportParts → List Entry → Type 0

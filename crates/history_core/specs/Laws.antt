@@ -23,11 +23,13 @@ IsCommitOf desk number command = ⊥
 
 -- the entry of this number is a commit of this desk's draft
 abbrev pub HasCommit : List Entry → ℕ → List ℕ → ℕ → Type 0
-HasCommit history version desk number = (entry : Entry) × HasEntry history version entry × IsCommitOf desk number entry.command
+HasCommit history version desk number =
+    (entry : Entry) × HasEntry history version entry × IsCommitOf desk number entry.command
 
 -- the entry of this number adds a visit with these data
 abbrev pub HasAdded : List Entry → ℕ → NewVisit → Type 0
-HasAdded history version new = (entry : Entry) × HasEntry history version entry × (entry.command ≡ AddVisit new)
+HasAdded history version new =
+    (entry : Entry) × HasEntry history version entry × (entry.command ≡ AddVisit new)
 
 -- the visit was added with these data, by the entry of this number
 abbrev pub IsAddedBy : ℕ → NewVisit → Visit → Type 0
@@ -35,7 +37,8 @@ IsAddedBy version new visit = (new_of visit ≡ new) × (visit.added ≡ version
 
 -- one of the visits has this name, and was added with these data by the entry of this number
 abbrev pub HasVisit : List Visit → ℕ → NewVisit → Type 0
-HasVisit visits version new = (visit : Visit) × (visit_named visits new.name ≡ Some visit) × IsAddedBy version new visit
+HasVisit visits version new =
+    (visit : Visit) × (visit_named visits new.name ≡ Some visit) × IsAddedBy version new visit
 
 -- whether a command edits the visit of this number
 abbrev pub edits_visit : Command → ℕ → Bool
@@ -46,7 +49,9 @@ edits_visit command number = false
 -- entries before them; this number if none does
 abbrev pub last_edit : ℕ → ℕ → ℕ → List Entry → ℕ
 last_edit number count last [] = last
-last_edit number count last (entry ∷ entries) = last_edit number (count + 1) (if edits_visit entry.command number then count + 1 else last) entries
+last_edit number count last (entry ∷ entries) =
+    last_edit number (count + 1) (if edits_visit entry.command number then count + 1 else last)
+    entries
 
 -- the command without the desk that a message or a report names
 abbrev pub without_desk : Command → Command
@@ -56,4 +61,5 @@ without_desk command = command
 
 -- the entries without the desks that messages and reports name
 abbrev pub without_desks : List Entry → List Entry
-without_desks history = map (λ entry. record { call = entry.call; command = without_desk entry.command }) history
+without_desks history =
+    map (λ entry. record { call = entry.call; command = without_desk entry.command }) history

@@ -32,7 +32,8 @@ pub record OpeningHeld : Type 0 where
 
 -- a board was opened over the keeper of these bytes: the history is what they are read as, and is
 -- legal
-pub record OpensBoard {K : Type 0} (airport : AirportParts) (kept : K) (entries : List (List ℕ)) (board : BoardHeld K) : Type 0 where
+pub record OpensBoard {K : Type 0} (airport : AirportParts) (kept : K) (entries : List (List ℕ))
+    (board : BoardHeld K) : Type 0 where
   pub keeper : board.keeper ≡ kept
   pub airport_is : board.airport ≡ airport
   pub spells : Spells airport entries board.history
@@ -43,9 +44,13 @@ pub record OpensBoard {K : Type 0} (airport : AirportParts) (kept : K) (entries 
 -- why these bytes are not the next entry of a history, with the number that it would have: they are
 -- read as no entry, or as one with which the history is not legal; or there is no memory
 abbrev pub IsNotNext : AirportParts → List Entry → List ℕ → OpenFault → Type 0
-IsNotNext airport before bytes (BadEntry number) = (number ≡ length before + 1) × ((fault : EntryFault) × (decode_entry airport bytes ≡ Err fault))
+IsNotNext airport before bytes (BadEntry number) = (number ≡ length before + 1)
+    × ((fault : EntryFault) × (decode_entry airport bytes ≡ Err fault))
 IsNotNext airport before bytes (WrongEntry number) =
-    (number ≡ length before + 1) × ((entry : Entry) × (decode_entry airport bytes ≡ Ok entry) × ¬ (IsLegal airport (with_last entry before)))
+    (number ≡ length before + 1)
+    × ((entry : Entry)
+    × (decode_entry airport bytes ≡ Ok entry)
+    × ¬ (IsLegal airport (with_last entry before)))
 IsNotNext airport before bytes Memory = Unit {0}
 
 -- why an entry of this number is refused, if reading it gives this fault
@@ -55,7 +60,8 @@ not_read number fault = BadEntry number
 
 -- the first of these bytes that are not the next entry: those before them are read as a legal
 -- history
-pub record StopsAt (airport : AirportParts) (entries : List (List ℕ)) (fault : OpenFault) : Type 0 where
+pub record StopsAt (airport : AirportParts) (entries : List (List ℕ))
+    (fault : OpenFault) : Type 0 where
   pub front : List (List ℕ)
   pub bytes : List ℕ
   pub back : List (List ℕ)
@@ -73,13 +79,15 @@ CannotOpen airport entries fault = StopsAt airport entries fault
 
 -- a history read so far: it is legal, this plan is what it makes, and this is the least number of
 -- the next call
-pub record IsReplayed (airport : AirportParts) (plan : PlanState) (history : List Entry) (next : ℕ) : Type 0 where
+pub record IsReplayed (airport : AirportParts) (plan : PlanState) (history : List Entry)
+    (next : ℕ) : Type 0 where
   pub legal : IsLegal airport history
   pub plan_is : plan ≡ replay airport history
   pub next_is : next ≡ next_after history
 
 -- one more entry was read: these bytes are read as the last entry of the history
-pub record IsReadOn (airport : AirportParts) (before after : List Entry) (bytes : List ℕ) : Type 0 where
+pub record IsReadOn (airport : AirportParts) (before after : List Entry)
+    (bytes : List ℕ) : Type 0 where
   pub entry : Entry
   pub is : decode_entry airport bytes ≡ Ok entry
   pub text : bytes ≡ entry_text entry
@@ -88,7 +96,8 @@ pub record IsReadOn (airport : AirportParts) (before after : List Entry) (bytes 
 -- what holds of every board that is being opened, with its plan, the parts that it keeps as bumped,
 -- and the least number of its next call: its history was read so far, its entries' bytes are read as
 -- it, and the parts lost their stands by the last entry
-pub record IsOpening (plan : PlanState) (bumped : List PartId) (next : ℕ) (opening : OpeningHeld) : Type 0 where
+pub record IsOpening (plan : PlanState) (bumped : List PartId) (next : ℕ)
+    (opening : OpeningHeld) : Type 0 where
   pub past : IsReplayed opening.airport plan opening.history next
   pub spells : Spells opening.airport (entry_texts opening.history) opening.history
   pub bumped_is : bumped ≡ last_bumped plan

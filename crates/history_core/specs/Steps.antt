@@ -108,15 +108,18 @@ IsOtherName plan new visit = (visit_named plan.visits new.name ≡ Some visit) �
 
 -- the entry of this number added the same visit, or is of the same draft, whatever its edits are
 abbrev pub IsRepeated : PlanState → Command → ℕ → Type 0
-IsRepeated plan (AddVisit new) entry = (visit : Visit) × IsSameName plan new visit × (entry ≡ visit.added)
+IsRepeated plan (AddVisit new) entry =
+    (visit : Visit) × IsSameName plan new visit × (entry ≡ visit.added)
 IsRepeated plan (Commit draft) entry =
     (draft.base ≤ plan.version) × (draft_version plan.drafts draft.desk draft.number ≡ Some entry)
 IsRepeated plan command entry = ⊥
 
 -- the command is refused for this cause; a lack of memory is no cause
 abbrev pub IsRefused : PlanState → Command → Refusal → Type 0
-IsRefused plan (AddVisit new) (name number) = (visit : Visit) × IsOtherName plan new visit × (number ≡ visit.number)
-IsRefused plan (Commit draft) (edit fault) = IsNew plan draft × RefusesDraft plan draft fault × (fault ≢ Memory)
+IsRefused plan (AddVisit new) (name number) =
+    (visit : Visit) × IsOtherName plan new visit × (number ≡ visit.number)
+IsRefused plan (Commit draft) (edit fault) =
+    IsNew plan draft × RefusesDraft plan draft fault × (fault ≢ Memory)
 IsRefused plan (Report report) (denied why) = visit_after_report plan report ≡ Err why
 IsRefused plan (Cancel visit) (denied why) = cancellable plan visit ≡ Err why
 IsRefused plan command why = ⊥
@@ -145,7 +148,9 @@ reply_at version told = record { version = version; told = told }
 
 -- the number of the visit of this name, or the next number if there is none
 abbrev pub number_for : List Visit → List ℕ → VisitNo
-number_for visits text = unwrap_or (option_map (λ visit. visit.number) (visit_named visits text)) (record { 0 = length visits + 1 })
+number_for visits text =
+    unwrap_or (option_map (λ visit. visit.number) (visit_named visits text))
+    (record { 0 = length visits + 1 })
 
 -- what the reply says of a command whose entry made this version, now or before, by the plan before
 -- it is taken
@@ -153,10 +158,12 @@ abbrev pub made_told : PlanState → ℕ → Command → ReplyBody
 made_told plan entry (AddVisit new) = Added entry (number_for plan.visits new.name)
 made_told plan entry (Commit draft) = Committed entry
 made_told plan entry (Message passed) =
-    MessageTaken (bumped_by entry (with_settled plan (visit_after_message plan passed.message)).visits)
+    MessageTaken
+    (bumped_by entry (with_settled plan (visit_after_message plan passed.message)).visits)
     (option_map (λ visit. visit.number) (visit_after_message plan passed.message))
 made_told plan entry (Report report) =
-    Reported (bumped_by entry (with_settled plan (result_ok (visit_after_report plan report))).visits)
+    Reported
+    (bumped_by entry (with_settled plan (result_ok (visit_after_report plan report))).visits)
 made_told plan entry (Cancel visit) = Cancelled
 
 -- what the reply says of a refusal
@@ -172,7 +179,8 @@ stepped_reply plan command ahead = reply_at plan.version Ahead
 stepped_reply plan command (repeated entry) = reply_at plan.version (made_told plan entry command)
 stepped_reply plan command (refused why) = reply_at plan.version (refusal_told why)
 stepped_reply plan command full = reply_at plan.version Full
-stepped_reply plan command accepted = reply_at (plan.version + 1) (made_told plan (plan.version + 1) command)
+stepped_reply plan command accepted =
+    reply_at (plan.version + 1) (made_told plan (plan.version + 1) command)
 
 -- the plan after a commit of the draft, if its edits apply
 abbrev pub committed_if : PlanState → Draft → Result (List Visit) EditFault → PlanState

@@ -13,7 +13,8 @@ pub record IsChangeOf (plan : PlanState) (command : Command) (change : ChangeSta
   pub makes : plan_after_change plan change ≡ after_command plan command
 
 -- the reply to a command that the plan does not accept
-pub record IsAnswered (plan : PlanState) (entries : ℕ) (command : Command) (reply : Reply) : Type 0 where
+pub record IsAnswered (plan : PlanState) (entries : ℕ) (command : Command)
+    (reply : Reply) : Type 0 where
   pub stepped : Stepped
   pub steps : TakenAs plan entries command stepped
   pub other : stepped ≢ accepted
@@ -22,5 +23,7 @@ pub record IsAnswered (plan : PlanState) (entries : ℕ) (command : Command) (re
 -- what a command comes to at a plan whose history has this many entries
 abbrev pub ComesTo : PlanState → ℕ → Command → Taken → Type 0
 ComesTo plan entries command (Accepted change reply) =
-    TakenAs plan entries command accepted × IsChangeOf plan command change × (reply ≡ stepped_reply plan command accepted)
+    TakenAs plan entries command accepted
+    × IsChangeOf plan command change
+    × (reply ≡ stepped_reply plan command accepted)
 ComesTo plan entries command (Answered reply) = IsAnswered plan entries command reply

@@ -51,10 +51,20 @@ impl<'a, K: Keeper> Model for Board<'a, K> {
 
     ghost Value = { BoardHeld K };
 
-    ghost view = { λ b. record { keeper = b.keeper; airport = b.airport.now; history = b.history.items; next = b.next } };
+    ghost view = { λ b. record {
+      keeper = b.keeper;
+      airport = b.airport.now;
+      history = b.history.items;
+      next = b.next;
+    } };
 
     ghost invariant = { λ b. IsBoard b.plan.plan b.bumped (K.state b.keeper)
-        (record { keeper = b.keeper; airport = b.airport.now; history = b.history.items; next = b.next }) };
+        (record {
+          keeper = b.keeper;
+          airport = b.airport.now;
+          history = b.history.items;
+          next = b.next;
+        }) };
 }
 
 impl<'a, K: Keeper> Board<'a, K> {
@@ -72,7 +82,8 @@ impl<'a, K: Keeper> Board<'a, K> {
         requires number { (K.state keeper).number ≡ length entries.items }
         requires at_risk { (K.state keeper).at_risk ≡ None }
         ensures opened { IfOk result (OpensBoard airport.entry.now keeper entries.items) }
-        ensures refused { IfErr result (λ refusal. CannotOpen airport.entry.now entries.items refusal.0) }
+        ensures refused { IfErr result
+            (λ refusal. CannotOpen airport.entry.now entries.items refusal.0) }
         ensures back { IfErr result (λ refusal. refusal.1 ≡ keeper) }
     {
         match opening_of(alloc, airport, entries.as_slice()) {
@@ -137,14 +148,17 @@ impl<'a, K: Keeper> Board<'a, K> {
         requires valid { IsAskOf self.old.airport ask.now }
         requires next { self.old.next ≤ call }
         requires last { call < call_limit }
-        ensures acts { ActsAs self.old.airport self.old.history call ask.now result self.new.history }
+        ensures acts { ActsAs self.old.airport self.old.history call ask.now
+            result self.new.history }
         ensures airport { self.new.airport ≡ self.old.airport }
         ensures next { self.new.next ≡ call + 1 }
         ensures numbers { Rises call_of 1 self.new.next self.new.history }
         ensures found { IsLegal self.old.airport self.old.history }
         ensures legal { IsLegal self.new.airport self.new.history }
-        ensures faults { Counts (is_fault result) (K.state self.old.keeper).faults (K.state self.new.keeper).faults }
-        ensures at_risk { LeavesAtRisk (history_at_risk_of (machine_state K.state self.old)) call ask.now.what (is_fault result) (history_at_risk_of (machine_state K.state self.new)) }
+        ensures faults { Counts (is_fault result) (K.state self.old.keeper).faults
+            (K.state self.new.keeper).faults }
+        ensures at_risk { LeavesAtRisk (history_at_risk_of (machine_state K.state self.old)) call
+            ask.now.what (is_fault result) (history_at_risk_of (machine_state K.state self.new)) }
     {
         let answered = self.answer(alloc, call, ask);
         self.next = call + 1;
@@ -159,9 +173,13 @@ impl<'a, K: Keeper> Board<'a, K> {
         ensures airport { self.new.airport ≡ self.old.airport }
         ensures next { self.new.next ≤ call + 1 }
         ensures gives { let plan = replay self.old.airport self.old.history in
-            GivesText plan self.old.history call (ask_outcome plan self.old.history ask.now) result self.new.history }
-        ensures faults { Counts (is_keeper_fault result) (K.state self.old.keeper).faults (K.state self.new.keeper).faults }
-        ensures at_risk { LeavesAtRisk (history_at_risk_of (machine_state K.state self.old)) call ask.now.what (is_keeper_fault result) (history_at_risk_of (machine_state K.state self.new)) }
+            GivesText plan self.old.history call (ask_outcome plan self.old.history ask.now)
+            result self.new.history }
+        ensures faults { Counts (is_keeper_fault result) (K.state self.old.keeper).faults
+            (K.state self.new.keeper).faults }
+        ensures at_risk { LeavesAtRisk (history_at_risk_of (machine_state K.state self.old)) call
+            ask.now.what (is_keeper_fault result)
+            (history_at_risk_of (machine_state K.state self.new)) }
     {
         if ask.seen > self.plan.version() {
             return self.reply_with(alloc, ReplyBody::Ahead);
@@ -220,8 +238,11 @@ impl<'a, K: Keeper> Board<'a, K> {
         ensures next { self.new.next ≤ call + 1 }
         ensures gives { let plan = replay self.old.airport self.old.history in
             GivesText plan self.old.history call (changes command.now) result self.new.history }
-        ensures faults { Counts (is_keeper_fault result) (K.state self.old.keeper).faults (K.state self.new.keeper).faults }
-        ensures at_risk { LeavesAtRisk (history_at_risk_of (machine_state K.state self.old)) call (What.Change command.now) (is_keeper_fault result) (history_at_risk_of (machine_state K.state self.new)) }
+        ensures faults { Counts (is_keeper_fault result) (K.state self.old.keeper).faults
+            (K.state self.new.keeper).faults }
+        ensures at_risk { LeavesAtRisk (history_at_risk_of (machine_state K.state self.old)) call
+            (What.Change command.now) (is_keeper_fault result)
+            (history_at_risk_of (machine_state K.state self.new)) }
     {
         let entries = self.history.as_slice().len();
         match take_command(alloc, self.airport, &self.plan, entries, command)? {
@@ -241,17 +262,22 @@ impl<'a, K: Keeper> Board<'a, K> {
         reply: Reply,
     ) -> Result<Listed<u8>, AskFault>
         requires valid { IsCommandOf self.old.airport command.now }
-        requires taken { TakenAs (replay self.old.airport self.old.history) (length self.old.history) command.now accepted }
+        requires taken { TakenAs (replay self.old.airport self.old.history)
+            (length self.old.history) command.now accepted }
         requires change { IsChangeOf (replay self.old.airport self.old.history) command.now change }
-        requires reply { reply ≡ stepped_reply (replay self.old.airport self.old.history) command.now accepted }
+        requires reply { reply
+            ≡ stepped_reply (replay self.old.airport self.old.history) command.now accepted }
         requires next { self.old.next ≤ call }
         requires last { call < call_limit }
         ensures airport { self.new.airport ≡ self.old.airport }
         ensures next { self.new.next ≤ call + 1 }
         ensures gives { let plan = replay self.old.airport self.old.history in
             GivesText plan self.old.history call (changes command.now) result self.new.history }
-        ensures faults { Counts (is_keeper_fault result) (K.state self.old.keeper).faults (K.state self.new.keeper).faults }
-        ensures at_risk { LeavesAtRisk (history_at_risk_of (machine_state K.state self.old)) call (What.Change command.now) (is_keeper_fault result) (history_at_risk_of (machine_state K.state self.new)) }
+        ensures faults { Counts (is_keeper_fault result) (K.state self.old.keeper).faults
+            (K.state self.new.keeper).faults }
+        ensures at_risk { LeavesAtRisk (history_at_risk_of (machine_state K.state self.old)) call
+            (What.Change command.now) (is_keeper_fault result)
+            (history_at_risk_of (machine_state K.state self.new)) }
     {
         let entry = Entry {
             call,
@@ -274,10 +300,12 @@ impl<'a> Opening<'a> {
     /// The board over a keeper that has the entries that were read and none at risk. Its first call
     /// may have a number above the last entry's, or any from 1 on if there is no entry.
     pub fn board<K: Keeper>(self, keeper: K) -> Board<'a, K>
-        requires entries { IfSome (K.state keeper).entries (λ kept. kept ≡ entry_texts self.history) }
+        requires entries { IfSome (K.state keeper).entries
+            (λ kept. kept ≡ entry_texts self.history) }
         requires number { (K.state keeper).number ≡ length (entry_texts self.history) }
         requires at_risk { (K.state keeper).at_risk ≡ None }
-        ensures opened { OpensBoard self.entry.airport keeper (entry_texts self.entry.history) result }
+        ensures opened { OpensBoard self.entry.airport keeper
+            (entry_texts self.entry.history) result }
         ensures history { result.history ≡ self.entry.history }
     {
         Board {

@@ -84,10 +84,12 @@ impl<'a> Opening<'a> {
     /// with these bytes after them, whatever comes next.
     pub fn read(&mut self, alloc: Global, bytes: &[u8]) -> Result<(), OpenFault>
         ensures airport { self.new.airport ≡ self.old.airport }
-        ensures reads { OnOk result (IsReadOn self.old.airport self.old.history self.new.history bytes.now) }
+        ensures reads { OnOk result
+            (IsReadOn self.old.airport self.old.history self.new.history bytes.now) }
         ensures same { OnErr result (self.new.history ≡ self.old.history) }
         ensures refused { IfErr result (λ fault. (back : List (List ℕ))
-            → CannotOpen self.old.airport (entry_texts self.old.history ++ bytes.now ∷ back) fault) }
+            → CannotOpen self.old.airport (entry_texts self.old.history ++ bytes.now ∷ back)
+            fault) }
     {
         let number = self.plan.version() + 1;
         let entry = match decode_entry(alloc, self.airport, bytes) {

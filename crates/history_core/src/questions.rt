@@ -52,7 +52,8 @@ pub(crate) fn chart_told(
     requires airport { airport.now ≡ plan.now.plan.airport }
     requires first { 1 ≤ day }
     requires last { day ≤ airport.now.days }
-    ensures told { IfOk result (λ news. news ≡ ReplyBody.Chart (chart_text plan.now.plan.airport plan.now.plan day)) }
+    ensures told { IfOk result
+        (λ news. news ≡ ReplyBody.Chart (chart_text plan.now.plan.airport plan.now.plan day)) }
     ensures tellable { IfOk result IsTellable }
 {
     let text = chart(alloc, airport, plan, day)?;

@@ -21,7 +21,12 @@ pub record IsAddable (plan : PlanState) (visit : Visit) : Type 0 where
 
 -- the change that adds the visit, which is on no stand yet
 abbrev pub add_change : PlanState → Visit → ChangeState
-add_change plan visit = record { visits = visit ∷ []; slots = []; draft = None; version = plan.version + 1 }
+add_change plan visit = record {
+  visits = visit ∷ [];
+  slots = [];
+  draft = None;
+  version = plan.version + 1;
+}
 
 -- the plan after the entry that adds a visit with these data
 abbrev pub with_added : PlanState → NewVisit → PlanState

@@ -21,7 +21,9 @@ is_draft desk number id = bytes_eq desk id.desk && (number == id.number)
 
 -- the version that the commit of this draft made, if there is one
 abbrev pub draft_version : List Drafted → List ℕ → ℕ → Option ℕ
-draft_version drafts desk number = option_map (λ drafted. drafted.version) (find (λ drafted. is_draft desk number drafted.id) drafts)
+draft_version drafts desk number =
+    option_map (λ drafted. drafted.version)
+    (find (λ drafted. is_draft desk number drafted.id) drafts)
 
 -- the version that the draft made
 abbrev pub drafted_version : Drafted → ℕ
@@ -30,7 +32,8 @@ drafted_version drafted = drafted.version
 -- no two of the drafts have the same desk and number
 abbrev pub AreDifferent : List Drafted → Type 0
 AreDifferent [] = Unit {0}
-AreDifferent (drafted ∷ drafts) = (draft_version drafts drafted.id.desk drafted.id.number ≡ None) × AreDifferent drafts
+AreDifferent (drafted ∷ drafts) = (draft_version drafts drafted.id.desk drafted.id.number ≡ None)
+    × AreDifferent drafts
 
 -- drafts that became commits of a plan at this version: the versions that they made rise strictly
 -- from at least 1 to at most that one, and no two have the same desk and number
@@ -50,15 +53,18 @@ pub record DraftsHeld : Type 0 where
 
 -- the order of drafts: by the desk, and then by the number
 abbrev pub compare_drafts : DraftId → DraftId → Ordering
-compare_drafts id other = ordering_then (slice_cmp nat_cmp id.desk other.desk) (nat_cmp id.number other.number)
+compare_drafts id other =
+    ordering_then (slice_cmp nat_cmp id.desk other.desk) (nat_cmp id.number other.number)
 
 -- the map has for each draft the version of its commit
 abbrev pub IsIndexOf : BTreeMap DraftId ℕ → List Drafted → Type 0
-IsIndexOf versions drafts = (id : DraftId) → get compare_drafts versions id ≡ draft_version drafts id.desk id.number
+IsIndexOf versions drafts = (id : DraftId)
+    → get compare_drafts versions id ≡ draft_version drafts id.desk id.number
 
 -- no two of the drafts have the same desk and number, and the map has the versions of this many
 -- first ones
-pub record AreIndexed (versions : BTreeMap DraftId ℕ) (indexed : ℕ) (drafts : List Drafted) : Type 0 where
+pub record AreIndexed (versions : BTreeMap DraftId ℕ) (indexed : ℕ)
+    (drafts : List Drafted) : Type 0 where
   pub different : AreDifferent drafts
   pub few : indexed ≤ length drafts
   pub index : IsIndexOf versions (take indexed drafts)

@@ -68,14 +68,16 @@ after_edit airport base number edit visits = do
 
 -- what edits, the first of which has this number, make of the visits in order, or the first
 -- refusal; the edits do not set which commit edited a visit last
-abbrev pub after_edits : AirportParts → ℕ → ℕ → List Edit → List Visit → Result (List Visit) EditFault
+abbrev pub after_edits : AirportParts → ℕ → ℕ → List Edit → List Visit
+    → Result (List Visit) EditFault
 after_edits airport base number [] visits = Ok visits
 after_edits airport base number (edit ∷ edits) visits = do
   after ← after_edit airport base number edit visits
   after_edits airport base (number + 1) edits after
 
 -- what all edits of a draft made over this base make of the visits, before any clash is looked for
-abbrev pub after_all_edits : AirportParts → ℕ → List Edit → List Visit → Result (List Visit) EditFault
+abbrev pub after_all_edits : AirportParts → ℕ → List Edit → List Visit
+    → Result (List Visit) EditFault
 after_all_edits airport base edits visits = after_edits airport base 1 edits visits
 
 -- the edit changes the visit of this number

@@ -18,30 +18,42 @@ pub record KeysHeld : Type 0 where
 
 -- the keys with this one at its place, or last
 abbrev pub put_key : List (Option Key) → ℕ → Option Key → List (Option Key)
-put_key keys place key = if nat_lt place (length keys) then slice_set keys place key else keys ++ key ∷ []
+put_key keys place key =
+    if nat_lt place (length keys) then slice_set keys place key else keys ++ key ∷ []
 
 -- there is no key at this place, or no new one, or they are the same
 abbrev pub KeepsKey : List (Option Key) → ℕ → Option Key → Type 0
-KeepsKey keys place key = (old new : Key) → slice_get keys place ≡ Some (Some old) → key ≡ Some new → old ≡ new
+KeepsKey keys place key =
+    (old new : Key) → slice_get keys place ≡ Some (Some old) → key ≡ Some new → old ≡ new
 
 -- the flight and the day of a key
 abbrev pub flight_day : Key → FlightDay
-flight_day key = record { airline = key.flight.airline; number = key.flight.number; suffix = key.flight.suffix; day = key.day }
+flight_day key = record {
+  airline = key.flight.airline;
+  number = key.flight.number;
+  suffix = key.flight.suffix;
+  day = key.day;
+}
 
 -- the flights and the days are the same
 abbrev pub is_same_day : FlightDay → FlightDay → Bool
 is_same_day flight other =
-    bytes_eq flight.airline other.airline && (flight.number == other.number && (option_eq nat_eq flight.suffix other.suffix && flight.day == other.day))
+    bytes_eq flight.airline other.airline
+    && (flight.number == other.number
+    && (option_eq nat_eq flight.suffix other.suffix && flight.day == other.day))
 
 -- the order of flights and days
 abbrev pub compare_days : FlightDay → FlightDay → Ordering
 compare_days flight other =
     ordering_then (slice_cmp nat_cmp flight.airline other.airline)
-    (ordering_then (nat_cmp flight.number other.number) (ordering_then (option_cmp nat_cmp flight.suffix other.suffix) (nat_cmp flight.day other.day)))
+    (ordering_then (nat_cmp flight.number other.number)
+    (ordering_then (option_cmp nat_cmp flight.suffix other.suffix)
+    (nat_cmp flight.day other.day)))
 
 -- the order of places: by the flight and the day first
 abbrev pub compare_places : FlightPlace → FlightPlace → Ordering
-compare_places place other = ordering_then (compare_days place.flight other.flight) (nat_cmp place.place other.place)
+compare_places place other =
+    ordering_then (compare_days place.flight other.flight) (nat_cmp place.place other.place)
 
 -- a place of the key's flight
 abbrev pub flight_place : Key → ℕ → FlightPlace
@@ -60,10 +72,16 @@ abbrev pub has_place : List (Option Key) → FlightPlace → Bool
 has_place keys place = option_map_or (flies_on_day place.flight) (slice_get keys place.place) false
 
 -- the set has only places of the keys, and all of those among this many first ones
-pub record AreFlightPlaces (live : BTreeSet FlightPlace) (indexed : ℕ) (keys : List (Option Key)) : Type 0 where
+pub record AreFlightPlaces (live : BTreeSet FlightPlace) (indexed : ℕ)
+    (keys : List (Option Key)) : Type 0 where
   pub few : indexed ≤ length keys
-  pub only : (place : FlightPlace) → contains compare_places live place ≡ true → has_place keys place ≡ true
-  pub all : (place : FlightPlace) → place.place < indexed → has_place keys place ≡ true → contains compare_places live place ≡ true
+  pub only : (place : FlightPlace)
+      → contains compare_places live place ≡ true
+      → has_place keys place ≡ true
+  pub all : (place : FlightPlace)
+      → place.place < indexed
+      → has_place keys place ≡ true
+      → contains compare_places live place ≡ true
 
 -- the place is the first of the key's flight in the set, and below this end
 pub record IsFirstPlace (live : BTreeSet FlightPlace) (key : Key) (end first : ℕ) : Type 0 where

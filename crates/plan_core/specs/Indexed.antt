@@ -10,9 +10,11 @@ use Rattle.visit_book.specs.Slots.{slots_of}
 use Rattle.plan_core.specs.PlanState.{IsPlan, PlanState}
 
 -- the index has the airport's stands, and exactly the slots of the visits, each once
-pub record IsIndexed (airport : AirportParts) (index : List StandSlots) (visits : List Visit) : Type 0 where
+pub record IsIndexed (airport : AirportParts) (index : List StandSlots)
+    (visits : List Visit) : Type 0 where
   pub stands : length index ≡ length airport.stands
-  pub slots : (slot : Slot) → Contains (all_slots index) slot ↔ Contains (slots_of airport visits) slot
+  pub slots : (slot : Slot)
+      → Contains (all_slots index) slot ↔ Contains (slots_of airport visits) slot
   pub parts : HasPartsOnce (all_slots index)
 
 -- what holds of every plan and the index of its slots

@@ -26,7 +26,8 @@ is_off (Some stand) part slot = not (is_on stand slot && is_of_part part slot)
 abbrev pub is_off_parts : VisitNo → ℕ → List Part → Slot → Bool
 is_off_parts visit number [] slot = true
 is_off_parts visit number (part ∷ parts) slot =
-    is_off (stand_of part.place) (record { visit = visit; part = number }) slot && is_off_parts visit (number + 1) parts slot
+    is_off (stand_of part.place) (record { visit = visit; part = number }) slot
+    && is_off_parts visit (number + 1) parts slot
 
 -- the slot is of no part of the visit, if there is one, on that part's stand
 abbrev pub is_off_visit : Option Visit → Slot → Bool
@@ -36,11 +37,13 @@ is_off_visit (Some visit) slot = is_off_parts visit.number 1 visit.parts slot
 -- the slot is of no visit that has the number of one of the others
 abbrev pub is_off_visits : List Visit → List Visit → Slot → Bool
 is_off_visits visits [] slot = true
-is_off_visits visits (other ∷ others) slot = is_off_visit (visit_at visits other.number) slot && is_off_visits visits others slot
+is_off_visits visits (other ∷ others) slot = is_off_visit (visit_at visits other.number) slot
+    && is_off_visits visits others slot
 
 -- each part that is on a stand is on one with a number below this
 abbrev pub HaveStandsOf : ℕ → List Part → Type 0
-HaveStandsOf count parts = All (λ part. IfSome (stand_of part.place) (λ stand. stand.0 < count)) parts
+HaveStandsOf count parts =
+    All (λ part. IfSome (stand_of part.place) (λ stand. stand.0 < count)) parts
 
 -- there are as many stands as before, and none has less room
 pub record KeepsRoom (before after : List StandSlots) : Type 0 where
@@ -49,7 +52,11 @@ pub record KeepsRoom (before after : List StandSlots) : Type 0 where
 
 -- if both are planned on one stand, one of them is earlier
 abbrev pub AreApart : Slot → Slot → Type 0
-AreApart slot other = slot.stand ≡ other.stand → slot.actual ≡ false → other.actual ≡ false → IsEarlier slot other ⊎ IsEarlier other slot
+AreApart slot other =
+    slot.stand ≡ other.stand
+    → slot.actual ≡ false
+    → other.actual ≡ false
+    → IsEarlier slot other ⊎ IsEarlier other slot
 
 -- there is place for the slots in an index: each has one of its stands and at least one minute;
 -- planned ones meet on no stand, neither one another nor those that are there; and each stand has

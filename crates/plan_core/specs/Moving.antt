@@ -28,7 +28,12 @@ pub record IsMovable (plan : PlanState) (visits : List Visit) : Type 0 where
 -- the change that puts in these changed visits of the plan: it has their slots, and makes the next
 -- version
 abbrev pub move_change : PlanState → List Visit → ChangeState
-move_change plan visits = record { visits = visits; slots = slots_of plan.airport visits; draft = None; version = plan.version + 1 }
+move_change plan visits = record {
+  visits = visits;
+  slots = slots_of plan.airport visits;
+  draft = None;
+  version = plan.version + 1;
+}
 
 -- the part, on no stand and without a record
 abbrev pub lifted_part : Part → Part

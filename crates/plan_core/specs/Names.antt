@@ -14,4 +14,5 @@ visit_named visits name = find (has_name name) visits
 -- no two visits have the same name
 abbrev pub HaveDifferentNames : List Visit → Type 0
 HaveDifferentNames [] = Unit {0}
-HaveDifferentNames (visit ∷ visits) = (visit_named visits visit.name ≡ None) × HaveDifferentNames visits
+HaveDifferentNames (visit ∷ visits) = (visit_named visits visit.name ≡ None)
+    × HaveDifferentNames visits

@@ -26,11 +26,13 @@ departure_of visit = if is_live visit then visit.dep else None
 pub record AreNamed (places : BTreeMap (List ℕ) ℕ) (named : ℕ) (visits : List Visit) : Type 0 where
   pub different : HaveDifferentNames visits
   pub few : named ≤ length visits
-  pub index : (name : List ℕ) → get (slice_cmp nat_cmp) places name ≡ position (has_name name) (take named visits)
+  pub index : (name : List ℕ)
+      → get (slice_cmp nat_cmp) places name ≡ position (has_name name) (take named visits)
 
 -- the visits are numbered in order, the map has the places of the names of this many first ones,
 -- and the keys are those of the flights by which live visits come and leave
-pub record AreListed (places : BTreeMap (List ℕ) ℕ) (named : ℕ) (arrivals departures : List (Option Key)) (visits : List Visit) : Type 0 where
+pub record AreListed (places : BTreeMap (List ℕ) ℕ) (named : ℕ)
+    (arrivals departures : List (Option Key)) (visits : List Visit) : Type 0 where
   pub numbered : IsNumbered visits
   pub names : AreNamed places named visits
   pub arriving : map arrival_of visits ≡ arrivals

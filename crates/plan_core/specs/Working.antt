@@ -18,7 +18,8 @@ is_from number visit = nat_le number.0 visit.number.0
 -- already
 abbrev pub with_visit_once : List Visit → Visit → List Visit
 with_visit_once visits visit =
-    if is_some (visit_at visits visit.number) then visits else insert visits (position_or_len (is_from visit.number) visits) visit
+    if is_some (visit_at visits visit.number) then visits
+    else insert visits (position_or_len (is_from visit.number) visits) visit
 
 -- the visit, or the one of its number among others
 abbrev pub newest : List Visit → Visit → Visit

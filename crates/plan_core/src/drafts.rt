@@ -37,7 +37,10 @@ impl Model for Drafts {
 
     ghost Value = { DraftsHeld };
 
-    ghost view = { λ d. record { kept = d.kept.items; room = vec_capacity d.kept - vec_len d.kept } };
+    ghost view = { λ d. record {
+      kept = d.kept.items;
+      room = vec_capacity d.kept - vec_len d.kept;
+    } };
 
     ghost invariant = { λ d. AreIndexed d.versions d.indexed d.kept.items };
 }
@@ -86,7 +89,8 @@ impl Drafts {
     pub(crate) fn push(&mut self, id: &DraftId, version: u32)
         requires new { draft_version self.old.kept id.now.desk id.now.number ≡ None }
         requires room { 1 ≤ self.old.room }
-        ensures kept { self.new.kept ≡ self.old.kept ++ record { id = id.now; version = version } ∷ [] }
+        ensures kept { self.new.kept
+            ≡ self.old.kept ++ record { id = id.now; version = version } ∷ [] }
     {
         self.kept.push_reserved(Drafted { id: *id, version });
     }

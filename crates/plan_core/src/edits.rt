@@ -80,8 +80,10 @@ pub(crate) fn after_all_edits(
     requires each { All (IsWellFormed airport.now) visits.old }
     requires stands { All (IsEditOf airport.now) edits.now }
     requires few { length edits.now ≤ most_edits }
-    ensures ok { OnOk result (after_all_edits airport.now base edits.now visits.old ≡ Ok visits.new) }
-    ensures err { IfErr result (λ fault. after_all_edits airport.now base edits.now visits.old ≡ Err fault) }
+    ensures ok { OnOk result
+        (after_all_edits airport.now base edits.now visits.old ≡ Ok visits.new) }
+    ensures err { IfErr result
+        (λ fault. after_all_edits airport.now base edits.now visits.old ≡ Err fault) }
     ensures each { OnOk result (All (IsWellFormed airport.now) visits.new) }
 {
     let mut number = 1;
@@ -101,8 +103,10 @@ fn after_edit(
 ) -> Result<(), EditFault>
     requires each { All (IsWellFormed airport.now) visits.old }
     requires stand { IsEditOf airport.now edit.now }
-    ensures ok { OnOk result (after_edit airport.now base number edit.now visits.old ≡ Ok visits.new) }
-    ensures err { IfErr result (λ fault. after_edit airport.now base number edit.now visits.old ≡ Err fault) }
+    ensures ok { OnOk result
+        (after_edit airport.now base number edit.now visits.old ≡ Ok visits.new) }
+    ensures err { IfErr result
+        (λ fault. after_edit airport.now base number edit.now visits.old ≡ Err fault) }
     ensures each { OnOk result (All (IsWellFormed airport.now) visits.new) }
 {
     let Some(place) = index_of_visit(visits, visit_of(edit)) else {

@@ -42,7 +42,10 @@ impl Model for FlightPlaces {
 
     ghost Value = { KeysHeld };
 
-    ghost view = { λ f. record { keys = f.keys.items; room = vec_capacity f.keys - vec_len f.keys } };
+    ghost view = { λ f. record {
+      keys = f.keys.items;
+      room = vec_capacity f.keys - vec_len f.keys;
+    } };
 
     ghost invariant = { λ f. AreFlightPlaces f.live f.indexed f.keys.items };
 }
@@ -186,7 +189,8 @@ fn first_place(live: &BTreeSet<FlightPlace>, key: &Key, end: usize) -> Option<us
 // The first place from this one on whose key is of the flight of this key.
 fn first_from(from: usize, keys: &[Option<Key>], key: &Key) -> Option<usize>
     requires from { from ≤ length keys.now }
-    ensures place { result ≡ option_map (λ place. from + place) (position (is_by key.now) (drop from keys.now)) }
+    ensures place { result
+        ≡ option_map (λ place. from + place) (position (is_by key.now) (drop from keys.now)) }
 {
     match first_by(&keys[from..], key) {
         Some(place) => Some(from + place),

@@ -30,7 +30,8 @@ pub(crate) fn take_out(index: &mut StandIndex, visits: &[Visit], changed: &[Visi
     requires index { IsIndex index.old }
     requires numbered { IsNumbered visits.now }
     requires stands { All (λ visit. HaveStandsOf (length index.old) visit.parts) visits.now }
-    ensures slots { all_slots index.new ≡ filter (is_off_visits visits.now changed.now) (all_slots index.old) }
+    ensures slots { all_slots index.new
+        ≡ filter (is_off_visits visits.now changed.now) (all_slots index.old) }
     ensures index { IsIndex index.new }
     ensures room { KeepsRoom index.old index.new }
 {
@@ -44,7 +45,8 @@ fn take_out_number(index: &mut StandIndex, visits: &[Visit], number: VisitNo)
     requires index { IsIndex index.old }
     requires numbered { IsNumbered visits.now }
     requires stands { All (λ visit. HaveStandsOf (length index.old) visit.parts) visits.now }
-    ensures slots { all_slots index.new ≡ filter (is_off_visit (visit_at visits.now number)) (all_slots index.old) }
+    ensures slots { all_slots index.new
+        ≡ filter (is_off_visit (visit_at visits.now number)) (all_slots index.old) }
     ensures index { IsIndex index.new }
     ensures room { KeepsRoom index.old index.new }
 {
@@ -58,7 +60,8 @@ fn take_out_number(index: &mut StandIndex, visits: &[Visit], number: VisitNo)
 fn take_out_visit(index: &mut StandIndex, visit: &Visit)
     requires index { IsIndex index.old }
     requires stands { HaveStandsOf (length index.old) visit.now.parts }
-    ensures slots { all_slots index.new ≡ filter (is_off_parts visit.now.number 1 visit.now.parts) (all_slots index.old) }
+    ensures slots { all_slots index.new
+        ≡ filter (is_off_parts visit.now.number 1 visit.now.parts) (all_slots index.old) }
     ensures index { IsIndex index.new }
     ensures room { KeepsRoom index.old index.new }
 {
@@ -76,7 +79,8 @@ fn take_out_visit(index: &mut StandIndex, visit: &Visit)
 fn take_out_part(index: &mut StandIndex, part: PartId, place: &Place)
     requires index { IsIndex index.old }
     requires stand { IfSome (stand_of place.now) (λ stand. stand.0 < length index.old) }
-    ensures slots { all_slots index.new ≡ filter (is_off (stand_of place.now) part) (all_slots index.old) }
+    ensures slots { all_slots index.new
+        ≡ filter (is_off (stand_of place.now) part) (all_slots index.old) }
     ensures index { IsIndex index.new }
     ensures room { KeepsRoom index.old index.new }
 {
@@ -105,7 +109,8 @@ pub(crate) fn put_in(index: &mut StandIndex, slots: &[Slot])
 pub(crate) fn reserve(index: &mut StandIndex, slots: &[Slot]) -> Result<(), Memory>
     requires index { IsIndex index.old }
     requires stands { All (λ slot. slot.stand.0 < length index.old) slots.now }
-    ensures ok { OnOk result ((stand : StandNo) → count_by (is_on stand) slots.now ≤ (at_stand index.new stand).spare) }
+    ensures ok { OnOk result
+        ((stand : StandNo) → count_by (is_on stand) slots.now ≤ (at_stand index.new stand).spare) }
     ensures slots { all_slots index.new ≡ all_slots index.old }
     ensures index { IsIndex index.new }
     ensures room { KeepsRoom index.old index.new }
@@ -156,8 +161,10 @@ pub(crate) fn first_clash_near<L: Ledger>(
     requires changed { All (IsWellFormed airport.now) changed.now }
     requires rise { Rises visit_number 1 (length visits.now + 1) changed.now }
     requires slots { slots.now ≡ slots_of airport.now changed.now }
-    ensures first { IfOk result (IsFirstClash airport.now (slots_of airport.now (replace_visits visits.now changed.now))) }
-    ensures sound { IfOk result (λ found. IfNone found (IsSound airport.now (slots_of airport.now (replace_visits visits.now changed.now)))) }
+    ensures first { IfOk result
+        (IsFirstClash airport.now (slots_of airport.now (replace_visits visits.now changed.now))) }
+    ensures sound { IfOk result (λ found. IfNone found
+        (IsSound airport.now (slots_of airport.now (replace_visits visits.now changed.now)))) }
     ensures steps { steps.new ≤ steps.old + steps_of airport.now index.now slots.now }
 {
     let numbers = numbers_of(alloc, changed)?;

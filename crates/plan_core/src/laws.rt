@@ -18,7 +18,9 @@ ghost use Rattle.plan_core.specs.Rebase.{IsRebased, Rebases, RefusesDraft, plan_
 /// Each part of visits that are numbered in order has at most one slot, so there is one first
 /// clash.
 pub fn slots_have_different_parts()
-    ensures apart { (airport : AirportParts) (visits : List Visit) → IsNumbered visits → HaveDifferentParts (slots_of airport visits) }
+    ensures apart { (airport : AirportParts) (visits : List Visit)
+        → IsNumbered visits
+        → HaveDifferentParts (slots_of airport visits) }
 {}
 
 /// Apart from a lack of memory, a draft has at most one answer: it is refused by only one fault,
@@ -34,29 +36,42 @@ pub fn answer_is_one()
 /// Apart from a lack of memory, each draft has an answer.
 pub fn answer_exists()
     ensures some { (plan : PlanState) (draft : Draft)
-        → ((new : List Visit) × Rebases plan draft new) ⊎ ((fault : EditFault) × (fault ≢ Memory) × RefusesDraft plan draft fault) }
+        → ((new : List Visit) × Rebases plan draft new)
+        ⊎ ((fault : EditFault) × (fault ≢ Memory) × RefusesDraft plan draft fault) }
 {}
 
 /// What a rebase gives makes the plan that the commit of the draft makes.
 pub fn rebased_is_committed()
     ensures installed { (plan : PlanState) (draft : Draft) (change : ChangeState)
-        → IsNumbered plan.visits → (rebased : IsRebased plan draft change) → plan_after_change plan change ≡ plan_after_commit plan draft rebased.new }
+        → IsNumbered plan.visits
+        → (rebased : IsRebased plan draft change)
+        → plan_after_change plan change ≡ plan_after_commit plan draft rebased.new }
 {}
 
 /// The change that adds a visit makes the plan that has this visit last.
 pub fn added_is_with_added()
-    ensures installed { (plan : PlanState) (visit : Visit) → IsAddable plan visit → plan_after_change plan (add_change plan visit) ≡ with_added plan (new_of visit) }
+    ensures installed { (plan : PlanState) (visit : Visit)
+        → IsAddable plan visit
+        → plan_after_change plan (add_change plan visit) ≡ with_added plan (new_of visit) }
 {}
 
 /// The change that cancels a visit makes the plan in which it is cancelled.
 pub fn cancelling_is_with_cancelled()
     ensures installed { (plan : PlanState) (visit : Visit)
-        → IsNumbered plan.visits → IsCancellable plan visit → plan_after_change plan (move_change plan (cancelled_visit visit ∷ [])) ≡ with_cancelled plan visit }
+        → IsNumbered plan.visits
+        → IsCancellable plan visit
+        → plan_after_change plan (move_change plan (cancelled_visit visit ∷ []))
+        ≡ with_cancelled plan visit }
 {}
 
 /// A plan stays a plan, and the version that a draft made is one that the plan had.
 pub fn plan_is_kept()
-    ensures installed { (plan : PlanState) (change : ChangeState) → IsPlan plan → IsInstallable plan change → IsPlan (plan_after_change plan change) }
+    ensures installed { (plan : PlanState) (change : ChangeState)
+        → IsPlan plan
+        → IsInstallable plan change
+        → IsPlan (plan_after_change plan change) }
     ensures drafts { (plan : PlanState) (desk : List ℕ) (number version : ℕ)
-        → IsPlan plan → draft_version plan.drafts desk number ≡ Some version → (1 ≤ version) × (version ≤ plan.version) }
+        → IsPlan plan
+        → draft_version plan.drafts desk number ≡ Some version
+        → (1 ≤ version) × (version ≤ plan.version) }
 {}

@@ -58,7 +58,9 @@ pub(super) fn take_commit(
 }
 
 fn taken_commit(change: Change) -> Taken
-    ensures is { result ≡ Taken.Accepted change (record { version = change.version; told = ReplyBody.Committed change.version }) }
+    ensures is { result
+        ≡ Taken.Accepted change
+        (record { version = change.version; told = ReplyBody.Committed change.version }) }
 {
     let entry = change.version();
     let reply = Reply {
@@ -71,7 +73,8 @@ fn taken_commit(change: Change) -> Taken
 // What the reply says of a fault. A lack of memory is no refusal.
 fn refusal(fault: EditFault) -> Result<ReplyBody, Memory>
     ensures memory { IsErr result ↔ (fault ≡ EditFault.Memory) }
-    ensures told { IfOk result (λ told. (told ≡ ReplyBody.Edit fault) × (fault ≢ EditFault.Memory)) }
+    ensures told { IfOk result
+        (λ told. (told ≡ ReplyBody.Edit fault) × (fault ≢ EditFault.Memory)) }
 {
     match fault {
         EditFault::Memory => Err(Memory),
@@ -89,7 +92,8 @@ fn rebase_uncounted(
     requires airport { airport.now ≡ plan.now.plan.airport }
     requires draft { IsDraftFor plan.now.plan draft.now }
     ensures ok { IfOk result (IsRebased plan.now.plan draft.now) }
-    ensures fits { IfOk result (λ change. plan.now.plan.version + 1 < version_limit → IsInstallable plan.now.plan change) }
+    ensures fits { IfOk result
+        (λ change. plan.now.plan.version + 1 < version_limit → IsInstallable plan.now.plan change) }
     ensures err { IfErr result (RefusesDraft plan.now.plan draft.now) }
 {
     rebase_from::<Brand>(alloc, airport, plan, draft, Blank::new(1))
@@ -108,7 +112,8 @@ fn rebase_from<L: Ledger>(
     requires parts { blank.parts ≡ L.parts }
     requires open { 0 < L.parts }
     ensures ok { IfOk result (IsRebased plan.now.plan draft.now) }
-    ensures fits { IfOk result (λ change. plan.now.plan.version + 1 < version_limit → IsInstallable plan.now.plan change) }
+    ensures fits { IfOk result
+        (λ change. plan.now.plan.version + 1 < version_limit → IsInstallable plan.now.plan change) }
     ensures err { IfErr result (RefusesDraft plan.now.plan draft.now) }
 {
     let mut steps = Steps::<L>::new(blank);

@@ -24,10 +24,13 @@ pub(super) fn settle_changed(
 ) -> Result<(Change, Listed<PartId>), Memory>
     requires airport { airport.now ≡ plan.now.plan.airport }
     requires changed { IfSome changed (λ visit. IsChanged plan.now.plan visit.now) }
-    ensures makes { IfOk result (λ made. plan_after_change plan.now.plan made.0 ≡ with_settled plan.now.plan (option_copied changed.entry)) }
-    ensures fits { IfOk result (λ made. plan.now.plan.version + 1 < version_limit → IsInstallable plan.now.plan made.0) }
+    ensures makes { IfOk result (λ made. plan_after_change plan.now.plan made.0
+        ≡ with_settled plan.now.plan (option_copied changed.entry)) }
+    ensures fits { IfOk result
+        (λ made. plan.now.plan.version + 1 < version_limit → IsInstallable plan.now.plan made.0) }
     ensures bumped { IfOk result (λ made. made.1
-        ≡ bumped_by (plan.now.plan.version + 1) (with_settled plan.now.plan (option_copied changed.entry)).visits) }
+        ≡ bumped_by (plan.now.plan.version + 1)
+        (with_settled plan.now.plan (option_copied changed.entry)).visits) }
 {
     let change = settle_uncounted(alloc, airport, plan, changed)?;
     let bumped = bumped_by(alloc, change.version(), change.visits())?;
@@ -43,10 +46,13 @@ fn settle_uncounted(
 ) -> Result<Change, Memory>
     requires airport { airport.now ≡ plan.now.plan.airport }
     requires changed { IfSome changed (λ visit. IsChanged plan.now.plan visit.now) }
-    ensures makes { IfOk result (λ change. plan_after_change plan.now.plan change ≡ with_settled plan.now.plan (option_copied changed.entry)) }
-    ensures fits { IfOk result (λ change. plan.now.plan.version + 1 < version_limit → IsInstallable plan.now.plan change) }
+    ensures makes { IfOk result (λ change. plan_after_change plan.now.plan change
+        ≡ with_settled plan.now.plan (option_copied changed.entry)) }
+    ensures fits { IfOk result
+        (λ change. plan.now.plan.version + 1 < version_limit → IsInstallable plan.now.plan change) }
     ensures bumped { IfOk result (λ change. bumped_by (plan.now.plan.version + 1) change.visits
-        ≡ bumped_by (plan.now.plan.version + 1) (with_settled plan.now.plan (option_copied changed.entry)).visits) }
+        ≡ bumped_by (plan.now.plan.version + 1)
+        (with_settled plan.now.plan (option_copied changed.entry)).visits) }
 {
     settle_from::<Brand>(alloc, airport, plan, changed, Blank::new(1))
 }
@@ -63,10 +69,13 @@ fn settle_from<L: Ledger>(
     requires name { blank.name ≡ L.name }
     requires parts { blank.parts ≡ L.parts }
     requires open { 0 < L.parts }
-    ensures makes { IfOk result (λ change. plan_after_change plan.now.plan change ≡ with_settled plan.now.plan (option_copied changed.entry)) }
-    ensures fits { IfOk result (λ change. plan.now.plan.version + 1 < version_limit → IsInstallable plan.now.plan change) }
+    ensures makes { IfOk result (λ change. plan_after_change plan.now.plan change
+        ≡ with_settled plan.now.plan (option_copied changed.entry)) }
+    ensures fits { IfOk result
+        (λ change. plan.now.plan.version + 1 < version_limit → IsInstallable plan.now.plan change) }
     ensures bumped { IfOk result (λ change. bumped_by (plan.now.plan.version + 1) change.visits
-        ≡ bumped_by (plan.now.plan.version + 1) (with_settled plan.now.plan (option_copied changed.entry)).visits) }
+        ≡ bumped_by (plan.now.plan.version + 1)
+        (with_settled plan.now.plan (option_copied changed.entry)).visits) }
 {
     let mut steps = Steps::<L>::new(blank);
     settle(alloc, airport, plan, changed, &mut steps)

@@ -48,7 +48,9 @@ pub(super) fn take_visit(
 }
 
 fn taken_visit(change: Change, visit: VisitNo) -> Taken
-    ensures is { result ≡ Taken.Accepted change (record { version = change.version; told = ReplyBody.Added change.version visit }) }
+    ensures is { result
+        ≡ Taken.Accepted change
+        (record { version = change.version; told = ReplyBody.Added change.version visit }) }
 {
     let entry = change.version();
     let reply = Reply {
@@ -72,7 +74,8 @@ fn well_formed_visit(airport: &Airport, number: VisitNo, version: u32, new: &New
 
 // What the reply says if a visit already has the name of the one to be added.
 fn told_of_same_name(new: &NewVisit, visit: &Visit) -> ReplyBody
-    ensures same { new_of visit.now ≡ new.now → result ≡ ReplyBody.Added visit.now.added visit.now.number }
+    ensures same { new_of visit.now ≡ new.now
+        → result ≡ ReplyBody.Added visit.now.added visit.now.number }
     ensures other { new_of visit.now ≢ new.now → result ≡ ReplyBody.OtherName visit.now.number }
 {
     if new_of(visit) == *new {
