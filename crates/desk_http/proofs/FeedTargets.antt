@@ -1,58 +1,21 @@
 -- The feed of a target by its pieces, and by what is before and after the slash that follows the
 -- watch's name.
-use Rattle.std.proofs.Common.{◌≡◌, ◌≢◌, ◌∙◌, ◌+◌, ◌==◌, ℕ, suc, true, false, cond, List, [], ◌∷◌, ◌++◌, codes, take, drop, Option, Some, None, refl, sym, ap, ap₂, subst, arith, bytes_eq}
+use Rattle.std.proofs.Common.{◌≡◌, ◌≢◌, ◌∙◌, ◌+◌, ◌==◌, ℕ, true, false, cond, List, [], ◌∷◌, ◌++◌, codes, take, drop, Option, Some, None, refl, sym, ap, ap₂, subst, arith, bytes_eq}
 use Rattle.std.specs.Prelude.{position}
 use Rattle.std.specs.Char.{is_ascii_digit}
-use Rattle.std.specs.List.{list_all, position_from}
+use Rattle.std.specs.List.{list_all}
 use Rattle.std.specs.Option.{option_map, option_and_then}
 use Rattle.std.proofs.lemmas.Bool.Decides.{nat_tests}
-use Rattle.std.proofs.lemmas.Iterator.Adapters.{position_from-zero}
 use Rattle.std.proofs.lemmas.List.{take-append-drop}
 use Rattle.std.proofs.lemmas.Slice.Eq.{bytes_eq-Decides}
 use Rattle.matchit.specs.Seek.{has_slash}
 use Rattle.desk_bodies.specs.Commits.{if_name}
 use Rattle.desk_http.specs.FeedTargets.{feed_named, feed_of, feed_of_pieces, version_written}
-use Rattle.desk_http.specs.Targets.{onto_first, pieces, plain_number, slash}
+use Rattle.desk_http.specs.Targets.{pieces, plain_number, slash}
 use Rattle.desk_http.specs.declared.port.Feed.{Feed}
-use Rattle.desk_http.proofs.Pieces.{IsSome, joined, joined-pieces, one_piece, pieces-some, plain_number-digits}
+use Rattle.desk_http.proofs.Pieces.{IsSome, first_slash, joined, joined-pieces, no_slash, one_piece, pieces-some, plain_number-digits}
 use Rattle.desk_http.proofs.Rows.{and-parts}
 use Rattle.desk_http.proofs.Takes.{by}
-
--- ---- the first slash
-
--- a text without a slash is one piece
-no_slash_from : (start : ℕ) (text : List ℕ) → position_from (λ byte. byte == slash) start text ≡ None → pieces text ≡ text ∷ []
-no_slash_from start [] e = refl
-no_slash_from start (byte ∷ text) e =
-    by (λ v. cond v (Some start) (position_from (λ byte. byte == slash) (start + 1) text) ≡ None → cond v ([] ∷ pieces text) (onto_first byte (pieces text)) ≡ (byte ∷ text) ∷ [])
-    (byte == slash) (λ _ e. absurd (cc)) (λ _ e. ap (onto_first byte) (no_slash_from (start + 1) text e)) e
-
--- the pieces before and after the first slash
-record IsCutAt (start : ℕ) (text : List ℕ) (at : ℕ) : Type 0 where
-  count : ℕ
-  place : at ≡ start + count
-  cut : pieces text ≡ take count text ∷ pieces (drop (suc count) text)
-
-slash_from : (start : ℕ) (text : List ℕ) (at : ℕ) → position_from (λ byte. byte == slash) start text ≡ Some at → IsCutAt start text at
-slash_from start [] at e = absurd (cc)
-slash_from start (byte ∷ text) at e =
-    by (λ v. cond v (Some start) (position_from (λ byte. byte == slash) (start + 1) text) ≡ Some at → (byte == slash) ≡ v → IsCutAt start (byte ∷ text) at) (byte == slash)
-    (λ _ e on. let here : start ≡ at = cc in record { count = 0; place = omega (arith, here); cut = rw on refl })
-    (λ _ e off. let rest = slash_from (start + 1) text at e in let place = rest.place in record {
-      count = suc rest.count;
-      place = omega (arith, place);
-      cut = rw off (ap (onto_first byte) rest.cut);
-    }) e refl
-
-no_slash : (text : List ℕ) → position (λ byte. byte == slash) text ≡ None → pieces text ≡ text ∷ []
-no_slash text e = no_slash_from 0 text (sym (position_from-zero (λ byte. byte == slash) text) ∙ e)
-
-first_slash : (text : List ℕ) (at : ℕ) → position (λ byte. byte == slash) text ≡ Some at → pieces text ≡ take at text ∷ pieces (drop (at + 1) text)
-first_slash text at e =
-    let cut = slash_from 0 text at (sym (position_from-zero (λ byte. byte == slash) text) ∙ e) in
-    let same : cut.count ≡ at = let place = cut.place in omega (arith, place) in
-    let next : suc cut.count ≡ at + 1 = omega (arith, same) in
-    cut.cut ∙ ap₂ (λ m n. take m text ∷ pieces (drop n text)) same next
 
 -- ---- a version has no slash
 

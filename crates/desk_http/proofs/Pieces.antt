@@ -1,28 +1,29 @@
--- The route of a target by its pieces, and by the pattern that takes it.
-use Rattle.std.proofs.Common.{◌≡◌, ◌∙◌, ◌==◌, ◌&&◌, not, ℕ, ◌<◌, Bool, true, false, true≢false, cond, List, [], ◌∷◌, ◌++◌, codes, Option, Some, None, refl, sym, ap, subst, arith, bytes_eq, lit<, ltb}
+-- The route of a target by its pieces, and by the endpoint whose pattern takes it.
+use Rattle.std.proofs.Common.{◌≡◌, ◌∙◌, ◌+◌, ◌==◌, ◌&&◌, not, ℕ, ◌<◌, suc, true, false, true≢false, cond, List, [], ◌∷◌, ◌++◌, append-nil, take, drop, Option, Some, None, refl, sym, ap, ap₂, subst, arith, lit<, ltb}
+use Rattle.std.specs.Prelude.{position}
 use Rattle.std.specs.Option.{option_map, option_and_then}
 use Rattle.std.specs.Char.{is_ascii_digit}
-use Rattle.std.specs.List.{list_all}
+use Rattle.std.specs.List.{list_all, position_from}
 use Rattle.std.specs.Str.{IsAscii, IsUtf8}
 use Rattle.std.specs.Str.Parse.{digits_value}
-use Rattle.std.proofs.Math.Seq.{drop-append_seam, take-append_seam}
 use Rattle.std.proofs.lemmas.Bool.{eqb-true, ltb-true}
 use Rattle.std.proofs.lemmas.Bool.Decides.{nat_tests}
-use Rattle.std.proofs.lemmas.Slice.Eq.{bytes_eq-Decides}
+use Rattle.std.proofs.lemmas.Iterator.Adapters.{position_from-zero}
 use Rattle.std.proofs.lemmas.Str.{IsAscii-append, IsUtf8-from_ascii}
 use Rattle.std.proofs.lemmas.Str.Ascii.{IsAscii-nil, IsAscii-cons}
 use Rattle.matchit.specs.Seek.{has_slash}
 use Rattle.apron_base.specs.Digits.{are_digits, number_of}
 use Rattle.apron_base.specs.declared.digits.TheConstants.{MAX_DIGITS}
 use Rattle.desk_http.specs.Numbers.{within_32_bits}
-use Rattle.desk_http.specs.Table.{number_behind, route_at}
-use Rattle.desk_http.specs.Targets.{number_route, onto_first, pieces, plain_number, route_of, route_of_pieces, word_route, zero_digit}
-use Rattle.desk_http.specs.declared.routes.Route.{Route}
-use Rattle.desk_http.specs.declared.routes.Route.TheVariants as route
-use Rattle.desk_http.specs.declared.targets.Pattern.{Pattern}
-use Rattle.desk_http.specs.declared.targets.Pattern.TheVariants.{Visits, Commits, Mvt, Reports, Cancels, Version, Unplaced, Airport, Visit, Entry, Plan, Chart, Day}
+use Rattle.desk_http.specs.Table.{number_after_word, route_at}
+use Rattle.desk_http.specs.Targets.{endpoint_of, number_route, numbered_endpoints, onto_first, pieces, plain_endpoints, plain_number, route_of, route_of_pieces, slash, word_route, zero_digit}
+use Rattle.desk_http.specs.declared.targets.Endpoint.{Endpoint}
+use Rattle.desk_http.specs.declared.targets.Endpoint.TheVariants.{Plain, Numbered}
+use Rattle.desk_http.specs.declared.targets.NumberedEndpoint.{NumberedEndpoint}
+use Rattle.desk_http.specs.declared.targets.Route.{Route}
+use Rattle.desk_http.specs.declared.targets.Route.TheVariants as route
+use Rattle.desk_http.proofs.Rows.{IsOn, and-parts, found_of, is_ascii_text, listed_of, number_end, numbered_distinct, numbered_word, plain_distinct, plain_word}
 use Rattle.desk_http.proofs.Takes.{by, takes, takes_on, takes_on-nil}
-use Rattle.desk_http.proofs.Rows.{IsOn, and-parts}
 
 -- ---- pieces and the target that they are of
 
@@ -83,35 +84,55 @@ one_piece (byte ∷ text) e =
     by (λ v. cond v true (has_slash text) ≡ false → cond v ([] ∷ pieces text) (onto_first byte (pieces text)) ≡ (byte ∷ text) ∷ []) (byte == 47)
     (λ on e. absurd (true≢false e)) (λ off e. ap (onto_first byte) (one_piece text e)) e
 
--- ---- a pattern that takes a target
+-- ---- the first slash
 
--- there is no parameter
-abbrev is_plain_text : List ℕ → Bool
-is_plain_text [] = true
-is_plain_text (byte ∷ text) = not (byte == 256) && is_plain_text text
+-- a text without a slash is one piece
+no_slash_from : (start : ℕ) (text : List ℕ) → position_from (λ byte. byte == slash) start text ≡ None → pieces text ≡ text ∷ []
+no_slash_from start [] e = refl
+no_slash_from start (byte ∷ text) e =
+    by (λ v. cond v (Some start) (position_from (λ byte. byte == slash) (start + 1) text) ≡ None → cond v ([] ∷ pieces text) (onto_first byte (pieces text)) ≡ (byte ∷ text) ∷ [])
+    (byte == slash) (λ _ e. absurd (cc)) (λ _ e. ap (onto_first byte) (no_slash_from (start + 1) text e)) e
 
--- the target begins with what comes before a parameter
-past_front : (front pattern path : List ℕ) → is_plain_text front ≡ true → takes (front ++ pattern) path ≡ true
-    → (rest : List ℕ) × (path ≡ front ++ rest) × (takes pattern rest ≡ true)
-past_front [] pattern path plain e = (path, refl, e)
-past_front (x ∷ front) pattern [] plain e = absurd (true≢false (sym e))
-past_front (x ∷ front) pattern (b ∷ path) plain e =
-    by (λ v. (not v && is_plain_text front) ≡ true → cond v (not (b == 47) && takes_on (front ++ pattern) path) ((x == b) && takes (front ++ pattern) path) ≡ true
-    → (rest : List ℕ) × (b ∷ path ≡ x ∷ (front ++ rest)) × (takes pattern rest ≡ true)) (x == 256)
-    (λ _ plain e. absurd (true≢false (sym plain)))
-    (λ _ plain e.
-    let parts = and-parts (x == b) (takes (front ++ pattern) path) e in
-    let r = past_front front pattern path plain parts.1 in
-    let same = eqb-true x b parts.0 in
-    (r.0, ap (λ y. y ∷ path) (sym same) ∙ ap (λ rest. x ∷ rest) r.1, r.2)) plain e
+-- the pieces before and after the first slash
+record IsCutAt (start : ℕ) (text : List ℕ) (at : ℕ) : Type 0 where
+  count : ℕ
+  place : at ≡ start + count
+  cut : pieces text ≡ take count text ∷ pieces (drop (suc count) text)
+
+slash_from : (start : ℕ) (text : List ℕ) (at : ℕ) → position_from (λ byte. byte == slash) start text ≡ Some at → IsCutAt start text at
+slash_from start [] at e = absurd (cc)
+slash_from start (byte ∷ text) at e =
+    by (λ v. cond v (Some start) (position_from (λ byte. byte == slash) (start + 1) text) ≡ Some at → (byte == slash) ≡ v → IsCutAt start (byte ∷ text) at) (byte == slash)
+    (λ _ e on. let here : start ≡ at = cc in record { count = 0; place = omega (arith, here); cut = rw on refl })
+    (λ _ e off. let rest = slash_from (start + 1) text at e in let place = rest.place in record {
+      count = suc rest.count;
+      place = omega (arith, place);
+      cut = rw off (ap (onto_first byte) rest.cut);
+    }) e refl
+
+pub no_slash : (text : List ℕ) → position (λ byte. byte == slash) text ≡ None → pieces text ≡ text ∷ []
+no_slash text e = no_slash_from 0 text (sym (position_from-zero (λ byte. byte == slash) text) ∙ e)
+
+pub first_slash : (text : List ℕ) (at : ℕ) → position (λ byte. byte == slash) text ≡ Some at → pieces text ≡ take at text ∷ pieces (drop (at + 1) text)
+first_slash text at e =
+    let cut = slash_from 0 text at (sym (position_from-zero (λ byte. byte == slash) text) ∙ e) in
+    let same : cut.count ≡ at = let place = cut.place in omega (arith, place) in
+    let next : suc cut.count ≡ at + 1 = omega (arith, same) in
+    cut.cut ∙ ap₂ (λ m n. take m text ∷ pieces (drop n text)) same next
+
+-- ---- the route of a target of an endpoint
+
+-- a text before a slash is the first piece
+pieces-front : (word rest : List ℕ) → has_slash word ≡ false → pieces (word ++ slash ∷ rest) ≡ word ∷ pieces rest
+pieces-front [] rest e = refl
+pieces-front (byte ∷ word) rest e =
+    by (λ v. cond v true (has_slash word) ≡ false
+    → cond v ([] ∷ pieces (word ++ slash ∷ rest)) (onto_first byte (pieces (word ++ slash ∷ rest))) ≡ (byte ∷ word) ∷ pieces rest) (byte == 47)
+    (λ _ e. absurd (true≢false e)) (λ _ e. ap (onto_first byte) (pieces-front word rest e)) e
 
 takes-nil : (rest : List ℕ) → takes [] rest ≡ true → rest ≡ []
 takes-nil [] e = refl
 takes-nil (b ∷ rest) e = absurd (true≢false (sym e))
-
--- a pattern without a parameter takes itself alone
-is_text : (text path : List ℕ) → is_plain_text text ≡ true → takes (text ++ []) path ≡ true → path ≡ text ++ []
-is_text text path plain e = let r = past_front text [] path plain e in r.1 ∙ ap (λ rest. text ++ rest) (takes-nil r.0 r.2)
 
 takes_on-cut : (rest : List ℕ) → takes_on [] rest ≡ true → has_slash rest ≡ false
 takes_on-cut [] e = refl
@@ -125,76 +146,69 @@ takes-cut (b ∷ rest) e =
     by (λ v. (not v && takes_on [] rest) ≡ true → cond v true (has_slash rest) ≡ false) (b == 47)
     (λ _ e. absurd (true≢false (sym e))) (λ _ e. takes_on-cut rest e) e
 
-bytes_eq-same : (text : List ℕ) → bytes_eq text text ≡ true
-bytes_eq-same text = (bytes_eq-Decides text text).1 refl
+-- a slash and a number take a slash and one piece
+takes-end : (rest : List ℕ) → takes number_end rest ≡ true → (number : List ℕ) × (rest ≡ slash ∷ number) × (has_slash number ≡ false)
+takes-end [] e = absurd (true≢false (sym e))
+takes-end (b ∷ number) e =
+    let parts = and-parts (47 == b) (takes (256 ∷ []) number) e in
+    (number, ap (λ x. x ∷ number) (sym (eqb-true 47 b parts.0)), takes-cut number parts.1)
 
-number_behind-front : (front rest : List ℕ) → number_behind front (front ++ rest) ≡ plain_number rest
-number_behind-front front rest = rw (take-append_seam front rest, drop-append_seam front rest, bytes_eq-same front) refl
+number_after : (named word number : List ℕ) → pieces named ≡ word ∷ number ∷ [] → number_after_word (slash ∷ named) ≡ plain_number number
+number_after named word number e =
+    elim (position (λ byte. byte == slash) named) as (λ o. position (λ byte. byte == slash) named ≡ o
+    → option_and_then (λ end. plain_number (drop (end + 1) named)) o ≡ plain_number number) [
+      | None ↦ λ none. (let one = sym (no_slash named none) ∙ e in absurd (cc))
+      | Some at ↦ λ some. (
+          let cut = sym (first_slash named at some) ∙ e in
+          let last : pieces (drop (at + 1) named) ≡ number ∷ [] = cc in
+          ap plain_number (sym (joined-pieces (drop (at + 1) named)) ∙ ap joined last))
+    ] refl
 
-mapped : (make : ℕ → Route) (number : Option ℕ) → option_map make number ≡ option_and_then (λ n. Some (make n)) number
-mapped make None = refl
-mapped make (Some n) = refl
+named_number : (endpoint : NumberedEndpoint) (found : Option NumberedEndpoint) (number : Option ℕ) → found ≡ Some endpoint
+    → option_map (route.Numbered endpoint) number ≡ option_and_then (λ n. option_map (λ e. route.Numbered e n) found) number
+named_number endpoint found None is = refl
+named_number endpoint found (Some n) is = rw is refl
 
--- a target after a front of a word and slashes, if no further slash comes
-numbered : (front : List ℕ) (make : ℕ → Route) (path : List ℕ) → is_plain_text front ≡ true
-    → ((rest : List ℕ) → pieces rest ≡ rest ∷ [] → route_of (front ++ rest) ≡ option_and_then (λ n. Some (make n)) (plain_number rest))
-    → takes (front ++ 256 ∷ []) path ≡ true → option_map make (number_behind front path) ≡ route_of path
-numbered front make path plain named e =
-    let r = past_front front (256 ∷ []) path plain e in
-    subst (λ p. option_map make (number_behind front p) ≡ route_of p) (sym r.1)
-    (ap (option_map make) (number_behind-front front r.0) ∙ mapped make (plain_number r.0) ∙ sym (named r.0 (one_piece r.0 (takes-cut r.0 r.2))))
-
-worded : (text : List ℕ) (path : List ℕ) (found : Option Route) → is_plain_text text ≡ true → route_of (text ++ []) ≡ found → takes (text ++ []) path ≡ true → found ≡ route_of path
-worded text path found plain named e = sym named ∙ ap route_of (sym (is_text text path plain e))
-
--- the route of a target that a pattern takes is the route of its pieces
-pub route_on : (path : List ℕ) (pattern : Pattern) → IsOn path pattern → route_at pattern path ≡ route_of path
-route_on path Visits on = worded (codes "/visits") path _ refl refl on
-route_on path Commits on = worded (codes "/commits") path _ refl refl on
-route_on path Mvt on = worded (codes "/mvt") path _ refl refl on
-route_on path Reports on = worded (codes "/reports") path _ refl refl on
-route_on path Cancels on = worded (codes "/cancels") path _ refl refl on
-route_on path Version on = worded (codes "/version") path _ refl refl on
-route_on path Unplaced on = worded (codes "/unplaced") path _ refl refl on
-route_on path Airport on = worded (codes "/airport") path _ refl refl on
-route_on path Visit on = numbered (codes "/visits/") route.Visit path refl (λ rest e. rw e refl) on
-route_on path Entry on = numbered (codes "/entries/") route.Entry path refl (λ rest e. rw e refl) on
-route_on path Plan on = numbered (codes "/plan/") route.Plan path refl (λ rest e. rw e refl) on
-route_on path Chart on = numbered (codes "/chart/") route.Chart path refl (λ rest e. rw e refl) on
-route_on path Day on = numbered (codes "/day/") route.Day path refl (λ rest e. rw e refl) on
+-- the route of a target that an endpoint's pattern takes is the route of its pieces
+pub route_on : (path : List ℕ) (endpoint : Endpoint) → IsOn path endpoint → route_at endpoint path ≡ route_of path
+route_on path (Plain endpoint) on =
+    let cut = (plain_word on.word endpoint on.listed).cut in
+    let is : path ≡ slash ∷ on.word = on.is ∙ ap (λ rest. slash ∷ (on.word ++ rest)) (takes-nil on.rest on.taken) ∙ ap (λ word. slash ∷ word) (append-nil on.word) in
+    let found = found_of plain_endpoints on.word endpoint plain_distinct on.listed in
+    let named : route_of (slash ∷ on.word) ≡ Some (route.Plain endpoint) =
+    ap (λ more. route_of_pieces ([] ∷ more)) (one_piece on.word cut) ∙ ap (option_map route.Plain) found in
+    sym named ∙ ap route_of (sym is)
+route_on path (Numbered endpoint) on =
+    let cut = (numbered_word on.word endpoint on.listed).cut in
+    let end = takes-end on.rest on.taken in
+    let is : path ≡ slash ∷ (on.word ++ slash ∷ end.0) = on.is ∙ ap (λ rest. slash ∷ (on.word ++ rest)) end.1 in
+    let cut_at : pieces (on.word ++ slash ∷ end.0) ≡ on.word ∷ end.0 ∷ [] = pieces-front on.word end.0 cut ∙ ap (λ more. on.word ∷ more) (one_piece end.0 end.2) in
+    let found = found_of numbered_endpoints on.word endpoint numbered_distinct on.listed in
+    let number = number_after (on.word ++ slash ∷ end.0) on.word end.0 cut_at in
+    let named : route_of (slash ∷ (on.word ++ slash ∷ end.0)) ≡ option_and_then (number_route on.word) (plain_number end.0) = ap (λ more. route_of_pieces ([] ∷ more)) cut_at in
+    subst (λ p. option_map (route.Numbered endpoint) (number_after_word p) ≡ route_of p) (sym is)
+    (ap (option_map (route.Numbered endpoint)) number ∙ named_number endpoint (endpoint_of on.word numbered_endpoints) (plain_number end.0) found ∙ sym named)
 
 -- ---- a target that names a route
 
 -- a pattern takes the target, which is ASCII
 abbrev IsTaken : List ℕ → Type 0
-IsTaken path = ((pattern : Pattern) × IsOn path pattern) × IsAscii path
-
-abbrev is_ascii_text : List ℕ → Bool
-is_ascii_text [] = true
-is_ascii_text (byte ∷ text) = ltb byte 128 && is_ascii_text text
+IsTaken path = ((endpoint : Endpoint) × IsOn path endpoint) × IsAscii path
 
 ascii : (text : List ℕ) → is_ascii_text text ≡ true → IsAscii text
 ascii [] e = IsAscii-nil
 ascii (byte ∷ text) e = let parts = and-parts (ltb byte 128) (is_ascii_text text) e in IsAscii-cons byte text (ltb-true byte 128 parts.0) (ascii text parts.1)
 
--- the word is this one, or one of the others
-one_of : (P : List ℕ → Type 0) (word name : List ℕ) (here next : Option Route) (found : Route) → P name → (next ≡ Some found → P word)
-    → cond (bytes_eq word name) here next ≡ Some found → P word
-one_of P word name here next found first others =
-    by (λ v. cond v here next ≡ Some found → P word) (bytes_eq word name)
-    (λ same e. subst P (sym ((bytes_eq-Decides word name).0 same)) first) (λ other e. others e)
-
-of_word : (word : List ℕ) (found : Route) → word_route word ≡ Some found → IsTaken (47 ∷ word)
+of_word : (word : List ℕ) (found : Route) → word_route word ≡ Some found → IsTaken (slash ∷ word)
 of_word word found e =
-    let P : List ℕ → Type 0 = λ word. IsTaken (47 ∷ word) in
-    one_of P word (codes "visits") _ _ found ((Visits, refl), ascii (codes "/visits") refl)
-    (one_of P word (codes "commits") _ _ found ((Commits, refl), ascii (codes "/commits") refl)
-    (one_of P word (codes "mvt") _ _ found ((Mvt, refl), ascii (codes "/mvt") refl)
-    (one_of P word (codes "reports") _ _ found ((Reports, refl), ascii (codes "/reports") refl)
-    (one_of P word (codes "cancels") _ _ found ((Cancels, refl), ascii (codes "/cancels") refl)
-    (one_of P word (codes "version") _ _ found ((Version, refl), ascii (codes "/version") refl)
-    (one_of P word (codes "unplaced") _ _ found ((Unplaced, refl), ascii (codes "/unplaced") refl)
-    (one_of P word (codes "airport") _ _ found ((Airport, refl), ascii (codes "/airport") refl) (λ none. absurd (cc))))))))) e
+    elim (endpoint_of word plain_endpoints) as (λ o. endpoint_of word plain_endpoints ≡ o → option_map route.Plain o ≡ Some found → IsTaken (slash ∷ word)) [
+      | None ↦ λ _ e. absurd (cc)
+      | Some endpoint ↦ λ is _. (
+          let listed = listed_of plain_endpoints word endpoint is in (
+            (Plain endpoint, record { word = word; listed = listed; rest = []; is = ap (λ w. slash ∷ w) (sym (append-nil word)); taken = refl }),
+            ascii (slash ∷ word) (plain_word word endpoint listed).ascii,
+          ))
+    ] refl e
 
 digits-ascii : (text : List ℕ) → list_all is_ascii_digit text ≡ true → IsAscii text
 digits-ascii [] e = IsAscii-nil
@@ -228,16 +242,17 @@ takes-number (byte ∷ rest) n cut e =
     (λ _ cut. absurd (true≢false cut)) (λ _ cut. takes_on-nil rest cut) cut
 
 of_number : (word number : List ℕ) (n : ℕ) (found : Route) → has_slash number ≡ false → plain_number number ≡ Some n → number_route word n ≡ Some found
-    → IsTaken (47 ∷ (word ++ 47 ∷ number))
+    → IsTaken (slash ∷ (word ++ slash ∷ number))
 of_number word number n found cut digits e =
-    let P : List ℕ → Type 0 = λ word. IsTaken (47 ∷ (word ++ 47 ∷ number)) in
-    let on : takes (256 ∷ []) number ≡ true = takes-number number n cut digits in
-    let end : IsAscii (47 ∷ number) = IsAscii-cons 47 number (lit< tt) (digits-ascii number (plain_number-digits number n digits)) in
-    one_of P word (codes "visits") _ _ found ((Visit, on), IsAscii-append (codes "/visits") (47 ∷ number) (ascii (codes "/visits") refl) end)
-    (one_of P word (codes "entries") _ _ found ((Entry, on), IsAscii-append (codes "/entries") (47 ∷ number) (ascii (codes "/entries") refl) end)
-    (one_of P word (codes "plan") _ _ found ((Plan, on), IsAscii-append (codes "/plan") (47 ∷ number) (ascii (codes "/plan") refl) end)
-    (one_of P word (codes "chart") _ _ found ((Chart, on), IsAscii-append (codes "/chart") (47 ∷ number) (ascii (codes "/chart") refl) end)
-    (one_of P word (codes "day") _ _ found ((Day, on), IsAscii-append (codes "/day") (47 ∷ number) (ascii (codes "/day") refl) end) (λ none. absurd (cc)))))) e
+    elim (endpoint_of word numbered_endpoints) as (λ o. endpoint_of word numbered_endpoints ≡ o → option_map (λ endpoint. route.Numbered endpoint n) o ≡ Some found
+    → IsTaken (slash ∷ (word ++ slash ∷ number))) [
+      | None ↦ λ _ e. absurd (cc)
+      | Some endpoint ↦ λ is _. (
+          let listed = listed_of numbered_endpoints word endpoint is in
+          let end : IsAscii (slash ∷ number) = IsAscii-cons slash number (lit< tt) (digits-ascii number (plain_number-digits number n digits)) in
+          let all = IsAscii-append (slash ∷ word) (slash ∷ number) (ascii (slash ∷ word) (numbered_word word endpoint listed).ascii) end in
+          ((Numbered endpoint, record { word = word; listed = listed; rest = slash ∷ number; is = refl; taken = takes-number number n cut digits }), all))
+    ] refl e
 
 of_pieces : (ps : List (List ℕ)) (found : Route) → AreCut ps → route_of_pieces ps ≡ Some found → IsTaken (joined ps)
 of_pieces [] found cut e = absurd (cc)
@@ -257,7 +272,7 @@ of_pieces ((byte ∷ piece) ∷ word ∷ number ∷ more ∷ rest) found cut e =
 pub route_taken : (path : List ℕ) (found : Route) → route_of path ≡ Some found → IsTaken path
 route_taken path found e = subst IsTaken (joined-pieces path) (of_pieces (pieces path) found (pieces-cut path) e)
 
-pub no_route : (path : List ℕ) → ((pattern : Pattern) → IsOn path pattern → ⊥) → None ≡ route_of path
+pub no_route : (path : List ℕ) → ((endpoint : Endpoint) → IsOn path endpoint → ⊥) → None ≡ route_of path
 no_route path none =
     elim (route_of path) as (λ o. route_of path ≡ o → None ≡ o) [
       | None ↦ λ e. refl

@@ -1,12 +1,44 @@
 -- What the target of a request names.
-use Rattle.std.specs.Prelude.{ℕ, ◌==◌, List, [], ◌∷◌, codes, Option, None, Some, if◌then◌else◌}
+use Rattle.std.specs.Prelude.{ℕ, ◌==◌, List, [], ◌∷◌, codes, Option, None, Some, option_map, if◌then◌else◌}
 use Rattle.std.specs.Option.{option_and_then}
 use Rattle.std.specs.Str.{bytes_eq}
 use Rattle.apron_base.specs.Digits.{number_of}
 use Rattle.apron_base.specs.declared.digits.TheConstants.{MAX_DIGITS}
 use Rattle.desk_http.specs.Numbers.{within_32_bits}
-use Rattle.desk_http.specs.declared.routes.Route.{Route}
-use Rattle.desk_http.specs.declared.routes.Route.TheVariants.{Visits, Commits, Mvt, Reports, Cancels, Version, Unplaced, Airport, Visit, Entry, Plan, Chart, Day}
+use Rattle.desk_http.specs.declared.targets.NumberedEndpoint.{NumberedEndpoint}
+use Rattle.desk_http.specs.declared.targets.NumberedEndpoint.TheVariants.{Visit, Entry, Plan, Chart, Day}
+use Rattle.desk_http.specs.declared.targets.PlainEndpoint.{PlainEndpoint}
+use Rattle.desk_http.specs.declared.targets.PlainEndpoint.TheVariants.{Visits, Commits, Mvt, Reports, Cancels, Version, Unplaced, Airport}
+use Rattle.desk_http.specs.declared.targets.Route.{Route}
+use Rattle.desk_http.specs.declared.targets.Route.TheVariants.{Plain, Numbered}
+
+-- the endpoints that a word alone names, each with its word
+abbrev pub plain_endpoints : List (List ℕ × PlainEndpoint)
+plain_endpoints =
+    (codes "visits", Visits)
+    ∷ (codes "commits", Commits)
+    ∷ (codes "mvt", Mvt)
+    ∷ (codes "reports", Reports)
+    ∷ (codes "cancels", Cancels)
+    ∷ (codes "version", Version)
+    ∷ (codes "unplaced", Unplaced)
+    ∷ (codes "airport", Airport)
+    ∷ []
+
+-- the endpoints that a word and a number name, each with its word
+abbrev pub numbered_endpoints : List (List ℕ × NumberedEndpoint)
+numbered_endpoints =
+    (codes "visits", Visit)
+    ∷ (codes "entries", Entry)
+    ∷ (codes "plan", Plan)
+    ∷ (codes "chart", Chart)
+    ∷ (codes "day", Day)
+    ∷ []
+
+-- the endpoint of this word
+abbrev pub endpoint_of : {Endpoint : Type 0} → List ℕ → List (List ℕ × Endpoint) → Option Endpoint
+endpoint_of word [] = None
+endpoint_of word ((name, endpoint) ∷ endpoints) = if bytes_eq word name then Some endpoint else endpoint_of word endpoints
 
 -- the bytes up to the next slash are put before the pieces behind it
 abbrev pub onto_first : ℕ → List (List ℕ) → List (List ℕ)
@@ -33,24 +65,11 @@ plain_number (digit ∷ digits) = if digit == zero_digit then None else option_a
 
 -- the route that a word alone names
 abbrev pub word_route : List ℕ → Option Route
-word_route word =
-    if bytes_eq word (codes "visits") then Some Visits
-    else (if bytes_eq word (codes "commits") then Some Commits
-    else (if bytes_eq word (codes "mvt") then Some Mvt
-    else (if bytes_eq word (codes "reports") then Some Reports
-    else (if bytes_eq word (codes "cancels") then Some Cancels
-    else (if bytes_eq word (codes "version") then Some Version
-    else (if bytes_eq word (codes "unplaced") then Some Unplaced
-    else (if bytes_eq word (codes "airport") then Some Airport else None)))))))
+word_route word = option_map Plain (endpoint_of word plain_endpoints)
 
--- the route that a word and a number behind it name
+-- the route that a word and a number after it name
 abbrev pub number_route : List ℕ → ℕ → Option Route
-number_route word number =
-    if bytes_eq word (codes "visits") then Some (Visit number)
-    else (if bytes_eq word (codes "entries") then Some (Entry number)
-    else (if bytes_eq word (codes "plan") then Some (Plan number)
-    else (if bytes_eq word (codes "chart") then Some (Chart number)
-    else (if bytes_eq word (codes "day") then Some (Day number) else None))))
+number_route word number = option_map (λ endpoint. Numbered endpoint number) (endpoint_of word numbered_endpoints)
 
 -- the route that the pieces of a target name: a slash and a word, or a slash, a word, a slash and a number
 abbrev pub route_of_pieces : List (List ℕ) → Option Route

@@ -1,18 +1,17 @@
 // A session with feeds: one more route, and one more way to ask.
-ghost use Rattle.std.specs.Prelude.{◌≡◌, ◌==◌, ◌<◌, IfSome, length, position};
+ghost use Rattle.std.specs.Prelude.{◌≡◌};
 ghost use Rattle.desk_http.specs.Complete.{IsCompleteBy};
 ghost use Rattle.desk_http.specs.FedSession.{FedAnswers, FedSessionOf, feed_asked as feed_asked_lem, feed_asked_of as feed_asked_of_lem};
 ghost use Rattle.desk_http.specs.FeedTargets.{feed_named as feed_named_lem, feed_of as feed_of_lem, version_written as version_written_lem};
 ghost use Rattle.desk_http.specs.Finding.{said_by};
 ghost use Rattle.desk_http.specs.Replies.{IsFeedReply};
-ghost use Rattle.desk_http.specs.Targets.{slash};
 
 use crate::answering::{Answerer, NoReplyCause, PreparedReply};
 use crate::names::name_told;
 use crate::port::{Feed, FeedAsk, FeedPort};
 use crate::routes::seen_of;
 use crate::serving::session_by;
-use crate::targets::{DeskRoutes, plain_number};
+use crate::targets::{DeskRoutes, plain_number, slash_at};
 use apron_base::{Acted, Name, Outcome, Sink, Source};
 use desk_words::early::EarlyReply;
 use desk_words::fixed;
@@ -107,14 +106,6 @@ fn feed_of(target: &[u8]) -> Option<Feed>
     let named = target.strip_prefix(b"/feeds/")?;
     let end = slash_at(named)?;
     feed_named(&named[..end], &named[end + 1..])
-}
-
-// The place of the first slash.
-fn slash_at(text: &[u8]) -> Option<usize>
-    ensures place { result ≡ position (λ byte. byte == slash) text.now }
-    ensures inside { IfSome result (λ at. at < length text.now) }
-{
-    text.iter().position(|byte| *byte == b'/')
 }
 
 fn feed_named(name: &[u8], version: &[u8]) -> Option<Feed>

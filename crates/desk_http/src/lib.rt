@@ -18,6 +18,5 @@ mod targets;
 pub use alone::Alone;
 pub use feeds::session_fed;
 pub use port::{DeskPort, Feed, FeedAsk, FeedPort};
-pub use routes::Route;
 pub use serving::session;
 pub use sessions::SessionPort;

@@ -7,7 +7,7 @@ ghost use Rattle.desk_http.specs.Desks.{desk_named as desk_named_lem};
 ghost use Rattle.desk_http.specs.Routes.{ReadsBody, asked_by as asked_by_lem, body_of, desk_for as desk_for_lem, json, method_of as method_of_lem, only as only_lem, route_taken as route_taken_lem, seen_version as seen_of_lem, takes_body as takes_body_lem, what_asked as what_asked_lem};
 
 use crate::numbers::within_32_bits;
-use crate::targets::DeskRoutes;
+use crate::targets::{DeskRoutes, NumberedEndpoint, PlainEndpoint, Route};
 use apron_base::{Memory, Name};
 use apron_rules::Airport;
 use desk_bodies::BodyFault;
@@ -29,29 +29,6 @@ use desks::{desk_named, no_desk};
 use messages::message_asked;
 use reports::{cancel_asked, report_asked};
 use visits::visit_added;
-
-/// What a target names.
-#[derive(Clone, Copy, Debug, PartialEq, Eq)]
-pub enum Route {
-    Visits,
-    Commits,
-    Mvt,
-    Reports,
-    Cancels,
-    Version,
-    Unplaced,
-    Airport,
-    /// The visit of this number.
-    Visit(u32),
-    /// The entry of this number.
-    Entry(u32),
-    /// The plan of this day.
-    Plan(u32),
-    /// The wall chart of this day.
-    Chart(u32),
-    /// The visits of this day.
-    Day(u32),
-}
 
 /// Why nothing is asked of the plan.
 #[derive(Clone, Copy, Debug, PartialEq, Eq)]
@@ -132,15 +109,15 @@ fn takes_body(route: Route) -> bool
     ensures is { result ≡ takes_body_lem route }
 {
     match route {
-        Route::Visits | Route::Commits | Route::Mvt | Route::Reports | Route::Cancels => true,
-        Route::Version
-        | Route::Unplaced
-        | Route::Airport
-        | Route::Visit(_)
-        | Route::Entry(_)
-        | Route::Plan(_)
-        | Route::Chart(_)
-        | Route::Day(_) => false,
+        Route::Plain(
+            PlainEndpoint::Visits
+            | PlainEndpoint::Commits
+            | PlainEndpoint::Mvt
+            | PlainEndpoint::Reports
+            | PlainEndpoint::Cancels,
+        ) => true,
+        Route::Plain(PlainEndpoint::Version | PlainEndpoint::Unplaced | PlainEndpoint::Airport)
+        | Route::Numbered(..) => false,
     }
 }
 
@@ -177,7 +154,7 @@ fn desk_for(route: Route, desk: FieldText<'_>) -> Option<Name>
     ensures desk { result ≡ desk_for_lem route (desk_named_lem (text_shown desk.entry)) }
 {
     match route {
-        Route::Mvt | Route::Reports => desk_named(desk),
+        Route::Plain(PlainEndpoint::Mvt | PlainEndpoint::Reports) => desk_named(desk),
         _ => Some(no_desk()),
     }
 }
@@ -195,18 +172,24 @@ fn what_asked(
     ensures valid { IfOk result (IsWhatOf airport.now) }
 {
     match route {
-        Route::Visits => visit_added(alloc, airport, body),
-        Route::Commits => commit_asked(alloc, airport, body),
-        Route::Mvt => Ok(message_asked(desk, body)?),
-        Route::Reports => report_asked(alloc, airport, desk, body),
-        Route::Cancels => cancel_asked(alloc, body),
-        Route::Version => Ok(What::Version),
-        Route::Visit(number) => Ok(What::Visit(number)),
-        Route::Unplaced => Ok(What::Unplaced),
-        Route::Airport => Ok(What::Airport),
-        Route::Entry(number) => Ok(What::Entry(number)),
-        Route::Plan(day) => Ok(day_asked(airport, day, What::Plan(day))?),
-        Route::Chart(day) => Ok(day_asked(airport, day, What::Chart(day))?),
-        Route::Day(day) => Ok(day_asked(airport, day, What::Day(day))?),
+        Route::Plain(PlainEndpoint::Visits) => visit_added(alloc, airport, body),
+        Route::Plain(PlainEndpoint::Commits) => commit_asked(alloc, airport, body),
+        Route::Plain(PlainEndpoint::Mvt) => Ok(message_asked(desk, body)?),
+        Route::Plain(PlainEndpoint::Reports) => report_asked(alloc, airport, desk, body),
+        Route::Plain(PlainEndpoint::Cancels) => cancel_asked(alloc, body),
+        Route::Plain(PlainEndpoint::Version) => Ok(What::Version),
+        Route::Plain(PlainEndpoint::Unplaced) => Ok(What::Unplaced),
+        Route::Plain(PlainEndpoint::Airport) => Ok(What::Airport),
+        Route::Numbered(NumberedEndpoint::Visit, number) => Ok(What::Visit(number)),
+        Route::Numbered(NumberedEndpoint::Entry, number) => Ok(What::Entry(number)),
+        Route::Numbered(NumberedEndpoint::Plan, day) => {
+            Ok(day_asked(airport, day, What::Plan(day))?)
+        }
+        Route::Numbered(NumberedEndpoint::Chart, day) => {
+            Ok(day_asked(airport, day, What::Chart(day))?)
+        }
+        Route::Numbered(NumberedEndpoint::Day, day) => {
+            Ok(day_asked(airport, day, What::Day(day))?)
+        }
     }
 }
