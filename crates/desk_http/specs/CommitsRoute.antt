@@ -35,4 +35,9 @@ abbrev pub commit_asked : AirportParts → List ℕ → Result What EarlyReply
 commit_asked airport body = do
   said ← ok_or (body_commit body) NotJson
   edits ← edits_named airport 1 said.edits
-  Ok (Change (Commit said.desk said.draft said.base edits))
+  Ok (Change (Commit (record {
+    desk = said.desk;
+    number = said.draft;
+    base = said.base;
+    edits = edits;
+  })))

@@ -11,7 +11,7 @@ use Rattle.desk_words.specs.declared.early.EarlyReply.TheVariants.{NotMvt}
 
 -- what a desk of this name asks with a text that was read as this
 abbrev pub message_ask : List ℕ → Result Mvt MvtFault → Result What EarlyReply
-message_ask desk (Ok message) = Ok (Change (Message desk message))
+message_ask desk (Ok message) = Ok (Change (Message (record { desk = desk; message = message })))
 message_ask desk (Err fault) = Err (NotMvt fault)
 
 -- what a desk of this name asks with this body: a text of at most 4,000 bytes, and no JSON

@@ -24,7 +24,7 @@ abbrev pub report_asked : AirportParts → List ℕ → List ℕ → Result What
 report_asked airport desk body = do
   said ← ok_or (body_report body) NotJson
   event ← event_named airport said.event
-  Ok (Change (Report desk (record { 0 = said.visit }) event))
+  Ok (Change (Report (record { desk = desk; visit = record { 0 = said.visit }; event = event })))
 
 -- what is asked with the body of a cancel
 abbrev pub cancel_asked : List ℕ → Result What EarlyReply

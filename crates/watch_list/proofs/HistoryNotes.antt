@@ -47,19 +47,19 @@ notes_push airport front (first ∷ entries) entry =
 kept_count : (plan : PlanState) (command : Command) → may_bump (Change command) ≡ true → IsNumbered plan.visits
     → length (after_command plan command).visits ≡ length plan.visits
 kept_count plan (AddVisit new) bumps numbered = absurd (cc)
-kept_count plan (Commit desk draft base edits) bumps numbered = absurd (cc)
-kept_count plan (Message desk message) bumps numbered =
-    kept_length plan.visits (after_command plan (Message desk message)).visits (message_keeps plan message numbered)
-kept_count plan (Report desk visit event) bumps numbered =
-    kept_length plan.visits (after_command plan (Report desk visit event)).visits (report_keeps plan visit event)
+kept_count plan (Commit draft) bumps numbered = absurd (cc)
+kept_count plan (Message passed) bumps numbered =
+    kept_length plan.visits (after_command plan (Message passed)).visits (message_keeps plan passed.message numbered)
+kept_count plan (Report report) bumps numbered =
+    kept_length plan.visits (after_command plan (Report report)).visits (report_keeps plan report)
 kept_count plan (Cancel visit) bumps numbered = absurd (cc)
 
 -- any other command takes no stand, so it has no note
 told_none : (plan : PlanState) (entry : ℕ) (command : Command) → may_bump (Change command) ≡ false → bumped_in (made_told plan entry command) ≡ []
 told_none plan entry (AddVisit new) quiet = refl
-told_none plan entry (Commit desk draft base edits) quiet = refl
-told_none plan entry (Message desk message) quiet = absurd (cc)
-told_none plan entry (Report desk visit event) quiet = absurd (cc)
+told_none plan entry (Commit draft) quiet = refl
+told_none plan entry (Message passed) quiet = absurd (cc)
+told_none plan entry (Report report) quiet = absurd (cc)
 told_none plan entry (Cancel visit) quiet = refl
 
 quiet_command : (airport : AirportParts) (history : List Entry) (command : Command) → may_bump (Change command) ≡ false → IsLegal airport history

@@ -28,8 +28,8 @@ notes_of airport history = notes_after airport [] history
 
 -- only a message and a report can take a stand
 abbrev pub may_bump : What → Bool
-may_bump (Change (Message desk message)) = true
-may_bump (Change (Report desk visit event)) = true
+may_bump (Change (Message passed)) = true
+may_bump (Change (Report report)) = true
 may_bump what = false
 
 -- there is room for the notes of what is asked, of which each part of the plan can have one

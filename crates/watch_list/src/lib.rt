@@ -3,7 +3,6 @@
 #![tactic(auto)]
 
 mod entry_notes;
-mod feed;
 mod feed_words;
 mod later;
 mod note;
@@ -11,12 +10,13 @@ mod noted_board;
 mod watch;
 mod watch_asks;
 mod watch_board;
+mod watch_feed;
 mod watches;
 
-pub use feed::feed;
 pub use note::{Note, Shown, Stated};
 pub use noted_board::notes_of;
 pub use watch::{NoteTest, TestBy, Watch, Watched};
 pub use watch_asks::{WatchAsk, WatchFixed};
 pub use watch_board::WatchBoard;
+pub use watch_feed::feed;
 pub use watches::{MAX_WATCHES, WatchFault, Watches, limit_of_watches_is_as_defined};

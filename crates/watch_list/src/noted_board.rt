@@ -227,10 +227,7 @@ fn add_notes(notes: &mut Vec<Note>, plan: &Plan, bumped: &[PartId], what: &What,
 fn may_bump(what: &What) -> bool
     ensures is { result ≡ may_bump what.now }
 {
-    matches!(
-        what,
-        What::Change(Command::Message { .. } | Command::Report { .. })
-    )
+    matches!(what, What::Change(Command::Message(_) | Command::Report(_)))
 }
 
 /// The notes of a legal history of the airport, in order. It replays the history. The only error is

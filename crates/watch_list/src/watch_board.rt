@@ -11,13 +11,13 @@ ghost use Rattle.history_core.specs.Opening.{CannotOpen, OpensBoard};
 ghost use Rattle.watch_list.specs.HistoryNotes.{notes_of};
 ghost use Rattle.watch_list.specs.WatchBoards.{feed_outcome, feed_reply, watch_fixed};
 
-use crate::feed::feed;
 use crate::feed_words::{FeedOutcome, fed_bytes};
 use crate::later::later_notes;
 use crate::note::{Note, Stated};
 use crate::noted_board::{NotedBoard, notes_of};
 use crate::watch::NoteTest;
 use crate::watch_asks::{WatchAsk, WatchFixed};
+use crate::watch_feed::feed;
 use crate::watches::Watches;
 use apron_base::{Acted, Keeper, Listed, Machine, Memory, Name};
 use apron_rules::Airport;

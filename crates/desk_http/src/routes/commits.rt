@@ -14,7 +14,7 @@ use desk_bodies::{EditText, read_commit};
 use desk_words::asks::{Command, What};
 use desk_words::early::EarlyReply;
 use std::alloc::Global;
-use visit_book::Edit;
+use visit_book::{Draft, Edit};
 
 /// What is asked with this body.
 pub(crate) fn commit_asked(alloc: Global, airport: &Airport, body: &[u8]) -> Result<What, Unasked>
@@ -23,12 +23,12 @@ pub(crate) fn commit_asked(alloc: Global, airport: &Airport, body: &[u8]) -> Res
 {
     let commit = read_commit(alloc, body)?;
     let edits = edits_named(alloc, airport, commit.edits.as_slice())?;
-    Ok(What::Change(Command::Commit {
+    Ok(What::Change(Command::Commit(Draft {
         desk: commit.desk,
-        draft: commit.draft,
+        number: commit.draft,
         base: commit.base,
         edits,
-    }))
+    })))
 }
 
 // The edits with their stands by number, or the first that names no stand.

@@ -5,7 +5,7 @@ ghost use Rattle.history_core.specs.History.{IsWhatOf};
 ghost use Rattle.desk_http.specs.MessagesRoute.{message_asked as message_asked_lem};
 
 use apron_base::Name;
-use desk_words::asks::{Command, What};
+use desk_words::asks::{Command, DeskMessage, What};
 use desk_words::early::EarlyReply;
 use mvt_grammar::read_mvt;
 
@@ -15,7 +15,7 @@ pub(crate) fn message_asked(desk: Name, body: &[u8]) -> Result<What, EarlyReply>
     ensures valid { (airport : AirportParts) → IfOk result (IsWhatOf airport) }
 {
     match read_mvt(body) {
-        Ok(message) => Ok(What::Change(Command::Message { desk, message })),
+        Ok(message) => Ok(What::Change(Command::Message(DeskMessage { desk, message }))),
         Err(fault) => Err(EarlyReply::NotMvt(fault)),
     }
 }

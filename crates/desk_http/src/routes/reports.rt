@@ -12,7 +12,7 @@ use crate::names::stand_named;
 use apron_base::{Name, VisitNo};
 use apron_rules::Airport;
 use desk_bodies::{EventText, read_cancel, read_report};
-use desk_words::asks::{Command, What};
+use desk_words::asks::{Command, DeskReport, What};
 use desk_words::early::EarlyReply;
 use std::alloc::Global;
 use visit_book::Event;
@@ -29,11 +29,11 @@ pub(crate) fn report_asked(
 {
     let report = read_report(alloc, body)?;
     let event = event_named(airport, &report.event)?;
-    Ok(What::Change(Command::Report {
+    Ok(What::Change(Command::Report(DeskReport {
         desk,
         visit: VisitNo(report.visit),
         event,
-    }))
+    })))
 }
 
 // What happened, the stand by number.
@@ -66,7 +66,5 @@ pub(crate) fn cancel_asked(alloc: Global, body: &[u8]) -> Result<What, Unasked>
     ensures valid { (airport : AirportParts) → IfOk result (IsWhatOf airport) }
 {
     let visit = read_cancel(alloc, body)?;
-    Ok(What::Change(Command::Cancel {
-        visit: VisitNo(visit),
-    }))
+    Ok(What::Change(Command::Cancel(VisitNo(visit))))
 }
