@@ -1,11 +1,11 @@
 -- The steps of a day in the making.
-use Rattle.std.proofs.Common.{◌≡◌, ℕ, codes, subst, Result, Ok, Err, IfOk, ◌+◌, ◌%◌, true, false, refl, ap, add-one}
+use Rattle.std.proofs.Common.{◌≡◌, ℕ, subst, Result, Ok, Err, IfOk, ◌+◌, ◌%◌, true, false, refl, ap, add-one}
 use Rattle.mvt_grammar.specs.declared.message.Mvt.{Mvt}
 use Rattle.visit_book.specs.declared.visits.NewVisit.{NewVisit}
 use Rattle.desk_words.specs.declared.asks.Command.{Command}
 use Rattle.desk_words.specs.declared.asks.Command.TheVariants.{AddVisit, Message}
 use Rattle.desk_words.specs.declared.replies.Reply.{Reply}
-use Rattle.generated_day.specs.Asked.{drawn_visit, estimate, put_first, scheduled_on}
+use Rattle.generated_day.specs.Asked.{drawn_visit, estimate, passed_on, put_first, scheduled_on}
 use Rattle.generated_day.specs.Days.{Day, IsAsked, IsDayOf, IsDelayed, IsPlaced, IsPutTried, IsTried, IsVisitAdded, IsVisitMade, MakesDay, count_bumped, is_accepted, plan_of, summary_of, with_refusal}
 use Rattle.generated_day.specs.Draws.{draw_below, seed_after}
 use Rattle.generated_day.specs.declared.airport.TheConstants.{STANDS}
@@ -40,13 +40,13 @@ put-by number stand draft day asked command reply same h next = record {
 }
 
 pub delayed-by : (number seed bumped : ℕ) (day asked : Day) (message : Mvt) (reply : Reply)
-    → message ≡ estimate number (scheduled_on (plan_of day).visits number) (20 + draw_below 60 (seed_after 1 day.seed)) → IsAsked (Message (codes "MAKE") message) day reply asked
+    → message ≡ estimate number (scheduled_on (plan_of day).visits number) (20 + draw_below 60 (seed_after 1 day.seed)) → IsAsked (Message (passed_on message)) day reply asked
     → seed ≡ seed_after 1 day.seed → bumped ≡ asked.bumped + count_bumped reply.told → IsDelayed number day (record asked { seed = seed; bumped = bumped })
 delayed-by number seed bumped day asked message reply same h draw_below more = record {
   asked = asked;
   reply = reply;
   is = rw same at h;
-  after_is = rw (draw_below, more, bumped_kept (Message (codes "MAKE") message) day asked reply h) refl;
+  after_is = rw (draw_below, more, bumped_kept (Message (passed_on message)) day asked reply h) refl;
 }
 
 -- tries of a stand

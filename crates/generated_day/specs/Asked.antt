@@ -9,6 +9,7 @@ use Rattle.visit_book.specs.declared.visits.NewVisit.{NewVisit}
 use Rattle.visit_book.specs.declared.visits.Visit.{Visit}
 use Rattle.desk_words.specs.declared.asks.Command.{Command}
 use Rattle.desk_words.specs.declared.asks.Command.TheVariants.{Commit}
+use Rattle.desk_words.specs.declared.asks.DeskMessage.{DeskMessage}
 use Rattle.generated_day.specs.Draws.{draw_below, seed_after}
 
 -- the flight that the visit of this number comes by
@@ -34,7 +35,12 @@ drawn_visit number seed = record {
 
 -- a commit of one edit, over this version, which puts the first part of the visit on the stand
 unfoldable pub put_first : ℕ → ℕ → ℕ → ℕ → Command
-put_first draft version number stand = Commit (codes "MAKE") draft version (Put (record { 0 = number }) 1 (record { 0 = stand }) ∷ [])
+put_first draft version number stand = Commit (record {
+  desk = codes "MAKE";
+  number = draft;
+  base = version;
+  edits = Put (record { 0 = number }) 1 (record { 0 = stand }) ∷ [];
+})
 
 -- the scheduled minute on block of the visit of this number
 abbrev pub scheduled_on : List Visit → ℕ → ℕ
@@ -53,3 +59,7 @@ estimate number on delay = record {
   ea = Some (record { day = None; minute = (on + delay) % 1440 }, codes "APR");
   ed = None;
 }
+
+-- the message, as the desk of this day passes it on
+abbrev pub passed_on : Mvt → DeskMessage
+passed_on message = record { desk = codes "MAKE"; message = message }

@@ -1,5 +1,5 @@
 -- How a day is made: visit by visit, over a history that grows.
-use Rattle.std.specs.Prelude.{◌≡◌, ◌+◌, ◌/◌, ◌%◌, ◌==◌, ℕ, zero, suc, nat_lt, Bool, List, [], length, codes, count_by, not}
+use Rattle.std.specs.Prelude.{◌≡◌, ◌+◌, ◌/◌, ◌%◌, ◌==◌, ℕ, zero, suc, nat_lt, Bool, List, [], length, count_by, not}
 use Rattle.std.specs.Bool.{MatchBool}
 use Rattle.std.specs.List.{flat_map}
 use Rattle.visit_book.specs.Places.{stand_of}
@@ -16,7 +16,7 @@ use Rattle.std.specs.Option.{is_some}
 use Rattle.history_core.specs.Answer.{GivesAnswer, replied}
 use Rattle.history_core.specs.History.{replay}
 use Rattle.plan_core.specs.PlanState.{PlanState}
-use Rattle.generated_day.specs.Asked.{drawn_visit, estimate, put_first, scheduled_on}
+use Rattle.generated_day.specs.Asked.{drawn_visit, estimate, passed_on, put_first, scheduled_on}
 use Rattle.generated_day.specs.DayAirport.{day_airport}
 use Rattle.generated_day.specs.Draws.{draw_below, seed_after}
 use Rattle.generated_day.specs.declared.airport.TheConstants.{STANDS}
@@ -91,7 +91,7 @@ count_bumped told = 0
 pub record IsDelayed (number : ℕ) (day after : Day) : Type 0 where
   pub asked : Day
   pub reply : Reply
-  pub is : IsAsked (Message (codes "MAKE") (estimate number (scheduled_on (plan_of day).visits number) (20 + draw_below 60 (seed_after 1 day.seed)))) day reply asked
+  pub is : IsAsked (Message (passed_on (estimate number (scheduled_on (plan_of day).visits number) (20 + draw_below 60 (seed_after 1 day.seed))))) day reply asked
   pub after_is : after ≡ record asked { seed = seed_after 1 day.seed; bumped = day.bumped + count_bumped reply.told }
 
 -- what is made with the visit of this number: it is added and placed, and with each fourth visit

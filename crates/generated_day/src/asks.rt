@@ -13,7 +13,7 @@ use apron_base::{Listed, Memory, Name, StandNo, TypeNo, VisitNo};
 use desk_words::asks::Command;
 use mvt_grammar::{Clock, Flight, Mvt};
 use std::alloc::Global;
-use visit_book::{Edit, Key, NewVisit};
+use visit_book::{Draft, Edit, Key, NewVisit};
 
 fn day_flight(number: u32) -> Flight
     requires few { number ≤ most_made }
@@ -82,12 +82,12 @@ pub(crate) fn put_first(
         stand: StandNo(stand as u16),
     };
     let edits = Vec::from_array(alloc, [put])?;
-    Ok(Command::Commit {
+    Ok(Command::Commit(Draft {
         desk: Name::literal(b"MAKE"),
-        draft,
+        number: draft,
         base: version,
         edits: Listed::from_vec(edits),
-    })
+    }))
 }
 
 /// A message that the visit of this number is estimated this many minutes after this one.

@@ -15,7 +15,7 @@ use crate::making::Making;
 use apron_base::{Acted, CALL_END, Memory, Name, SteadyKeeper, VisitNo};
 use apron_rules::Airport;
 use bump_core::bumped_by;
-use desk_words::asks::{Ask, Command, What};
+use desk_words::asks::{Ask, Command, DeskMessage, What};
 use history_core::{Board, OpenFault};
 use std::alloc::Global;
 
@@ -96,10 +96,10 @@ impl<'a> Making<'a> {
         let before = self.board.history().len();
         self.ask(
             alloc,
-            Command::Message {
+            Command::Message(DeskMessage {
                 desk: Name::literal(b"MAKE"),
                 message,
-            },
+            }),
         )?;
         self.seed = seed;
         if before < self.board.history().len() {
