@@ -11,7 +11,7 @@ use std::sync::Wait;
 use std::test::Fail;
 use test_airports::{on_one_frontage, stand_on_n, type_of_40};
 use turn_board::TurnBoard;
-use visit_book::{Edit, NewVisit, is_in_time};
+use visit_book::{Draft, Edit, NewVisit, is_in_time};
 
 mod threads;
 
@@ -68,12 +68,12 @@ fn put(alloc: Global, airport: &Airport, desk: Name, visit: VisitNo) -> Result<A
         stand: StandNo(0),
     };
     let edits = Vec::from_array(alloc, [edit])?;
-    Ok(asked(What::Change(Command::Commit {
+    Ok(asked(What::Change(Command::Commit(Draft {
         desk,
-        draft: 1,
+        number: 1,
         base: 2,
         edits: Listed::from_vec(edits),
-    })))
+    }))))
 }
 
 fn asked(what: What) -> Ask

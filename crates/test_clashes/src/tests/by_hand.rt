@@ -8,12 +8,12 @@ use super::boards::{changing, digit, flight_of, is_answered};
 use super::demo::{STANDS, TYPES, demo};
 use apron_base::{Listed, Memory, Minute, Name, StandNo, SteadyKeeper, TypeNo, VisitNo};
 use apron_rules::{Airport, Rule};
-use desk_words::asks::{Ask, Command};
+use desk_words::asks::{Ask, Command, DeskMessage, DeskReport};
 use history_core::Board;
 use mvt_grammar::{Clock, Mvt, is_readable, read_flight};
 use std::alloc::Global;
 use std::test::Fail;
-use visit_book::{Edit, Event, Key, NewVisit, Place, Visit, is_in_time};
+use visit_book::{Draft, Edit, Event, Key, NewVisit, Place, Visit, is_in_time};
 
 const A320: u16 = 0;
 
@@ -153,19 +153,19 @@ fn placing(
         stand: StandNo(stand),
     };
     let edits = Vec::from_array(alloc, [put])?;
-    Ok(changing(Command::Commit {
+    Ok(changing(Command::Commit(Draft {
         desk: Name::literal(b"D"),
-        draft: visit,
+        number: visit,
         base,
         edits: Listed::from_vec(edits),
-    }))
+    })))
 }
 
 fn on_block(airport: &Airport, visit: u32, stand: u16, minute: Minute) -> Ask
     requires stand { stand < length airport.now.stands }
     ensures valid { IsAskOf airport.now result }
 {
-    changing(Command::Report {
+    changing(Command::Report(DeskReport {
         desk: Name::literal(b"OPS"),
         visit: VisitNo(visit),
         event: Event::On {
@@ -173,7 +173,7 @@ fn on_block(airport: &Airport, visit: u32, stand: u16, minute: Minute) -> Ask
             stand: StandNo(stand),
             minute,
         },
-    })
+    }))
 }
 
 // The message that a visit is expected to touch down at this minute of the first day.
@@ -197,10 +197,10 @@ fn expected(airport: &Airport, visit: u32, minute: u16) -> Option<Ask>
     if !is_readable(&message) {
         return None;
     }
-    Some(changing(Command::Message {
+    Some(changing(Command::Message(DeskMessage {
         desk: Name::literal(b"OPS"),
         message,
-    }))
+    })))
 }
 
 // Adds a visit and puts it on its stand.

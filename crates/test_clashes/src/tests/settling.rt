@@ -12,13 +12,13 @@ use apron_base::{
     Listed, Memory, Minute, Name, PartId, Slot, StandNo, SteadyKeeper, TypeNo, VisitNo,
 };
 use apron_rules::{Airport, Rule};
-use desk_words::asks::{Ask, Command};
+use desk_words::asks::{Ask, Command, DeskMessage, DeskReport};
 use history_core::Board;
 use mvt_grammar::{Clock, Mvt, is_readable, read_flight};
 use std::alloc::Global;
 use std::test::Fail;
 use visit_book::{
-    Bump, Edit, Event, Key, NewVisit, Part, Parts, Place, Visit, is_actual, is_in_time,
+    Bump, Draft, Edit, Event, Key, NewVisit, Part, Parts, Place, Visit, is_actual, is_in_time,
 };
 
 const VISITS: u32 = 5;
@@ -78,12 +78,12 @@ fn commit(
         },
     };
     let edits = Vec::from_array(alloc, [edit])?;
-    Ok(changing(Command::Commit {
+    Ok(changing(Command::Commit(Draft {
         desk: Name::literal(b"D"),
-        draft,
+        number: draft,
         base,
         edits: Listed::from_vec(edits),
-    }))
+    })))
 }
 
 // A message of the visit's arrival: expected, or in fact.
@@ -120,10 +120,10 @@ fn message_of(airport: &Airport, draws: &mut Draws, visit: u32) -> Option<Ask>
     if !is_readable(&message) {
         return None;
     }
-    Some(changing(Command::Message {
+    Some(changing(Command::Message(DeskMessage {
         desk: Name::literal(b"OPS"),
         message,
-    }))
+    })))
 }
 
 // The visit is reported on a stand.
@@ -131,7 +131,7 @@ fn report_of(airport: &Airport, draws: &mut Draws, visit: u32) -> Ask
     requires stands { length airport.now.stands ≡ STANDS }
     ensures valid { IsAskOf airport.now result }
 {
-    changing(Command::Report {
+    changing(Command::Report(DeskReport {
         desk: Name::literal(b"OPS"),
         visit: VisitNo(visit),
         event: Event::On {
@@ -139,7 +139,7 @@ fn report_of(airport: &Airport, draws: &mut Draws, visit: u32) -> Ask
             stand: StandNo(draws.below(STANDS)),
             minute: draws.below(400) as u32,
         },
-    })
+    }))
 }
 
 // What ranks a part on a stand: the lower one is better.

@@ -9,7 +9,7 @@ use desk_words::asks::{Ask, Command, What};
 use screen_hall::Hall;
 use std::alloc::Global;
 use std::sync::Wait;
-use visit_book::{Edit, NewVisit, is_in_time};
+use visit_book::{Draft, Edit, NewVisit, is_in_time};
 use watch_list::{Shown, WatchAsk};
 
 /// A hall over a list in memory.
@@ -63,12 +63,12 @@ fn placing(alloc: Global, airport: &Airport) -> Option<Ask>
     let edits = Vec::from_array(alloc, [edit]).ok()?;
     Some(Ask {
         seen: 0,
-        what: What::Change(Command::Commit {
+        what: What::Change(Command::Commit(Draft {
             desk: Name::literal(b"D"),
-            draft: 1,
+            number: 1,
             base: 1,
             edits: Listed::from_vec(edits),
-        }),
+        })),
     })
 }
 

@@ -13,7 +13,7 @@ use std::alloc::Global;
 use std::marker::Brand;
 use std::sync::ledger::{Blank, Ledger};
 use std::test::Fail;
-use visit_book::{Edit, NewVisit, is_in_time};
+use visit_book::{Draft, Edit, NewVisit, is_in_time};
 
 /// A visit to add: the place of its type, its class, and its minutes on and off block.
 pub(super) type Added = (u16, u8, Minute, Minute);
@@ -73,12 +73,12 @@ fn commit(
         return Ok(None);
     }
     let edits = Vec::from_array(alloc, [edit(put)])?;
-    Ok(Some(changing(Command::Commit {
+    Ok(Some(changing(Command::Commit(Draft {
         desk: Name::literal(b"D"),
-        draft,
+        number: draft,
         base,
         edits: Listed::from_vec(edits),
-    })))
+    }))))
 }
 
 // Asks the board, which has to accept.

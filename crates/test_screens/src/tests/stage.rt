@@ -12,7 +12,7 @@ use std::alloc::Global;
 use std::marker::Model;
 use std::sync::Wait;
 use std::test::Fail;
-use visit_book::{Edit, NewVisit, is_in_time};
+use visit_book::{Draft, Edit, NewVisit, is_in_time};
 
 /// A board of the airport, and two writers for its first day. Contracts see which pairs the writers
 /// are of.
@@ -78,12 +78,12 @@ fn placing(alloc: Global, airport: &Airport) -> Option<Ask>
     let edits = Vec::from_array(alloc, [edit]).ok()?;
     Some(Ask {
         seen: 0,
-        what: What::Change(Command::Commit {
+        what: What::Change(Command::Commit(Draft {
             desk: Name::literal(b"D"),
-            draft: 1,
+            number: 1,
             base: 1,
             edits: Listed::from_vec(edits),
-        }),
+        })),
     })
 }
 

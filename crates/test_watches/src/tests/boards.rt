@@ -9,13 +9,13 @@ use apron_base::{
     Acted, CALL_END, Listed, Machine, Minute, Name, StandNo, SteadyKeeper, TypeNo, VisitNo,
 };
 use apron_rules::Airport;
-use desk_words::asks::{Ask, Command, What};
+use desk_words::asks::{Ask, Command, DeskMessage, DeskReport, What};
 use history_core::{Board, OpenFault};
 use mvt_grammar::{read_flight, read_mvt};
 use std::alloc::Global;
 use std::test::Fail;
 use test_airports::{on_one_frontage, stand_on_n, type_of_40};
-use visit_book::{Edit, Event, Key, NewVisit, is_in_time};
+use visit_book::{Draft, Edit, Event, Key, NewVisit, is_in_time};
 use watch_list::{Shown, WatchAsk, WatchBoard, Watches};
 
 /// Stands N1 and N2, 60 metres apart, and the type A320.
@@ -76,22 +76,22 @@ fn put(
         part: 1,
         stand: StandNo(stand),
     };
-    Ok(Some(Command::Commit {
+    Ok(Some(Command::Commit(Draft {
         desk: Name::literal(b"D"),
-        draft: number,
+        number,
         base: number,
         edits: Listed::from_vec(Vec::from_array(alloc, [edit])?),
-    }))
+    })))
 }
 
 fn message(text: &[u8]) -> Option<Command>
     ensures valid { IfSome result (λ command. (airport : AirportParts) → IsCommandOf airport command) }
 {
     match read_mvt(text) {
-        Ok(message) => Some(Command::Message {
+        Ok(message) => Some(Command::Message(DeskMessage {
             desk: Name::literal(b"D"),
             message,
-        }),
+        })),
         Err(_) => None,
     }
 }
@@ -102,7 +102,7 @@ fn on(airport: &Airport, visit: u32, stand: u16, minute: Minute) -> Option<Comma
     if stand as usize >= airport.parts().stands.len() {
         return None;
     }
-    Some(Command::Report {
+    Some(Command::Report(DeskReport {
         desk: Name::literal(b"D"),
         visit: VisitNo(visit),
         event: Event::On {
@@ -110,7 +110,7 @@ fn on(airport: &Airport, visit: u32, stand: u16, minute: Minute) -> Option<Comma
             stand: StandNo(stand),
             minute,
         },
-    })
+    }))
 }
 
 // The command of a deed, before which there were this many entries.
@@ -133,9 +133,7 @@ fn command_of(
         Deed::Put(visit, stand) => put(alloc, airport, entries, visit, stand),
         Deed::Message(text) => Ok(message(text)),
         Deed::On(visit, stand, minute) => Ok(on(airport, visit, stand, minute)),
-        Deed::Cancel(visit) => Ok(Some(Command::Cancel {
-            visit: VisitNo(visit),
-        })),
+        Deed::Cancel(visit) => Ok(Some(Command::Cancel(VisitNo(visit)))),
     }
 }
 
