@@ -58,6 +58,8 @@ standing_of port = record { entries = port.seen; at_risk = port.at_risk }
 -- if the entry could not be kept; otherwise it is as before
 abbrev pub AloneAsks : AirportParts → PortState → Ask → Given → PortState → Type 0
 AloneAsks airport before ask given after =
-    (turn : Turn airport before ask given after) × (turn.history ≡ before.seen) × (turn.call ≡ before.first + length before.calls)
+    (turn : Turn airport before ask given after)
+    × (turn.history ≡ before.seen)
+    × (turn.call ≡ before.first + length before.calls)
     × LeavesAtRisk (standing_of before) turn.call ask.what (is_unkept given) (standing_of after)
     × Counts (is_unkept given) before.faults after.faults

@@ -35,7 +35,8 @@ abbrev pub TakesMemory : Request → Type 0
 TakesMemory request = ReadsBody (said_in request)
 
 -- `asks` says what a port of the airport gives for an ask and what it becomes
-module _ (asks : AirportParts → PortState → Ask → Given → PortState → Type 0) (airport : AirportParts) where
+module _ (asks : AirportParts → PortState → Ask → Given → PortState → Type 0)
+    (airport : AirportParts) where
   -- what is sent for what is asked, and the port after it
   abbrev pub SendsFor : PortState → Result Ask EarlyReply → Sent → PortState → Type 0
   SendsFor before (Err reply) (at_once sent) after = (sent ≡ reply) × (after ≡ before)
@@ -49,6 +50,8 @@ module _ (asks : AirportParts → PortState → Ask → Given → PortState → 
 
   -- what comes of a request, and the port after it
   abbrev pub Answers : PortState → Request → Answered → PortState → Type 0
-  Answers before request (sends sent) after = SendsFor before (ask_of_request airport request) sent after
-  Answers before request exhausted after = FindsExhausted before (ask_of_request airport request) after
+  Answers before request (sends sent) after =
+      SendsFor before (ask_of_request airport request) sent after
+  Answers before request exhausted after =
+      FindsExhausted before (ask_of_request airport request) after
   Answers before request unread after = TakesMemory request × (after ≡ before)

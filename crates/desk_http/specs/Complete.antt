@@ -30,43 +30,62 @@ abbrev pub ComesToEnd : Outcome → List ℕ → List Request → List ℕ → T
 ComesToEnd Ended input requests last = Requests input requests ended × (last ≡ [])
 ComesToEnd Closed input requests last = Requests input requests closed × (last ≡ [])
 ComesToEnd Cut input requests last = Requests input requests cut × (last ≡ [])
-ComesToEnd Malformed input requests last = (why : RequestRefusal) × Requests input requests (malformed why) × (last ≡ refusal_text why)
-ComesToEnd Limit input requests last = All IsOpen requests × (length requests ≡ most_requests) × (last ≡ [])
+ComesToEnd Malformed input requests last =
+    (why : RequestRefusal) × Requests input requests (malformed why) × (last ≡ refusal_text why)
+ComesToEnd Limit input requests last =
+    All IsOpen requests × (length requests ≡ most_requests) × (last ≡ [])
 ComesToEnd outcome input requests last = ⊥
 
 -- `Comes` says what comes of a request and what the port becomes
-module _ (Comes : PortState → Request → Answered → PortState → Type 0) (airport : AirportParts) where
+module _ (Comes : PortState → Request → Answered → PortState → Type 0)
+    (airport : AirportParts) where
   -- The requests of the input were answered one after another, each that has fewer than a million
   -- before it, by what came of it at its place. Their replies were written whole.
-  pub record AnswersEachBy (before after : Moment) (outcome : Outcome) (input : List ℕ) : Type 0 where
+  pub record AnswersEachBy (before after : Moment) (outcome : Outcome)
+      (input : List ℕ) : Type 0 where
     pub requests : List Request
     pub sents : List Sent
     pub last : List ℕ
-    pub each : (listed : List Request) (ending : Ending) → Requests input listed ending → requests ≡ take most_requests listed
-    pub runs : Runs (λ old request sent new. Comes old request (sends sent) new) before.port requests sents after.port
+    pub each : (listed : List Request) (ending : Ending)
+        → Requests input listed ending
+        → requests ≡ take most_requests listed
+    pub runs : Runs (λ old request sent new. Comes old request (sends sent) new) before.port
+        requests sents after.port
     pub ends : ComesToEnd outcome input requests last
     pub wrote : Wrote false before.sink after.sink (texts_of airport sents ++ last)
 
   -- each session that nothing hindered, and whose source tells its bytes, answers each of their
   -- requests
   abbrev pub IsCompleteBy : Moment → Moment → Outcome → Type 0
-  IsCompleteBy before after outcome = (input : List ℕ) → before.source.left ≡ Some input → IsUnhindered before after outcome → AnswersEachBy before after outcome input
+  IsCompleteBy before after outcome =
+      (input : List ℕ)
+      → before.source.left ≡ Some input
+      → IsUnhindered before after outcome
+      → AnswersEachBy before after outcome input
 
 -- the same of a session of this kind
 abbrev pub IsCompleteOfKind : SessionKind → Moment → Moment → Outcome → Type 0
-IsCompleteOfKind kind before after outcome = IsCompleteBy kind.comes kind.airport before after outcome
+IsCompleteOfKind kind before after outcome =
+    IsCompleteBy kind.comes kind.airport before after outcome
 
 -- each request of the input was answered by its early reply, or by what the port gave for it at its
 -- place
-abbrev pub AnswersEach : (AirportParts → PortState → Ask → Given → PortState → Type 0) → AirportParts → Moment → Moment → Outcome → List ℕ → Type 0
-AnswersEach asks airport before after outcome input = AnswersEachBy (Answers asks airport) airport before after outcome input
+abbrev pub AnswersEach : (AirportParts → PortState → Ask → Given → PortState → Type 0)
+    → AirportParts → Moment → Moment → Outcome → List ℕ → Type 0
+AnswersEach asks airport before after outcome input =
+    AnswersEachBy (Answers asks airport) airport before after outcome input
 
 -- the same of a session over a port: `asks` says what a port of the airport gives for an ask and
 -- what it becomes
-abbrev pub IsSessionComplete : (AirportParts → PortState → Ask → Given → PortState → Type 0) → AirportParts → Moment → Moment → Outcome → Type 0
-IsSessionComplete asks airport before after outcome = IsCompleteBy (Answers asks airport) airport before after outcome
+abbrev pub IsSessionComplete : (AirportParts → PortState → Ask → Given → PortState → Type 0)
+    → AirportParts → Moment → Moment → Outcome → Type 0
+IsSessionComplete asks airport before after outcome =
+    IsCompleteBy (Answers asks airport) airport before after outcome
 
 -- the same of every session over such ports
-abbrev pub SessionsAreComplete : (AirportParts → PortState → Ask → Given → PortState → Type 0) → Type 0
+abbrev pub SessionsAreComplete : (AirportParts → PortState → Ask → Given → PortState → Type 0)
+    → Type 0
 SessionsAreComplete asks =
-    (airport : AirportParts) (before after : Moment) (outcome : Outcome) → SessionOf asks airport before after outcome → IsSessionComplete asks airport before after outcome
+    (airport : AirportParts) (before after : Moment) (outcome : Outcome)
+    → SessionOf asks airport before after outcome
+    → IsSessionComplete asks airport before after outcome

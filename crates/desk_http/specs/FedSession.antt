@@ -33,24 +33,33 @@ feed_asked said = option_map (feed_asked_of said) (feed_of said.target)
 
 -- `asks` says what a port of the airport gives for an ask and what it becomes, `feeds` the same of
 -- a feed
-module _ (asks : AirportParts → PortState → Ask → Given → PortState → Type 0) (feeds : AirportParts → PortState → FeedAsk → FeedGiven → PortState → Type 0) where
+module _ (asks : AirportParts → PortState → Ask → Given → PortState → Type 0)
+    (feeds : AirportParts → PortState → FeedAsk → FeedGiven → PortState → Type 0) where
   -- what comes of a feed that is asked for, and the port after it
-  abbrev pub FeedAnswers : AirportParts → PortState → Result FeedAsk EarlyReply → Answered → PortState → Type 0
-  FeedAnswers airport before (Err reply) (sends (at_once sent)) after = (sent ≡ reply) × (after ≡ before)
-  FeedAnswers airport before (Ok ask) (sends (fed given)) after = feeds airport before ask given after
+  abbrev pub FeedAnswers : AirportParts → PortState → Result FeedAsk EarlyReply → Answered
+      → PortState → Type 0
+  FeedAnswers airport before (Err reply) (sends (at_once sent)) after = (sent ≡ reply)
+      × (after ≡ before)
+  FeedAnswers airport before (Ok ask) (sends (fed given)) after =
+      feeds airport before ask given after
   FeedAnswers airport before (Ok ask) exhausted after = IsExhausted before after
   FeedAnswers airport before asked answered after = ⊥
 
   -- what comes of a request that asks for this feed; or for none, and then it is answered as in a
   -- session without feeds
-  abbrev pub FedAnswersTo : Option (Result FeedAsk EarlyReply) → AirportParts → PortState → Request → Answered → PortState → Type 0
-  FedAnswersTo None airport before request answered after = Answers asks airport before request answered after
-  FedAnswersTo (Some asked) airport before request answered after = FeedAnswers airport before asked answered after
+  abbrev pub FedAnswersTo : Option (Result FeedAsk EarlyReply) → AirportParts → PortState → Request
+      → Answered → PortState → Type 0
+  FedAnswersTo None airport before request answered after =
+      Answers asks airport before request answered after
+  FedAnswersTo (Some asked) airport before request answered after =
+      FeedAnswers airport before asked answered after
 
   -- what comes of a request, and the port after it
   abbrev pub FedAnswers : AirportParts → PortState → Request → Answered → PortState → Type 0
-  FedAnswers airport before request answered after = FedAnswersTo (feed_asked (said_in request)) airport before request answered after
+  FedAnswers airport before request answered after =
+      FedAnswersTo (feed_asked (said_in request)) airport before request answered after
 
   -- a session with feeds over a port
   abbrev pub FedSessionOf : AirportParts → Moment → Moment → Outcome → Type 0
-  FedSessionOf airport before after outcome = SessionBy (FedAnswers airport) airport before after outcome
+  FedSessionOf airport before after outcome =
+      SessionBy (FedAnswers airport) airport before after outcome

@@ -27,13 +27,15 @@ version_ask = record { seen = 0; what = Version }
 -- A feed that got its turn, if `text` says what its reply is at each history. It found a whole
 -- history, and left the port as an ask of the version does for which memory ran out: with one call
 -- more, and no entry. It got its reply at that history, or memory ran out.
-pub record FeedTurn (airport : AirportParts) (text : List Entry → List ℕ) (before : PortState) (given : FeedGiven) (after : PortState) : Type 0 where
+pub record FeedTurn (airport : AirportParts) (text : List Entry → List ℕ) (before : PortState)
+    (given : FeedGiven) (after : PortState) : Type 0 where
   pub turn : Turn airport before version_ask no_memory after
   pub gives : IfSome given (λ told. told ≡ text turn.history)
 
 -- what an act shows of a feed, if `feeds` says what the port gives and becomes: never a failed
 -- append
-abbrev pub ShowsFeed : (PortState → FeedAsk → FeedGiven → PortState → Type 0) → PortState → FeedAsk → Acted → PortState → Type 0
+abbrev pub ShowsFeed : (PortState → FeedAsk → FeedGiven → PortState → Type 0) → PortState → FeedAsk
+    → Acted → PortState → Type 0
 ShowsFeed feeds before ask (Reply text) after = feeds before ask (Some text) after
 ShowsFeed feeds before ask Memory after = feeds before ask None after
 ShowsFeed feeds before ask Fault after = ⊥

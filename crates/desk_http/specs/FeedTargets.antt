@@ -13,11 +13,13 @@ version_written text = if bytes_eq text (codes "0") then Some 0 else plain_numbe
 -- the feed of the watch of this name after this version, if they are a name and a version
 abbrev pub feed_named : List ℕ → List ℕ → Option Feed
 feed_named name version =
-    option_and_then (λ watch. option_map (λ after. record { watch = watch; after = after }) (version_written version)) (if_name name)
+    option_and_then (λ watch. option_map (λ after. record { watch = watch; after = after })
+    (version_written version)) (if_name name)
 
 -- the feed that the pieces of a target name
 abbrev pub feed_of_pieces : List (List ℕ) → Option Feed
-feed_of_pieces ([] ∷ word ∷ name ∷ version ∷ []) = if bytes_eq word (codes "feeds") then feed_named name version else None
+feed_of_pieces ([] ∷ word ∷ name ∷ version ∷ []) =
+    if bytes_eq word (codes "feeds") then feed_named name version else None
 feed_of_pieces _ = None
 
 -- the feed that a target names

@@ -13,8 +13,10 @@ place_named names text = option_and_then (λ name. place_of name names) (if_name
 
 -- the stand of this name
 abbrev pub stand_named : AirportParts → List ℕ → Option StandNo
-stand_named airport text = option_map (λ place. record { 0 = place }) (place_named (stand_names airport) text)
+stand_named airport text =
+    option_map (λ place. record { 0 = place }) (place_named (stand_names airport) text)
 
 -- the type of this name
 abbrev pub type_named : AirportParts → List ℕ → Option TypeNo
-type_named airport text = option_map (λ place. record { 0 = place }) (place_named (type_names airport) text)
+type_named airport text =
+    option_map (λ place. record { 0 = place }) (place_named (type_names airport) text)

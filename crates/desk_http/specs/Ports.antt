@@ -44,11 +44,15 @@ is_unkept given = false
 -- asked for, if it could not be kept
 abbrev pub RisksGiven : Option Entry → ℕ → What → Given → Option Entry → Type 0
 RisksGiven before call what given after =
-    (after ≡ None) ⊎ (after ≡ before) ⊎ ((is_unkept given ≡ true) × ((entry : Entry) × (after ≡ Some entry) × IsAskedFor call what entry))
+    (after ≡ None)
+    ⊎ (after ≡ before)
+    ⊎ ((is_unkept given ≡ true)
+    × ((entry : Entry) × (after ≡ Some entry) × IsAskedFor call what entry))
 
 -- An ask that got its turn: it found this whole history, which begins with all that the port had
 -- seen, and was given its answer there.
-pub record Turn (airport : AirportParts) (before : PortState) (ask : Ask) (given : Given) (after : PortState) : Type 0 where
+pub record Turn (airport : AirportParts) (before : PortState) (ask : Ask) (given : Given)
+    (after : PortState) : Type 0 where
   pub history : List Entry
   pub call : ℕ
   pub from : before.first ≤ call
@@ -71,6 +75,8 @@ abbrev pub IsExhausted : PortState → PortState → Type 0
 IsExhausted before after = after ≡ record before { spent = true }
 
 -- what an act shows of an ask, if `asks` says what the port gives and becomes
-abbrev pub ShowsAsk : (AirportParts → PortState → Ask → Given → PortState → Type 0) → AirportParts → PortState → Ask → Acted → PortState → Type 0
+abbrev pub ShowsAsk : (AirportParts → PortState → Ask → Given → PortState → Type 0) → AirportParts
+    → PortState → Ask → Acted → PortState → Type 0
 ShowsAsk asks airport before ask Spent after = IsExhausted before after
-ShowsAsk asks airport before ask acted after = (given : Given) × (acted ≡ acted_from airport given) × asks airport before ask given after
+ShowsAsk asks airport before ask acted after =
+    (given : Given) × (acted ≡ acted_from airport given) × asks airport before ask given after

@@ -25,16 +25,24 @@ answered_as Exhausted = exhausted
 answered_as Unread = unread
 
 -- the answer is what came of the request, if `came` says what came of it and what the port became
-abbrev pub IsAnswer : AirportParts → (Answered → PortState → Type 0) → Result PreparedReply NoReplyCause → PortState → Type 0
-IsAnswer airport came (Ok reply) after = (sent : Sent) × came (sends sent) after × (reply_bytes reply ≡ sent_text airport sent)
+abbrev pub IsAnswer : AirportParts → (Answered → PortState → Type 0)
+    → Result PreparedReply NoReplyCause → PortState → Type 0
+IsAnswer airport came (Ok reply) after =
+    (sent : Sent) × came (sends sent) after × (reply_bytes reply ≡ sent_text airport sent)
 IsAnswer airport came (Err why) after = came (answered_as why) after
 
 -- the reply is what the port gives for the ask; there is none if its numbers have run out
-abbrev pub IsReply : (AirportParts → PortState → Ask → Given → PortState → Type 0) → AirportParts → PortState → Ask → Option PreparedReply → PortState → Type 0
-IsReply asks airport before ask (Some reply) after = (given : Given) × asks airport before ask given after × (reply_bytes reply ≡ given_text airport given)
+abbrev pub IsReply : (AirportParts → PortState → Ask → Given → PortState → Type 0) → AirportParts
+    → PortState → Ask → Option PreparedReply → PortState → Type 0
+IsReply asks airport before ask (Some reply) after =
+    (given : Given)
+    × asks airport before ask given after
+    × (reply_bytes reply ≡ given_text airport given)
 IsReply asks airport before ask None after = IsExhausted before after
 
 -- the reply is what the port gives for the feed; there is none if its numbers have run out
-abbrev pub IsFeedReply : (PortState → FeedAsk → FeedGiven → PortState → Type 0) → PortState → FeedAsk → Option PreparedReply → PortState → Type 0
-IsFeedReply feeds before ask (Some reply) after = (given : FeedGiven) × feeds before ask given after × (reply_bytes reply ≡ feed_given_text given)
+abbrev pub IsFeedReply : (PortState → FeedAsk → FeedGiven → PortState → Type 0) → PortState
+    → FeedAsk → Option PreparedReply → PortState → Type 0
+IsFeedReply feeds before ask (Some reply) after =
+    (given : FeedGiven) × feeds before ask given after × (reply_bytes reply ≡ feed_given_text given)
 IsFeedReply feeds before ask None after = IsExhausted before after

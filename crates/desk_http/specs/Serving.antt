@@ -26,8 +26,10 @@ use Rattle.desk_http.specs.declared.serving.Unserved.TheVariants.{NoReply, SinkF
 
 -- what one read gave, and the bytes that have come after it
 abbrev pub TakesMore : SourceState → SourceState → List ℕ → List ℕ → More → Type 0
-TakesMore before after old new Taken = (piece : List ℕ) × Took false before after piece × (new ≡ old ++ piece) × (0 < length piece)
-TakesMore before after old new NoMore = Took false before after [] × (new ≡ old) × IsAtEnd after.left
+TakesMore before after old new Taken =
+    (piece : List ℕ) × Took false before after piece × (new ≡ old ++ piece) × (0 < length piece)
+TakesMore before after old new NoMore =
+    Took false before after [] × (new ≡ old) × IsAtEnd after.left
 TakesMore before after old new Fault = Took true before after [] × (new ≡ old)
 
 -- how a session ends after such a turn; none if it goes on
@@ -51,13 +53,19 @@ is_source_fault turned = false
 module _ (airport : AirportParts) (came : Answered → PortState → Type 0) where
   -- the reply was written, whole or a front of it, or there is none
   abbrev pub IsServed : SinkState → SinkState → Result (Unit {0}) Unserved → PortState → Type 0
-  IsServed before after (Ok done) port = (sent : Sent) × came (sends sent) port × Wrote false before after (sent_text airport sent)
+  IsServed before after (Ok done) port =
+      (sent : Sent) × came (sends sent) port × Wrote false before after (sent_text airport sent)
   IsServed before after (Err SinkFault) port =
-      (sent : Sent) × came (sends sent) port × (count : ℕ) × Wrote true before after (take count (sent_text airport sent))
-  IsServed before after (Err (NoReply why)) port = came (answered_as why) port × Wrote false before after []
+      (sent : Sent)
+      × came (sends sent) port
+      × (count : ℕ)
+      × Wrote true before after (take count (sent_text airport sent))
+  IsServed before after (Err (NoReply why)) port = came (answered_as why) port
+      × Wrote false before after []
 
 -- `Comes` says what comes of a request and what the port becomes
-module _ (Comes : PortState → Request → Answered → PortState → Type 0) (airport : AirportParts) where
+module _ (Comes : PortState → Request → Answered → PortState → Type 0)
+    (airport : AirportParts) where
   -- what a session has done so far: each reply whole, and none of the requests closing
   pub record SoFar (before now : Moment) (rest : List ℕ) (count : ℕ) : Type 0 where
     pub taken : List ℕ
@@ -66,7 +74,8 @@ module _ (Comes : PortState → Request → Answered → PortState → Type 0) (
     pub took : Took false before.source now.source taken
     pub splits : Splits taken requests rest
     pub stay : All IsOpen requests
-    pub runs : Runs (λ old request sent new. Comes old request (sends sent) new) before.port requests sents now.port
+    pub runs : Runs (λ old request sent new. Comes old request (sends sent) new) before.port
+        requests sents now.port
     pub wrote : Wrote false before.sink now.sink (texts_of airport sents)
     pub counted : length requests ≡ count
 
@@ -76,12 +85,21 @@ module _ (Comes : PortState → Request → Answered → PortState → Type 0) (
       (request : Request) × HasRequest bytes request left × (closes ≡ is_closing request.head)
       × IsServed airport (Comes before.port request) before.sink after.sink served after.port
   ServesFront before after bytes left (Refused told) =
-      (why : RequestRefusal) × IsMalformed bytes why × Puts before.sink after.sink told (refusal_text why) × (after.port ≡ before.port)
-  ServesFront before after bytes left (AtEnd end) = IsEnd bytes end × IsAtEnd after.source.left × (after.sink ≡ before.sink) × (after.port ≡ before.port)
-  ServesFront before after bytes left SourceFault = IsPartial bytes × (after.sink ≡ before.sink) × (after.port ≡ before.port)
+      (why : RequestRefusal)
+      × IsMalformed bytes why
+      × Puts before.sink after.sink told (refusal_text why)
+      × (after.port ≡ before.port)
+  ServesFront before after bytes left (AtEnd end) =
+      IsEnd bytes end
+      × IsAtEnd after.source.left
+      × (after.sink ≡ before.sink)
+      × (after.port ≡ before.port)
+  ServesFront before after bytes left SourceFault =
+      IsPartial bytes × (after.sink ≡ before.sink) × (after.port ≡ before.port)
 
   -- one turn: more bytes were taken, and then what stood at the front was met
-  pub record TakesTurn (before after : Moment) (bytes left : List ℕ) (turned : Turned) : Type 0 where
+  pub record TakesTurn (before after : Moment) (bytes left : List ℕ)
+      (turned : Turned) : Type 0 where
     pub piece : List ℕ
     pub took : Took (is_source_fault turned) before.source after.source piece
     pub meets : ServesFront before after (bytes ++ piece) left turned

@@ -103,7 +103,8 @@ no_progress = record { requests = []; sents = []; rest = [] }
 -- `Comes` says what comes of a request and what the port becomes
 module _ (Comes : PortState → Request → Answered → PortState → Type 0) where
   -- the request is at the front of the bytes, and this came of it
-  pub record ComesFirst (bytes : List ℕ) (request : Request) (answered : Answered) (before after : PortState) : Type 0 where
+  pub record ComesFirst (bytes : List ℕ) (request : Request) (answered : Answered)
+      (before after : PortState) : Type 0 where
     pub behind : List ℕ
     pub first : HasRequest bytes request behind
     pub comes : Comes before request answered after
@@ -111,20 +112,26 @@ module _ (Comes : PortState → Request → Answered → PortState → Type 0) w
   -- why a session ends, by the request at the front of the bytes that are left, or with its port as
   -- it was
   abbrev pub EndsSession : Outcome → List ℕ → Last → PortState → PortState → Type 0
-  EndsSession Closed rest (reply request sent) before after = (is_closing request.head ≡ true) × ComesFirst rest request (sends sent) before after
-  EndsSession WriteFault rest (reply request sent) before after = ComesFirst rest request (sends sent) before after
-  EndsSession Spent rest nothing before after = (request : Request) × ComesFirst rest request exhausted before after
-  EndsSession Memory rest nothing before after = (request : Request) × ComesFirst rest request unread before after
+  EndsSession Closed rest (reply request sent) before after = (is_closing request.head ≡ true)
+      × ComesFirst rest request (sends sent) before after
+  EndsSession WriteFault rest (reply request sent) before after =
+      ComesFirst rest request (sends sent) before after
+  EndsSession Spent rest nothing before after = (request : Request)
+      × ComesFirst rest request exhausted before after
+  EndsSession Memory rest nothing before after = (request : Request)
+      × ComesFirst rest request unread before after
   EndsSession outcome rest last before after = StopsSession outcome rest last × (after ≡ before)
 
   -- the same, or memory ran out before anything was read
   abbrev pub EndsAfter : Outcome → Progress → Last → PortState → PortState → Type 0
-  EndsAfter Memory done nothing before after = EndsSession Memory done.rest nothing before after ⊎ ((done ≡ no_progress) × (after ≡ before))
+  EndsAfter Memory done nothing before after = EndsSession Memory done.rest nothing before after
+      ⊎ ((done ≡ no_progress) × (after ≡ before))
   EndsAfter outcome done last before after = EndsSession outcome done.rest last before after
 
   -- One session: it took these bytes, answered the requests at their front one after another, and
   -- ended with what was sent last.
-  pub record SessionBy (airport : AirportParts) (before after : Moment) (outcome : Outcome) : Type 0 where
+  pub record SessionBy (airport : AirportParts) (before after : Moment)
+      (outcome : Outcome) : Type 0 where
     pub taken : List ℕ
     pub done : Progress
     pub served : PortState
@@ -133,17 +140,21 @@ module _ (Comes : PortState → Request → Answered → PortState → Type 0) w
     pub took : Took (is_read_fault outcome) before.source after.source taken
     pub splits : Splits taken done.requests done.rest
     pub stay : All IsOpen done.requests
-    pub runs : Runs (λ old request sent new. Comes old request (sends sent) new) before.port done.requests done.sents served
+    pub runs : Runs (λ old request sent new. Comes old request (sends sent) new) before.port
+        done.requests done.sents served
     pub ends : EndsAfter outcome done last served after.port
     pub read : IsReadToEnd outcome after.source.left
     pub count : IsCount outcome (length done.requests)
     pub last_written : WritesLast outcome (last_text airport last) written
-    pub wrote : Wrote (is_write_fault outcome) before.sink after.sink (texts_of airport done.sents ++ written)
+    pub wrote : Wrote (is_write_fault outcome) before.sink after.sink
+        (texts_of airport done.sents ++ written)
 
 -- a session over a port: `asks` says what a port of the airport gives for an ask and what it
 -- becomes
-abbrev pub SessionOf : (AirportParts → PortState → Ask → Given → PortState → Type 0) → AirportParts → Moment → Moment → Outcome → Type 0
-SessionOf asks airport before after outcome = SessionBy (Answers asks airport) airport before after outcome
+abbrev pub SessionOf : (AirportParts → PortState → Ask → Given → PortState → Type 0) → AirportParts
+    → Moment → Moment → Outcome → Type 0
+SessionOf asks airport before after outcome =
+    SessionBy (Answers asks airport) airport before after outcome
 
 -- the sessions of one kind: the airport of their plan, and what comes of a request and what the
 -- port becomes
@@ -156,5 +167,6 @@ abbrev pub SessionOfKind : SessionKind → Moment → Moment → Outcome → Typ
 SessionOfKind kind before after outcome = SessionBy kind.comes kind.airport before after outcome
 
 -- the sessions over a port of the airport: `asks` says what it gives for an ask and what it becomes
-abbrev pub sessions_by : (AirportParts → PortState → Ask → Given → PortState → Type 0) → AirportParts → SessionKind
+abbrev pub sessions_by : (AirportParts → PortState → Ask → Given → PortState → Type 0)
+    → AirportParts → SessionKind
 sessions_by asks airport = record { airport = airport; comes = Answers asks airport }

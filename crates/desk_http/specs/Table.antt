@@ -38,7 +38,8 @@ with_route pattern endpoint table = with_read (parse_route pattern) endpoint tab
 -- the table with a row for each of these, in the order in which they are added
 abbrev pub with_routes : {A : Type 0} → (A → List ℕ × Endpoint) → List A → Table → Table
 with_routes row [] table = table
-with_routes row (first ∷ rest) table = with_routes row rest (with_route (row first).0 (row first).1 table)
+with_routes row (first ∷ rest) table =
+    with_routes row rest (with_route (row first).0 (row first).1 table)
 
 -- all rows
 unfoldable pub table : Table
@@ -47,9 +48,12 @@ table = with_routes numbered_row numbered_endpoints (with_routes plain_row plain
 -- the number after the second slash of a target that begins with a slash
 abbrev pub number_after_word : List ℕ → Option ℕ
 number_after_word [] = None
-number_after_word (byte ∷ rest) = option_and_then (λ end. plain_number (drop (end + 1) rest)) (position (λ byte. byte == slash) rest)
+number_after_word (byte ∷ rest) =
+    option_and_then (λ end. plain_number (drop (end + 1) rest))
+    (position (λ byte. byte == slash) rest)
 
 -- the route of a target of this endpoint; none if its number is none
 abbrev pub route_at : Endpoint → List ℕ → Option Route
 route_at (Plain endpoint) target = Some (route.Plain endpoint)
-route_at (Numbered endpoint) target = option_map (route.Numbered endpoint) (number_after_word target)
+route_at (Numbered endpoint) target =
+    option_map (route.Numbered endpoint) (number_after_word target)

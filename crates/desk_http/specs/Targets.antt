@@ -38,7 +38,8 @@ numbered_endpoints =
 -- the endpoint of this word
 abbrev pub endpoint_of : {Endpoint : Type 0} → List ℕ → List (List ℕ × Endpoint) → Option Endpoint
 endpoint_of word [] = None
-endpoint_of word ((name, endpoint) ∷ endpoints) = if bytes_eq word name then Some endpoint else endpoint_of word endpoints
+endpoint_of word ((name, endpoint) ∷ endpoints) =
+    if bytes_eq word name then Some endpoint else endpoint_of word endpoints
 
 -- the bytes up to the next slash are put before the pieces behind it
 abbrev pub onto_first : ℕ → List (List ℕ) → List (List ℕ)
@@ -52,7 +53,8 @@ slash = 47
 -- the pieces of a target between its slashes: one more than it has slashes
 abbrev pub pieces : List ℕ → List (List ℕ)
 pieces [] = [] ∷ []
-pieces (byte ∷ target) = if byte == slash then [] ∷ pieces target else onto_first byte (pieces target)
+pieces (byte ∷ target) =
+    if byte == slash then [] ∷ pieces target else onto_first byte (pieces target)
 
 -- the digit that no number of a target begins with
 abbrev pub zero_digit : ℕ
@@ -61,7 +63,9 @@ zero_digit = 48
 -- the number of 32 bits that 1 to 10 digits write, of which the first is no zero
 abbrev pub plain_number : List ℕ → Option ℕ
 plain_number [] = None
-plain_number (digit ∷ digits) = if digit == zero_digit then None else option_and_then within_32_bits (number_of (digit ∷ digits) MAX_DIGITS)
+plain_number (digit ∷ digits) =
+    if digit == zero_digit then None
+    else option_and_then within_32_bits (number_of (digit ∷ digits) MAX_DIGITS)
 
 -- the route that a word alone names
 abbrev pub word_route : List ℕ → Option Route
@@ -69,12 +73,15 @@ word_route word = option_map Plain (endpoint_of word plain_endpoints)
 
 -- the route that a word and a number after it name
 abbrev pub number_route : List ℕ → ℕ → Option Route
-number_route word number = option_map (λ endpoint. Numbered endpoint number) (endpoint_of word numbered_endpoints)
+number_route word number =
+    option_map (λ endpoint. Numbered endpoint number) (endpoint_of word numbered_endpoints)
 
--- the route that the pieces of a target name: a slash and a word, or a slash, a word, a slash and a number
+-- the route that the pieces of a target name: a slash and a word, or a slash, a word, a slash and
+-- a number
 abbrev pub route_of_pieces : List (List ℕ) → Option Route
 route_of_pieces ([] ∷ word ∷ []) = word_route word
-route_of_pieces ([] ∷ word ∷ number ∷ []) = option_and_then (number_route word) (plain_number number)
+route_of_pieces ([] ∷ word ∷ number ∷ []) =
+    option_and_then (number_route word) (plain_number number)
 route_of_pieces _ = None
 
 -- the route that a target names

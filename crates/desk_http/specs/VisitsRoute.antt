@@ -16,7 +16,16 @@ use Rattle.desk_http.specs.Names.{type_named}
 abbrev pub new_named : AirportParts → VisitSaid → Result NewVisit EarlyReply
 new_named airport said = do
   kind ← ok_or (type_named airport said.kind) BadType
-  Ok (record { name = said.name; kind = kind; class = said.class; on = said.on; off = said.off; arr = said.arr; dep = said.dep })
+  Ok
+  (record {
+    name = said.name;
+    kind = kind;
+    class = said.class;
+    on = said.on;
+    off = said.off;
+    arr = said.arr;
+    dep = said.dep;
+  })
 
 -- what is asked with this body
 abbrev pub visit_added : AirportParts → List ℕ → Result What EarlyReply

@@ -68,8 +68,11 @@ pub(crate) trait Answerer<P: DeskPort> {
     ) -> Result<PreparedReply, NoReplyCause>
         ensures airport { P.airport_of port.new ≡ P.airport_of port.old }
         ensures place { P.place port.new ≡ P.place port.old }
-        ensures came { (request : Request) → ArePartsOf request parts.now
-            → IsAnswer (P.airport_of port.old) (comes (P.place port.old) (P.airport_of port.old) (P.port port.old) request) result (P.port port.new) };
+        ensures came { (request : Request)
+            → ArePartsOf request parts.now
+            → IsAnswer (P.airport_of port.old)
+            (comes (P.place port.old) (P.airport_of port.old) (P.port port.old) request) result
+            (P.port port.new) };
 }
 
 impl<P: DeskPort> Answerer<P> for DeskRoutes {
@@ -96,7 +99,8 @@ fn answer_ask<P: DeskPort>(alloc: Global, port: &mut P, ask: &Ask) -> Option<Pre
     requires valid { IsAskOf (P.airport_of port.old) ask.now }
     ensures airport { P.airport_of port.new ≡ P.airport_of port.old }
     ensures place { P.place port.new ≡ P.place port.old }
-    ensures came { IsReply P.asks (P.airport_of port.old) (P.port port.old) ask.now result (P.port port.new) }
+    ensures came { IsReply P.asks (P.airport_of port.old) (P.port port.old) ask.now
+        result (P.port port.new) }
 {
     match port.ask(alloc, ask) {
         Acted::Reply(bytes) => Some(PreparedReply::Told(bytes)),

@@ -28,10 +28,14 @@ pub fn session_fed<P: FeedPort, S: Source, W: Sink>(
 ) -> Outcome
     ensures of { FedSessionOf P.asks (P.feeds (P.place port.old)) (P.airport_of port.old)
         (record { source = S.state source.old; sink = W.state sink.old; port = P.port port.old })
-        (record { source = S.state source.new; sink = W.state sink.new; port = P.port port.new }) result }
-    ensures complete { IsCompleteBy (FedAnswers P.asks (P.feeds (P.place port.old)) (P.airport_of port.old)) (P.airport_of port.old)
+        (record { source = S.state source.new; sink = W.state sink.new; port = P.port port.new })
+        result }
+    ensures complete { IsCompleteBy
+        (FedAnswers P.asks (P.feeds (P.place port.old)) (P.airport_of port.old))
+        (P.airport_of port.old)
         (record { source = S.state source.old; sink = W.state sink.old; port = P.port port.old })
-        (record { source = S.state source.new; sink = W.state sink.new; port = P.port port.new }) result }
+        (record { source = S.state source.new; sink = W.state sink.new; port = P.port port.new })
+        result }
     ensures airport { P.airport_of port.new ≡ P.airport_of port.old }
     ensures place { P.place port.new ≡ P.place port.old }
 {
@@ -70,7 +74,8 @@ impl<P: FeedPort> Answerer<P> for FedRoutes {
 fn answer_feed<P: FeedPort>(alloc: Global, port: &mut P, ask: &FeedAsk) -> Option<PreparedReply>
     ensures airport { P.airport_of port.new ≡ P.airport_of port.old }
     ensures place { P.place port.new ≡ P.place port.old }
-    ensures came { IsFeedReply (P.feeds (P.place port.old) (P.airport_of port.old)) (P.port port.old) ask.now result (P.port port.new) }
+    ensures came { IsFeedReply (P.feeds (P.place port.old) (P.airport_of port.old))
+        (P.port port.old) ask.now result (P.port port.new) }
 {
     let Feed { watch, after } = ask.feed;
     match port.feed(alloc, ask.seen, &watch, after) {

@@ -40,11 +40,13 @@ pub trait DeskPort {
         requires valid { IsAskOf (airport_of self.old) ask.now }
         ensures airport { airport_of self.new ≡ airport_of self.old }
         ensures place { place self.new ≡ place self.old }
-        ensures shows { ShowsAsk asks (airport_of self.old) (port self.old) ask.now result (port self.new) };
+        ensures shows { ShowsAsk asks (airport_of self.old) (port self.old) ask.now
+            result (port self.new) };
 
     /// Whatever a port gives, it gives at the whole history as the ask's turn found it.
-    ghost takes_turns: { (airport : AirportParts) (before after : PortState) (ask : Ask) (given : Given)
-        → asks airport before ask given after → Turn airport before ask given after };
+    ghost takes_turns: { (airport : AirportParts) (before after : PortState)
+        (ask : Ask) (given : Given) → asks airport before ask given after
+        → Turn airport before ask given after };
 }
 
 /// A feed: the bumps that a watch picks of those after a version.
@@ -78,7 +80,8 @@ pub trait FeedPort: DeskPort {
     ghost feed_text: { Self.Place → AirportParts → FeedAsk → List Entry → List ℕ };
 
     /// What it gives for a feed at that place and airport, and what it becomes.
-    ghost feeds: { Self.Place → AirportParts → PortState → FeedAsk → FeedGiven → PortState → Type 0 };
+    ghost feeds: { Self.Place → AirportParts → PortState → FeedAsk → FeedGiven → PortState
+        → Type 0 };
 
     /// Answers a feed: the bumps that the watch of this name picks, of those after the version
     /// `after`, to a desk that has seen the version `seen`. It adds no entry, and answers no Fault.
@@ -86,10 +89,14 @@ pub trait FeedPort: DeskPort {
     fn feed(&mut self, alloc: Global, seen: u32, watch: &Name, after: u32) -> Acted
         ensures airport { Self.airport_of self.new ≡ Self.airport_of self.old }
         ensures place { Self.place self.new ≡ Self.place self.old }
-        ensures shows { ShowsFeed (feeds (Self.place self.old) (Self.airport_of self.old)) (Self.port self.old)
-            (record { seen = seen; feed = record { watch = watch.now; after = after } }) result (Self.port self.new) };
+        ensures shows { ShowsFeed (feeds (Self.place self.old) (Self.airport_of self.old))
+            (Self.port self.old)
+            (record { seen = seen; feed = record { watch = watch.now; after = after } }) result
+            (Self.port self.new) };
 
     /// Whatever a port gives for a feed, it gives at the whole history as the feed's turn found it.
-    ghost feeds_take_turns: { (place : Self.Place) (airport : AirportParts) (before after : PortState) (ask : FeedAsk) (given : FeedGiven)
-        → feeds place airport before ask given after → FeedTurn airport (feed_text place airport ask) before given after };
+    ghost feeds_take_turns: { (place : Self.Place) (airport : AirportParts)
+        (before after : PortState) (ask : FeedAsk) (given : FeedGiven)
+        → feeds place airport before ask given after
+        → FeedTurn airport (feed_text place airport ask) before given after };
 }

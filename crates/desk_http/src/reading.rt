@@ -16,7 +16,8 @@ pub(crate) enum More {
 /// Takes one piece more.
 pub(crate) fn take_more<S: Source>(source: &mut S, incoming: &mut Incoming) -> More
     requires partial { IsPartial incoming.old }
-    ensures takes { TakesMore (S.state source.old) (S.state source.new) incoming.old incoming.new result }
+    ensures takes { TakesMore (S.state source.old) (S.state source.new)
+        incoming.old incoming.new result }
 {
     let mut piece = [0; MAX_PIECE];
     match source.read(&mut piece) {

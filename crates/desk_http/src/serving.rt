@@ -29,10 +29,12 @@ pub fn session<P: DeskPort, S: Source, W: Sink>(
 ) -> Outcome
     ensures of { SessionOf P.asks (P.airport_of port.old)
         (record { source = S.state source.old; sink = W.state sink.old; port = P.port port.old })
-        (record { source = S.state source.new; sink = W.state sink.new; port = P.port port.new }) result }
+        (record { source = S.state source.new; sink = W.state sink.new; port = P.port port.new })
+        result }
     ensures complete { IsSessionComplete P.asks (P.airport_of port.old)
         (record { source = S.state source.old; sink = W.state sink.old; port = P.port port.old })
-        (record { source = S.state source.new; sink = W.state sink.new; port = P.port port.new }) result }
+        (record { source = S.state source.new; sink = W.state sink.new; port = P.port port.new })
+        result }
     ensures airport { P.airport_of port.new ≡ P.airport_of port.old }
     ensures place { P.place port.new ≡ P.place port.old }
 {
@@ -50,9 +52,11 @@ pub(crate) fn session_by<P: DeskPort, A: Answerer<P>, S: Source, W: Sink>(
     source: &mut S,
     sink: &mut W,
 ) -> Outcome
-    ensures by { SessionBy (A.comes (P.place port.old) (P.airport_of port.old)) (P.airport_of port.old)
+    ensures by { SessionBy (A.comes (P.place port.old) (P.airport_of port.old))
+        (P.airport_of port.old)
         (record { source = S.state source.old; sink = W.state sink.old; port = P.port port.old })
-        (record { source = S.state source.new; sink = W.state sink.new; port = P.port port.new }) result }
+        (record { source = S.state source.new; sink = W.state sink.new; port = P.port port.new })
+        result }
     ensures airport { P.airport_of port.new ≡ P.airport_of port.old }
     ensures place { P.place port.new ≡ P.place port.old }
 {
@@ -125,7 +129,8 @@ fn take_turn<P: DeskPort, A: Answerer<P>, S: Source, W: Sink>(
     sink: &mut W,
     incoming: &mut Incoming,
 ) -> Turned
-    ensures turn { TakesTurn (A.comes (P.place port.old) (P.airport_of port.old)) (P.airport_of port.old)
+    ensures turn { TakesTurn (A.comes (P.place port.old) (P.airport_of port.old))
+        (P.airport_of port.old)
         (record { source = S.state source.old; sink = W.state sink.old; port = P.port port.old })
         (record { source = S.state source.new; sink = W.state sink.new; port = P.port port.new })
         incoming.old incoming.new result }
@@ -158,8 +163,11 @@ fn serve_request<P: DeskPort, A: Answerer<P>, W: Sink>(
     sink: &mut W,
     parts: &RequestParts<'_>,
 ) -> Result<(), Unserved>
-    ensures served { (request : Request) → ArePartsOf request parts.now
-        → IsServed (P.airport_of port.old) (A.comes (P.place port.old) (P.airport_of port.old) (P.port port.old) request) (W.state sink.old) (W.state sink.new) result (P.port port.new) }
+    ensures served { (request : Request)
+        → ArePartsOf request parts.now
+        → IsServed (P.airport_of port.old)
+        (A.comes (P.place port.old) (P.airport_of port.old) (P.port port.old) request)
+        (W.state sink.old) (W.state sink.new) result (P.port port.new) }
     ensures airport { P.airport_of port.new ≡ P.airport_of port.old }
     ensures place { P.place port.new ≡ P.place port.old }
 {

@@ -33,10 +33,12 @@ pub trait SessionPort {
     fn serve<S: Source, W: Sink>(&mut self, alloc: Global, source: &mut S, sink: &mut W) -> Outcome
         ensures of { SessionOfKind (sessions (fixed self.old))
             (record { source = S.state source.old; sink = W.state sink.old; port = port self.old })
-            (record { source = S.state source.new; sink = W.state sink.new; port = port self.new }) result }
+            (record { source = S.state source.new; sink = W.state sink.new; port = port self.new })
+            result }
         ensures complete { IsCompleteOfKind (sessions (fixed self.old))
             (record { source = S.state source.old; sink = W.state sink.old; port = port self.old })
-            (record { source = S.state source.new; sink = W.state sink.new; port = port self.new }) result }
+            (record { source = S.state source.new; sink = W.state sink.new; port = port self.new })
+            result }
         ensures fixed { fixed self.new ≡ fixed self.old }
         ensures place { place self.new ≡ place self.old };
 }

@@ -106,7 +106,8 @@ fn all_routes(alloc: Global) -> Result<Router<Endpoint>, InsertError>
 }
 
 fn add_routes(router: &mut Router<Endpoint>, rows: &[(&str, Endpoint)]) -> Result<(), InsertError>
-    ensures added { OnOk result (router.new ≡ with_routes (λ row. (row.0.now, row.1)) rows.now router.old) }
+    ensures added { OnOk result
+        (router.new ≡ with_routes (λ row. (row.0.now, row.1)) rows.now router.old) }
 {
     for row in rows {
         add_route(router, row.0, row.1)?;

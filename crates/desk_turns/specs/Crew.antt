@@ -41,7 +41,8 @@ end_of (ListenerFault ∷ ends) = ListenerFault
 
 -- these calls are the numbers from the first one up to the end, each once
 abbrev pub AreAllOnce : ℕ → ℕ → List ℕ → Type 0
-AreAllOnce first end calls = (number : ℕ) → count_by (λ call. number == call) calls ≡ cond (nat_le first number && nat_lt number end) 1 0
+AreAllOnce first end calls = (number : ℕ)
+    → count_by (λ call. number == call) calls ≡ cond (nat_le first number && nat_lt number end) 1 0
 
 module _ {In Out : Type 0} where
   -- the calls of all workers
@@ -59,12 +60,14 @@ module _ {In Out : Type 0} where
 
   -- an entry that one of these workers could not keep, and none was added since: each of the
   -- history has a lower number
-  pub record IsUnkeptOf (workers : List (Worker In Out)) (history : List Entry) (entry : Entry) : Type 0 where
+  pub record IsUnkeptOf (workers : List (Worker In Out)) (history : List Entry)
+      (entry : Entry) : Type 0 where
     pub by : Any (TellsAtRisk entry) workers
     pub since : Rises call_of 1 entry.call history
 
 -- `kinds` says of which kind the sessions are, by the fixed part
-module _ {In Out Fixed : Type 0} (states : EndStates In Out) (kinds : Fixed → SessionKind) (asked : ℕ) (before after : MachineState Entry Fixed) where
+module _ {In Out Fixed : Type 0} (states : EndStates In Out) (kinds : Fixed → SessionKind)
+    (asked : ℕ) (before after : MachineState Entry Fixed) where
   -- A worker at the board: its port had seen the board's history, and it served the connections of
   -- its listener over it. What it has seen at its end begins the history at the end, and all other
   -- entries have greater numbers than its calls. Its port counts a fault only if the board's count
@@ -81,7 +84,9 @@ module _ {In Out Fixed : Type 0} (states : EndStates In Out) (kinds : Fixed → 
 -- once, the numbers from the board's next one up to an end. This is the end of all numbers if a
 -- port found none left. An entry at risk at the end is one that one of them could not keep, and
 -- none was added since.
-pub record ServesBoard {In Out Fixed : Type 0} (states : EndStates In Out) (kinds : Fixed → SessionKind) (asked : ℕ) (before after : CrewState In Out Fixed) (end : WorkEnd) : Type 0 where
+pub record ServesBoard {In Out Fixed : Type 0} (states : EndStates In Out)
+    (kinds : Fixed → SessionKind) (asked : ℕ) (before after : CrewState In Out Fixed)
+    (end : WorkEnd) : Type 0 where
   pub workers : List (Worker In Out)
   pub begun : before.listeners ≡ map (λ (worker : Worker In Out). worker.before.listener) workers
   pub ended : after.listeners ≡ map (λ (worker : Worker In Out). worker.after.listener) workers
@@ -90,10 +95,12 @@ pub record ServesBoard {In Out Fixed : Type 0} (states : EndStates In Out) (kind
   pub fixed : after.board.fixed ≡ before.board.fixed
   pub legal : IsLegal (kinds after.board.fixed).airport after.board.history
   pub begins : IsLater before.board.history [] after.board.history
-  pub longest : (after.board.history ≡ before.board.history) ⊎ Any (HasSeen after.board.history) workers
+  pub longest : (after.board.history ≡ before.board.history)
+      ⊎ Any (HasSeen after.board.history) workers
   pub last : ℕ
   pub order : (before.board.next ≤ last) × (last ≤ call_limit)
   pub calls : AreAllOnce before.board.next last (crew_calls workers)
-  pub exhausted : Every (λ (worker : Worker In Out). worker.after.port.spent ≡ true → last ≡ call_limit) workers
+  pub exhausted : Every
+      (λ (worker : Worker In Out). worker.after.port.spent ≡ true → last ≡ call_limit) workers
   pub faults : before.board.faults ≤ after.board.faults
   pub at_risk : IfSome after.board.at_risk (IsUnkeptOf workers after.board.history)

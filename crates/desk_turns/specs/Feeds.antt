@@ -11,7 +11,8 @@ use Rattle.desk_http.specs.declared.port.FeedAsk.{FeedAsk}
 
 -- A feed, if `text` says what its reply is at each history: it found a history that is legal at the
 -- airport, got no reply but its own there, did not fail, and left the history.
-pub record IsLegalFeed (airport : AirportParts) (text : List Entry → List ℕ) (before : List Entry) (answer : Acted) (after : List Entry) : Type 0 where
+pub record IsLegalFeed (airport : AirportParts) (text : List Entry → List ℕ) (before : List Entry)
+    (answer : Acted) (after : List Entry) : Type 0 where
   pub found : IsLegal airport before
   pub fed : (bytes : List ℕ) → answer ≡ Reply bytes → bytes ≡ text before
   pub fine : answer ≢ Fault
@@ -19,5 +20,6 @@ pub record IsLegalFeed (airport : AirportParts) (text : List Entry → List ℕ)
 
 -- what a port gives for a feed and becomes, if `text` says what the reply to each feed is at each
 -- history: the feed got its turn
-abbrev pub FeedTurns : (FeedAsk → List Entry → List ℕ) → AirportParts → PortState → FeedAsk → FeedGiven → PortState → Type 0
+abbrev pub FeedTurns : (FeedAsk → List Entry → List ℕ) → AirportParts → PortState → FeedAsk
+    → FeedGiven → PortState → Type 0
 FeedTurns text airport before ask given after = FeedTurn airport (text ask) before given after

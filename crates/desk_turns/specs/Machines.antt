@@ -17,16 +17,21 @@ AddsAsked ask entry = ask.what ≡ Change entry.command
 
 -- What an ask does at a seat of a machine: it is answered `Spent` exactly if the numbers have run
 -- out, and then only the seat's note of that changed; otherwise it got its turn.
-pub record AsksAt {M Entry Fixed Asks : Type 0} (state : M → MachineState Entry Fixed) (number : Entry → ℕ) (adds : Asks → Entry → Type 0) (answers : Fixed → List Entry → ℕ → Asks → Acted → List Entry → Type 0)
-    (before : SeatState Entry Fixed) (asked : AskAndAnswer Asks) (after : SeatState Entry Fixed) : Type 0 where
+pub record AsksAt {M Entry Fixed Asks : Type 0} (state : M → MachineState Entry Fixed)
+    (number : Entry → ℕ) (adds : Asks → Entry → Type 0)
+    (answers : Fixed → List Entry → ℕ → Asks → Acted → List Entry → Type 0)
+    (before : SeatState Entry Fixed) (asked : AskAndAnswer Asks)
+    (after : SeatState Entry Fixed) : Type 0 where
   pub spent : asked.answer ≡ Spent ↔ (after.exhausted ≡ true)
   pub unasked : asked.answer ≡ Spent → after ≡ record before { exhausted = true }
   pub answered : asked.answer ≢ Spent → GotTurn state number adds answers before asked after
 
 -- what a desk's ask does at a seat, whatever is around the board: it is answered as by a board with
 -- this airport
-abbrev pub AsksBoard : {M Fixed : Type 0} → (M → MachineState Entry Fixed) → (Fixed → AirportParts) → SeatState Entry Fixed → AskAndAnswer Ask → SeatState Entry Fixed → Type 0
-AsksBoard state airport before asked after = AsksAt state call_of AddsAsked (λ fixed. ActsLegally (airport fixed)) before asked after
+abbrev pub AsksBoard : {M Fixed : Type 0} → (M → MachineState Entry Fixed) → (Fixed → AirportParts)
+    → SeatState Entry Fixed → AskAndAnswer Ask → SeatState Entry Fixed → Type 0
+AsksBoard state airport before asked after =
+    AsksAt state call_of AddsAsked (λ fixed. ActsLegally (airport fixed)) before asked after
 
 -- the answer to an ask that could not be copied, by the answer to the call that was made in its
 -- place

@@ -38,7 +38,8 @@ put_by call (Some entry) = if call_of entry == call then Some entry else None
 abbrev pub later_of : Option Entry → Option Entry → Option Entry
 later_of None other = other
 later_of (Some entry) None = Some entry
-later_of (Some entry) (Some other) = if nat_lt (call_of other) (call_of entry) then Some entry else Some other
+later_of (Some entry) (Some other) =
+    if nat_lt (call_of other) (call_of entry) then Some entry else Some other
 
 -- of the entries that these calls put at risk the one of the greatest number
 abbrev pub latest_at_risk : List (Call Entry) → Option Entry

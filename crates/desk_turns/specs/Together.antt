@@ -30,23 +30,28 @@ HasCallOf entry calls = Any (λ (call : Call Entry). call.number ≡ call_of ent
 
 -- each of these calls that is not from before the entry's left it at risk
 abbrev pub StaysAtRisk : Entry → List (Call Entry) → Type 0
-StaysAtRisk entry calls = Every (λ (call : Call Entry). call_of entry ≤ call.number → call.at_risk ≡ Some entry) calls
+StaysAtRisk entry calls =
+    Every (λ (call : Call Entry). call_of entry ≤ call.number → call.at_risk ≡ Some entry) calls
 
 -- A worker whose seat was cut from one seat and met it again: what its port has seen at its end
 -- begins the history that is seen then, and its calls, its note of exhausted numbers and its faults
 -- are with that seat.
-pub record WorksBeside {In Out Fixed : Type 0} (states : EndStates In Out) (kind : SessionKind) (asked : ℕ) (before after : SeatState Entry Fixed) (worker : Worker In Out) : Type 0 where
+pub record WorksBeside {In Out Fixed : Type 0} (states : EndStates In Out) (kind : SessionKind)
+    (asked : ℕ) (before after : SeatState Entry Fixed) (worker : Worker In Out) : Type 0 where
   pub fresh : IsFresh before.seen worker.before.port
   pub works : Works states kind asked worker.before worker.after worker.end
   pub seen : IsLater worker.after.port.seen worker.after.port.calls after.seen
-  pub own : (entries : List Entry) → AreLater (map call_number after.calls) entries → AreLater worker.after.port.calls entries
+  pub own : (entries : List Entry)
+      → AreLater (map call_number after.calls) entries
+      → AreLater worker.after.port.calls entries
   pub exhausted : worker.after.port.spent ≡ true → after.exhausted ≡ true
   pub faults : worker.after.port.faults ≤ count_by is_risen after.calls
 
 -- workers that were asked for this many connections each, one for each listener: how they ended
 -- together, and the seat that has met all of theirs; an entry that one of its calls put at risk,
 -- and which stayed so, is that of a call from before or the one that a worker tells
-pub record WorkTogether {In Out Fixed : Type 0} (states : EndStates In Out) (kind : SessionKind) (asked : ℕ) (before after : SeatedState In Out Fixed) (end : WorkEnd) : Type 0 where
+pub record WorkTogether {In Out Fixed : Type 0} (states : EndStates In Out) (kind : SessionKind)
+    (asked : ℕ) (before after : SeatedState In Out Fixed) (end : WorkEnd) : Type 0 where
   pub workers : List (Worker In Out)
   pub begun : before.listeners ≡ map (λ (worker : Worker In Out). worker.before.listener) workers
   pub ended : after.listeners ≡ map (λ (worker : Worker In Out). worker.after.listener) workers
@@ -54,5 +59,10 @@ pub record WorkTogether {In Out Fixed : Type 0} (states : EndStates In Out) (kin
   pub work : Every (WorksBeside states kind asked before.seat after.seat) workers
   pub begins : IsLater before.seat.seen [] after.seat.seen
   pub longest : (after.seat.seen ≡ before.seat.seen) ⊎ Any (HasSeen after.seat.seen) workers
-  pub calls : (number : ℕ) → times number after.seat.calls ≡ times number before.seat.calls + count_by (λ call. number == call) (crew_calls workers)
-  pub at_risk : (entry : Entry) → HasCallOf entry after.seat.calls → StaysAtRisk entry after.seat.calls → HasCallOf entry before.seat.calls ⊎ Any (TellsAtRisk entry) workers
+  pub calls : (number : ℕ)
+      → times number after.seat.calls
+      ≡ times number before.seat.calls + count_by (λ call. number == call) (crew_calls workers)
+  pub at_risk : (entry : Entry)
+      → HasCallOf entry after.seat.calls
+      → StaysAtRisk entry after.seat.calls
+      → HasCallOf entry before.seat.calls ⊎ Any (TellsAtRisk entry) workers

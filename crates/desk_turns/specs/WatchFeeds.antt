@@ -11,8 +11,10 @@ use Rattle.desk_turns.specs.Feeds.{IsLegalFeed}
 use Rattle.desk_turns.specs.Watched.{watch_text}
 
 -- it is the reply to the feed, or there is no memory
-pub watch_feeds : {R : Type 0} (tells : R → Note → Bool) (fixed : WatchFixed R) (before : List Entry) (ask : FeedAsk) (answer : Acted) (after : List Entry)
-    → FeedsNotes tells fixed before (record { seen = ask.seen; watch = ask.feed.watch; after = ask.feed.after }) answer after
+pub watch_feeds : {R : Type 0} (tells : R → Note → Bool) (fixed : WatchFixed R)
+    (before : List Entry) (ask : FeedAsk) (answer : Acted) (after : List Entry)
+    → FeedsNotes tells fixed before
+    (record { seen = ask.seen; watch = ask.feed.watch; after = ask.feed.after }) answer after
     → IsLegalFeed fixed.airport (watch_text tells fixed ask) before answer after
 watch_feeds tells fixed before ask answer after feeds = record {
   found = feeds.found;

@@ -14,8 +14,11 @@ use Rattle.desk_http.specs.declared.port.FeedAsk.{FeedAsk}
 use Rattle.desk_turns.specs.Feeds.{FeedTurns}
 
 -- the text of the reply to each feed at each history
-abbrev pub watch_text : {R : Type 0} → (R → Note → Bool) → WatchFixed R → FeedAsk → List Entry → List ℕ
-watch_text tells fixed ask history = feed_reply tells fixed history (record { seen = ask.seen; watch = ask.feed.watch; after = ask.feed.after })
+abbrev pub watch_text : {R : Type 0} → (R → Note → Bool) → WatchFixed R → FeedAsk → List Entry
+    → List ℕ
+watch_text tells fixed ask history =
+    feed_reply tells fixed history
+    (record { seen = ask.seen; watch = ask.feed.watch; after = ask.feed.after })
 
 -- what the reply to each feed is, by the airport and the history
 abbrev pub FeedTexts : Type 0
@@ -23,7 +26,8 @@ FeedTexts = AirportParts → FeedAsk → List Entry → List ℕ
 
 -- those of these watches
 abbrev pub feed_texts : {R : Type 0} → (R → Note → Bool) → List (Watched R) → FeedTexts
-feed_texts tells watches airport = watch_text tells (record { airport = airport; watches = watches })
+feed_texts tells watches airport =
+    watch_text tells (record { airport = airport; watches = watches })
 
 -- those of no watch: there is none of any name
 abbrev pub no_feeds : FeedTexts
@@ -31,4 +35,7 @@ no_feeds = feed_texts shows []
 
 -- the sessions over a port of the airport that answer these feeds
 abbrev pub fed_sessions : FeedTexts → AirportParts → SessionKind
-fed_sessions feeds airport = record { airport = airport; comes = FedAnswers Turn (FeedTurns (feeds airport)) airport }
+fed_sessions feeds airport = record {
+  airport = airport;
+  comes = FedAnswers Turn (FeedTurns (feeds airport)) airport;
+}

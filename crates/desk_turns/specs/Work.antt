@@ -47,9 +47,12 @@ module _ {In Out : Type 0} where
   finished_of connection = connection.finished
 
   -- these connections were accepted and finished, each in order, and another accept failed or none
-  pub record TakesAndFinishes (failed : Bool) (before after : ListenerState In Out) (connections : List (Connection In Out)) : Type 0 where
-    pub to_come : before.to_come ≡ option_map (λ others. map come_of connections ++ others) after.to_come
-    pub finished : after.finished ≡ option_map (λ others. others ++ map finished_of connections) before.finished
+  pub record TakesAndFinishes (failed : Bool) (before after : ListenerState In Out)
+      (connections : List (Connection In Out)) : Type 0 where
+    pub to_come : before.to_come
+        ≡ option_map (λ others. map come_of connections ++ others) after.to_come
+    pub finished : after.finished
+        ≡ option_map (λ others. others ++ map finished_of connections) before.finished
     pub accepted : after.accepted ≡ before.accepted + length connections
     pub ended : after.ended ≡ before.ended + length connections
     pub faults : Counts failed before.faults after.faults
@@ -58,19 +61,30 @@ module _ {In Out : Type 0} (states : EndStates In Out) (kind : SessionKind) wher
   -- the connection had a session of its own, and was finished with its outcome
   abbrev pub HasSession : PortState → Connection In Out → PortState → Type 0
   HasSession before connection after = SessionOfKind kind
-      (record { source = states.source connection.source; sink = states.sink connection.sink; port = before })
-      (record { source = states.source connection.finished.source; sink = states.sink connection.finished.sink; port = after })
+      (record {
+        source = states.source connection.source;
+        sink = states.sink connection.sink;
+        port = before;
+      })
+      (record {
+        source = states.source connection.finished.source;
+        sink = states.sink connection.finished.sink;
+        port = after;
+      })
       connection.finished.outcome
 
   -- the connections had sessions of their own, one after the other
   abbrev pub AreServed : PortState → List (Connection In Out) → PortState → Type 0
   AreServed before [] after = after ≡ before
   AreServed before (connection ∷ connections) after =
-      (between : PortState) × HasSession before connection between × AreServed between connections after
+      (between : PortState)
+      × HasSession before connection between
+      × AreServed between connections after
 
   -- these connections were accepted, served one after the other and finished, and another accept
   -- failed or none
-  pub record Serves (failed : Bool) (before after : WorkState In Out) (connections : List (Connection In Out)) : Type 0 where
+  pub record Serves (failed : Bool) (before after : WorkState In Out)
+      (connections : List (Connection In Out)) : Type 0 where
     pub served : AreServed before.port connections after.port
     pub finishes : TakesAndFinishes failed before.listener after.listener connections
 

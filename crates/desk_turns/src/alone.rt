@@ -34,7 +34,8 @@ impl<'a, M: DeskMachine> Model for AlonePort<'a, M> {
 
     ghost view = { λ a. record { machine = a.machine; first = a.first } };
 
-    ghost invariant = { λ a. (a.first ≤ (M.state a.machine).next) × (a.airport.now ≡ M.airport (M.state a.machine).fixed) };
+    ghost invariant = { λ a. (a.first ≤ (M.state a.machine).next)
+        × (a.airport.now ≡ M.airport (M.state a.machine).fixed) };
 }
 
 impl<'a, M: DeskMachine> AlonePort<'a, M> {
@@ -106,7 +107,8 @@ where
 
     ghost feeds_take_turns = { λ fixed airport before after ask given feeds. record {
       turn = feeds.0.0;
-      gives = subst (λ history. IfSome given (λ told. told ≡ M.feed_text fixed ask history)) (sym feeds.0.1) feeds.1;
+      gives = subst (λ history. IfSome given (λ told. told ≡ M.feed_text fixed ask history))
+          (sym feeds.0.1) feeds.1;
     } };
 
     fn feed(&mut self, alloc: Global, seen: u32, watch: &Name, after: u32) -> Acted {
@@ -123,8 +125,11 @@ where
     requires valid { IsAskOf (M.airport (M.state machine.old).fixed) ask.now }
     ensures fixed { (M.state machine.new).fixed ≡ (M.state machine.old).fixed }
     ensures next { (M.state machine.old).next ≤ (M.state machine.new).next }
-    ensures shows { (first : ℕ) → first ≤ (M.state machine.old).next → ShowsAsk AloneAsks (M.airport (M.state machine.old).fixed)
-        (port_over first (M.state machine.old)) ask.now result (port_over first (M.state machine.new)) }
+    ensures shows { (first : ℕ)
+        → first ≤ (M.state machine.old).next
+        → ShowsAsk AloneAsks (M.airport (M.state machine.old).fixed)
+        (port_over first (M.state machine.old)) ask.now result
+        (port_over first (M.state machine.new)) }
 {
     match M::copied(alloc, ask) {
         Ok(own) => act_next(alloc, machine, &own),
@@ -139,8 +144,11 @@ where
     M::Ask: Drop,
     ensures fixed { (M.state machine.new).fixed ≡ (M.state machine.old).fixed }
     ensures next { (M.state machine.old).next ≤ (M.state machine.new).next }
-    ensures shows { (first : ℕ) (ask : Ask) → first ≤ (M.state machine.old).next → ShowsAsk AloneAsks (M.airport (M.state machine.old).fixed)
-        (port_over first (M.state machine.old)) ask result (port_over first (M.state machine.new)) }
+    ensures shows { (first : ℕ) (ask : Ask)
+        → first ≤ (M.state machine.old).next
+        → ShowsAsk AloneAsks (M.airport (M.state machine.old).fixed)
+        (port_over first (M.state machine.old)) ask result
+        (port_over first (M.state machine.new)) }
 {
     let version = Ask {
         seen: 0,
@@ -156,8 +164,11 @@ where
 // `Spent`, and the machine is not asked.
 fn act_next<M: DeskMachine>(alloc: Global, machine: &mut M, ask: &M::Ask) -> Acted
     requires valid { M.valid (M.state machine.old).fixed ask.now }
-    ensures unasked { result ≡ Acted.Spent → (M.state machine.new ≡ M.state machine.old) × ((M.state machine.old).next ≡ call_limit) }
-    ensures asked { result ≢ Acted.Spent → ActsNext M.number M.adds M.answers (M.state machine.old) (record { ask = ask.now; answer = result }) (M.state machine.new) }
+    ensures unasked { result ≡ Acted.Spent
+        → (M.state machine.new ≡ M.state machine.old) × ((M.state machine.old).next ≡ call_limit) }
+    ensures asked { result ≢ Acted.Spent
+        → ActsNext M.number M.adds M.answers (M.state machine.old)
+        (record { ask = ask.now; answer = result }) (M.state machine.new) }
     ensures legal { IsLegal (M.airport (M.state machine.old).fixed) (M.state machine.old).history }
     ensures fixed { (M.state machine.new).fixed ≡ (M.state machine.old).fixed }
     ensures next { (M.state machine.old).next ≤ (M.state machine.new).next }

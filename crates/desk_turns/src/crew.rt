@@ -48,11 +48,13 @@ pub fn serve_board<
     requires at_risk { (M.state board).at_risk ≡ None }
     requires few { length listeners.old < all_shares }
     requires job { J.pre job.old }
-    ensures serves { IfOk result.0 (λ ends. ServesBoard W.states (λ fixed. record { airport = M.airport fixed; comes = M.comes fixed }) connections
+    ensures serves { IfOk result.0 (λ ends. ServesBoard W.states
+        (λ fixed. record { airport = M.airport fixed; comes = M.comes fixed }) connections
         (record { listeners = map W.state listeners.old; board = M.state board })
         (record { listeners = map W.state listeners.new; board = M.state result.1 }) ends.0) }
     ensures job { IfOk result.0 (λ ends. J.step job.old ends.1 job.new) }
-    ensures refused { IfErr result.0 (λ _. (listeners.new ≡ listeners.old) × (result.1 ≡ board) × (job.new ≡ job.old)) }
+    ensures refused { IfErr result.0
+        (λ _. (listeners.new ≡ listeners.old) × (result.1 ≡ board) × (job.new ≡ job.old)) }
 {
     board.is_board();
     match TurnBoard::new(alloc, board) {
@@ -140,9 +142,10 @@ fn work_first<P: SessionPort, W: Workplace, R: Wait>(
     connections: u32,
 ) -> WorkEnd
     requires one { length listeners.old ≡ 1 }
-    ensures works { AllZip (λ before after. Works W.states (P.sessions (P.fixed port.old)) connections
-        (record { listener = W.state before; port = P.port port.old })
-        (record { listener = W.state after; port = P.port port.new }) result) listeners.old listeners.new }
+    ensures works { AllZip (λ before after. Works W.states (P.sessions (P.fixed port.old))
+        connections (record { listener = W.state before; port = P.port port.old })
+        (record { listener = W.state after; port = P.port port.new }) result) listeners.old
+        listeners.new }
     ensures place { P.place port.new ≡ P.place port.old }
 {
     listeners[0].work(rt, alloc, port, connections)
@@ -165,9 +168,10 @@ fn work_beside<
 ) -> (WorkEnd, T)
     requires one { length listeners.old ≡ 1 }
     requires job { J.pre job.old }
-    ensures works { AllZip (λ before after. Works W.states (P.sessions (P.fixed port.old)) connections
-        (record { listener = W.state before; port = P.port port.old })
-        (record { listener = W.state after; port = P.port port.new }) result.0) listeners.old listeners.new }
+    ensures works { AllZip (λ before after. Works W.states (P.sessions (P.fixed port.old))
+        connections (record { listener = W.state before; port = P.port port.old })
+        (record { listener = W.state after; port = P.port port.new }) result.0) listeners.old
+        listeners.new }
     ensures place { P.place port.new ≡ P.place port.old }
     ensures job { J.step job.old result.1 job.new }
 {
@@ -175,9 +179,11 @@ fn work_beside<
         rt,
         &mut ||
             requires { length listeners.now ≡ 1 }
-            ensures works { AllZip (λ before after. Works W.states (P.sessions (P.fixed port.entry.now)) connections
+            ensures works { AllZip (λ before after. Works W.states
+                (P.sessions (P.fixed port.entry.now)) connections
                 (record { listener = W.state before; port = P.port port.entry.now })
-                (record { listener = W.state after; port = P.port port.exit.now }) result) listeners.entry.now listeners.exit.now }
+                (record { listener = W.state after; port = P.port port.exit.now }) result)
+                listeners.entry.now listeners.exit.now }
             ensures place { P.place port.exit.now ≡ P.place port.entry.now }
         { work_first(rt, alloc, port, listeners, connections) },
         job,
@@ -200,7 +206,8 @@ fn work_all<P: SplitPort + Send, W: Workplace + Send, R: Threads + Wait + Sync, 
     ensures share { (P.served port.new).seat.share ≡ (P.served port.old).seat.share }
     ensures works { WorkTogether W.states (P.sessions (P.fixed port.old)) connections
         (record { listeners = map W.state listeners.old; seat = (P.served port.old).seat })
-        (record { listeners = map W.state listeners.new; seat = (P.served port.new).seat }) result.0 }
+        (record { listeners = map W.state listeners.new; seat = (P.served port.new).seat })
+        result.0 }
     ensures job { J.step job.old result.1 job.new }
 {
     if listeners.is_empty() {
@@ -216,12 +223,21 @@ fn work_all<P: SplitPort + Send, W: Workplace + Send, R: Threads + Wait + Sync, 
         first,
         connections,
         &mut ||
-            requires { IsSync R.row × (length rest.now < (P.served port.now).seat.share) × J.pre job.now }
+            requires { IsSync R.row
+                × (length rest.now < (P.served port.now).seat.share)
+                × J.pre job.now }
             ensures board { (P.served port.exit.now).board ≡ (P.served port.entry.now).board }
-            ensures share { (P.served port.exit.now).seat.share ≡ (P.served port.entry.now).seat.share }
+            ensures share { (P.served port.exit.now).seat.share
+                ≡ (P.served port.entry.now).seat.share }
             ensures works { WorkTogether W.states (P.sessions (P.fixed port.entry.now)) connections
-                (record { listeners = map W.state rest.entry.now; seat = (P.served port.entry.now).seat })
-                (record { listeners = map W.state rest.exit.now; seat = (P.served port.exit.now).seat }) result.0 }
+                (record {
+                  listeners = map W.state rest.entry.now;
+                  seat = (P.served port.entry.now).seat;
+                })
+                (record {
+                  listeners = map W.state rest.exit.now;
+                  seat = (P.served port.exit.now).seat;
+                }) result.0 }
             ensures job { J.step job.entry.now result.1 job.exit.now }
         { work_all(rt, alloc, port, rest, connections, job) },
     );

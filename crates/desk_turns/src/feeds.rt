@@ -41,7 +41,8 @@ pub trait FeedMachine: DeskMachine {
     /// The ask for a feed: the bumps that the watch of this name picks, of those after the version
     /// `after`, for a desk that has seen the version `seen`. It takes no memory.
     fn feed_ask(seen: u32, watch: &Name, after: u32) -> Self::Ask
-        ensures is { result ≡ fed (record { seen = seen; feed = record { watch = watch.now; after = after } }) };
+        ensures is { result
+            ≡ fed (record { seen = seen; feed = record { watch = watch.now; after = after } }) };
 
     /// Each feed may be asked for.
     ghost can_feed: { (fixed : Self.Fixed) (ask : FeedAsk) → Self.valid fixed (fed ask) };
@@ -51,8 +52,10 @@ pub trait FeedMachine: DeskMachine {
 
     /// A feed gets its reply at the history that it finds, or there is no memory; it leaves that
     /// history.
-    ghost feeds_as: { (fixed : Self.Fixed) (before : List Entry) (call : ℕ) (ask : FeedAsk) (answer : Acted) (after : List Entry)
-        → Self.answers fixed before call (fed ask) answer after → IsLegalFeed (Self.airport fixed) (feed_text fixed ask) before answer after };
+    ghost feeds_as: { (fixed : Self.Fixed) (before : List Entry) (call : ℕ) (ask : FeedAsk)
+        (answer : Acted) (after : List Entry)
+        → Self.answers fixed before call (fed ask) answer after
+        → IsLegalFeed (Self.airport fixed) (feed_text fixed ask) before answer after };
 }
 
 impl<'s, R: Wait, M: FeedMachine, B: Turns<M>> FeedPort for SeatPort<'s, R, M, B>
@@ -82,18 +85,24 @@ pub fn serve_fed<'s, R: Wait, M: FeedMachine, B: Turns<M>, S: Source, W: Sink>(
 ) -> Outcome
 where
     M::Ask: Drop,
-    ensures of { SessionOfKind (record {
-      airport = M.airport (fixed_of port.old);
-      comes = FedAnswers Turn (FeedTurns (M.feed_text (fixed_of port.old))) (M.airport (fixed_of port.old));
-    })
+    ensures of { SessionOfKind
+        (record {
+          airport = M.airport (fixed_of port.old);
+          comes = FedAnswers Turn (FeedTurns (M.feed_text (fixed_of port.old)))
+              (M.airport (fixed_of port.old));
+        })
         (record { source = S.state source.old; sink = W.state sink.old; port = port_of port.old })
-        (record { source = S.state source.new; sink = W.state sink.new; port = port_of port.new }) result }
-    ensures complete { IsCompleteOfKind (record {
-      airport = M.airport (fixed_of port.old);
-      comes = FedAnswers Turn (FeedTurns (M.feed_text (fixed_of port.old))) (M.airport (fixed_of port.old));
-    })
+        (record { source = S.state source.new; sink = W.state sink.new; port = port_of port.new })
+        result }
+    ensures complete { IsCompleteOfKind
+        (record {
+          airport = M.airport (fixed_of port.old);
+          comes = FedAnswers Turn (FeedTurns (M.feed_text (fixed_of port.old)))
+              (M.airport (fixed_of port.old));
+        })
         (record { source = S.state source.old; sink = W.state sink.old; port = port_of port.old })
-        (record { source = S.state source.new; sink = W.state sink.new; port = port_of port.new }) result }
+        (record { source = S.state source.new; sink = W.state sink.new; port = port_of port.new })
+        result }
     ensures place { board_and_share port.new ≡ board_and_share port.old }
 {
     session_fed(alloc, port, source, sink)

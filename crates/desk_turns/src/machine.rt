@@ -32,7 +32,8 @@ pub trait DeskMachine: Machine<Entry = Entry> {
     /// within the limit.
     fn is_board(&self)
         ensures next { (Self.state self.now).next ≤ call_limit }
-        ensures legal { IsLegal (airport (Self.state self.now).fixed) (Self.state self.now).history };
+        ensures legal { IsLegal (airport (Self.state self.now).fixed)
+            (Self.state self.now).history };
 
     /// Asks at a seat what a desk asks, by reference or by a copy of it. At `Err` no memory was
     /// there to copy a command, and nothing was asked.
@@ -47,21 +48,26 @@ pub trait DeskMachine: Machine<Entry = Entry> {
         requires valid { Self.valid (B.state board.now).start.fixed (plain ask.now) }
         ensures sits { Sits (B.state board.now) seat.new }
         ensures share { seat.new.share ≡ seat.old.share }
-        ensures asks { IfOk result (λ answer. AsksAt Self.state Self.number Self.adds Self.answers seat.old (record { ask = plain ask.now; answer = answer }) seat.new) }
+        ensures asks { IfOk result (λ answer. AsksAt Self.state Self.number Self.adds Self.answers
+            seat.old (record { ask = plain ask.now; answer = answer }) seat.new) }
         ensures uncopied { OnErr result ((seat.new ≡ seat.old) × AsksCommand ask.now) };
 
     /// The number of an entry is that of the call which added it.
     ghost numbers: { Self.number ≡ call_of };
 
     /// Each ask of a desk at the airport may be asked.
-    ghost can_ask: { (fixed : Self.Fixed) (ask : Ask) → IsAskOf (airport fixed) ask → Self.valid fixed (plain ask) };
+    ghost can_ask: { (fixed : Self.Fixed) (ask : Ask) → IsAskOf (airport fixed) ask
+        → Self.valid fixed (plain ask) };
 
     /// It can add the entry of the command that a desk asks, and no other.
-    ghost adds_asked: { (ask : Ask) (entry : Entry) → Self.adds (plain ask) entry → AddsAsked ask entry };
+    ghost adds_asked: { (ask : Ask) (entry : Entry) → Self.adds (plain ask) entry
+        → AddsAsked ask entry };
 
     /// It answers a desk's ask as the board does.
-    ghost answers_as: { (fixed : Self.Fixed) (before : List Entry) (call : ℕ) (ask : Ask) (answer : Acted) (after : List Entry)
-        → Self.answers fixed before call (plain ask) answer after → ActsLegally (airport fixed) before call ask answer after };
+    ghost answers_as: { (fixed : Self.Fixed) (before : List Entry) (call : ℕ) (ask : Ask)
+        (answer : Acted) (after : List Entry)
+        → Self.answers fixed before call (plain ask) answer after
+        → ActsLegally (airport fixed) before call ask answer after };
 }
 
 impl<'a, K: Keeper> DeskMachine for Board<'a, K> {

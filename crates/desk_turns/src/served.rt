@@ -44,7 +44,8 @@ impl<'s, R, M: DeskMachine, B: Turns<M>> Model for SeatPort<'s, R, M, B> {
 
     ghost view = { λ s. record { board = B.state s.board.now; seat = s.seat } };
 
-    ghost invariant = { λ s. Sits (B.state s.board.now) s.seat × (s.airport.now ≡ M.airport (B.state s.board.now).start.fixed) };
+    ghost invariant = { λ s. Sits (B.state s.board.now) s.seat
+        × (s.airport.now ≡ M.airport (B.state s.board.now).start.fixed) };
 }
 
 impl<'s, R, M: DeskMachine, B: Turns<M>> SeatPort<'s, R, M, B> {
@@ -90,7 +91,8 @@ impl<'s, R: Wait, M: DeskMachine, B: Turns<M>> SeatPort<'s, R, M, B> {
         ensures board { self.new.board ≡ self.old.board }
         ensures share { self.new.seat.share ≡ self.old.seat.share }
         ensures sits { Sits self.old.board self.old.seat }
-        ensures asks { AsksAt M.state M.number M.adds M.answers self.old.seat (record { ask = ask.now; answer = result }) self.new.seat }
+        ensures asks { AsksAt M.state M.number M.adds M.answers self.old.seat
+            (record { ask = ask.now; answer = result }) self.new.seat }
     {
         self.board.ask(self.rt, alloc, &mut self.seat, ask)
     }
@@ -148,7 +150,8 @@ fn ask_seat<R: Wait, M: DeskMachine, B: Turns<M>>(
     requires valid { IsAskOf (M.airport (B.state board.now).start.fixed) ask.now }
     ensures sits { Sits (B.state board.now) seat.new }
     ensures share { seat.new.share ≡ seat.old.share }
-    ensures asks { AsksBoard M.state M.airport seat.old (record { ask = ask.now; answer = result }) seat.new }
+    ensures asks { AsksBoard M.state M.airport seat.old (record { ask = ask.now; answer = result })
+        seat.new }
 {
     match ask_plainly(rt, alloc, board, seat, ask) {
         Ok(answer) => answer,
@@ -168,7 +171,8 @@ fn ask_plainly<R: Wait, M: DeskMachine, B: Turns<M>>(
     requires valid { IsAskOf (M.airport (B.state board.now).start.fixed) ask.now }
     ensures sits { Sits (B.state board.now) seat.new }
     ensures share { seat.new.share ≡ seat.old.share }
-    ensures asks { IfOk result (λ answer. AsksBoard M.state M.airport seat.old (record { ask = ask.now; answer = answer }) seat.new) }
+    ensures asks { IfOk result (λ answer. AsksBoard M.state M.airport seat.old
+        (record { ask = ask.now; answer = answer }) seat.new) }
     ensures uncopied { OnErr result ((seat.new ≡ seat.old) × AsksCommand ask.now) }
 {
     M::ask_at(rt, alloc, board, seat, ask)
@@ -185,7 +189,8 @@ fn call_uncopied<R: Wait, M: DeskMachine, B: Turns<M>>(
     requires sits { Sits (B.state board.now) seat.old }
     ensures sits { Sits (B.state board.now) seat.new }
     ensures share { seat.new.share ≡ seat.old.share }
-    ensures asks { (ask : Ask) → AsksBoard M.state M.airport seat.old (record { ask = ask; answer = result }) seat.new }
+    ensures asks { (ask : Ask)
+        → AsksBoard M.state M.airport seat.old (record { ask = ask; answer = result }) seat.new }
 {
     let version = Ask {
         seen: 0,

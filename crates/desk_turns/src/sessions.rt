@@ -30,12 +30,36 @@ pub trait SessionMachine: DeskMachine {
         source: &mut S,
         sink: &mut W,
     ) -> Outcome
-        ensures of { SessionOfKind (record { airport = Self.airport (fixed_of port.old); comes = comes (fixed_of port.old) })
-            (record { source = S.state source.old; sink = W.state sink.old; port = port_of port.old })
-            (record { source = S.state source.new; sink = W.state sink.new; port = port_of port.new }) result }
-        ensures complete { IsCompleteOfKind (record { airport = Self.airport (fixed_of port.old); comes = comes (fixed_of port.old) })
-            (record { source = S.state source.old; sink = W.state sink.old; port = port_of port.old })
-            (record { source = S.state source.new; sink = W.state sink.new; port = port_of port.new }) result }
+        ensures of { SessionOfKind
+            (record {
+              airport = Self.airport (fixed_of port.old);
+              comes = comes (fixed_of port.old);
+            })
+            (record {
+              source = S.state source.old;
+              sink = W.state sink.old;
+              port = port_of port.old;
+            })
+            (record {
+              source = S.state source.new;
+              sink = W.state sink.new;
+              port = port_of port.new;
+            }) result }
+        ensures complete { IsCompleteOfKind
+            (record {
+              airport = Self.airport (fixed_of port.old);
+              comes = comes (fixed_of port.old);
+            })
+            (record {
+              source = S.state source.old;
+              sink = W.state sink.old;
+              port = port_of port.old;
+            })
+            (record {
+              source = S.state source.new;
+              sink = W.state sink.new;
+              port = port_of port.new;
+            }) result }
         ensures place { board_and_share port.new ≡ board_and_share port.old };
 }
 

@@ -20,7 +20,8 @@ pub trait Turns<M: Machine> {
         requires valid { M.valid (state self.now).start.fixed ask.now }
         ensures sits { Sits (state self.now) seat.new }
         ensures share { seat.new.share ≡ seat.old.share }
-        ensures asks { AsksAt M.state M.number M.adds M.answers seat.old (record { ask = ask.now; answer = result }) seat.new };
+        ensures asks { AsksAt M.state M.number M.adds M.answers seat.old
+            (record { ask = ask.now; answer = result }) seat.new };
 }
 
 impl<M: Machine> Turns<M> for TurnBoard<M> {

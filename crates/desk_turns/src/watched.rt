@@ -59,7 +59,8 @@ impl<'a, K: Keeper, R: Stated, T: NoteTest> FeedMachine for WatchBoard<'a, 'a, K
 
     ghost adds_none = { λ ask entry adds. adds };
 
-    ghost feeds_as = { λ fixed before call ask answer after. watch_feeds R.tells fixed before ask answer after };
+    ghost feeds_as = { λ fixed before call ask answer after. watch_feeds R.tells fixed
+        before ask answer after };
 
     fn copied(alloc: Global, ask: &Ask) -> Result<WatchAsk, Memory> {
         watch_ask_of(alloc, ask)

@@ -27,10 +27,12 @@ pub fn work<P: SessionPort, L: Listener, R: Wait>(
     listener: &mut L,
     connections: u32,
 ) -> WorkEnd
-    ensures works { Works (record { source = L.In.state; sink = L.Out.state }) (P.sessions (P.fixed port.old)) connections
+    ensures works { Works (record { source = L.In.state; sink = L.Out.state })
+        (P.sessions (P.fixed port.old)) connections
         (record { listener = L.state listener.old; port = P.port port.old })
         (record { listener = L.state listener.new; port = P.port port.new }) result }
-    ensures done { ¬ (Rose (L.state listener.old).faults (L.state listener.new).faults) → result ≡ WorkEnd.Done }
+    ensures done { ¬ (Rose (L.state listener.old).faults (L.state listener.new).faults)
+        → result ≡ WorkEnd.Done }
     ensures fixed { P.fixed port.new ≡ P.fixed port.old }
     ensures place { P.place port.new ≡ P.place port.old }
 {
@@ -49,7 +51,8 @@ fn serve_next<P: SessionPort, L: Listener, R: Wait>(
     port: &mut P,
     listener: &mut L,
 ) -> Result<(), Failed>
-    ensures serves { ServesNext (record { source = L.In.state; sink = L.Out.state }) (P.sessions (P.fixed port.old))
+    ensures serves { ServesNext (record { source = L.In.state; sink = L.Out.state })
+        (P.sessions (P.fixed port.old))
         (record { listener = L.state listener.old; port = P.port port.old })
         (record { listener = L.state listener.new; port = P.port port.new }) result }
     ensures fixed { P.fixed port.new ≡ P.fixed port.old }

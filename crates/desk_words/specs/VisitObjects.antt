@@ -100,4 +100,5 @@ listed_visit_data airport visit = object (listed_visit_members airport visit)
 abbrev pub day_data : AirportParts → List Visit → ℕ → Data
 day_data airport visits version =
     object (member (codes "version") (whole version)
-    (member (codes "visits") (array (items_of (map (listed_visit_data airport) visits))) no_members))
+    (member (codes "visits")
+    (array (items_of (map (listed_visit_data airport) visits))) no_members))

@@ -33,7 +33,7 @@ abbrev pub former_fields_of : AirportParts → ℕ → Option (Reading Command)
 former_fields_of airport kind =
     if kind == 1 then Some (parse_new_visit airport >>= λ new. give (AddVisit new))
     else (if kind == 2 then Some (parse_commit airport >>= λ draft. give (Commit draft))
-    else (if kind == 3 then Some (parse_message >>= λ message. give (Message (with_no_desk message)))
+    else (if kind == 3 then Some (parse_message >>= λ text. give (Message (with_no_desk text)))
     else (if kind == 4 then Some (parse_report airport no_desk >>= λ report. give (Report report))
     else (if kind == 5 then Some (parse_cancel >>= λ visit. give (Cancel visit))
     else None))))

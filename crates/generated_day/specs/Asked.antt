@@ -44,7 +44,8 @@ put_first draft version number stand = Commit (record {
 
 -- the scheduled minute on block of the visit of this number
 abbrev pub scheduled_on : List Visit → ℕ → ℕ
-scheduled_on visits number = option_map_or (λ visit. visit.on) (visit_at visits (record { 0 = number })) 0
+scheduled_on visits number =
+    option_map_or (λ visit. visit.on) (visit_at visits (record { 0 = number })) 0
 
 -- a message that the visit of this number is estimated on the ground this many minutes after this
 -- one, as a clock time

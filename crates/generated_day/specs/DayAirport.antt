@@ -11,7 +11,14 @@ use Rattle.generated_day.specs.declared.airport.TheConstants.{STANDS}
 
 -- the stand of this number, counted from 1: G01, G02 and so on, 41 metres apart
 abbrev pub day_stand : ℕ → StandRow
-day_stand number = record { name = 71 ∷ two_text number; frontage = codes "G"; centre = 4100 * number; letter = E; buffer = 10; half_of = None }
+day_stand number = record {
+  name = 71 ∷ two_text number;
+  frontage = codes "G";
+  centre = 4100 * number;
+  letter = E;
+  buffer = 10;
+  half_of = None;
+}
 
 -- the stands
 abbrev pub day_stands : List StandRow
@@ -19,13 +26,21 @@ day_stands = map day_stand (range_with_len 1 STANDS)
 
 -- a type of this name, wing span and least minutes, whose wing tips do not fold
 abbrev pub day_type : List ℕ → ℕ → ℕ → TypeRow
-day_type name span least = record { name = name; span = span; least = least; parked = span; fold = 0 }
+day_type name span least = record {
+  name = name;
+  span = span;
+  least = least;
+  parked = span;
+  fold = 0;
+}
 
 -- the types
 abbrev pub day_types : List TypeRow
 day_types =
-    day_type (codes "A320") 3580 40 ∷ day_type (codes "B738") 3579 40 ∷ day_type (codes "B77W") 6480 60 ∷ day_type (codes "AT76") 2705 25
-    ∷ day_type (codes "B190") 1767 20 ∷ day_type (codes "A388") 7975 90 ∷ day_type (codes "X360") 3600 40 ∷ []
+    day_type (codes "A320") 3580 40 ∷ day_type (codes "B738") 3579 40
+    ∷ day_type (codes "B77W") 6480 60 ∷ day_type (codes "AT76") 2705 25
+    ∷ day_type (codes "B190") 1767 20 ∷ day_type (codes "A388") 7975 90
+    ∷ day_type (codes "X360") 3600 40 ∷ []
 
 -- the frontage on which all stands lie
 abbrev pub day_frontage : Frontage

@@ -44,7 +44,8 @@ plan_of day = replay day_airport day.history
 -- this was asked with the next call number, and this is the plan's reply to it
 abbrev pub IsAsked : Command → Day → Reply → Day → Type 0
 IsAsked command day reply after =
-    GivesAnswer day_airport day.history day.next (record { seen = 0; what = Change command }) (replied reply) after.history
+    GivesAnswer day_airport day.history day.next (record { seen = 0; what = Change command })
+    (replied reply) after.history
     × (after ≡ record day { history = after.history; next = day.next + 1 })
 
 -- the entry of what was asked was added
@@ -75,11 +76,14 @@ abbrev pub IsTried : ℕ → ℕ → ℕ → ℕ → Day → Day → Type 0
 IsTried zero number first t day after = after ≡ day
 IsTried (suc turns) number first t day after =
     (put : Day) × IsPutTried number ((first + t) % STANDS) day put
-    × MatchBool (is_accepted day put) (after ≡ put) (IsTried turns number first (t + 1) (with_refusal put) after)
+    × MatchBool (is_accepted day put) (after ≡ put)
+    (IsTried turns number first (t + 1) (with_refusal put) after)
 
 -- a stand was drawn, and it and the seven after it were tried
 abbrev pub IsPlaced : ℕ → Day → Day → Type 0
-IsPlaced number day after = IsTried 8 number (draw_below STANDS (seed_after 1 day.seed)) 0 (record day { seed = seed_after 1 day.seed }) after
+IsPlaced number day after =
+    IsTried 8 number (draw_below STANDS (seed_after 1 day.seed)) 0
+    (record day { seed = seed_after 1 day.seed }) after
 
 -- how many parts a message's reply names as bumped
 abbrev pub count_bumped : ReplyBody → ℕ
@@ -91,8 +95,11 @@ count_bumped told = 0
 pub record IsDelayed (number : ℕ) (day after : Day) : Type 0 where
   pub asked : Day
   pub reply : Reply
-  pub is : IsAsked (Message (passed_on (estimate number (scheduled_on (plan_of day).visits number) (20 + draw_below 60 (seed_after 1 day.seed))))) day reply asked
-  pub after_is : after ≡ record asked { seed = seed_after 1 day.seed; bumped = day.bumped + count_bumped reply.told }
+  pub is : IsAsked (Message
+      (passed_on (estimate number (scheduled_on (plan_of day).visits number)
+      (20 + draw_below 60 (seed_after 1 day.seed))))) day reply asked
+  pub after_is : after
+      ≡ record asked { seed = seed_after 1 day.seed; bumped = day.bumped + count_bumped reply.told }
 
 -- what is made with the visit of this number: it is added and placed, and with each fourth visit
 -- the visit of half its number is delayed

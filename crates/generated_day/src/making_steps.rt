@@ -41,7 +41,8 @@ impl<'a> Making<'a> {
     // Asks this with the next call number.
     fn ask(&mut self, alloc: Global, command: Command) -> Result<(), Memory>
         requires valid { IsCommandOf day_airport command }
-        ensures asked { OnOk result ((reply : Reply) × IsAsked command (day_so_far self.old) reply (day_so_far self.new)) }
+        ensures asked { OnOk result
+            ((reply : Reply) × IsAsked command (day_so_far self.old) reply (day_so_far self.new)) }
     {
         let call = self.board.next_call();
         // No day makes this many calls. The test spares a proof that counts them.
@@ -62,7 +63,8 @@ impl<'a> Making<'a> {
     /// Draws the visit of this number and asks to add it.
     pub(crate) fn add(&mut self, alloc: Global, number: u32) -> Result<(), Memory>
         requires few { number ≤ most_made }
-        ensures added { OnOk result (IsVisitAdded number (day_so_far self.old) (day_so_far self.new)) }
+        ensures added { OnOk result
+            (IsVisitAdded number (day_so_far self.old) (day_so_far self.new)) }
     {
         let new = drawn_visit(alloc, number, self.seed)?;
         self.ask(alloc, Command::AddVisit(new))?;
@@ -73,8 +75,10 @@ impl<'a> Making<'a> {
     /// Asks to put the visit on the stand with the next draft, and says whether that was accepted.
     pub(crate) fn put(&mut self, alloc: Global, number: u32, stand: u32) -> Result<bool, Memory>
         requires stand { stand < STANDS }
-        ensures put { IfOk result (λ accepted. IsPutTried number stand (day_so_far self.old) (day_so_far self.new)) }
-        ensures accepted { IfOk result (λ accepted. accepted ≡ is_accepted (day_so_far self.old) (day_so_far self.new)) }
+        ensures put { IfOk result
+            (λ accepted. IsPutTried number stand (day_so_far self.old) (day_so_far self.new)) }
+        ensures accepted { IfOk result
+            (λ accepted. accepted ≡ is_accepted (day_so_far self.old) (day_so_far self.new)) }
     {
         let version = self.board.plan().version();
         let before = self.board.history().len();
@@ -88,7 +92,8 @@ impl<'a> Making<'a> {
     /// 20 minutes.
     pub(crate) fn delay(&mut self, alloc: Global, number: u32) -> Result<(), Memory>
         requires few { number ≤ most_made }
-        ensures delayed { OnOk result (IsDelayed number (day_so_far self.old) (day_so_far self.new)) }
+        ensures delayed { OnOk result
+            (IsDelayed number (day_so_far self.old) (day_so_far self.new)) }
     {
         let seed = next_seed(self.seed);
         let on = self.scheduled_on(number);

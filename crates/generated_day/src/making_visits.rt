@@ -36,7 +36,8 @@ pub fn make_day(alloc: Global, visits: u32) -> Result<Summary, Memory>
 // Makes everything that comes with the visit of this number.
 fn make_visit(alloc: Global, making: &mut Making, number: u32) -> Result<(), Memory>
     requires few { number ≤ most_made }
-    ensures made { OnOk result (IsVisitMade number (day_so_far making.old) (day_so_far making.new)) }
+    ensures made { OnOk result
+        (IsVisitMade number (day_so_far making.old) (day_so_far making.new)) }
 {
     making.add(alloc, number)?;
     place_visit(alloc, making, number)?;
@@ -80,7 +81,8 @@ fn summary(making: &Making) -> Result<Summary, Memory>
 // How many parts of the visits are on a stand, and how many are on none.
 fn count_parts(visits: &[Visit]) -> Result<(u32, u32), Memory>
     ensures placed { IfOk result (λ counts. counts.0 ≡ count_by is_placed (parts_of visits.now)) }
-    ensures unplaced { IfOk result (λ counts. counts.1 ≡ count_by is_unplaced (parts_of visits.now)) }
+    ensures unplaced { IfOk result
+        (λ counts. counts.1 ≡ count_by is_unplaced (parts_of visits.now)) }
 {
     let mut counts = (0, 0);
     for visit in visits {

@@ -93,9 +93,9 @@ pub record IsReadOn (airport : AirportParts) (before after : List Entry)
   pub text : bytes ≡ entry_text entry
   pub last : after ≡ with_last entry before
 
--- what holds of every board that is being opened, with its plan, the parts that it keeps as bumped,
--- and the least number of its next call: its history was read so far, its entries' bytes are read as
--- it, and the parts lost their stands by the last entry
+-- what holds of every board that is being opened, with its plan, the parts that it keeps as
+-- bumped, and the least number of its next call: its history was read so far, its entries' bytes
+-- are read as it, and the parts lost their stands by the last entry
 pub record IsOpening (plan : PlanState) (bumped : List PartId) (next : ℕ)
     (opening : OpeningHeld) : Type 0 where
   pub past : IsReplayed opening.airport plan opening.history next

@@ -12,8 +12,10 @@ use Rattle.desk_http.specs.declared.port.FeedAsk.{FeedAsk}
 
 -- the text of the version that a history makes
 abbrev pub version_text : AirportParts → List Entry → List ℕ
-version_text airport history = reply_text airport (reply_at (replay airport history).version Version)
+version_text airport history =
+    reply_text airport (reply_at (replay airport history).version Version)
 
 -- each feed is given the version at the whole history
 abbrev pub FeedsVersion : AirportParts → PortState → FeedAsk → FeedGiven → PortState → Type 0
-FeedsVersion airport before ask given after = FeedTurn airport (version_text airport) before given after
+FeedsVersion airport before ask given after =
+    FeedTurn airport (version_text airport) before given after

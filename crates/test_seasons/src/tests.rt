@@ -63,7 +63,8 @@ fn visits(
     cancelled: usize,
 ) -> Result<Vec<Visit>, Fail>
     requires new { All (IsNewVisitOf airport.now) season.now }
-    ensures new { IfOk result (λ visits. All (λ visit. IsNewVisitOf airport.now (new_of visit)) visits.items) }
+    ensures new { IfOk result (λ visits.
+        All (λ visit. IsNewVisitOf airport.now (new_of visit)) visits.items) }
 {
     let mut visits = Vec::new(alloc);
     for (place, new) in season.iter().enumerate() {

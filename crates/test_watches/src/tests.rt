@@ -124,7 +124,8 @@ fn fed_by<R: Stated + Drop, T: NoteTest + Drop>(
     after: u32,
 ) -> Result<Vec<Note>, Memory>
     requires callable { T.can_test test }
-    requires answers { (note : Note) (answer : Bool) → T.answers test note answer → answer ≡ R.tells stated note }
+    requires answers { (note : Note) (answer : Bool)
+        → T.answers test note answer → answer ≡ R.tells stated note }
 {
     let watch = Watch::new(Name::literal(b"W"), stated, test);
     feed(alloc, notes, &watch, after)

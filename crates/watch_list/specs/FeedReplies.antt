@@ -42,4 +42,6 @@ fed_code (Notes notes) = 200
 
 -- a reply's whole text
 unfoldable pub fed_text : AirportParts → ℕ → FeedOutcome → List ℕ
-fed_text airport version fed = text_of (fed_code fed) json_media (version_line version ∷ []) (compact_text (fed_data airport version fed))
+fed_text airport version fed =
+    text_of (fed_code fed) json_media (version_line version ∷ [])
+    (compact_text (fed_data airport version fed))

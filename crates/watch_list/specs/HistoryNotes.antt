@@ -20,7 +20,8 @@ last_notes airport history = notes_by (length history) (replay airport history).
 abbrev pub notes_after : AirportParts → List Entry → List Entry → List Note
 notes_after airport before [] = []
 notes_after airport before (entry ∷ entries) =
-    last_notes airport (with_last entry before) ++ notes_after airport (with_last entry before) entries
+    last_notes airport (with_last entry before)
+    ++ notes_after airport (with_last entry before) entries
 
 -- the notes of a history: those of each entry, as the plan that it made recorded them
 abbrev pub notes_of : AirportParts → List Entry → List Note
@@ -34,4 +35,5 @@ may_bump what = false
 
 -- there is room for the notes of what is asked, of which each part of the plan can have one
 abbrev pub HasNoteRoom : {A : Type 0} → Vec Note A → PlanState → What → Type 0
-HasNoteRoom notes plan what = may_bump what ≡ true → vec_len notes + most_parts * length plan.visits ≤ vec_capacity notes
+HasNoteRoom notes plan what = may_bump what ≡ true
+    → vec_len notes + most_parts * length plan.visits ≤ vec_capacity notes

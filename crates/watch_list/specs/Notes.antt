@@ -25,13 +25,15 @@ note_of visit number bump = record {
 
 -- the note of the visit's part of this number and place, if the entry took its stand
 abbrev pub note_at : ℕ → Visit → ℕ → Place → List Note
-note_at entry visit number (Unplaced (Some bump)) = if bump.entry == entry then note_of visit number bump ∷ [] else []
+note_at entry visit number (Unplaced (Some bump)) =
+    if bump.entry == entry then note_of visit number bump ∷ [] else []
 note_at entry visit number place = []
 
 -- the notes of these parts of the visit, the first of which has this number
 abbrev pub notes_from : ℕ → Visit → ℕ → List Part → List Note
 notes_from entry visit number [] = []
-notes_from entry visit number (part ∷ parts) = note_at entry visit number part.place ++ notes_from entry visit (number + 1) parts
+notes_from entry visit number (part ∷ parts) =
+    note_at entry visit number part.place ++ notes_from entry visit (number + 1) parts
 
 -- the notes of the visit's parts whose stands the entry took
 abbrev pub notes_of_visit : ℕ → Visit → List Note

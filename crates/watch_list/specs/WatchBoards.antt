@@ -33,7 +33,8 @@ watch_fixed held = record { airport = held.board.airport; watches = held.watches
 
 -- as a machine, by what its keeper tells: the history, the entry at risk and the faults are the
 -- board's
-abbrev pub watch_state : {K R : Type 0} → (K → KeeperState) → WatchHeld K R → MachineState Entry (WatchFixed R)
+abbrev pub watch_state : {K R : Type 0} → (K → KeeperState) → WatchHeld K R
+    → MachineState Entry (WatchFixed R)
 watch_state tells held = record {
   fixed = watch_fixed held;
   history = held.board.history;
@@ -60,21 +61,26 @@ pub record WatchFeedAsk : Type 0 where
   pub after : ℕ
 
 -- the notes after an entry that the watch tells of, or that there is no watch
-abbrev pub fed_by : {R : Type 0} → (R → Note → Bool) → ℕ → List Note → Option (Watched R) → FeedOutcome
+abbrev pub fed_by : {R : Type 0} → (R → Note → Bool) → ℕ → List Note → Option (Watched R)
+    → FeedOutcome
 fed_by tells after notes None = NoWatch
 fed_by tells after notes (Some watch) = Notes (feed (tells watch.stated) after notes)
 
 -- what a feed comes to at a history: it is ahead of the version, or is of the watch of its name
-abbrev pub feed_outcome : {R : Type 0} → (R → Note → Bool) → WatchFixed R → List Entry → WatchFeedAsk → FeedOutcome
+abbrev pub feed_outcome : {R : Type 0} → (R → Note → Bool) → WatchFixed R → List Entry
+    → WatchFeedAsk → FeedOutcome
 feed_outcome tells fixed history ask =
     let version = (replay fixed.airport history).version in
     if nat_lt version ask.seen || nat_lt version ask.after then Ahead
-    else fed_by tells ask.after (notes_of fixed.airport history) (watch_named fixed.watches ask.watch)
+    else fed_by tells ask.after (notes_of fixed.airport history)
+    (watch_named fixed.watches ask.watch)
 
 -- the reply to a feed at a history
-abbrev pub feed_reply : {R : Type 0} → (R → Note → Bool) → WatchFixed R → List Entry → WatchFeedAsk → List ℕ
+abbrev pub feed_reply : {R : Type 0} → (R → Note → Bool) → WatchFixed R → List Entry → WatchFeedAsk
+    → List ℕ
 feed_reply tells fixed history ask =
-    fed_text fixed.airport (replay fixed.airport history).version (feed_outcome tells fixed history ask)
+    fed_text fixed.airport (replay fixed.airport history).version
+    (feed_outcome tells fixed history ask)
 
 -- the answer is this reply, or there is no memory
 abbrev pub IsReplyOrMemory : List ℕ → Acted → Type 0
@@ -83,7 +89,8 @@ IsReplyOrMemory text Memory = Unit {0}
 IsReplyOrMemory text _ = ⊥
 
 -- a feed found a legal history and left it
-pub record FindsLegalHistory {R : Type 0} (tells : R → Note → Bool) (fixed : WatchFixed R) (before : List Entry) (ask : WatchFeedAsk) (acted : Acted)
+pub record FindsLegalHistory {R : Type 0} (tells : R → Note → Bool) (fixed : WatchFixed R)
+    (before : List Entry) (ask : WatchFeedAsk) (acted : Acted)
     (after : List Entry) : Type 0 where
   pub found : IsLegal fixed.airport before
   pub acts : IsReplyOrMemory (feed_reply tells fixed before ask) acted
@@ -91,7 +98,10 @@ pub record FindsLegalHistory {R : Type 0} (tells : R → Note → Bool) (fixed :
 
 -- what an ask is answered at the history before it, and the history after it: a board's ask as by a
 -- board
-abbrev pub WatchAnswers : {R : Type 0} → (R → Note → Bool) → WatchFixed R → List Entry → ℕ → WatchAsk → Acted → List Entry → Type 0
-WatchAnswers tells fixed before call (Plain ask) acted after = ActsLegally fixed.airport before call ask acted after
+abbrev pub WatchAnswers : {R : Type 0} → (R → Note → Bool) → WatchFixed R → List Entry → ℕ
+    → WatchAsk → Acted → List Entry → Type 0
+WatchAnswers tells fixed before call (Plain ask) acted after =
+    ActsLegally fixed.airport before call ask acted after
 WatchAnswers tells fixed before call (Feed seen watch entry) acted after =
-    FindsLegalHistory tells fixed before (record { seen = seen; watch = watch; after = entry }) acted after
+    FindsLegalHistory tells fixed before (record { seen = seen; watch = watch; after = entry })
+    acted after

@@ -17,7 +17,10 @@ is_at (Some given) stand = given.0 == stand.0
 -- one of these
 abbrev pub shows : Shown → Note → Bool
 shows shown note =
-    nat_le note.class shown.top_class && is_at shown.stand note.stand && nat_le shown.from note.minute && nat_lt note.minute shown.until
+    nat_le note.class shown.top_class
+    && is_at shown.stand note.stand
+    && nat_le shown.from note.minute
+    && nat_lt note.minute shown.until
 
 -- the watch has this name
 abbrev pub is_watch_named : {R : Type 0} → List ℕ → Watched R → Bool
@@ -34,7 +37,8 @@ most_watches = 16
 -- no two watches have one name
 abbrev pub WatchesHaveDifferentNames : {R : Type 0} → List (Watched R) → Type 0
 WatchesHaveDifferentNames [] = Unit {0}
-WatchesHaveDifferentNames (watch ∷ watches) = (watch_named watches watch.name ≡ None) × WatchesHaveDifferentNames watches
+WatchesHaveDifferentNames (watch ∷ watches) = (watch_named watches watch.name ≡ None)
+    × WatchesHaveDifferentNames watches
 
 -- there are not too many watches, and each has a name of its own
 pub record AreWatches {R : Type 0} (watches : List (Watched R)) : Type 0 where
@@ -43,13 +47,15 @@ pub record AreWatches {R : Type 0} (watches : List (Watched R)) : Type 0 where
 
 -- no watch has the name of this one, and there are not too many
 abbrev pub CanAddWatch : {R : Type 0} → List (Watched R) → Watched R → Type 0
-CanAddWatch watches watch = (watch_named watches watch.name ≡ None) × (length watches < most_watches)
+CanAddWatch watches watch = (watch_named watches watch.name ≡ None)
+    × (length watches < most_watches)
 
 -- why the watch is not put to these: its name is taken; or it is not, and they are full; or there
 -- is a place, but no memory
 abbrev pub IsWatchRefused : {R : Type 0} → List (Watched R) → Watched R → WatchFault → Type 0
 IsWatchRefused watches watch Taken = IsSome (watch_named watches watch.name)
-IsWatchRefused watches watch Full = (watch_named watches watch.name ≡ None) × (length watches ≡ most_watches)
+IsWatchRefused watches watch Full = (watch_named watches watch.name ≡ None)
+    × (length watches ≡ most_watches)
 IsWatchRefused watches watch Memory = CanAddWatch watches watch
 
 -- the note is of an entry after this one

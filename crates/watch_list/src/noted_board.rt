@@ -66,7 +66,8 @@ impl<'a, K: Keeper> NotedBoard<'a, K> {
         requires number { (K.state keeper).number ≡ length entries.items }
         requires at_risk { (K.state keeper).at_risk ≡ None }
         ensures opened { IfOk result (OpensBoard airport.entry.now keeper entries.items) }
-        ensures refused { IfErr result (λ refusal. CannotOpen airport.entry.now entries.items refusal.0) }
+        ensures refused { IfErr result
+            (λ refusal. CannotOpen airport.entry.now entries.items refusal.0) }
         ensures back { IfErr result (λ refusal. refusal.1 ≡ keeper) }
     {
         match noted_opening(alloc, airport, entries.as_slice()) {
@@ -102,13 +103,16 @@ impl<'a, K: Keeper> NotedBoard<'a, K> {
         requires valid { IsAskOf self.old.airport ask.now }
         requires next { self.old.next ≤ call }
         requires last { call < call_limit }
-        ensures acts { ActsAs self.old.airport self.old.history call ask.now result self.new.history }
+        ensures acts { ActsAs self.old.airport self.old.history call ask.now
+            result self.new.history }
         ensures airport { self.new.airport ≡ self.old.airport }
         ensures next { self.new.next ≤ call + 1 }
         ensures found { IsLegal self.old.airport self.old.history }
         ensures legal { IsLegal self.new.airport self.new.history }
-        ensures faults { Counts (is_fault result) (K.state self.old.keeper).faults (K.state self.new.keeper).faults }
-        ensures at_risk { LeavesAtRisk (history_at_risk_of (machine_state K.state self.old)) call ask.now.what (is_fault result) (history_at_risk_of (machine_state K.state self.new)) }
+        ensures faults { Counts (is_fault result) (K.state self.old.keeper).faults
+            (K.state self.new.keeper).faults }
+        ensures at_risk { LeavesAtRisk (history_at_risk_of (machine_state K.state self.old)) call
+            ask.now.what (is_fault result) (history_at_risk_of (machine_state K.state self.new)) }
     {
         let entries = self.board.history().len();
         if make_room(&mut self.notes, self.board.plan(), &ask.what).is_err() {
@@ -136,7 +140,8 @@ fn noted_opening<'a>(
 ) -> Result<(Opening<'a>, Vec<Note>), OpenFault>
     ensures airport { IfOk result (λ noted. noted.0.airport ≡ airport.entry.now) }
     ensures texts { IfOk result (λ noted. entries.now ≡ entry_texts noted.0.history) }
-    ensures notes { IfOk result (λ noted. noted.1.items ≡ notes_of noted.0.airport noted.0.history) }
+    ensures notes { IfOk result
+        (λ noted. noted.1.items ≡ notes_of noted.0.airport noted.0.history) }
     ensures refused { IfErr result (CannotOpen airport.entry.now entries.now) }
 {
     let mut opening = Opening::new(alloc, airport)?;
@@ -214,8 +219,10 @@ fn make_room(notes: &mut Vec<Note>, plan: &Plan, what: &What) -> Result<(), Memo
 fn add_notes(notes: &mut Vec<Note>, plan: &Plan, bumped: &[PartId], what: &What, grown: bool)
     requires bumped { bumped.now ≡ last_bumped plan.now.plan }
     requires room { HasNoteRoom notes.old plan.now.plan what.now }
-    ensures notes { notes.new.items ≡ notes.old.items
-        ++ (if may_bump what.now && grown then notes_by plan.now.plan.version plan.now.plan.visits else []) }
+    ensures notes { notes.new.items
+        ≡ notes.old.items
+        ++ (if may_bump what.now && grown then notes_by plan.now.plan.version plan.now.plan.visits
+        else []) }
 {
     // What holds of every plan shows that each visit has at most three parts.
     let _known = plan.visits();

@@ -78,14 +78,19 @@ impl<R: Stated, T: NoteTest> Model for Watch<R, T> {
 
     ghost view = { λ w. record { name = w.name; stated = w.stated } };
 
-    ghost invariant = { λ w. T.can_test w.test × ((note : Note) (answer : Bool) → T.answers w.test note answer → answer ≡ R.tells w.stated note) };
+    ghost invariant = { λ w. T.can_test w.test
+        × ((note : Note) (answer : Bool)
+        → T.answers w.test note answer
+        → answer ≡ R.tells w.stated note) };
 }
 
 impl<R: Stated, T: NoteTest> Watch<R, T> {
     /// A watch of this name, whose test answers what is stated. It takes no memory.
     pub fn new(name: Name, stated: R, test: T) -> Watch<R, T>
         requires callable { T.can_test test }
-        requires answers { (note : Note) (answer : Bool) → T.answers test note answer → answer ≡ R.tells stated note }
+        requires answers { (note : Note) (answer : Bool)
+            → T.answers test note answer
+            → answer ≡ R.tells stated note }
         ensures watch { result ≡ record { name = name; stated = stated } }
     {
         Watch { name, stated, test }

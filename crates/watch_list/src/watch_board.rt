@@ -47,7 +47,9 @@ impl<'w, 'a, K: Keeper, R: Stated, T: NoteTest> Model for WatchBoard<'w, 'a, K, 
 
     ghost view = { λ w. record { board = w.noted; watches = w.watches.now; next = w.next } };
 
-    ghost invariant = { λ w. (w.noted.next ≤ w.next) × Rises call_of 1 w.next w.noted.history × (w.next ≤ call_limit) };
+    ghost invariant = { λ w. (w.noted.next ≤ w.next)
+        × Rises call_of 1 w.next w.noted.history
+        × (w.next ≤ call_limit) };
 }
 
 impl<'w, 'a, K: Keeper, R: Stated, T: NoteTest> WatchBoard<'w, 'a, K, R, T> {
@@ -60,7 +62,12 @@ impl<'w, 'a, K: Keeper, R: Stated, T: NoteTest> WatchBoard<'w, 'a, K, R, T> {
         watches: &'w Watches<R, T>,
     ) -> Result<WatchBoard<'w, 'a, K, R, T>, Board<'a, K>>
         requires airport { airport.now ≡ board.airport }
-        ensures made { IfOk result (λ made. made ≡ record { board = board.entry; watches = watches.entry.now; next = board.entry.next }) }
+        ensures made { IfOk result (λ made. made
+            ≡ record {
+              board = board.entry;
+              watches = watches.entry.now;
+              next = board.entry.next;
+            }) }
         ensures back { IfErr result (λ back. back ≡ board.entry) }
     {
         match notes_of(alloc, airport, board.history()) {
@@ -82,10 +89,12 @@ impl<'w, 'a, K: Keeper, R: Stated, T: NoteTest> WatchBoard<'w, 'a, K, R, T> {
         requires entries { IfSome (K.state keeper).entries (λ kept. kept ≡ entries.items) }
         requires number { (K.state keeper).number ≡ length entries.items }
         requires at_risk { (K.state keeper).at_risk ≡ None }
-        ensures opened { IfOk result (λ made. OpensBoard airport.entry.now keeper entries.items made.board) }
+        ensures opened { IfOk result
+            (λ made. OpensBoard airport.entry.now keeper entries.items made.board) }
         ensures watches { IfOk result (λ made. made.watches ≡ watches.entry.now) }
         ensures next { IfOk result (λ made. made.next ≡ made.board.next) }
-        ensures refused { IfErr result (λ refusal. CannotOpen airport.entry.now entries.items refusal.0) }
+        ensures refused { IfErr result
+            (λ refusal. CannotOpen airport.entry.now entries.items refusal.0) }
         ensures back { IfErr result (λ refusal. refusal.1 ≡ keeper) }
     {
         match NotedBoard::open(alloc, airport, keeper, entries) {
@@ -96,7 +105,8 @@ impl<'w, 'a, K: Keeper, R: Stated, T: NoteTest> WatchBoard<'w, 'a, K, R, T> {
 
     // The board with its notes and these watches.
     fn of(noted: NotedBoard<'a, K>, watches: &'w Watches<R, T>) -> WatchBoard<'w, 'a, K, R, T>
-        ensures made { result ≡ record { board = noted.entry; watches = watches.entry.now; next = noted.entry.next } }
+        ensures made { result
+            ≡ record { board = noted.entry; watches = watches.entry.now; next = noted.entry.next } }
     {
         let next = noted.board().next_call();
         WatchBoard {
@@ -143,14 +153,17 @@ impl<'w, 'a, K: Keeper, R: Stated, T: NoteTest> WatchBoard<'w, 'a, K, R, T> {
         requires valid { IsAskOf self.old.board.airport ask.now }
         requires next { self.old.next ≤ call }
         requires last { call < call_limit }
-        ensures acts { ActsAs self.old.board.airport self.old.board.history call ask.now result self.new.board.history }
+        ensures acts { ActsAs self.old.board.airport self.old.board.history call ask.now result
+            self.new.board.history }
         ensures airport { self.new.board.airport ≡ self.old.board.airport }
         ensures watches { self.new.watches ≡ self.old.watches }
         ensures next { self.new.next ≡ call + 1 }
         ensures found { IsLegal self.old.board.airport self.old.board.history }
         ensures legal { IsLegal self.new.board.airport self.new.board.history }
-        ensures faults { Counts (is_fault result) (K.state self.old.board.keeper).faults (K.state self.new.board.keeper).faults }
-        ensures at_risk { LeavesAtRisk (history_at_risk_of (machine_state K.state self.old.board)) call ask.now.what (is_fault result)
+        ensures faults { Counts (is_fault result) (K.state self.old.board.keeper).faults
+            (K.state self.new.board.keeper).faults }
+        ensures at_risk { LeavesAtRisk (history_at_risk_of (machine_state K.state self.old.board))
+            call ask.now.what (is_fault result)
             (history_at_risk_of (machine_state K.state self.new.board)) }
     {
         self.next = call + 1;
@@ -166,7 +179,8 @@ impl<'w, 'a, K: Keeper, R: Stated, T: NoteTest> WatchBoard<'w, 'a, K, R, T> {
         after: u32,
     ) -> Result<Listed<u8>, Memory>
         ensures text { IfOk result (λ bytes. bytes
-            ≡ feed_reply R.tells (watch_fixed self.now) self.now.board.history (record { seen = seen; watch = watch.now; after = after })) }
+            ≡ feed_reply R.tells (watch_fixed self.now) self.now.board.history
+            (record { seen = seen; watch = watch.now; after = after })) }
         ensures legal { IsLegal self.now.board.airport self.now.board.history }
     {
         let board = self.noted.board();
@@ -186,9 +200,11 @@ impl<'w, 'a, K: Keeper, R: Stated, T: NoteTest> WatchBoard<'w, 'a, K, R, T> {
         watch: &Name,
         after: u32,
     ) -> Result<FeedOutcome, Memory>
-        requires version { version ≡ (replay self.now.board.airport self.now.board.history).version }
+        requires version { version
+            ≡ (replay self.now.board.airport self.now.board.history).version }
         ensures is { IfOk result (λ made. made
-            ≡ feed_outcome R.tells (watch_fixed self.now) self.now.board.history (record { seen = seen; watch = watch.now; after = after })) }
+            ≡ feed_outcome R.tells (watch_fixed self.now) self.now.board.history
+            (record { seen = seen; watch = watch.now; after = after })) }
     {
         if seen > version || after > version {
             return Ok(FeedOutcome::Ahead);

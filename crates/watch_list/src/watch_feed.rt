@@ -15,7 +15,8 @@ pub fn feed<R: Stated, T: NoteTest>(
     watch: &Watch<R, T>,
     after: u32,
 ) -> Result<Vec<Note>, Memory>
-    ensures feed { IfOk result (λ fed. fed.items ≡ feed (R.tells watch.now.stated) after notes.now) }
+    ensures feed { IfOk result
+        (λ fed. fed.items ≡ feed (R.tells watch.now.stated) after notes.now) }
 {
     let mut fed = Vec::new(alloc);
     for note in notes {

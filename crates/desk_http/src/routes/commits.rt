@@ -38,7 +38,8 @@ fn edits_named(
     texts: &[EditText],
 ) -> Result<Listed<Edit>, Unasked>
     requires few { length texts.now ≤ most_edits }
-    ensures named { FindsOrReplies (edits_named_lem airport.now 1 (map edit_shown texts.now)) result }
+    ensures named { FindsOrReplies (edits_named_lem airport.now 1 (map edit_shown texts.now))
+        result }
     ensures stands { IfOk result (All (IsEditOf airport.now)) }
     ensures count { IfOk result (λ edits. length edits ≡ length texts.now) }
 {

@@ -45,7 +45,8 @@ fn with_slot(
     requires slots { All (IsSlotOf airport.now) slots.items }
     requires sound { IsSound airport.now slots.items }
     requires slot { IsSlotOf airport.now slot }
-    ensures items { IfOk result (λ made. (made.items ≡ slots.items) ⊎ (made.items ≡ slots.items ++ slot ∷ [])) }
+    ensures items { IfOk result (λ made. (made.items ≡ slots.items)
+        ⊎ (made.items ≡ slots.items ++ slot ∷ [])) }
     ensures sound { IfOk result (λ made. IsSound airport.now made.items) }
 {
     let mut made = Vec::from_slice(alloc, &slots)?;
@@ -63,7 +64,8 @@ fn sound_slots(alloc: Global, airport: &Airport, draws: &mut Draws) -> Result<Ve
     requires types { length airport.now.types ≡ TYPES }
     ensures slots { IfOk result (λ slots. All (IsSlotOf airport.now) slots.items) }
     ensures minutes { IfOk result (λ slots. All HasMinutes slots.items) }
-    ensures numbers { IfOk result (λ slots. AllPairs (λ slot other. slot.part.visit.0 < other.part.visit.0) slots.items) }
+    ensures numbers { IfOk result (λ slots.
+        AllPairs (λ slot other. slot.part.visit.0 < other.part.visit.0) slots.items) }
     ensures rise { IfOk result (λ slots. AllPairs IsEarlier slots.items) }
     ensures sound { IfOk result (λ slots. IsSound airport.now slots.items) }
 {

@@ -85,7 +85,8 @@ fn put(
 }
 
 fn message(text: &[u8]) -> Option<Command>
-    ensures valid { IfSome result (λ command. (airport : AirportParts) → IsCommandOf airport command) }
+    ensures valid { IfSome result (λ command.
+        (airport : AirportParts) → IsCommandOf airport command) }
 {
     match read_mvt(text) {
         Ok(message) => Some(Command::Message(DeskMessage {
