@@ -51,7 +51,7 @@ use watch_list::{NoteTest, Shown, Stated, Watches};
 ///
 /// | Status | Comes if |
 /// |---|---|
-/// | 0 | all was done: a session ended after whole requests, or a request closed it |
+/// | 0 | all was done; the source of a session ended after whole requests, or a request closed it |
 /// | 2 | the words ask for nothing known, or for the chart of a day that the plan does not have |
 /// | 3 | a file has a fault, which is printed, or is over 1 MiB |
 /// | 4, 5, 6 | the shelf, the source, the sink failed |

@@ -1,4 +1,5 @@
--- What settling makes of visits: each planned part that does not stay loses its stand.
+-- What settling makes of visits: each planned part that does not stay loses its stand to the best
+-- part that stays and clashes with it.
 use Rattle.std.specs.Prelude.{◌+◌, ◌∷◌, [], ℕ, List, Option, None, Some, filter_map, fold, map, if◌then◌else◌}
 use Rattle.apron_base.specs.declared.numbers.StandNo.{StandNo}
 use Rattle.apron_rules.specs.declared.parts.AirportParts.{AirportParts}

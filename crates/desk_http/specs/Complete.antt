@@ -1,4 +1,5 @@
--- Completeness: a session that nothing hinders answers all requests of its input, up to a million.
+-- Completeness: a session that nothing hinders answers all requests of its input, up to a million,
+-- and comes to its end.
 use Rattle.std.specs.Prelude.{◌≡◌, All, ℕ, false, List, [], ◌++◌, length, take, Some}
 use Rattle.apron_base.specs.Counts.{Rose}
 use Rattle.apron_base.specs.Ends.{Wrote}

@@ -16,8 +16,7 @@ use Rattle.desk_http.specs.Names.{type_named}
 abbrev pub new_named : AirportParts → VisitSaid → Result NewVisit EarlyReply
 new_named airport said = do
   kind ← ok_or (type_named airport said.kind) BadType
-  Ok
-  (record {
+  Ok (record {
     name = said.name;
     kind = kind;
     class = said.class;

@@ -44,8 +44,7 @@ parse_key airport = do
   number ← such_that (λ number. nat_lt number 10000) (number w16)
   suffix ← such_that is_suffix_byte byte
   day ← such_that (λ day. nat_le day airport.days) byte
-  give
-  (record {
+  give (record {
     flight = record { airline = airline; number = number; suffix = suffix_of suffix };
     day = day;
   })

@@ -32,8 +32,7 @@ parse_new_visit airport = do
   off ← such_that (is_off_of airport kind on) (number w32)
   arr ← parse_optional_key airport
   dep ← parse_optional_key airport
-  give
-  (record {
+  give (record {
     name = name;
     kind = record { 0 = kind };
     class = class;

@@ -1,4 +1,5 @@
--- What happens to a visit changes only its parts, whether it is on block, and its end.
+-- What happens to a visit, by a message or a report, changes only its parts, whether it is on
+-- block, and its end.
 use Rattle.std.specs.Prelude.{◌≡◌, List, Contains, Some}
 use Rattle.visit_book.specs.declared.visits.Bump.{Bump}
 use Rattle.visit_book.specs.declared.visits.Part.{Part}
