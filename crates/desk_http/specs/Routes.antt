@@ -1,5 +1,5 @@
 -- What a request asks of the plan, or the reply that is fixed before the plan is consulted.
-use Rattle.std.specs.Prelude.{◌≡◌, ℕ, Bool, true, false, not, List, codes, Option, None, Some, Result, Ok, Err, ok_or, IsSome, if◌then◌else◌}
+use Rattle.std.specs.Prelude.{◌≡◌, ℕ, Bool, true, false, not, List, codes, Option, None, Some, Result, Ok, ok_or, IsSome, if◌then◌else◌}
 use Rattle.std.specs.Str.{bytes_eq}
 use Rattle.apron_base.specs.ResultChain.{◌>>=◌, refuse_if}
 use Rattle.apron_rules.specs.declared.parts.AirportParts.{AirportParts}

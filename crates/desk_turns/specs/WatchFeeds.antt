@@ -1,5 +1,5 @@
 -- What a feed is answered by a machine that answers as a board with watches.
-use Rattle.std.specs.Prelude.{ℕ, Bool, List}
+use Rattle.std.specs.Prelude.{Bool, List}
 use Rattle.std.proofs.Common.{subst}
 use Rattle.apron_base.specs.declared.outside.Acted.{Acted}
 use Rattle.desk_words.specs.declared.asks.Entry.{Entry}

@@ -1,9 +1,9 @@
 -- What a message, a report and a cancel leave as it is in each visit of a plan: all but its parts
 -- and what has become of it.
-use Rattle.std.proofs.Common.{◌≡◌, ◌∙◌, ◌+◌, ◌∷◌, [], ℕ, Bool, true, false, ◌&&◌, List, map, not, if◌then◌else◌, Option, None, Some, Result, Ok, Err, ok_or, ◌≤◌, arith, refl, sym, ap, subst}
+use Rattle.std.proofs.Common.{◌≡◌, ◌∙◌, ◌+◌, ◌∷◌, [], ℕ, Bool, true, false, ◌&&◌, List, map, not, if◌then◌else◌, Option, None, Some, Result, Ok, Err, ok_or, arith, refl, sym, ap, subst}
 use Rattle.std.specs.List.{AllByRecursion}
 use Rattle.std.specs.Prelude.{IfSome, find}
-use Rattle.std.specs.Result.{IsOk, result_map_both, result_ok}
+use Rattle.std.specs.Result.{result_map_both, result_ok}
 use Rattle.std.proofs.lemmas.List.Elements.{recursion_from_All}
 use Rattle.apron_base.specs.ResultChain.{◌>>=◌, refuse_if}
 use Rattle.apron_base.specs.declared.numbers.VisitNo.{VisitNo}
@@ -14,7 +14,7 @@ use Rattle.visit_book.specs.declared.reports.ReportFault.{ReportFault}
 use Rattle.visit_book.specs.declared.visits.Visit.{Visit}
 use Rattle.visit_book.specs.Ends.{is_live}
 use Rattle.visit_book.specs.Flights.{is_by}
-use Rattle.visit_book.specs.NewVisits.{IsNewVisitOf, new_of}
+use Rattle.visit_book.specs.NewVisits.{IsNewVisitOf}
 use Rattle.visit_book.specs.Numbers.{IsNumbered, visit_at}
 use Rattle.visit_book.specs.Reports.{report_of}
 use Rattle.visit_book.specs.WellFormed.{IsWellFormed}
@@ -33,12 +33,11 @@ use Rattle.bump_core.specs.Ranks.{all_parts_on, kept_of}
 use Rattle.bump_core.specs.Settle.{settled_visit}
 use Rattle.bump_core.specs.Settled.{IsChanged, with_changed, with_settled}
 use Rattle.bump_core.specs.declared.ranks.Ranked.{Ranked}
-use Rattle.desk_words.specs.declared.asks.Command.{Command}
-use Rattle.desk_words.specs.declared.asks.Command.TheVariants.{AddVisit, Commit, Message, Report, Cancel}
+use Rattle.desk_words.specs.declared.asks.Command.TheVariants.{Cancel}
 use Rattle.desk_words.specs.declared.asks.DeskReport.{DeskReport}
 use Rattle.desk_words.specs.declared.replies.Denial.{Denial}
 use Rattle.desk_words.specs.declared.replies.Denial.TheVariants as denial
-use Rattle.history_core.specs.Steps.{IsTaken, after_command, cancellable, cancelled_if, denial_of, visit_after_message, visit_after_report}
+use Rattle.history_core.specs.Steps.{after_command, cancellable, cancelled_if, denial_of, visit_after_message, visit_after_report}
 use Rattle.history_core.proofs.KeptVisits.{AreKept, IsKept, all_themselves, all_twice, kept_put, kept_with}
 
 -- settling keeps each visit
