@@ -1,4 +1,4 @@
-// What holds of what two files mean. The law is the contract of a function that does nothing.
+// A law about the meaning of two files. The law is the contract of a function that does nothing.
 ghost use Rattle.std.specs.Prelude.{◌≢◌, ℕ, List, Err};
 ghost use Rattle.apron_rules.specs.declared.refusals.AirportFault.TheVariants as refused;
 ghost use Rattle.airport_files.specs.declared.read.FileFault.TheVariants as file;

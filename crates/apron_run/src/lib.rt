@@ -1,5 +1,6 @@
-//! The program's one call: it does what its words ask for, from the shelf's files and the bytes of
-//! source and disk to the bytes of sink and disk. Each word has a module of its own.
+//! The program's one call: it does what its words ask for, and goes from the shelf's files and the
+//! bytes of source and disk to the bytes of sink and disk. Each word has a module of its own. It
+//! knows nothing of the system: files, streams and disks are those of its traits.
 #![tactic(auto)]
 
 mod chart;

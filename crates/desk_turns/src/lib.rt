@@ -1,8 +1,8 @@
-//! Desks that take turns at one board, which may have something around it: what such a board is,
-//! and what one that answers feeds is; the port of a seat, and that of a desk which has such a
+//! Desks that take turns at one board, which may have something around it. This crate has such a
+//! board, and a board that answers feeds; the port of a seat, and that of a desk which has such a
 //! board to itself; the worker that serves a listener's connections over a port, and the workers of
 //! all listeners at one board, each in a thread of its own, with a job beside them. A board with
-//! watches is such a board. It knows nothing of words of the command line, of sockets, and of what
+//! watches is such a board. The crate knows nothing of words of the command line, of sockets, and of what
 //! else is around a board.
 #![tactic(auto)]
 

@@ -1,4 +1,4 @@
-//! The board: a plan with the history that made it, and what asks are answered. It knows nothing of
+//! The board: a plan with the history that made it, and the answer to each ask. It knows nothing of
 //! requests, sessions and other desks.
 #![tactic(auto)]
 

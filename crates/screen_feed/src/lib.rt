@@ -1,5 +1,5 @@
-//! Screens: a writer shows the chart of one day of a plan, and a screen looks at what was shown without waiting for anybody.
-//! It knows neither histories nor requests.
+//! Screens: a writer shows the chart of one day of a plan, and a screen looks at what was shown
+//! without waiting for anybody. It knows neither histories nor requests.
 #![tactic(auto)]
 
 mod appender;

@@ -1,5 +1,6 @@
-//! A board whose plan is shown on screens: a machine whose writers show the chart of its plan after each act, at which desks take
-//! turns. It knows neither threads nor connections, and not who looks at the screens.
+//! A board whose plan is shown on screens: a machine at which desks take turns, and whose writers
+//! show the chart of its plan after each act. It knows nothing of threads and connections, nor of
+//! who looks at the screens.
 #![tactic(auto)]
 
 mod charts;

@@ -1,5 +1,5 @@
 //! Visits and their parts: what makes a visit well formed, the stands that its parts hold, what may
-//! be asked of it, and what changes and reports make of it. It knows no plan.
+//! be asked of it, and what becomes of it through changes and reports. It knows no plan.
 #![tactic(auto)]
 
 mod changes;
