@@ -1,4 +1,4 @@
-// Calls that fail on command, for the forms in memory.
+// Calls that fail on command, for the types that keep what is outside in memory.
 ghost use Rattle.std.specs.Prelude.{◌≡◌, true};
 ghost use Rattle.apron_base.specs.Counts.{Counts};
 ghost use Rattle.apron_base.specs.Fails.{after_fault, fails_after_call, fails_from, is_to_fail};

@@ -1,5 +1,5 @@
-//! The two files of an airport on a shelf: the airport that they make and their digests, or why
-//! they make none, and the lines that say so. It knows nothing of plans and desks.
+//! Two files on a shelf that describe an airport: the airport, with the files' digests, or why they
+//! make none, and the lines that say so. It knows nothing of plans and desks.
 #![tactic(auto)]
 
 mod faults;

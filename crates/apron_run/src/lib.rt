@@ -1,6 +1,6 @@
-//! The program's one call: it does what its words ask for, and goes from the shelf's files and the
-//! bytes of source and disk to the bytes of sink and disk. Each word has a module of its own. It
-//! knows nothing of the system: files, streams and disks are those of its traits.
+//! The program's one call: it reads the shelf's files, the source and the disk, does what the words
+//! of the command line ask for, and writes to the sink and the disk. Each word has a module of its
+//! own. It knows nothing of the system: files, streams and disks are those of its traits.
 #![tactic(auto)]
 
 mod chart;

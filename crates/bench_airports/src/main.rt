@@ -102,7 +102,7 @@ fn main(rt: HostRuntime) -> io::Result<()> {
     let (Some(times), Some(airport), Some(types)) = (words.next(), words.next(), words.next())
     else {
         return println!(rt;
-            "bench_airports TIMES AIRPORT TYPES reads an airport at every limit so many times, looks up the rules of all pairs of stands and types of these files, and looks at the neighbours of their stands and at the slots of a full one"
+            "bench_airports TIMES AIRPORT TYPES reads an airport at every limit TIMES times, looks up the rules of all pairs of stands and types of these files, and looks at the neighbours of their stands and at the slots of a full one"
         );
     };
     let times = times.as_str().parse::<u64>().unwrap_or(1);

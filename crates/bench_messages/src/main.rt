@@ -47,7 +47,7 @@ fn main(rt: HostRuntime) -> io::Result<()> {
     };
     if times == 0 {
         return println!(rt;
-            "bench_messages TIMES reads a message of 300 bytes and a text of 4000 bytes so many times"
+            "bench_messages TIMES reads a message of 300 bytes and a text of 4000 bytes, each TIMES times"
         );
     }
     let message = text_of(rt.alloc(), MESSAGE, 300)?;

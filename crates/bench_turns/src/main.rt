@@ -82,7 +82,7 @@ fn main(rt: HostRuntime) -> io::Result<()> {
     };
     if turns == 0 {
         return println!(rt;
-            "bench_turns TURNS takes so many turns at a machine that does nothing, and a hundredth of them at one whose acts take {SLOW} microseconds"
+            "bench_turns TURNS takes TURNS turns at a machine that does nothing, and a hundredth of them at one whose acts take {SLOW} microseconds"
         );
     }
     measure(&rt, rt.alloc(), 0, turns)?;

@@ -1,9 +1,8 @@
-//! Desks that take turns at one board, which may have something around it. This crate has such a
-//! board, and a board that answers feeds; the port of a seat, and that of a desk which has such a
-//! board to itself; the worker that serves a listener's connections over a port, and the workers of
-//! all listeners at one board, each in a thread of its own, with a job beside them. A board with
-//! watches is such a board. The crate knows nothing of words of the command line, of sockets, and of what
-//! else is around a board.
+//! Desks that take turns at one machine: a board, or a board with watches, which answers feeds too.
+//! A desk asks through a port: that of its seat, or that of a machine which it has to itself. A
+//! worker serves a listener's connections over a port. The workers of all listeners at one machine
+//! have a thread each, and a job may run beside them. The crate knows nothing of the command line,
+//! of sockets, and of what else a machine has around its board.
 #![tactic(auto)]
 
 mod alone;
