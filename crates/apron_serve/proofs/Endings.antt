@@ -165,7 +165,7 @@ module _ {In Out : Type 0} (service : Service In Out) where
       let ended : Finished task.connections before.listeners after.listeners desks.desks =
       desks_ended service.states (fed_sessions service.feeds) task.connections _ _ desks.desks desks.serves in
       let shown : Finished task.connections before.screens after.screens desks.looks =
-      screens_ended service.states task.connections desks.shows.screens before.screens after.screens desks.looks desks.shows.shows in
+      screens_ended service.states task.connections _ _ desks.looks desks.shows.shows in
       record {
         done = λ is. let both = both_done desks.desks desks.looks desks.missed (sym desks.end_is ∙ is) in (ended.finished both.0, shown.finished both.1);
         missed = λ is. let all = one_missed desks.desks desks.looks desks.missed (sym desks.end_is ∙ is) in

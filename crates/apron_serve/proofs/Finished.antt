@@ -9,9 +9,8 @@ use Rattle.desk_turns.specs.Crew.{CrewState, ServesBoard, Worker, WorksAt, end_o
 use Rattle.desk_turns.specs.Work.{EndStates, IsEndAt, is_listener_fault}
 use Rattle.desk_turns.specs.declared.worker.WorkEnd.{WorkEnd}
 use Rattle.desk_turns.specs.declared.worker.WorkEnd.TheVariants.{Done, ListenerFault}
-use Rattle.screen_feed.specs.Screens.{ScreenState}
 use Rattle.screen_looks.specs.Looks.{ShowsOn}
-use Rattle.screen_looks.specs.Walls.{ScreenWorker, ShowsAll}
+use Rattle.screen_looks.specs.Walls.{ScreenWorker, ShowsAll, WallsState}
 use Rattle.apron_serve.specs.Serve.{HaveFinished, SomeFailed}
 
 -- the first of some workers that were all done, and the others
@@ -115,16 +114,16 @@ desks_ended {In = In} {Out = Out} states kinds asked before after end serves =
     before.listeners after.listeners end serves.begun serves.ended serves.end_is
 
 -- the workers of screens
-pub screens_ended : {In Out : Type 0} (states : EndStates In Out) (asked : ℕ) (screens : List ScreenState) (before after : List (ListenerState In Out)) (end : WorkEnd)
-    → ShowsAll states asked screens before after end
-    → Finished asked before after end
-screens_ended {In = In} {Out = Out} states asked screens before after end shows =
+pub screens_ended : {In Out : Type 0} (states : EndStates In Out) (asked : ℕ) (before after : WallsState In Out) (end : WorkEnd)
+    → ShowsAll states asked before after end
+    → Finished asked before.listeners after.listeners end
+screens_ended {In = In} {Out = Out} states asked before after end shows =
     all_ended asked (λ (worker : ScreenWorker In Out). worker.before.listener) (λ (worker : ScreenWorker In Out). worker.after.listener)
     (λ (worker : ScreenWorker In Out). worker.end) shows.workers
     (every_more (λ (worker : ScreenWorker In Out). ShowsOn states asked worker.before worker.after worker.end) _ (λ worker on.
     let finishes = on.shows.finishes in
     record { count = length on.connections; ended = finishes.ended; is = on.count; faults = finishes.faults }) shows.workers shows.work)
-    before after end shows.begun shows.ended shows.end_is
+    before.listeners after.listeners end shows.begun shows.ended shows.end_is
 
 -- listeners that are as they were have not finished more
 pub none_finished : {In Out : Type 0} (asked : ℕ) (listeners : List (ListenerState In Out)) → 1 ≤ asked → 1 ≤ length listeners → ¬ (HaveFinished asked listeners listeners)

@@ -66,9 +66,9 @@ module _ {In Out : Type 0} (service : Service In Out) (files : AirportFiles) (ta
   -- the answer that it could not be kept, and no entry was added after it. Beside the desks each
   -- screen's connections were shown its sheets, one look each. A screen had seen the chart of the
   -- opened plan, and its sheets are charts of the day of plans of the airport whose versions never
-  -- fall. Serving ended as the first worker in order that stopped early, those of the desks before
-  -- those of the screens. If none did, it says whether a writer of a screen missed the last
-  -- version.
+  -- fall. Each screen has a writer, whose sheets are charts of fronts of the history. Serving ended
+  -- as the first worker in order that stopped early, those of the desks before those of the
+  -- screens. If none did, it says whether a writer of a screen does not show the last version.
   pub record ServesDesks (before after : ServeEnds In Out) (end : ServeEnd) : Type 0 where
     pub opened : List Entry
     pub opens : OpensTo files before.disk opened
@@ -81,9 +81,15 @@ module _ {In Out : Type 0} (service : Service In Out) (files : AirportFiles) (ta
         })
         (record { listeners = after.listeners; board = board }) desks
     pub looks : WorkEnd
-    pub shows : ShowsFrom service.states (record { airport = files.airport; history = opened }) task
-        before.screens after.screens looks
     pub missed : Bool
+    pub shows : ShowsFrom service.states (record { airport = files.airport; history = opened }) task
+        before.screens
+        (record {
+          listeners = after.screens;
+          history = board.history;
+          end = looks;
+          missed = missed;
+        })
     pub screens : missed ≡ true → 0 < length before.screens
     pub end_is : end ≡ served_end (end_of (desks ∷ looks ∷ [])) missed
     pub faults : after.disk.faults ≡ board.faults

@@ -1,5 +1,5 @@
 -- The steps on a book keep its rule.
-use Rattle.std.proofs.Common.{◌≡◌, ◌≢◌, ℕ, ◌<◌, ◌≤◌, ◌==◌, Bool, true, false, List, [], ◌∷◌, ◌++◌, length, set, refl, ap, sym, ◌∙◌, subst, arith, inl, None, Some}
+use Rattle.std.proofs.Common.{◌≡◌, ◌≢◌, ℕ, ◌<◌, ◌≤◌, ◌==◌, Bool, true, false, List, [], ◌∷◌, ◌++◌, length, set, refl, ap, sym, ◌∙◌, subst, arith, inl, None, Some, append_assoc}
 use Rattle.std.proofs.lemmas.Bool.{false≢true}
 use Rattle.std.proofs.lemmas.Bool.Decides.{nat_tests}
 use Rattle.std.proofs.lemmas.List.{append-nil}
@@ -7,8 +7,9 @@ use prog.Atomic.{either}
 use Rattle.logbook.specs.Pages.{Cell, Nib, cell, keeps, gives, adds, may_write, no_nib, step, Moves, Goes}
 use Rattle.screen_feed.specs.declared.book.SheetEntry.{SheetEntry}
 use Rattle.screen_feed.specs.Logs.{IsLegalLog, begun_after, named_after}
-use Rattle.screen_feed.specs.Rules.{AddsFirst, AddsSheet, IsCellHome, KeepsFirstWord, MakesPen}
+use Rattle.screen_feed.specs.Rules.{AddsFirst, AddsSheet, IsCellHome, KeepsFirstWord, MakesPen, SeesAll}
 use Rattle.screen_feed.proofs.Cells.{first_other, first_push, first_set, home_at, home_below, home_push, home_set, spent_kept, spent_push, whole_log}
+use Rattle.screen_feed.proofs.Fronts.{prefix_same}
 use Rattle.screen_feed.proofs.Shown.{legal_push}
 
 abbrev pub shows : List SheetEntry → List SheetEntry
@@ -89,6 +90,42 @@ adds_moves v e p right key may cs log kept pre away =
     not_empty : (l : List SheetEntry) (k : ℕ) → k ≡ named_after 0 l → k ≢ 0 → 1 ≤ length l
     not_empty [] k is apart = absurd (apart is)
     not_empty (x ∷ xs) k is apart = omega arith
+
+-- the exchange of 1 for 1 in the first word
+kept_so : (cs : List Cell) (log : List SheetEntry) → KeepsFirstWord cs log → KeepsFirstWord (set cs 0 (either ((cell cs 0).0 == 1) 1 (cell cs 0).0, true)) (log ++ [])
+kept_so cs log kept =
+    let n = either ((cell cs 0).0 == 1) 1 (cell cs 0).0 in
+    let ds = set cs 0 (n, true) in
+    subst (KeepsFirstWord ds) (sym (append-nil log)) (record {
+      home = home_set cs 0 0 n kept.home;
+      begun = λ some. first_set cs n kept.home ∙ (same_number (cell cs 0).0 ∙ kept.begun some);
+      legal = kept.legal;
+      spent = spent_kept cs ds (λ j h. home_set cs 0 j n h) 0 log kept.spent;
+    })
+
+-- who has the pen knows the whole log, so that others know no more
+pub sees_moves : (v : List SheetEntry) (e : SheetEntry) (p : Nib) → p.right ≡ may_write
+    → Moves KeepsFirstWord shows moves 0 (v, (p, None)) (λ n. either (n == 1) 1 n) (SeesAll (step 0 1 1 e) (v, (p, None)))
+sees_moves v e p right cs log kept pre away =
+    let here = away right in (
+      home_below cs 0 kept.home,
+      kept.home,
+      (
+        keeps,
+        [],
+        None,
+        tt,
+        kept_so cs log kept,
+        inl (refl, refl),
+        (
+          refl,
+          λ xs front key.
+              let whole : xs ≡ log = whole_log cs 0 xs (front.0 ++ pre.0) log (sym (append_assoc xs front.0 pre.0) ∙ (ap (λ (l : List SheetEntry). l ++ pre.0) front.1 ∙ pre.1))
+              kept.spent (subst (λ (k : ℕ). (cell cs k).1 ≡ false) key here.1) in
+              prefix_same v xs (pre.0, pre.1 ∙ sym whole) front,
+        ),
+      ),
+    )
 
 first_goes : (e : SheetEntry) (cs : List Cell) (log : List SheetEntry) → e.shown ≡ false → KeepsFirstWord cs log → (b : Bool) → ((cell cs 0).0 == 0) ≡ b
     → Goes KeepsFirstWord shows moves 0 ([], (no_nib, None)) (λ n. either (n == 0) 1 n) (AddsFirst (step 0 0 1 e) ([], (no_nib, None))) cs log

@@ -1,10 +1,11 @@
 -- What a log says was shown, along its beginnings.
-use Rattle.std.proofs.Common.{◌≡◌, ◌⊎◌, ℕ, ◌+◌, ◌≤◌, Bool, true, false, cond, List, [], ◌∷◌, ◌++◌, length, Option, Some, None, refl, ap, sym, ◌∙◌, subst, ⊎_elim, arith, append_assoc, length-append}
+use Rattle.std.proofs.Common.{◌≡◌, ◌⊎◌, ℕ, ◌+◌, ◌≤◌, Bool, true, false, cond, List, [], ◌∷◌, ◌++◌, length, Option, Some, None, refl, ap, sym, ◌∙◌, subst, ⊎_elim, arith, append_assoc, length-append, inl, inr}
 use Rattle.std.proofs.lemmas.List.{append-nil}
 use mathlib.Core.List.{IsPrefix}
-use Rattle.screen_feed.specs.Sheets.{Begins, SheetState}
+use Rattle.apron_base.specs.Histories.{Every}
+use Rattle.screen_feed.specs.Sheets.{AreAmong, Begins, IsAmong, SheetState}
 use Rattle.screen_feed.specs.declared.book.SheetEntry.{SheetEntry}
-use Rattle.screen_feed.specs.Logs.{shown_in, begun_with, begun_after, LegalAfter, IsLegalLog}
+use Rattle.screen_feed.specs.Logs.{shown_in, begun_in, begun_with, begun_after, LegalAfter, IsLegalLog}
 use Rattle.screen_feed.proofs.Fronts.{prefix_shorter}
 
 by_kind_of : (s : SheetState) (both xs ys : List SheetState) → both ≡ xs ++ ys → (b : Bool) → cond b (s ∷ both) both ≡ cond b (s ∷ xs) xs ++ ys
@@ -80,3 +81,66 @@ shown_begun log e is = shown_append log (e ∷ []) ∙ (ap (λ (b : Bool). shown
 
 pub shown_push : (log : List SheetEntry) (e : SheetEntry) → e.shown ≡ true → shown_in (log ++ e ∷ []) ≡ shown_in log ++ e.sheet.value ∷ []
 shown_push log e is = shown_append log (e ∷ []) ∙ ap (λ (b : Bool). shown_in log ++ cond b (e.sheet.value ∷ []) []) is
+
+begun_of : (s : SheetState) (both xs ys : List SheetState) → both ≡ xs ++ ys → (b : Bool) → cond b both (s ∷ both) ≡ cond b xs (s ∷ xs) ++ ys
+begun_of s both xs ys is true = is
+begun_of s both xs ys is false = ap (λ (l : List SheetState). s ∷ l) is
+
+begun_append : (xs ys : List SheetEntry) → begun_in (xs ++ ys) ≡ begun_in xs ++ begun_in ys
+begun_append [] ys = refl
+begun_append (e ∷ es) ys = begun_of e.sheet.value (begun_in (es ++ ys)) (begun_in es) (begun_in ys) (begun_append es ys) e.shown
+
+pub tried_begun : (log : List SheetEntry) (e : SheetEntry) → e.shown ≡ false → begun_in (log ++ e ∷ []) ≡ begun_in log ++ e.sheet.value ∷ []
+tried_begun log e is = begun_append log (e ∷ []) ∙ ap (λ (b : Bool). begun_in log ++ cond b [] (e.sheet.value ∷ [])) is
+
+pub tried_confirmed : (log : List SheetEntry) (e : SheetEntry) → e.shown ≡ true → begun_in (log ++ e ∷ []) ≡ begun_in log
+tried_confirmed log e is = begun_append log (e ∷ []) ∙ (ap (λ (b : Bool). begun_in log ++ cond b [] (e.sheet.value ∷ [])) is ∙ append-nil (begun_in log))
+
+module _ (P : SheetState → Type 0) where
+  -- what holds of a sheet that may be begun before these entries, and of each that they begin, holds of each that they say is shown
+  one_shown : (b : Bool) (s : SheetState) (after : Option SheetState) (begun shown : List SheetState) → after ≡ cond b None (Some s) → (b ≡ true → P s)
+      → (((t : SheetState) → after ≡ Some t → P t) → Every P begun → Every P shown) → Every P (cond b begun (s ∷ begun)) → Every P (cond b (s ∷ shown) shown)
+  one_shown true s after begun shown is may rest all = (may refl, rest (λ t same. absurd (let e : None ≡ Some t = sym is ∙ same in cc e)) all)
+  one_shown false s after begun shown is may rest all = rest (λ t same. subst P (some_inj s s t (sym is ∙ same)) all.0) all.1
+
+  shown_holds : (p : Option SheetState) (xs : List SheetEntry) → LegalAfter p xs → ((t : SheetState) → p ≡ Some t → P t) → Every P (begun_in xs) → Every P (shown_in xs)
+  shown_holds p [] legal may all = tt
+  shown_holds p (e ∷ es) legal may all =
+      one_shown e.shown e.sheet.value (begun_with p e) (begun_in es) (shown_in es) refl (λ is. may e.sheet.value (legal.0 is)) (shown_holds (begun_with p e) es legal.1) all
+
+  -- and of the one that was begun last
+  one_begun : (b : Bool) (s : SheetState) (after : Option SheetState) (begun : List SheetState) (t : SheetState) → after ≡ cond b None (Some s)
+      → (((u : SheetState) → after ≡ Some u → P u) → Every P begun → P t) → Every P (cond b begun (s ∷ begun)) → P t
+  one_begun true s after begun t is rest all = rest (λ u same. absurd (let e : None ≡ Some u = sym is ∙ same in cc e)) all
+  one_begun false s after begun t is rest all = rest (λ u same. subst P (some_inj s s u (sym is ∙ same)) all.0) all.1
+
+  last_holds : (p : Option SheetState) (xs : List SheetEntry) (t : SheetState) → begun_after p xs ≡ Some t → ((u : SheetState) → p ≡ Some u → P u) → Every P (begun_in xs) → P t
+  last_holds p [] t is may all = may t is
+  last_holds p (e ∷ es) t is may all =
+      one_begun e.shown e.sheet.value (begun_with p e) (begun_in es) t refl (last_holds (begun_with p e) es t is) all
+
+  every_push : (ts : List SheetState) (t : SheetState) → Every P ts → P t → Every P (ts ++ t ∷ [])
+  every_push [] t all holds = (holds, tt)
+  every_push (u ∷ ts) t all holds = (all.0, every_push ts t all.1 holds)
+
+  every_front : (ts more : List SheetState) → Every P (ts ++ more) → Every P ts
+  every_front [] more all = tt
+  every_front (t ∷ ts) more all = (all.0, every_front ts more all.1)
+
+among_more : (t : SheetState) (ts others : List SheetState) → AreAmong ts others → AreAmong ts (t ∷ others)
+among_more t [] others all = tt
+among_more t (u ∷ ts) others all = (inr all.0, among_more t ts others all.1)
+
+among_self : (ts : List SheetState) → AreAmong ts ts
+among_self [] = tt
+among_self (t ∷ ts) = (inl refl, among_more t ts ts (among_self ts))
+
+-- the sheets that have been shown once a page is whose log begins another are among those that were begun in that
+pub page_among : (mine whole : List SheetEntry) (s : SheetState) → begun_after None mine ≡ Some s → IsPrefix mine whole → IsLegalLog whole → AreAmong (shown_in mine ++ s ∷ []) (begun_in whole)
+page_among mine whole s opened front legal =
+    let P : SheetState → Type 0 = IsAmong (begun_in whole) in
+    let parts : begun_in whole ≡ begun_in mine ++ begun_in front.0 = ap begun_in (sym front.1) ∙ begun_append mine front.0 in
+    let each : Every P (begun_in mine) = every_front P (begun_in mine) (begun_in front.0) (subst (Every P) parts (among_self (begun_in whole))) in
+    let none : (t : SheetState) → None ≡ Some t → P t = λ t same. absurd (cc same) in
+    every_push P (shown_in mine) s (shown_holds P None mine (legal_front None mine front.0 (subst IsLegalLog (sym front.1) legal)) none each)
+    (last_holds P None mine s opened none each)

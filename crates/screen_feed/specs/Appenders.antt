@@ -11,7 +11,8 @@ pub record AppenderState : Type 0 where
   pub log : List SheetEntry
 
 -- the appender has the book's word and the pen for the next entry, and counts the entries
-pub record IsAppender (appender : AppenderState) (head : Named) (pen : Pen) (round : ℕ) : Type 0 where
+pub record IsAppender (appender : AppenderState) (head : Named) (pen : Pen)
+    (round : ℕ) : Type 0 where
   pub head_is : head ≡ entry_word appender.book
   pub pen_is : MayAdd appender.book appender.log pen
   pub round_is : round ≡ length appender.log

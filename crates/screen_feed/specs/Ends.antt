@@ -1,13 +1,16 @@
 -- What the two ends keep.
-use Rattle.std.specs.Prelude.{◌≡◌, ◌≤◌, ◌⊎◌, ℕ, Option, Some}
+use Rattle.std.specs.Prelude.{◌≡◌, ◌≤◌, ◌⊎◌, ℕ, List, Option, None, Some}
 use Rattle.logbook.specs.Pages.{Book}
 use Rattle.screen_feed.specs.Appenders.{AppenderState}
-use Rattle.screen_feed.specs.Logs.{shown_in}
+use Rattle.screen_feed.specs.declared.book.SheetEntry.{SheetEntry}
+use Rattle.screen_feed.specs.Logs.{begun_after, shown_in}
 use Rattle.screen_feed.specs.Pages.{Knows, PageState, sheets_with}
 use Rattle.screen_feed.specs.Sheets.{AreSheets, ShownChart, last_version}
 
--- the writer's page is the one that its screen sees, and its appender knows that each sheet up to this page is shown
-pub record IsWriter (page : PageState) (appender : AppenderState) (shown : ShownChart) (version : ℕ) : Type 0 where
+-- the writer's page is the one that its screen sees, and its appender knows that each sheet up to
+-- this page is shown
+pub record IsWriter (page : PageState) (appender : AppenderState) (shown : ShownChart)
+    (version : ℕ) : Type 0 where
   pub book : page.book ≡ appender.book
   pub of : page.sheet.shown ≡ shown
   pub list : sheets_with page ≡ shown_in appender.log
@@ -15,11 +18,14 @@ pub record IsWriter (page : PageState) (appender : AppenderState) (shown : Shown
   pub last : version ≡ last_version (shown_in appender.log)
   pub days : (1 ≤ shown.day) × (shown.day ≤ shown.airport.days)
 
--- a page of this book was seen, of what is shown
-pub record IsScreenAt (seen : Option PageState) (shown : ShownChart) (book : Book) : Type 0 where
+-- a page of this book with this log was seen, of what is shown
+pub record IsScreenAt (seen : Option PageState) (shown : ShownChart) (book : Book)
+    (log : List SheetEntry) : Type 0 where
   pub page : PageState
   pub is : seen ≡ Some page
   pub book_is : page.book ≡ book
+  pub log_is : page.log ≡ log
+  pub begun : begun_after None page.log ≡ Some page.sheet
   pub of : page.sheet.shown ≡ shown
   pub sheets : AreSheets shown (sheets_with page)
 
@@ -27,4 +33,6 @@ pub record IsScreenAt (seen : Option PageState) (shown : ShownChart) (book : Boo
 abbrev pub HasLookedAt : Option PageState → Option PageState → Type 0
 HasLookedAt v w =
     (w ≡ v)
-    ⊎ ((page : PageState) × (w ≡ Some page) × Knows v page × AreSheets page.sheet.shown (sheets_with page))
+    ⊎ ((page : PageState) × (w ≡ Some page) × Knows v page
+    × AreSheets page.sheet.shown (sheets_with page)
+    × (begun_after None page.log ≡ Some page.sheet))

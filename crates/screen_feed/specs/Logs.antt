@@ -8,6 +8,11 @@ abbrev pub shown_in : List SheetEntry → List SheetState
 shown_in [] = []
 shown_in (e ∷ es) = cond e.shown (e.sheet.value ∷ shown_in es) (shown_in es)
 
+-- the sheets that were begun
+abbrev pub begun_in : List SheetEntry → List SheetState
+begun_in [] = []
+begun_in (e ∷ es) = cond e.shown (begun_in es) (e.sheet.value ∷ begun_in es)
+
 -- what is begun once this entry is added: a sheet, or none where the entry says that it is shown
 abbrev pub begun_with : Option SheetState → SheetEntry → Option SheetState
 begun_with sheet e = cond e.shown None (Some e.sheet.value)
@@ -20,7 +25,8 @@ begun_after sheet (e ∷ es) = begun_after (begun_with sheet e) es
 -- what is shown was begun just before
 abbrev pub LegalAfter : Option SheetState → List SheetEntry → Type 0
 LegalAfter sheet [] = Unit {0}
-LegalAfter sheet (e ∷ es) = (e.shown ≡ true → sheet ≡ Some e.sheet.value) × LegalAfter (begun_with sheet e) es
+LegalAfter sheet (e ∷ es) =
+    (e.shown ≡ true → sheet ≡ Some e.sheet.value) × LegalAfter (begun_with sheet e) es
 
 abbrev pub IsLegalLog : List SheetEntry → Type 0
 IsLegalLog log = LegalAfter None log

@@ -25,7 +25,8 @@ pub record IsPage (page : PageState) (round : ℕ) : Type 0 where
 
 -- the second page is of the same writer, and shows all that the first does
 abbrev pub Follows : PageState → PageState → Type 0
-Follows p x = (x.book ≡ p.book) × (x.sheet.shown ≡ p.sheet.shown) × Begins (sheets_with x) (sheets_with p)
+Follows p x = (x.book ≡ p.book) × (x.sheet.shown ≡ p.sheet.shown)
+    × Begins (sheets_with x) (sheets_with p)
 
 -- the page that is shown follows the one that was seen
 abbrev pub Knows : Option PageState → PageState → Type 0

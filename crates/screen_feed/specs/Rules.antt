@@ -1,6 +1,8 @@
--- The rule of a book, and what its steps tell.
--- An entry names the cell that comes home as the next entry is added. So the pen of that cell is the right to add it, and who has it knows the whole log.
+-- The rule of a book, and what its steps tell. An entry names the cell that comes home as the next
+-- entry is added. So the pen of that cell is the right to add it, and who has it knows the whole
+-- log.
 use Rattle.std.specs.Prelude.{ℕ, ◌≡◌, ◌≤◌, ◌==◌, Bool, true, List, [], ◌∷◌, ◌++◌, length, MatchBool}
+use mathlib.Core.List.{IsPrefix}
 use Rattle.logbook.specs.Pages.{Cell, Step, View, Book, Named, cell, may_make, may_write}
 use Rattle.logbook.specs.declared.tokens.Pen.{Pen}
 use Rattle.screen_feed.specs.declared.book.SheetEntry.{SheetEntry}
@@ -45,8 +47,14 @@ AddsFirst s v found w = MatchBool (found == 0) (w.0 ≡ s.ask ∷ []) (Unit {0})
 abbrev pub AddsSheet : Step SheetEntry → View SheetEntry ℕ → ℕ → View SheetEntry ℕ → Type 0
 AddsSheet s v found w = w.0 ≡ v.0 ++ s.ask ∷ []
 
+-- all that is seen is the log whose next entry the pen is the right to add
+abbrev pub SeesAll : Step SheetEntry → View SheetEntry ℕ → ℕ → View SheetEntry ℕ → Type 0
+SeesAll s v found w = (w.1.0 ≡ v.1.0)
+    × ((log : List SheetEntry) → IsPrefix log v.0 → v.1.0.key ≡ named_after 0 log → v.0 ≡ log)
+
 -- an entry was added to the log: of this sheet, which is shown or not
-pub record IsEntryAdded (before : List SheetEntry) (what : SheetState × Bool) (after : List SheetEntry) : Type 0 where
+pub record IsEntryAdded (before : List SheetEntry) (what : SheetState × Bool)
+    (after : List SheetEntry) : Type 0 where
   pub entry : SheetEntry
   pub sheet : entry.sheet.value ≡ what.0
   pub shown : entry.shown ≡ what.1

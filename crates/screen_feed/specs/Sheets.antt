@@ -1,5 +1,5 @@
 -- Sheets, and lists of them.
-use Rattle.std.specs.Prelude.{◌≡◌, ℕ, List, [], ◌∷◌, ◌++◌}
+use Rattle.std.specs.Prelude.{◌≡◌, ◌⊎◌, ℕ, List, [], ◌∷◌, ◌++◌}
 use Rattle.apron_base.specs.Histories.{Every, Rises}
 use Rattle.apron_rules.specs.declared.parts.AirportParts.{AirportParts}
 use Rattle.plan_core.specs.PlanState.{IsPlan, PlanState, version_limit}
@@ -21,7 +21,11 @@ sheet_version sheet = sheet.version
 
 -- the sheet of a plan for a day
 abbrev pub sheet_of : PlanState → ℕ → SheetState
-sheet_of plan day = record { shown = record { airport = plan.airport; day = day }; version = plan.version; text = chart_text plan.airport plan day }
+sheet_of plan day = record {
+  shown = record { airport = plan.airport; day = day };
+  version = plan.version;
+  text = chart_text plan.airport plan day;
+}
 
 -- the sheet of some plan of the airport
 pub record IsSheet (shown : ShownChart) (sheet : SheetState) : Type 0 where
@@ -38,6 +42,15 @@ pub record AreSheets (shown : ShownChart) (sheets : List SheetState) : Type 0 wh
 -- the first list begins with the second
 abbrev pub Begins : List SheetState → List SheetState → Type 0
 Begins sheets front = (rest : List SheetState) × (sheets ≡ front ++ rest)
+
+-- the sheet is one of these
+abbrev pub IsAmong : List SheetState → SheetState → Type 0
+IsAmong [] sheet = ⊥
+IsAmong (other ∷ others) sheet = (other ≡ sheet) ⊎ IsAmong others sheet
+
+-- each of the first sheets is one of the second
+abbrev pub AreAmong : List SheetState → List SheetState → Type 0
+AreAmong sheets others = Every (IsAmong others) sheets
 
 -- the list ends with the sheet
 abbrev pub IsLast : List SheetState → SheetState → Type 0

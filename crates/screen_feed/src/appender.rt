@@ -1,21 +1,24 @@
 // What adds entries to a writer's book.
 ghost use Rattle.std.specs.Prelude.{◌≡◌, ◌+◌, ◌<◌, ◌^◌, [], ◌∷◌, ◌++◌, length, true, Some, None, IfOk};
+ghost use mathlib.Core.List.{IsPrefix};
 ghost use Rattle.logbook.specs.Pages.{may_write};
-ghost use Rattle.screen_feed.specs.Logs.{begun_after, shown_in};
+ghost use Rattle.screen_feed.specs.Logs.{IsLegalLog, begun_after, begun_in, shown_in};
 ghost use Rattle.screen_feed.specs.Rules.{IsEntryAdded, entry_word};
 
-use crate::book::{Add, AddFirst, BookRule, EntryWord, Log, MakePen, Nothing, SheetEntry};
+use crate::book::{Add, AddFirst, BookRule, EntryWord, Log, MakePen, Nothing, SeeAll, SheetEntry};
 use crate::sheet::Sheet;
 use apron_base::Memory;
 use logbook::{Offer, Pen, Seen, Start, Word};
 use std::marker::Model;
 
-/// The one value that may add entries to its book, and so knows all of them. Contracts see the book and its log.
+/// The one value that may add entries to its book, and so knows all of them. Contracts see the book
+/// and its log.
 #[derive(Drop)]
 pub(crate) struct Appender {
     head: EntryWord,
     pen: Pen,
     seen: Log,
+    last: SheetEntry,
     round: u64,
 }
 
@@ -26,7 +29,8 @@ impl Model for Appender {
 
     ghost view = { λ a. record { book = a.seen.book; log = a.seen.log } };
 
-    ghost invariant = { λ a. IsAppender (record { book = a.seen.book; log = a.seen.log }) a.head a.pen a.round };
+    ghost invariant = { λ a. IsAppender (record { book = a.seen.book; log = a.seen.log })
+        a.head a.pen a.round };
 }
 
 // The pen for a later entry. The step wants some entry, and does nothing with it.
@@ -48,11 +52,12 @@ fn new_pen(head: &EntryWord, seen: &Log, entry: &SheetEntry) -> Pen
 }
 
 impl Appender {
-    /// A new book, in which this sheet is begun. `Err` never comes, since nobody else has the book; but no clause of `logbook`
-    /// says so before there is an entry.
+    /// A new book, in which this sheet is begun. `Err` never comes, since nobody else has the book;
+    /// but no clause of `logbook` says so before there is an entry.
     pub fn open(sheet: &Sheet) -> Result<Appender, Memory>
         ensures shown { IfOk result (λ appender. shown_in appender.log ≡ []) }
         ensures begun { IfOk result (λ appender. begun_after None appender.log ≡ Some sheet.now) }
+        ensures tried { IfOk result (λ appender. begun_in appender.log ≡ sheet.now ∷ []) }
         ensures count { IfOk result (λ appender. length appender.log ≡ 1) }
     {
         let (mut seen, mut first, _second) = Seen::open(Start::alone(), 0, 0);
@@ -79,6 +84,7 @@ impl Appender {
             head,
             pen,
             seen,
+            last: entry,
             round: 1,
         })
     }
@@ -117,6 +123,7 @@ impl Appender {
         self.head
             .compare_exchange::<Add, Nothing>(1, 1, &mut self.seen, &mut offer, &mut self.pen);
         self.pen = next;
+        self.last = entry;
         self.round += 1;
     }
 
@@ -125,6 +132,7 @@ impl Appender {
         requires room { length self.old.log < 2 ^ 62 }
         ensures book { self.new.book ≡ self.old.book }
         ensures shown { shown_in self.new.log ≡ shown_in self.old.log }
+        ensures tried { begun_in self.new.log ≡ begun_in self.old.log ++ sheet.now ∷ [] }
         ensures begun { begun_after None self.new.log ≡ Some sheet.now }
         ensures count { length self.new.log ≡ length self.old.log + 1 }
     {
@@ -137,8 +145,27 @@ impl Appender {
         requires begun { begun_after None self.old.log ≡ Some sheet.now }
         ensures book { self.new.book ≡ self.old.book }
         ensures shown { shown_in self.new.log ≡ shown_in self.old.log ++ sheet.now ∷ [] }
+        ensures tried { begun_in self.new.log ≡ begun_in self.old.log }
         ensures count { length self.new.log ≡ length self.old.log + 1 }
     {
         self.add(sheet, true);
+    }
+
+    /// Nothing is done: it shows that what others know of the book begins its log.
+    pub fn knows(&mut self, others: &Log)
+        requires book { others.now.book ≡ self.old.book }
+        ensures same { self.new ≡ self.old }
+        ensures all { IsPrefix others.now.log self.old.log }
+        ensures legal { IsLegalLog self.old.log }
+    {
+        let mut all = self.seen.again();
+        all.learn(others);
+        let mut offer: Offer<SheetEntry, u64, BookRule, Nothing> = all.plain::<
+            Nothing,
+            SheetEntry,
+            Nothing,
+        >(&self.last);
+        self.head
+            .compare_exchange::<SeeAll, Nothing>(1, 1, &mut all, &mut offer, &mut self.pen);
     }
 }

@@ -79,6 +79,15 @@ impl Play<SheetEntry, u64> for Add {
     ghost then = { AddsSheet };
 }
 
+/// A step that adds nothing, by the pen for the next entry.
+pub(crate) struct SeeAll;
+
+impl Play<SheetEntry, u64> for SeeAll {
+    ghost use Rattle.screen_feed.specs.Rules.{SeesAll};
+
+    ghost then = { SeesAll };
+}
+
 /// What is known of the book's entries.
 pub(crate) type Log = Seen<SheetEntry, u64, BookRule>;
 

@@ -1,12 +1,12 @@
 // The writer, its screen, and what the writer tells.
-ghost use Rattle.std.specs.Prelude.{◌≡◌, ◌≤◌, [], ◌∷◌, IfOk, OnErr, OnOk};
-ghost use Rattle.screen_feed.specs.Screens.{HasLearned, HasLooked, after_show, screen_of, told_of};
-ghost use Rattle.screen_feed.specs.Sheets.{AreSheets, Begins, IsLast, IsSheet, last_version, sheet_of};
+ghost use Rattle.std.specs.Prelude.{◌≡◌, ◌≤◌, ◌⊎◌, [], ◌∷◌, IfOk, OnErr, OnOk};
+ghost use Rattle.screen_feed.specs.Screens.{HasLearned, HasLooked, after_show, after_try, screen_of, told_of};
+ghost use Rattle.screen_feed.specs.Sheets.{AreAmong, AreSheets, Begins, IsLast, IsSheet, last_version, sheet_of};
 
 use crate::appender::Appender;
 use crate::book::Log;
 use crate::sheet::Sheet;
-use crate::steps::{ScreenSide, WriterSide, look_at, page_of, pair_of, publish};
+use crate::steps::{Front, WriterSide, look_at, page_of, pair_of, publish};
 use apron_base::Memory;
 use apron_rules::Airport;
 use core::mem::replace_with;
@@ -16,11 +16,12 @@ use std::marker::Model;
 use std::snapshot::Snapshot;
 use std::sync::Wait;
 
-// After this many entries of its book a writer shows no more: at a thousand million entries a second, after 36 years.
+// After this many entries of its book a writer shows no more: at a thousand million entries a
+// second, after 36 years.
 const MOST_ENTRIES: u64 = 1 << 60;
 
-/// What shows the chart of one day to one screen. Contracts see its pair, the airport and the day, and the list of the
-/// sheets that it has shown. It is not `Drop`: end it by `close`.
+/// What shows the chart of one day to one screen. Contracts see its pair, the airport and the day,
+/// and the list of the sheets that it has shown. It is not `Drop`: end it by `close`.
 pub struct ScreenWriter {
     side: WriterSide,
     appender: Appender,
@@ -31,7 +32,7 @@ pub struct ScreenWriter {
 
 impl Model for ScreenWriter {
     ghost use Rattle.screen_feed.specs.Ends.{IsWriter};
-    ghost use Rattle.screen_feed.specs.Logs.{shown_in};
+    ghost use Rattle.screen_feed.specs.Logs.{begun_in, shown_in};
     ghost use Rattle.screen_feed.specs.Screens.{WriterState};
 
     ghost Value = { WriterState };
@@ -40,17 +41,19 @@ impl Model for ScreenWriter {
       pair = w.appender.book;
       shown = record { airport = w.airport.value; day = w.day };
       sheets = shown_in w.appender.log;
+      tried = begun_in w.appender.log;
     } };
 
     ghost invariant = { λ w. IsWriter w.side.desk.shown.value w.appender
         (record { airport = w.airport.value; day = w.day }) w.version };
 }
 
-/// What looks at the sheet that was shown last. Contracts see its pair, the airport and the day, the list of the sheets that
-/// it has seen, of which it takes the last, and the longest list that it was told.
+/// What looks at the sheet that was shown last. Contracts see its pair, the airport and the day,
+/// the list of the sheets that it has seen, of which it takes the last, and the longest list that
+/// it was told.
 #[derive(Drop)]
 pub struct Screen {
-    side: ScreenSide,
+    front: Front,
     told: Log,
     round: u64,
     airport: Snapshot<Airport>,
@@ -70,13 +73,13 @@ impl Model for Screen {
     ghost view = { λ s. record {
       pair = s.told.book;
       shown = record { airport = s.airport.value; day = s.day };
-      seen = sheets_seen (view_of s.side.place);
+      seen = sheets_seen (view_of s.front.side.place);
       told = shown_in s.told.log;
     } };
 
-    ghost invariant = { λ s. IsScreenAt (view_of s.side.place)
-        (record { airport = s.airport.value; day = s.day }) s.told.book
-        × (s.round ≡ length s.told.log) };
+    ghost invariant = { λ s. IsScreenAt (view_of s.front.side.place)
+        (record { airport = s.airport.value; day = s.day }) s.told.book s.front.seen.log
+        × (s.front.seen.book ≡ s.told.book) × (s.round ≡ length s.told.log) };
 }
 
 /// What a writer tells. Contracts see the writer's pair, and the list that it had.
@@ -99,8 +102,8 @@ impl Model for Told {
 }
 
 impl ScreenWriter {
-    /// A writer for a day, counted from 1, with its one screen. It shows this plan, and the screen knows it. The only
-    /// error is a lack of memory.
+    /// A writer for a day, counted from 1, with its one screen. It shows this plan, and the screen
+    /// knows it. The only error is a lack of memory.
     pub fn new<R: Wait>(
         rt: &R,
         alloc: Global,
@@ -111,17 +114,20 @@ impl ScreenWriter {
         requires airport { airport.now ≡ plan.now.plan.airport }
         requires first { 1 ≤ day }
         requires last { day ≤ airport.now.days }
-        ensures shown { IfOk result (λ ends. ends.0.shown ≡ record { airport = airport.now; day = day }) }
+        ensures shown { IfOk result
+            (λ ends. ends.0.shown ≡ record { airport = airport.now; day = day }) }
         ensures sheets { IfOk result (λ ends. ends.0.sheets ≡ sheet_of plan.now.plan day ∷ []) }
+        ensures tried { IfOk result (λ ends. ends.0.tried ≡ sheet_of plan.now.plan day ∷ []) }
         ensures screen { IfOk result (λ ends. ends.1 ≡ screen_of ends.0) }
     {
         let sheet = Sheet::of(alloc, airport, plan, day)?;
         let mut appender = Appender::open(&sheet)?;
         let page = page_of(&appender, sheet.another()?);
-        let (writer_side, screen_side) = pair_of(rt, alloc, page)?;
+        let seen = appender.seen();
+        let (writer_side, side) = pair_of(rt, alloc, page)?;
         appender.confirm(&sheet);
         let screen = Screen {
-            side: screen_side,
+            front: Front { side, seen },
             told: appender.seen(),
             round: appender.round(),
             airport: Snapshot::of(airport),
@@ -154,8 +160,9 @@ impl ScreenWriter {
         self.day
     }
 
-    /// Shows a plan whose version is greater than the last one. One of the same version changes nothing. At `Err` there is no
-    /// memory, and nothing has changed. It may wait for a screen that is looking.
+    /// Shows a plan whose version is greater than the last one. One of the same version changes
+    /// nothing. At `Err` there is no memory, and the screen sees what it saw. It may wait for a
+    /// screen that is looking.
     pub fn show<R: Wait>(
         &mut self,
         rt: &R,
@@ -168,7 +175,8 @@ impl ScreenWriter {
         requires version { last_version self.old.sheets ≤ plan.now.plan.version }
         ensures ok { let sheet = sheet_of plan.now.plan self.old.shown.day in
             OnOk result (self.new ≡ after_show self.old sheet) }
-        ensures err { OnErr result (self.new ≡ self.old) }
+        ensures err { let sheet = sheet_of plan.now.plan self.old.shown.day in
+            OnErr result ((self.new ≡ self.old) ⊎ (self.new ≡ after_try self.old sheet)) }
     {
         if plan.version() <= self.version {
             return Ok(());
@@ -182,7 +190,8 @@ impl ScreenWriter {
         requires sheet { IsSheet self.old.shown sheet.now }
         requires version { last_version self.old.sheets ≤ sheet.now.version }
         ensures ok { OnOk result (self.new ≡ after_show self.old sheet.now) }
-        ensures err { OnErr result (self.new ≡ self.old) }
+        ensures err { OnErr result
+            ((self.new ≡ self.old) ⊎ (self.new ≡ after_try self.old sheet.now)) }
     {
         if sheet.version() <= self.version {
             return Ok(());
@@ -209,7 +218,18 @@ impl ScreenWriter {
         }
     }
 
-    /// Ends the writer. Its screen finds no sheet any more. It may wait for a screen that is looking, and takes no memory.
+    /// Nothing is done: it shows that each sheet which its screen has seen is one that the writer
+    /// has shown or tried to show.
+    pub fn knows(&mut self, screen: &Screen)
+        requires pair { screen.now.pair ≡ self.old.pair }
+        ensures same { self.new ≡ self.old }
+        ensures seen { AreAmong screen.now.seen self.old.tried }
+    {
+        self.appender.knows(&screen.front.seen);
+    }
+
+    /// Ends the writer. Its screen finds no sheet any more. It may wait for a screen that is
+    /// looking, and takes no memory.
     pub fn close<R: Wait>(self, rt: &R) {
         let ScreenWriter {
             side,
@@ -237,8 +257,9 @@ impl Screen {
         }
     }
 
-    /// The sheet that was shown last: the last one of a list that begins with all that this screen has seen and was told. It
-    /// waits for nobody and copies no text. At `Err` the writer is closed, or the sheet can have no more owners.
+    /// The sheet that was shown last: the last one of a list that begins with all that this screen
+    /// has seen and was told. It waits for nobody and copies no text. At `Err` the writer is
+    /// closed, or the sheet can have no more owners.
     pub fn look(&mut self) -> Result<Sheet, Memory>
         ensures looked { HasLooked self.old self.new }
         ensures last { IfOk result (IsLast self.new.seen) }
@@ -246,6 +267,6 @@ impl Screen {
     {
         let told = &self.told;
         let round = self.round;
-        replace_with(&mut self.side, (), |side, ()| look_at(side, told, round))
+        replace_with(&mut self.front, (), |front, ()| look_at(front, told, round))
     }
 }

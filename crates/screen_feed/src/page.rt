@@ -24,7 +24,8 @@ impl Model for Page {
 
     ghost view = { λ p. record { sheet = p.sheet; book = p.seen.book; log = p.seen.log } };
 
-    ghost invariant = { λ p. IsPage (record { sheet = p.sheet; book = p.seen.book; log = p.seen.log }) p.round };
+    ghost invariant = { λ p. IsPage
+        (record { sheet = p.sheet; book = p.seen.book; log = p.seen.log }) p.round };
 }
 
 impl Page {

@@ -11,7 +11,8 @@ use std::snapshot::Snapshot;
 use std::sync::Arc;
 use wall_chart::chart;
 
-/// The chart of one day of a plan, with the plan's version. A sheet may have several owners, which share its text.
+/// The chart of one day of a plan, with the plan's version. A sheet may have several owners, which
+/// share its text.
 #[derive(Drop)]
 pub struct Sheet {
     kept: Arc<SheetFields, Global>,

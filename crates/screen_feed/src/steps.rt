@@ -24,11 +24,19 @@ pub(crate) type WriterSide = Writer<Page, Page, Option<Page>, PairRule>;
 /// The screen's side.
 pub(crate) type ScreenSide = Reader<Page, Option<Page>, PairRule>;
 
+/// The screen's side, with what was known of the book as the page was begun that it has seen last.
+#[derive(Drop)]
+pub(crate) struct Front {
+    pub side: ScreenSide,
+    pub seen: Log,
+}
+
 /// The page of the sheet that was begun last.
 pub(crate) fn page_of(appender: &Appender, sheet: Sheet) -> Page
     requires begun { begun_after None appender.now.log ≡ Some sheet }
     requires sheets { AreSheets sheet.shown (shown_in appender.now.log ++ sheet ∷ []) }
-    ensures page { result ≡ record { sheet = sheet; book = appender.now.book; log = appender.now.log } }
+    ensures page { result
+        ≡ record { sheet = sheet; book = appender.now.book; log = appender.now.log } }
 {
     Page {
         sheet,
@@ -37,7 +45,8 @@ pub(crate) fn page_of(appender: &Appender, sheet: Sheet) -> Page
     }
 }
 
-/// A pair of copies of this page. The screen's side has seen it. The only error is a lack of memory.
+/// A pair of copies of this page. The screen's side has seen it. The only error is a lack of
+/// memory.
 pub(crate) fn pair_of<R: Wait>(
     rt: &R,
     alloc: Global,
@@ -78,8 +87,8 @@ fn publish_page<R: Wait>(rt: &R, end: WriterSide, page: Page) -> (WriterSide, Re
     }
 }
 
-/// Puts the page before the screen. At `Err` there is no memory, and the screen sees what it saw. It may wait for a screen
-/// that is looking.
+/// Puts the page before the screen. At `Err` there is no memory, and the screen sees what it saw.
+/// It may wait for a screen that is looking.
 pub(crate) fn publish<R: Wait>(rt: &R, end: &mut WriterSide, page: Page) -> Result<(), Memory>
     requires follows { Follows end.old.desk.shown.value page }
     ensures ok { OnOk result (end.new.desk.shown.value ≡ page) }
@@ -88,12 +97,14 @@ pub(crate) fn publish<R: Wait>(rt: &R, end: &mut WriterSide, page: Page) -> Resu
     replace_with(end, page, |end, page| publish_page(rt, end, page))
 }
 
-// Whether the page is late enough to show all that was told. It always is, since a writer publishes a page before it tells
-// of it. But no clause of `left_right` says so of a reader that has looked before.
+// Whether the page is late enough to show all that was told. It always is, since a writer publishes
+// a page before it tells of it. But no clause of `left_right` says so of a reader that has looked
+// before.
 fn covers(page: &Page, told: &Log, round: u64) -> bool
     requires book { page.now.book ≡ told.now.book }
     requires round { round ≡ length told.now.log }
     ensures sheets { AreSheets page.now.sheet.shown (sheets_with page.now) }
+    ensures begun { begun_after None page.now.log ≡ Some page.now.sheet }
     ensures told { IsTrue result → Begins (sheets_with page.now) (shown_in told.now.log) }
 {
     let mut both = page.seen.again();
@@ -102,28 +113,32 @@ fn covers(page: &Page, told: &Log, round: u64) -> bool
 }
 
 /// The sheet that is shown. At `Err` the writer is closed, or the sheet can have no more owners.
-pub(crate) fn look_at(
-    front: ScreenSide,
-    told: &Log,
-    round: u64,
-) -> (ScreenSide, Result<Sheet, Memory>)
-    requires there { IsSome (view front.place) }
-    requires book { ForSome (view front.place) (λ page. page.book ≡ told.now.book) }
+pub(crate) fn look_at(front: Front, told: &Log, round: u64) -> (Front, Result<Sheet, Memory>)
+    requires there { IsSome (view front.side.place) }
+    requires book { ForSome (view front.side.place) (λ page. page.book ≡ told.now.book) }
+    requires log { ForSome (view front.side.place)
+        (λ page. (page.book ≡ front.seen.book) × (page.log ≡ front.seen.log)) }
     requires round { round ≡ length told.now.log }
-    ensures seen { HasLookedAt (view front.place) (view result.0.place) }
-    ensures last { IfOk result.1 (IsLast (sheets_seen (view result.0.place))) }
-    ensures told { IfOk result.1 (λ sheet. Begins (sheets_seen (view result.0.place)) (shown_in told.now.log)) }
+    ensures seen { HasLookedAt (view front.side.place) (view result.0.side.place) }
+    ensures log { ForSome (view result.0.side.place)
+        (λ page. (page.book ≡ result.0.seen.book) × (page.log ≡ result.0.seen.log)) }
+    ensures last { IfOk result.1 (IsLast (sheets_seen (view result.0.side.place))) }
+    ensures told { IfOk result.1
+        (λ sheet. Begins (sheets_seen (view result.0.side.place)) (shown_in told.now.log)) }
 {
-    match front.enter_as::<LookAtPage>() {
+    let Front { side, seen } = front;
+    match side.enter_as::<LookAtPage>() {
         Ok(reading) => {
             let page = reading.get();
+            let seen = page.seen.again();
             let answer = if covers(page, told, round) {
                 page.sheet.another()
             } else {
                 Err(Memory)
             };
-            (reading.leave(), answer)
+            let side = reading.leave();
+            (Front { side, seen }, answer)
         }
-        Err(front) => (front, Err(Memory)),
+        Err(side) => (Front { side, seen }, Err(Memory)),
     }
 }

@@ -1,5 +1,6 @@
 -- A board whose plan is shown on screens, as contracts see it and as a machine.
-use Rattle.std.specs.Prelude.{◌≡◌, ◌≤◌, ◌⊎◌, ◌↔◌, ℕ, Bool, false, List, [], ◌∷◌, ◌++◌, length}
+use Rattle.std.specs.Prelude.{◌≡◌, ◌≤◌, ◌⊎◌, ◌↔◌, ℕ, Bool, false, List, [], ◌∷◌, ◌++◌, length, map}
+use Rattle.logbook.specs.Pages.{Book}
 use Rattle.apron_base.specs.Histories.{Every}
 use Rattle.apron_base.specs.Keeper.{KeeperState}
 use Rattle.apron_base.specs.Machine.{MachineState}
@@ -8,27 +9,40 @@ use Rattle.plan_core.specs.PlanState.{PlanState}
 use Rattle.desk_words.specs.declared.asks.Entry.{Entry}
 use Rattle.history_core.specs.History.{replay}
 use Rattle.watch_list.specs.declared.watch_asks.WatchFixed.{WatchFixed}
-use Rattle.watch_list.specs.WatchBoards.{WatchHeld, watch_state}
+use Rattle.watch_list.specs.WatchBoards.{WatchHeld, watch_fixed, watch_state}
 use Rattle.screen_feed.specs.Sheets.{SheetState, last_version, sheet_of}
-use Rattle.screen_feed.specs.Screens.{WriterState, after_show}
+use Rattle.screen_feed.specs.Screens.{ScreenState, WriterState, after_show, after_try}
 
--- the chart of a day of the plan that a front of the history makes; the front has as many entries as the sheet's version says
-pub record IsOfFront (airport : AirportParts) (history : List Entry) (day : ℕ) (sheet : SheetState) : Type 0 where
+-- the chart of a day of the plan that a front of the history makes; the front has as many entries
+-- as the sheet's version says
+pub record IsOfFront (airport : AirportParts) (history : List Entry) (day : ℕ)
+    (sheet : SheetState) : Type 0 where
   pub front : List Entry
   pub rest : List Entry
   pub is : history ≡ front ++ rest
   pub count : length front ≡ sheet.version
   pub chart : sheet ≡ sheet_of (replay airport front) day
 
--- a writer for the airport, each of whose sheets is the chart of a front of the history
-pub record IsWriterOf (airport : AirportParts) (history : List Entry) (writer : WriterState) : Type 0 where
+-- a writer for the airport: each sheet that it has shown, or tried to show, is the chart of a front
+-- of the history
+pub record IsWriterOf (airport : AirportParts) (history : List Entry)
+    (writer : WriterState) : Type 0 where
   pub airport_is : writer.shown.airport ≡ airport
   pub sheets : Every (IsOfFront airport history writer.shown.day) writer.sheets
+  pub tried : Every (IsOfFront airport history writer.shown.day) writer.tried
 
--- a writer for the airport, which has shown the plan of the history and nothing else
+-- each sheet that the screen has seen is the chart of a front of the history
+abbrev pub SeesFronts : AirportParts → List Entry → ScreenState → Type 0
+SeesFronts airport history screen =
+    Every (λ (sheet : SheetState). IsOfFront airport history sheet.shown.day sheet) screen.seen
+
+-- a writer for the airport, which has shown the plan of the history, and has tried to show nothing
+-- else
 abbrev pub IsNewWriter : AirportParts → List Entry → WriterState → Type 0
 IsNewWriter airport history writer =
-    (writer.shown.airport ≡ airport) × (writer.sheets ≡ sheet_of (replay airport history) writer.shown.day ∷ [])
+    (writer.shown.airport ≡ airport)
+    × (writer.sheets ≡ sheet_of (replay airport history) writer.shown.day ∷ [])
+    × (writer.tried ≡ sheet_of (replay airport history) writer.shown.day ∷ [])
 
 -- the last sheet of the writer has this version
 abbrev pub ShowsVersion : ℕ → WriterState → Type 0
@@ -36,11 +50,23 @@ ShowsVersion version writer = last_version writer.sheets ≡ version
 
 -- the writer may be shown the plan
 abbrev pub CanShow : PlanState → WriterState → Type 0
-CanShow plan writer = (writer.shown.airport ≡ plan.airport) × (last_version writer.sheets ≤ plan.version)
+CanShow plan writer = (writer.shown.airport ≡ plan.airport)
+    × (last_version writer.sheets ≤ plan.version)
 
--- a writer before and after it was to show a plan: it showed it, or is as it was
+-- a writer before and after it was to show a plan: it showed it, or tried in vain, or is as it was
 abbrev pub IsShown : PlanState → WriterState → WriterState → Type 0
-IsShown plan before after = (after ≡ after_show before (sheet_of plan before.shown.day)) ⊎ (after ≡ before)
+IsShown plan before after =
+    let sheet = sheet_of plan before.shown.day in
+    (after ≡ after_show before sheet) ⊎ (after ≡ after_try before sheet) ⊎ (after ≡ before)
+
+-- the pairs of these writers, each of which has its screen
+abbrev pub pairs_of : List WriterState → List Book
+pairs_of writers = map (λ (writer : WriterState). writer.pair) writers
+
+-- what no act changes of a hall: what none changes of its board, and the pairs of its writers
+pub record HallFixedState (R : Type 0) : Type 0 where
+  pub watched : WatchFixed R
+  pub pairs : List Book
 
 -- a board, its writers, and whether the last act missed to show a writer the plan
 pub record HallHeld (K R : Type 0) : Type 0 where
@@ -53,11 +79,21 @@ module _ {K R : Type 0} where
   abbrev pub hall_plan : HallHeld K R → PlanState
   hall_plan hall = replay hall.board.board.airport hall.board.board.history
 
-  -- each writer shows fronts of the board's history, and no show was missed exactly if each writer shows the plan's version
+  -- each writer shows fronts of the board's history, and no show was missed exactly if each writer
+  -- shows the plan's version
   pub record IsHall (hall : HallHeld K R) : Type 0 where
     pub writers : Every (IsWriterOf hall.board.board.airport hall.board.board.history) hall.writers
     pub missed : hall.missed ≡ false ↔ Every (ShowsVersion (hall_plan hall).version) hall.writers
 
-  -- as a machine it is its board
-  abbrev pub hall_state : (K → KeeperState) → HallHeld K R → MachineState Entry (WatchFixed R)
-  hall_state tells hall = watch_state tells hall.board
+  abbrev pub hall_fixed : HallHeld K R → HallFixedState R
+  hall_fixed hall = record { watched = watch_fixed hall.board; pairs = pairs_of hall.writers }
+
+  -- as a machine it is its board, with the pairs of its writers
+  abbrev pub hall_state : (K → KeeperState) → HallHeld K R → MachineState Entry (HallFixedState R)
+  hall_state tells hall = let board = watch_state tells hall.board in record {
+    fixed = hall_fixed hall;
+    history = board.history;
+    at_risk = board.at_risk;
+    next = board.next;
+    faults = board.faults;
+  }

@@ -29,7 +29,8 @@ impl<'p> Model for Charts<'p> {
 
     ghost view = { λ c. c.plan.now.plan };
 
-    ghost invariant = { λ c. (c.airport.now ≡ c.plan.now.plan.airport) × IfSome c.last (λ sheet. sheet ≡ sheet_of c.plan.now.plan sheet.shown.day) };
+    ghost invariant = { λ c. (c.airport.now ≡ c.plan.now.plan.airport)
+        × IfSome c.last (λ sheet. sheet ≡ sheet_of c.plan.now.plan sheet.shown.day) };
 }
 
 impl<'p> Charts<'p> {
@@ -45,7 +46,8 @@ impl<'p> Charts<'p> {
         }
     }
 
-    // The chart of this day: the last one, if it is of this day. The only error is a lack of memory.
+    // The chart of this day: the last one, if it is of this day. The only error is a lack of
+    // memory.
     fn take(&mut self, alloc: Global, day: u32) -> Result<Sheet, Memory>
         requires first { 1 ≤ day }
         requires last { day ≤ self.old.airport.days }
@@ -60,8 +62,8 @@ impl<'p> Charts<'p> {
         }
     }
 
-    /// Shows the plan on a writer, if it does not show this version. At `Err` there is no memory, and the writer is as it was. It
-    /// may wait for a screen that is looking.
+    /// Shows the plan on a writer, if it does not show this version. At `Err` there is no memory,
+    /// and the writer is as it was. It may wait for a screen that is looking.
     pub(crate) fn show_on<W: Wait>(
         &mut self,
         rt: &W,

@@ -14,7 +14,7 @@ impl<'a, W: Wait, K: Keeper, R: Stated, T: NoteTest> DeskMachine for Hall<'a, 'a
     ghost use Rattle.std.specs.Prelude.{refl};
     ghost use Rattle.watch_list.specs.declared.watch_asks.WatchAsk.TheVariants.{Plain};
 
-    ghost airport = { λ fixed. fixed.airport };
+    ghost airport = { λ fixed. fixed.watched.airport };
 
     ghost plain = { λ ask. Plain ask };
 
@@ -49,13 +49,14 @@ impl<'a, W: Wait, K: Keeper, R: Stated, T: NoteTest> FeedMachine for Hall<'a, 'a
 
     ghost fed = { λ ask. Feed ask.seen ask.feed.watch ask.feed.after };
 
-    ghost feed_text = { watch_text R.tells };
+    ghost feed_text = { λ fixed. watch_text R.tells fixed.watched };
 
     ghost can_feed = { λ fixed ask. tt };
 
     ghost adds_none = { λ ask entry adds. adds };
 
-    ghost feeds_as = { λ fixed before call ask answer after. watch_feeds R.tells fixed before ask answer after };
+    ghost feeds_as = { λ fixed before call ask answer after.
+        watch_feeds R.tells fixed.watched before ask answer after };
 
     fn copied(alloc: Global, ask: &Ask) -> Result<WatchAsk, Memory> {
         watch_ask_of(alloc, ask)
@@ -73,7 +74,8 @@ impl<'a, W: Wait + 'a, K: Keeper, R: Stated + 'a, T: NoteTest + 'a> SessionMachi
     ghost use Rattle.desk_turns.specs.Feeds.{FeedTurns};
     ghost use Rattle.desk_turns.specs.Watched.{watch_text};
 
-    ghost comes = { λ fixed. FedAnswers Turn (FeedTurns (watch_text R.tells fixed)) fixed.airport };
+    ghost comes = { λ fixed.
+        FedAnswers Turn (FeedTurns (watch_text R.tells fixed.watched)) fixed.watched.airport };
 
     fn serve_seat<'s, Rt: Wait, B: Turns<Hall<'a, 'a, 'a, W, K, R, T>>, S: Source, Out: Sink>(
         alloc: Global,

@@ -1,17 +1,17 @@
 // A board whose plan is shown on screens, as a machine.
-ghost use Rattle.std.specs.Prelude.{◌≡◌, ◌≤◌, ◌<◌, false};
+ghost use Rattle.std.specs.Prelude.{◌≡◌, ◌≤◌, ◌<◌, false, map};
 ghost use Rattle.std.specs.List.{AllZip};
 ghost use Rattle.apron_base.specs.Histories.{Every, Rises};
 ghost use Rattle.apron_base.specs.Machine.{Acts, ActsAtRisk, history_at_risk_of, is_fault};
 ghost use Rattle.history_core.specs.History.{IsLegal, call_limit, call_of};
-ghost use Rattle.watch_list.specs.WatchBoards.{CanAdd, IsWatchAskOf, WatchAnswers, watch_fixed, watch_state};
-ghost use Rattle.screen_hall.specs.Halls.{IsHall, IsNewWriter, IsShown, hall_plan};
+ghost use Rattle.watch_list.specs.WatchBoards.{CanAdd, IsWatchAskOf, WatchAnswers, watch_fixed};
+ghost use Rattle.screen_hall.specs.Halls.{IsHall, IsNewWriter, IsShown, SeesFronts, hall_plan, hall_state, pairs_of};
 
 use crate::charts::Charts;
-use crate::show::{close_all, show_on_all};
+use crate::show::{close_all, know_all, show_on_all};
 use apron_base::{Acted, Keeper, Machine};
 use desk_words::asks::Entry;
-use screen_feed::ScreenWriter;
+use screen_feed::{Screen, ScreenWriter};
 use std::alloc::Global;
 use std::marker::Model;
 use std::sync::Wait;
@@ -19,14 +19,29 @@ use watch_list::{NoteTest, Stated, WatchAsk, WatchBoard, WatchFixed};
 
 /// A board with watches, and the writers of screens, on which its plan is shown after each act.
 ///
-/// Contracts see the board, what each writer has shown, and whether the last act missed a show. Each sheet of a writer is the
-/// chart of the plan that a front of the board's history makes, with as many entries as the sheet's version says. It is not
-/// `Drop`: end it by `into_board`.
+/// Contracts see the board, what each writer has shown, and whether the last act missed a show.
+/// Each sheet of a writer is the chart of the plan that a front of the board's history makes, with
+/// as many entries as the sheet's version says. It is not `Drop`: end it by `into_board`.
 pub struct Hall<'s, 'w, 'a, W, K: Keeper, R: Stated, T: NoteTest> {
     rt: &'s W,
     board: WatchBoard<'w, 'a, K, R, T>,
     writers: Vec<ScreenWriter>,
     missed: bool,
+}
+
+/// What no act changes of a hall: the airport and the watches of its board, and the pairs of its
+/// writers. No value of it is made.
+pub struct HallFixed<R> {
+    watched: WatchFixed<R>,
+    writers: Vec<ScreenWriter>,
+}
+
+impl<R> Model for HallFixed<R> {
+    ghost use Rattle.screen_hall.specs.Halls.{HallFixedState, pairs_of};
+
+    ghost Value = { HallFixedState R };
+
+    ghost view = { λ f. record { watched = f.watched; pairs = pairs_of f.writers.items } };
 }
 
 impl<'s, 'w, 'a, W, K: Keeper, R: Stated, T: NoteTest> Model for Hall<'s, 'w, 'a, W, K, R, T> {
@@ -36,17 +51,20 @@ impl<'s, 'w, 'a, W, K: Keeper, R: Stated, T: NoteTest> Model for Hall<'s, 'w, 'a
 
     ghost view = { λ h. record { board = h.board; writers = h.writers.items; missed = h.missed } };
 
-    ghost invariant = { λ h. IsHall (record { board = h.board; writers = h.writers.items; missed = h.missed }) };
+    ghost invariant = { λ h. IsHall
+        (record { board = h.board; writers = h.writers.items; missed = h.missed }) };
 }
 
 impl<'s, 'w, 'a, W: Wait, K: Keeper, R: Stated, T: NoteTest> Hall<'s, 'w, 'a, W, K, R, T> {
-    /// The board with these writers, which have shown its plan and nothing else. It takes no memory.
+    /// The board with these writers, which have shown its plan and nothing else. It takes no
+    /// memory.
     pub fn new(
         rt: &'s W,
         board: WatchBoard<'w, 'a, K, R, T>,
         writers: Vec<ScreenWriter>,
     ) -> Hall<'s, 'w, 'a, W, K, R, T>
-        requires writers { Every (IsNewWriter board.board.airport board.board.history) writers.items }
+        requires writers { Every
+            (IsNewWriter board.board.airport board.board.history) writers.items }
         ensures board { result.board ≡ board.entry }
         ensures writers { result.writers ≡ writers.items }
         ensures missed { result.missed ≡ false }
@@ -61,8 +79,8 @@ impl<'s, 'w, 'a, W: Wait, K: Keeper, R: Stated, T: NoteTest> Hall<'s, 'w, 'a, W,
         }
     }
 
-    /// Whether a show of the last act wanted memory: exactly where some writer does not show the version of the board's plan.
-    /// False before the first act. It takes no memory.
+    /// Whether a show of the last act wanted memory: exactly where some writer does not show the
+    /// version of the board's plan. False before the first act. It takes no memory.
     pub fn missed(&self) -> bool
         ensures value { result ≡ self.now.missed }
         ensures shows { IsHall self.now }
@@ -70,7 +88,19 @@ impl<'s, 'w, 'a, W: Wait, K: Keeper, R: Stated, T: NoteTest> Hall<'s, 'w, 'a, W,
         self.missed
     }
 
-    /// Ends the writers, and gives the board back. It may wait for screens that are looking, and takes no memory.
+    /// Nothing is done: it shows that each sheet which a screen of these writers has seen is the
+    /// chart of a front of the board's history.
+    pub fn knows(&mut self, screens: &[Screen])
+        requires pairs { pairs_of self.old.writers ≡ map (λ screen. screen.pair) screens.now }
+        ensures same { self.new ≡ self.old }
+        ensures fronts { let board = self.old.board.board in
+            Every (SeesFronts board.airport board.history) screens.now }
+    {
+        know_all(self.writers.as_mut_slice(), screens);
+    }
+
+    /// Ends the writers, and gives the board back. It may wait for screens that are looking, and
+    /// takes no memory.
     pub fn into_board(self) -> WatchBoard<'w, 'a, K, R, T>
         ensures board { result ≡ self.entry.board }
     {
@@ -94,16 +124,20 @@ impl<'s, 'w, 'a, W: Wait, K: Keeper, R: Stated, T: NoteTest> Hall<'s, 'w, 'a, W,
         self.board.next_call()
     }
 
-    /// What the board answers. Then each writer shows the board's plan, where that has another version. The answer is the same
-    /// whether they do or want memory. It may wait for screens that are looking.
+    /// What the board answers. Then each writer shows the board's plan, where that has another
+    /// version. The answer is the same whether they do or want memory. It may wait for screens that
+    /// are looking.
     pub fn ask(&mut self, alloc: Global, call: u64, ask: &WatchAsk) -> Acted
         requires valid { IsWatchAskOf (watch_fixed self.old.board) ask.now }
         requires next { self.old.board.next ≤ call }
         requires last { call < call_limit }
-        ensures acts { Acts call_of (watch_state K.state self.old.board) (watch_state K.state self.new.board) call result }
-        ensures at_risk { ActsAtRisk (λ entry. (call_of entry ≡ call) × CanAdd ask.now entry) (is_fault result)
-            (history_at_risk_of (watch_state K.state self.old.board)) (history_at_risk_of (watch_state K.state self.new.board)) }
-        ensures answers { WatchAnswers R.tells (watch_fixed self.old.board) self.old.board.board.history call ask.now result self.new.board.board.history }
+        ensures acts { Acts call_of (hall_state K.state self.old) (hall_state K.state self.new)
+            call result }
+        ensures at_risk { ActsAtRisk (λ entry. (call_of entry ≡ call) × CanAdd ask.now entry)
+            (is_fault result) (history_at_risk_of (hall_state K.state self.old))
+            (history_at_risk_of (hall_state K.state self.new)) }
+        ensures answers { WatchAnswers R.tells (watch_fixed self.old.board)
+            self.old.board.board.history call ask.now result self.new.board.board.history }
         ensures shown { AllZip (IsShown (hall_plan self.new)) self.old.writers self.new.writers }
     {
         let acted = self.board.act(alloc, call, ask);
@@ -126,17 +160,17 @@ impl<'s, 'w, 'a, W: Wait, K: Keeper, R: Stated, T: NoteTest> Machine
 
     type Entry = Entry;
 
-    type Fixed = WatchFixed<R>;
+    type Fixed = HallFixed<R>;
 
     ghost state = { hall_state K.state };
 
     ghost number = { call_of };
 
-    ghost valid = { IsWatchAskOf };
+    ghost valid = { λ fixed. IsWatchAskOf fixed.watched };
 
     ghost adds = { CanAdd };
 
-    ghost answers = { WatchAnswers R.tells };
+    ghost answers = { λ fixed. WatchAnswers R.tells fixed.watched };
 
     fn next_call(&self) -> u64 {
         self.next_call()

@@ -8,4 +8,4 @@ mod desks;
 mod hall;
 mod show;
 
-pub use hall::Hall;
+pub use hall::{Hall, HallFixed};

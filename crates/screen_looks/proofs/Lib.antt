@@ -2,3 +2,4 @@ mod Boards
 mod Lasting
 mod Looking
 mod Together
+mod Writers

@@ -15,7 +15,8 @@ use Rattle.screen_feed.specs.Sheets.{IsLast, IsSheet, SheetState, last_version, 
 -- a screen that has seen the chart of the plan of a history on its day, and nothing else
 abbrev pub IsNewScreen : AirportParts → List Entry → ℕ → ScreenState → Type 0
 IsNewScreen airport history day screen =
-    (screen.shown ≡ record { airport = airport; day = day }) × (screen.seen ≡ sheet_of (replay airport history) day ∷ [])
+    (screen.shown ≡ record { airport = airport; day = day })
+    × (screen.seen ≡ sheet_of (replay airport history) day ∷ [])
 
 -- a screen and the sink of a connection
 pub record ScreenAndSink : Type 0 where
@@ -27,10 +28,11 @@ pub record IsLastSheet (screen : ScreenState) (sheet : SheetState) : Type 0 wher
   pub last : IsLast screen.seen sheet
   pub chart : IsSheet screen.shown sheet
 
--- how a connection ends, and what is put on it: the text of the last sheet; or, if there is no memory, nothing; or, if the sink
--- fails, a front of the text
+-- how a connection ends, and what is put on it: the text of the last sheet; or, if there is no
+-- memory, nothing; or, if the sink fails, a front of the text
 abbrev pub EndsAs : ScreenAndSink → ScreenAndSink → Outcome → Type 0
-EndsAs before after Ended = (sheet : SheetState) × IsLastSheet after.screen sheet × Wrote false before.sink after.sink sheet.text
+EndsAs before after Ended = (sheet : SheetState) × IsLastSheet after.screen sheet
+    × Wrote false before.sink after.sink sheet.text
 EndsAs before after Memory = after.sink ≡ before.sink
 EndsAs before after WriteFault = (sheet : SheetState) × IsLastSheet after.screen sheet
     × ((count : ℕ) × Wrote true before.sink after.sink (take count sheet.text))
@@ -49,19 +51,24 @@ pub record WallState (In Out : Type 0) : Type 0 where
 
 module _ {In Out : Type 0} (states : EndStates In Out) where
   -- nothing was read from the connection, and the screen looked once for it
-  pub record HasLook (before : ScreenState) (connection : Connection In Out) (after : ScreenState) : Type 0 where
+  pub record HasLook (before : ScreenState) (connection : Connection In Out)
+      (after : ScreenState) : Type 0 where
     pub unread : connection.finished.source ≡ connection.source
     pub looks : LooksOnce (record { screen = before; sink = states.sink connection.sink })
-        (record { screen = after; sink = states.sink connection.finished.sink }) connection.finished.outcome
+        (record { screen = after; sink = states.sink connection.finished.sink })
+        connection.finished.outcome
 
   -- the connections had a look each, one after the other
   abbrev pub HaveLooks : ScreenState → List (Connection In Out) → ScreenState → Type 0
   HaveLooks before [] after = after ≡ before
   HaveLooks before (connection ∷ connections) after =
-      (between : ScreenState) × HasLook before connection between × HaveLooks between connections after
+      (between : ScreenState) × HasLook before connection between
+      × HaveLooks between connections after
 
-  -- these connections were accepted, shown one after the other and finished, and another accept failed or none
-  pub record Shows (failed : Bool) (before after : WallState In Out) (connections : List (Connection In Out)) : Type 0 where
+  -- these connections were accepted, shown one after the other and finished, and another accept
+  -- failed or none
+  pub record Shows (failed : Bool) (before after : WallState In Out)
+      (connections : List (Connection In Out)) : Type 0 where
     pub looks : HaveLooks before.screen connections after.screen
     pub finishes : TakesAndFinishes failed before.listener after.listener connections
 
@@ -71,8 +78,8 @@ module _ {In Out : Type 0} (states : EndStates In Out) where
       (λ _. (connection : Connection In Out) × Shows false before after (connection ∷ []))
       (λ _. Shows true before after [])
 
-  -- A worker of a screen that was asked for this many connections: it showed these, all or fewer, and fewer only if the listener
-  -- failed.
+  -- A worker of a screen that was asked for this many connections: it showed these, all or fewer,
+  -- and fewer only if the listener failed.
   pub record ShowsOn (asked : ℕ) (before after : WallState In Out) (end : WorkEnd) : Type 0 where
     pub connections : List (Connection In Out)
     pub shows : Shows (is_listener_fault end) before after connections

@@ -8,11 +8,11 @@ ghost use Rattle.desk_turns.specs.Crew.{ServesBoard};
 ghost use Rattle.desk_turns.specs.Feeds.{FeedTurns};
 ghost use Rattle.desk_turns.specs.Watched.{fed_sessions, feed_texts, watch_text};
 ghost use Rattle.history_core.specs.Board.{machine_state};
-ghost use Rattle.screen_hall.specs.Halls.{IsHall, hall_state};
+ghost use Rattle.screen_hall.specs.Halls.{IsHall, SeesFronts, hall_state, pairs_of};
 ghost use Rattle.turn_board.specs.Views.{all_shares};
 ghost use Rattle.screen_looks.specs.Looks.{IsNewScreen};
 ghost use Rattle.screen_looks.specs.Shown.{ShowsFrom};
-ghost use Rattle.screen_looks.specs.Walls.{ShowsAll};
+ghost use Rattle.screen_looks.specs.Walls.{ShowsAll, walls_of};
 
 use crate::wall::Wall;
 use crate::walls::show_all;
@@ -35,7 +35,8 @@ pub struct Task {
     pub day: u32,
 }
 
-/// How the workers of the desks and those of the screens ended, and whether a screen's writer does not show the last version.
+/// How the workers of the desks and those of the screens ended, and whether a screen's writer does
+/// not show the last version.
 #[derive(Clone, Copy)]
 pub struct ShownEnd {
     pub desks: WorkEnd,
@@ -43,8 +44,9 @@ pub struct ShownEnd {
     pub missed: bool,
 }
 
-/// Serves the connections of desks at a board with watches that was just opened, and beside them those of screens, which show
-/// a day of its plan; each listener by a worker in a thread of its own. At `Err` there is no memory, and no listener was called.
+/// Serves the connections of desks at a board with watches that was just opened, and beside them
+/// those of screens, which show a day of its plan; each listener by a worker in a thread of its
+/// own. At `Err` there is no memory, and no listener was called.
 pub fn serve_watched<
     'a,
     Rt: Threads + Wait + Sync,
@@ -66,13 +68,28 @@ pub fn serve_watched<
     requires at_risk { (machine_state K.state board.board).at_risk ≡ None }
     requires few { length listeners.old < all_shares }
     requires day { 0 < length walls.old → (1 ≤ task.day) × (task.day ≤ airport.now.days) }
-    ensures serves { IfOk result.0 (λ ends. ServesBoard W.states (fed_sessions (feed_texts R.tells board.entry.watches)) task.connections
-        (record { listeners = map W.state listeners.old; board = machine_state K.state board.entry.board })
-        (record { listeners = map W.state listeners.new; board = machine_state K.state result.1 }) ends.desks) }
-    ensures shows { IfOk result.0 (λ ends. ShowsFrom W.states (record { airport = airport.now; history = board.entry.board.history })
-        task (map W.state walls.old) (map W.state walls.new) ends.screens) }
+    ensures serves { let kinds = fed_sessions (feed_texts R.tells board.entry.watches) in
+        let before = record {
+          listeners = map W.state listeners.old;
+          board = machine_state K.state board.entry.board;
+        } in
+        let after = record {
+          listeners = map W.state listeners.new;
+          board = machine_state K.state result.1;
+        } in
+        IfOk result.0
+        (λ ends. ServesBoard W.states kinds task.connections before after ends.desks) }
+    ensures shows { let history = board.entry.board.history in
+        let opened = record { airport = airport.now; history = history } in
+        IfOk result.0 (λ ends. ShowsFrom W.states opened task (map W.state walls.old) (record {
+          listeners = map W.state walls.new;
+          history = result.1.history;
+          end = ends.screens;
+          missed = ends.missed;
+        })) }
     ensures missed { IfOk result.0 (λ ends. ends.missed ≡ true → 0 < length walls.old) }
-    ensures refused { IfErr result.0 (λ _. (listeners.new ≡ listeners.old) × (walls.new ≡ walls.old) × (result.1 ≡ board.entry.board)) }
+    ensures refused { IfErr result.0 (λ _. (listeners.new ≡ listeners.old)
+        × (walls.new ≡ walls.old) × (result.1 ≡ board.entry.board)) }
 {
     let mut screens = Vec::new(alloc);
     let writers = writers_of(
@@ -98,8 +115,9 @@ pub fn serve_watched<
     (ended, hall.into_board().into_board())
 }
 
-// Serves desks at the board, and beside them each of these screens on the listener of the same place. At `Err` there is no memory
-// for this, or there was none for a screen, and nothing was served.
+// Serves desks at the board, and beside them each of these screens on the listener of the same
+// place. At `Err` there is no memory for this, or there was none for a screen, and nothing was
+// served.
 fn serve_hall<
     'a,
     Rt: Threads + Wait + Sync,
@@ -120,49 +138,53 @@ fn serve_hall<
     requires airport { airport.now ≡ hall.board.board.airport }
     requires at_risk { (hall_state K.state hall).at_risk ≡ None }
     requires few { length listeners.old < all_shares }
+    requires pairs { pairs_of hall.writers ≡ map (λ screen. screen.pair) screens.old }
     ensures serves { IfOk result.0 (λ ends. ServesBoard W.states
-        (λ fixed. record { airport = fixed.airport; comes = FedAnswers Turn (FeedTurns (watch_text R.tells fixed)) fixed.airport }) connections
-        (record { listeners = map W.state listeners.old; board = hall_state K.state hall.entry })
-        (record { listeners = map W.state listeners.new; board = hall_state K.state result.1 }) ends.desks) }
-    ensures shows { IfOk result.0 (λ ends. ShowsAll W.states connections screens.old (map W.state walls.old) (map W.state walls.new) ends.screens) }
+        (λ fixed. record {
+          airport = fixed.watched.airport;
+          comes = FedAnswers Turn (FeedTurns (watch_text R.tells fixed.watched))
+              fixed.watched.airport;
+        })
+        connections
+        (record {
+          listeners = map W.state listeners.old;
+          board = hall_state K.state hall.entry;
+        })
+        (record {
+          listeners = map W.state listeners.new;
+          board = hall_state K.state result.1;
+        }) ends.desks) }
+    ensures shows { IfOk result.0 (λ ends. ShowsAll W.states connections
+        (walls_of W.state walls.old screens.old) (walls_of W.state walls.new screens.new)
+        ends.screens) }
+    ensures fronts { let board = result.1.board.board in
+        IfOk result.0 (λ _. Every (SeesFronts board.airport board.history) screens.new) }
     ensures missed { IfOk result.0 (λ ends. ends.missed ≡ true → 0 < length walls.old) }
-    ensures note { IfOk result.0 (λ ends. 0 < length walls.old → ends.missed ≡ result.1.missed) }
+    ensures note { IfOk result.0 (λ ends. ends.missed ≡ result.1.missed) }
     ensures hall { IfOk result.0 (λ ends. IsHall result.1) }
-    ensures refused { IfErr result.0 (λ _. (listeners.new ≡ listeners.old) × (walls.new ≡ walls.old) × (result.1 ≡ hall.entry)) }
+    ensures refused { IfErr result.0 (λ _. (listeners.new ≡ listeners.old)
+        × (walls.new ≡ walls.old) × (result.1 ≡ hall.entry)) }
 {
     if screens.len() != walls.len() {
         return (Err(Memory), hall);
     }
-    let count = walls.len();
     let mut job = ||
         requires { IsSync Rt.row × (length screens.now ≡ length walls.now) }
-        ensures shows { ShowsAll W.states connections screens.entry.now (map W.state walls.entry.now) (map W.state walls.exit.now) result }
+        ensures shows { ShowsAll W.states connections
+            (walls_of W.state walls.entry.now screens.entry.now)
+            (walls_of W.state walls.exit.now screens.exit.now) result }
     { show_all(rt, screens, walls, connections) };
-    let (ended, hall) = serve_board(rt, alloc, airport, hall, listeners, connections, &mut job);
+    let (ended, mut hall) = serve_board(rt, alloc, airport, hall, listeners, connections, &mut job);
     match ended {
-        Ok((desks, screens)) => {
-            let missed = has_missed(&hall, count);
+        Ok((desks, looks)) => {
+            hall.knows(screens);
             let ends = ShownEnd {
                 desks,
-                screens,
-                missed,
+                screens: looks,
+                missed: hall.missed(),
             };
             (Ok(ends), hall)
         }
         Err(Memory) => (Err(Memory), hall),
     }
-}
-
-// Whether one of this many screens' writers does not show the last version.
-fn has_missed<W: Wait, K: Keeper, R: Stated, T: NoteTest>(
-    hall: &Hall<'_, '_, '_, W, K, R, T>,
-    screens: usize,
-) -> bool
-    ensures screens { result ≡ true → 0 < screens }
-    ensures note { 0 < screens → result ≡ hall.now.missed }
-    ensures hall { IsHall hall.now }
-{
-    let missed = hall.missed();
-    // Without a screen there is no writer that could miss a version.
-    screens > 0 && missed
 }

@@ -12,10 +12,11 @@ use std::sync::Wait;
 pub trait Wall: Workplace {
     ghost use Rattle.screen_looks.specs.Looks.{ShowsOn};
 
-    /// Accepts this many connections one after the other, shows the sheet of one look on each, and finishes it. It ends before
-    /// its time only if the listener fails.
+    /// Accepts this many connections one after the other, shows the sheet of one look on each, and
+    /// finishes it. It ends before its time only if the listener fails.
     fn show_on<R: Wait>(&mut self, rt: &R, screen: &mut Screen, connections: u32) -> WorkEnd
-        ensures shows { ShowsOn Self.states connections (record { listener = Self.state self.old; screen = screen.old })
+        ensures shows { ShowsOn Self.states connections
+            (record { listener = Self.state self.old; screen = screen.old })
             (record { listener = Self.state self.new; screen = screen.new }) result };
 }
 
@@ -43,7 +44,8 @@ fn show_each<L: Listener, R: Wait>(
     WorkEnd::Done
 }
 
-// Shows the sheet of one look on the next connection, and finishes it. At `Err` the listener failed, and none was accepted.
+// Shows the sheet of one look on the next connection, and finishes it. At `Err` the listener
+// failed, and none was accepted.
 fn show_next<L: Listener, R: Wait>(
     rt: &R,
     screen: &mut Screen,

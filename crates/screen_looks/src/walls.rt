@@ -1,7 +1,7 @@
 // The workers of all screens, each in a thread of its own.
-ghost use Rattle.std.specs.Prelude.{◌≡◌, length, map};
+ghost use Rattle.std.specs.Prelude.{◌≡◌, length};
 ghost use Rattle.std.specs.Thread.{IsSync};
-ghost use Rattle.screen_looks.specs.Walls.{ShowsAll, ShowsEach};
+ghost use Rattle.screen_looks.specs.Walls.{ShowsAll, ShowsEach, walls_of};
 
 use crate::wall::Wall;
 use desk_turns::{WorkEnd, first_end};
@@ -18,7 +18,8 @@ fn show_first<W: Wall, R: Wait>(
 ) -> WorkEnd
     requires one { length screens.old ≡ 1 }
     requires wall { length walls.old ≡ 1 }
-    ensures shows { ShowsEach W.states W.state connections screens.old walls.old screens.new walls.new result }
+    ensures shows { ShowsEach W.states W.state connections screens.old walls.old
+        screens.new walls.new result }
 {
     walls[0].show_on(rt, &mut screens[0], connections)
 }
@@ -34,14 +35,16 @@ fn show_beside<W: Wall + Send, R: Threads + Wait + Sync, J: FnMut() -> T, T>(
     requires one { length screens.old ≡ 1 }
     requires wall { length walls.old ≡ 1 }
     requires job { J.pre job.old }
-    ensures shows { ShowsEach W.states W.state connections screens.old walls.old screens.new walls.new result.0 }
+    ensures shows { ShowsEach W.states W.state connections screens.old walls.old
+        screens.new walls.new result.0 }
     ensures job { J.step job.old result.1 job.new }
 {
     join_mut(
         rt,
         &mut ||
             requires { (length screens.now ≡ 1) × (length walls.now ≡ 1) }
-            ensures shows { ShowsEach W.states W.state connections screens.entry.now walls.entry.now screens.exit.now walls.exit.now result }
+            ensures shows { ShowsEach W.states W.state connections screens.entry.now
+                walls.entry.now screens.exit.now walls.exit.now result }
         { show_first(rt, screens, walls, connections) },
         job,
     )
@@ -55,7 +58,8 @@ pub(crate) fn show_all<W: Wall + Send, R: Threads + Wait + Sync>(
     connections: u32,
 ) -> WorkEnd
     requires same { length screens.old ≡ length walls.old }
-    ensures shows { ShowsAll W.states connections screens.old (map W.state walls.old) (map W.state walls.new) result }
+    ensures shows { ShowsAll W.states connections
+        (walls_of W.state walls.old screens.old) (walls_of W.state walls.new screens.new) result }
 {
     if walls.is_empty() {
         return WorkEnd::Done;
@@ -69,7 +73,9 @@ pub(crate) fn show_all<W: Wall + Send, R: Threads + Wait + Sync>(
         connections,
         &mut ||
             requires { IsSync R.row × (length others.now ≡ length rest.now) }
-            ensures shows { ShowsAll W.states connections others.entry.now (map W.state rest.entry.now) (map W.state rest.exit.now) result }
+            ensures shows { ShowsAll W.states connections
+                (walls_of W.state rest.entry.now others.entry.now)
+                (walls_of W.state rest.exit.now others.exit.now) result }
         { show_all(rt, others, rest, connections) },
     );
     first_end(one, end)

@@ -1,8 +1,8 @@
 // The writers of a board's plan, and their screens.
-ghost use Rattle.std.specs.Prelude.{◌≡◌, ◌<◌, ◌≤◌, []};
+ghost use Rattle.std.specs.Prelude.{◌≡◌, ◌<◌, ◌≤◌, [], map};
 ghost use Rattle.apron_base.specs.Histories.{Every};
 ghost use Rattle.history_core.specs.History.{replay};
-ghost use Rattle.screen_hall.specs.Halls.{IsNewWriter};
+ghost use Rattle.screen_hall.specs.Halls.{IsNewWriter, pairs_of};
 ghost use Rattle.screen_looks.specs.Looks.{IsNewScreen};
 
 use apron_base::Keeper;
@@ -24,7 +24,8 @@ fn plan_of<'b, K: Keeper, R: Stated, T: NoteTest>(
     board.board().plan()
 }
 
-/// This many writers of the board's plan on a day, or fewer if there is no memory for more. Their screens are put last.
+/// This many writers of the board's plan on a day, or fewer if there is no memory for more. Their
+/// screens are put last.
 pub(crate) fn writers_of<W: Wait, K: Keeper, R: Stated, T: NoteTest>(
     rt: &W,
     alloc: Global,
@@ -38,7 +39,9 @@ pub(crate) fn writers_of<W: Wait, K: Keeper, R: Stated, T: NoteTest>(
     requires day { 0 < count → (1 ≤ day) × (day ≤ airport.now.days) }
     requires none { screens.old.items ≡ [] }
     ensures new { Every (IsNewWriter board.now.board.airport board.now.board.history) result.items }
-    ensures screens { Every (IsNewScreen airport.now board.now.board.history day) screens.new.items }
+    ensures screens { Every (IsNewScreen airport.now board.now.board.history day)
+        screens.new.items }
+    ensures pairs { pairs_of result.items ≡ map (λ screen. screen.pair) screens.new.items }
 {
     let mut writers = Vec::new(alloc);
     let plan = plan_of(airport, board);

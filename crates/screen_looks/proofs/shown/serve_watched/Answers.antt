@@ -1,8 +1,12 @@
 use Rattle.std.proofs.Common.{◌∙◌, map, ap, subst, sym}
-use Rattle.std.proofs.lemmas.Result.{IfErr-weaker, IfOk-weaker}
+use Rattle.std.proofs.lemmas.Result.{IfErr-weaker}
 use Rattle.apron_base.specs.Histories.{Every}
+use Rattle.screen_feed.specs.Screens.{ScreenState}
+use Rattle.screen_hall.specs.Halls.{pairs_of}
 use Rattle.screen_looks.specs.Looks.{IsNewScreen}
+use Rattle.screen_looks.specs.Shown.{Opened}
 use Rattle.screen_looks.proofs.Boards.{board_served}
+use Rattle.screen_looks.proofs.Writers.{screens_left}
 use Rattle.screen_looks.proofs.shown.serve_watched.Goals as goal
 
 pub returns-clause-serves : goal.returns-clause-serves
@@ -10,19 +14,27 @@ returns-clause-serves g c =
     let opened = c.args.board.board in
     let watches = c.args.board.watches in
     board_served g.W.Workplace.states c.args.task.connections g.K.Keeper.state g.R.Stated.tells opened c.into_board-2.result watches
-    c.new-hall.result.board c.serve_hall-ended.result.1.board
+    c.new-hall.result c.serve_hall-ended.result.1
     (map g.W.Workplace.state c.args.listeners.now) (map g.W.Workplace.state c.serve_hall-ended.new.listeners) c.serve_hall-ended.result.0
     (c.new-hall.ensures.board ∙ ap (λ next. record { board = opened; watches = watches; next = next }) c.requires.next)
     (c.into_board-2.ensures.value ∙ ap (λ w. w.board) c.into_board.ensures.board) c.serve_hall-ended.ensures.serves
 
+pub serve_hall-ended-requires-clause-pairs : goal.serve_hall-ended-requires-clause-pairs
+serve_hall-ended-requires-clause-pairs g c =
+    ap pairs_of c.new-hall.ensures.writers ∙ (c.writers_of-writers.ensures.pairs ∙ ap (map (λ (screen : ScreenState). screen.pair)) (sym c.as_mut_slice.ensures.value))
+
 pub returns-clause-shows : goal.returns-clause-shows
 returns-clause-shows g c =
-    IfOk-weaker c.serve_hall-ended.result.0 _ _ (λ ends shows. record {
-      screens = c.as_mut_slice.result.now;
-      new = subst (Every (IsNewScreen c.args.airport.now c.args.board.board.history c.args.task.day)) (sym c.as_mut_slice.ensures.value)
-          c.writers_of-writers.ensures.screens;
-      shows = shows;
-    }) c.serve_hall-ended.ensures.shows
+    let opened : Opened = record { airport = c.args.airport.now; history = c.args.board.board.history } in
+    let screens = c.as_mut_slice.result.now in
+    screens_left g.W.Workplace.states opened c.args.task (map g.W.Workplace.state c.args.walls.now) (map g.W.Workplace.state c.serve_hall-ended.new.walls) screens c.serve_hall-ended.new.screens
+    c.new-hall.result c.serve_hall-ended.result.1
+    (subst (Every (IsNewScreen opened.airport opened.history c.args.task.day)) (sym c.as_mut_slice.ensures.value) c.writers_of-writers.ensures.screens)
+    (ap (λ held. held.board.airport) c.new-hall.ensures.board ∙ sym c.requires.airport)
+    c.serve_hall-ended.requires.pairs
+    g.K.Keeper.state g.R.Stated.tells c.into_board-2.result (map g.W.Workplace.state c.args.listeners.now) (map g.W.Workplace.state c.serve_hall-ended.new.listeners)
+    c.serve_hall-ended.result.0 (c.into_board-2.ensures.value ∙ ap (λ w. w.board) c.into_board.ensures.board)
+    c.serve_hall-ended.ensures.serves c.serve_hall-ended.ensures.shows c.serve_hall-ended.ensures.fronts c.serve_hall-ended.ensures.hall c.serve_hall-ended.ensures.note
 
 pub returns-clause-missed : goal.returns-clause-missed
 returns-clause-missed g c = c.serve_hall-ended.ensures.missed

@@ -12,8 +12,9 @@ returns g t c =
     let rest = c.split_at_mut-first.result.1.now in
     let each : ShowsEach g.W.Workplace.states state c.args.connections front first c.show_beside-one.new.screens c.show_beside-one.new.walls c.show_beside-one.result.0 =
     search rules in
-    let all : ShowsAll g.W.Workplace.states c.args.connections others (map state rest) (map state c.rest-1.given.0) c.show_beside-one.result.1 = search rules in record {
+    let all : ShowsAll g.W.Workplace.states c.args.connections (record { listeners = map state rest; screens = others })
+    (record { listeners = map state c.rest-1.given.0; screens = c.others-1.given.0 }) c.show_beside-one.result.1 = search rules in record {
       shows = rw (c.split_at_mut-screen.ensures.value, c.split_at_mut-first.ensures.value)
-          (of_first g.W.Workplace.states state c.args.connections front others c.show_beside-one.new.screens first rest c.show_beside-one.new.walls c.rest-1.given.0
+          (of_first g.W.Workplace.states state c.args.connections front c.show_beside-one.new.screens others c.others-1.given.0 first rest c.show_beside-one.new.walls c.rest-1.given.0
           c.show_beside-one.result.0 c.show_beside-one.result.1 c.first_end.result (search rules) (search rules) each all c.first_end.ensures.is);
     }

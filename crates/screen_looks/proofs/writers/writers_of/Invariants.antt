@@ -1,7 +1,8 @@
-use Rattle.std.proofs.Common.{◌≡◌}
+use Rattle.std.proofs.Common.{◌≡◌, map}
 use Rattle.apron_base.specs.Histories.{Every}
 use Rattle.history_core.specs.History.{replay}
-use Rattle.screen_hall.specs.Halls.{IsNewWriter}
+use Rattle.screen_feed.specs.Screens.{ScreenState}
+use Rattle.screen_hall.specs.Halls.{IsNewWriter, pairs_of}
 use Rattle.screen_looks.specs.Looks.{IsNewScreen}
 use Rattle.screen_looks.proofs.writers.writers_of.Given as goal
 
@@ -9,5 +10,6 @@ abbrev pub invariant-loop-made : goal.invariant-loop-made
 invariant-loop-made g l =
     Every (IsNewWriter l.board.board.airport l.board.board.history) l.writers.items
     × Every (IsNewScreen l.airport l.board.board.history l.day) l.screens.items
+    × (pairs_of l.writers.items ≡ map (λ (screen : ScreenState). screen.pair) l.screens.items)
     × (l.board.board.airport ≡ l.airport) × (l.plan.plan ≡ replay l.board.board.airport l.board.board.history)
     × (l.plan.plan.airport ≡ l.airport)

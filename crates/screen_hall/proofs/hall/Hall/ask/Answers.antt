@@ -9,8 +9,9 @@ use Rattle.history_core.specs.History.{IsLegal, replay}
 use Rattle.history_core.proofs.Replay.{replay-airport}
 use Rattle.screen_feed.specs.Screens.{WriterState}
 use Rattle.watch_list.specs.declared.watch_asks.WatchFixed.{WatchFixed}
-use Rattle.screen_hall.specs.Halls.{IsShown, IsWriterOf, ShowsVersion}
-use Rattle.screen_hall.proofs.Writers.{can_show_now, goes_on, shown_now}
+use Rattle.apron_base.specs.Machine.{Acts}
+use Rattle.screen_hall.specs.Halls.{HallHeld, IsShown, IsWriterOf, ShowsVersion, hall_state, pairs_of}
+use Rattle.screen_hall.proofs.Writers.{can_show_now, goes_on, hall_acts, same_pairs, shown_now}
 use Rattle.screen_hall.proofs.hall.Hall.ask.Goals as goal
 
 pub of-charts-requires : goal.of-charts-requires
@@ -55,3 +56,14 @@ invariant_of-self g c =
       missed = subst (λ (list : List WriterState). (c.show_on_all-self-inside.result ≡ false) ↔ Every (ShowsVersion (replay after.airport after.history).version) list) items
           (subst (λ (plan : PlanState). (c.show_on_all-self-inside.result ≡ false) ↔ Every (ShowsVersion plan.version) left) is c.show_on_all-self-inside.ensures.missed);
     }
+
+pub returns-clause-acts : goal.returns-clause-acts
+returns-clause-acts g c =
+    let writers = c.self.inside.writers in
+    let left = c.show_on_all-self-inside.new.writers in
+    let long : length left ≡ writers.len =
+    AllZip-long (IsShown c.of-charts.result) c.as_mut_slice.result.now left c.show_on_all-self-inside.ensures.shown ∙ c.as_mut_slice.ensures.len in
+    let pairs = ap pairs_of (with_items_is writers left long)
+    ∙ (same_pairs c.of-charts.result c.as_mut_slice.result.now left c.show_on_all-self-inside.ensures.shown ∙ ap pairs_of c.as_mut_slice.ensures.value) in
+    subst (λ (hall : HallHeld g.row.K.Denot g.row.R.Denot). Acts _ (hall_state g.K.Keeper.state hall) _ c.args.call c.act-acted.result) c.self.view_is
+    (hall_acts g.K.Keeper.state _ _ c.args.call c.act-acted.result c.act-acted.ensures.acts pairs)
