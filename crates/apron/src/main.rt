@@ -1,4 +1,4 @@
-//! apron: airport stand allocation, from the words of the command line, files, standard input and
+//! apron: airport stand allocation, with the words of the command line, files, standard input and
 //! standard output, and connections over TCP.
 #![tactic(auto)]
 

@@ -1,4 +1,4 @@
-// What was not understood of words that ask for nothing, as standard error says it.
+// What was not understood of a command line that is no form of the program, for standard error.
 use crate::desks::{connections_of, is_day_word, screens_of};
 use crate::forms::{Form, form_of};
 use apron_base::{Name, Word};

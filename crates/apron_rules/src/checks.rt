@@ -1,4 +1,4 @@
-// Whether parts make an airport: each refusal in its order.
+// Whether the data of an airport are valid: each refusal in its order.
 ghost use Rattle.std.specs.Prelude.{◌≡◌, ◌&&◌, ◌||◌, not, map, IfOk, IfErr, find, option_copied, is_some, is_none, OnOk, ℕ, ◌+◌, ◌<◌, ◌^◌, List, if◌then◌else◌, option_and_then, nat_le, nat_lt};
 ghost use Rattle.std.specs.Option.{option_map};
 ghost use Rattle.std.specs.List.{list_all};

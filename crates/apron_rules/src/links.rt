@@ -1,4 +1,4 @@
-// The links of stands, by places from 0 instead of names.
+// The links of stands, with places counted from 0 instead of names.
 ghost use Rattle.std.specs.Prelude.{◌≡◌, ◌<◌, ◌||◌, ◌&&◌, ◌==◌, ◌^◌, [], ℕ, Bool, List, length, map, replicate, IfOk, IfErr, OnOk};
 ghost use Rattle.std.specs.List.{list_any};
 ghost use Rattle.apron_rules.specs.declared.links.StandPair.{StandPair};

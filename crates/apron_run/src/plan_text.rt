@@ -1,4 +1,4 @@
-// What the words have in common that print a text of the plan in a journal.
+// What is common to the words that print a text of the plan in a journal.
 ghost use Rattle.std.specs.Prelude.{◌≡◌, false, not, Result};
 ghost use Rattle.apron_rules.specs.declared.parts.AirportParts.{AirportParts};
 ghost use Rattle.apron_check.specs.Files.{FindsFiles};

@@ -1,4 +1,4 @@
-// What the words order.
+// What the words of the command line ask for.
 ghost use Rattle.std.specs.Prelude.{◌≡◌, ◌<◌, ◌≤◌, ℕ, true, IfSome};
 ghost use Rattle.std.specs.Option.{option_copied, option_map};
 ghost use Rattle.apron_rules.specs.declared.parts.AirportParts.{AirportParts};

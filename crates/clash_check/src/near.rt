@@ -1,4 +1,4 @@
-// The first clash of one slot, with those of an index and with some more.
+// The first clash of one slot with the slots of an index and with some more slots.
 ghost use Rattle.std.specs.Prelude.{◌≡◌, ◌≤◌, ◌<◌, ◌+◌, ◌++◌, ◌∷◌, [], All, IfOk, filter, length};
 ghost use Rattle.apron_rules.specs.Clash.{IsSlotOf};
 ghost use Rattle.clash_check.specs.Clear.{IsClear, is_of_any, is_of_other, others_of};

@@ -1,4 +1,4 @@
-// One desk alone over a board with something around it.
+// One desk that has a machine to itself.
 ghost use Rattle.std.specs.Prelude.{◌≡◌, ◌≢◌, ◌≤◌, ℕ};
 ghost use Rattle.desk_words.specs.declared.asks.Ask.{Ask};
 ghost use Rattle.history_core.specs.History.{IsAskOf, IsLegal, call_limit};

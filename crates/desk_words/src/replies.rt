@@ -1,4 +1,4 @@
-// Replies whose cause the plan gave, and their bytes.
+// Replies for which the plan was consulted, and their bytes.
 ghost use Rattle.std.specs.Prelude.{◌≡◌, ◌∷◌, ◌++◌, [], string_bytes, IfOk, OnOk};
 ghost use Rattle.serde_json.specs.Written.{compact_text};
 ghost use Rattle.apron_dates.specs.Dates.{IsFirstDay};

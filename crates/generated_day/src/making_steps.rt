@@ -1,4 +1,4 @@
-// What is asked of the board of a day in the making.
+// The steps by which a day is made, each of which asks something of its board.
 ghost use Rattle.std.specs.Prelude.{◌≡◌, ◌≤◌, ◌<◌, IfOk, OnOk};
 ghost use Rattle.desk_words.specs.Commands.{IsCommandOf};
 ghost use Rattle.desk_words.specs.declared.replies.Reply.{Reply};

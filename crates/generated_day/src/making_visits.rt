@@ -1,4 +1,4 @@
-// The day of a number of visits, and its summary.
+// A day with a given number of visits, and its summary.
 ghost use Rattle.std.specs.Prelude.{◌≡◌, ◌≤◌, ◌<◌, ◌%◌, ◌+◌, IfOk, OnOk, count_by};
 ghost use Rattle.generated_day.specs.Days.{IsPlaced, IsVisitMade, MakesDay, is_placed, is_unplaced, most_made, parts_of, summary_of};
 ghost use Rattle.generated_day.specs.DayAirport.{day_airport};

@@ -1,5 +1,5 @@
 //! The board: a plan with the history that made it, and the answer to each ask. It knows nothing of
-//! requests, sessions and other desks.
+//! requests and sessions, nor of which desks there are.
 #![tactic(auto)]
 
 mod ask_fault;

@@ -1,4 +1,4 @@
-// What adds entries to a writer's book.
+// The one value that adds entries to a writer's book, the record of the sheets it showed.
 ghost use Rattle.std.specs.Prelude.{◌≡◌, ◌+◌, ◌<◌, ◌^◌, [], ◌∷◌, ◌++◌, length, true, Some, None, IfOk};
 ghost use mathlib.Core.List.{IsPrefix};
 ghost use Rattle.logbook.specs.Pages.{may_write};

@@ -1,4 +1,4 @@
-// What the two ends do with their pair of copies.
+// What a writer and its screen do with their two copies of a page.
 ghost use Rattle.std.specs.Prelude.{◌≡◌, ◌+◌, ◌<◌, ◌^◌, ◌∷◌, ◌++◌, [], length, IfOk, IsSome, IsTrue, None, OnErr, OnOk, Some};
 ghost use Rattle.std.specs.Option.{ForSome};
 ghost use Rattle.left_right.specs.Sides.{view};

@@ -1,5 +1,5 @@
 //! A board whose plan is shown on screens: a machine at which desks take turns, and whose writers
-//! show the chart of its plan after each act. It knows nothing of threads and connections, nor of
+//! show the chart of its plan after each ask. It knows nothing of threads and connections, nor of
 //! who looks at the screens.
 #![tactic(auto)]
 

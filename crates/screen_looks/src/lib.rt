@@ -1,6 +1,6 @@
-//! What is done with the connections of screens: one look each. Also desks at a board that is shown
-//! on screens beside them. It knows nothing of words of the command line and of files, nor of where
-//! connections come from.
+//! What is done with the connections of screens: one look each. It also serves desks at a board
+//! beside the screens on which that board is shown. It knows nothing of words of the command line
+//! and of files, nor of where connections come from.
 #![tactic(auto)]
 
 mod look;

@@ -1,4 +1,4 @@
-// Finding the slots that have a minute of a range. Each slot or block that is looked at is a step.
+// Finding the slots of a range of minutes. Each slot or block of slots looked at is a step.
 ghost use Rattle.std.specs.Prelude.{◌≡◌, ◌≤◌, ◌<◌, ◌+◌, ◌*◌, ◌++◌, ◌∷◌, [], All, AllPairs, IfOk, OnOk, filter, length};
 ghost use Rattle.std.specs.List.{AllWithin};
 ghost use Rattle.stand_index.specs.Blocks.{block, count_blocks};

@@ -1,4 +1,4 @@
-// How a connection is taken, also after a time at which none could be.
+// How a connection is taken, also after a time at which none could be taken.
 ghost use Rattle.std.specs.Prelude.{◌≡◌, IfErr, IfSome, false};
 ghost use Rattle.std.specs.IoError.{error_kind, raw_os_error};
 ghost use Rattle.tcp_desks.specs.Taking.{EndsTaking, IsReported, is_cut, is_passing, is_signal, is_tried_again, is_want, notices};

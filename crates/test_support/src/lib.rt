@@ -1,5 +1,5 @@
-//! What tests give a run of the program: the two files of the demo airport, the first requests of a
-//! desk with their replies, words, files on a shelf, and the room of a disk.
+//! What a run of the program is given by tests: the two files of the demo airport, the first
+//! requests of a desk with their replies, words, files on a shelf, and the room of a disk.
 #![tactic(auto)]
 
 mod inputs;

@@ -1,5 +1,5 @@
-//! Turns between seats at one machine, in any number of threads. It knows nothing of what the
-//! machine is asked.
+//! Turns at one machine between seats, one for each worker, in any number of threads. It knows
+//! nothing of what the machine is asked.
 #![tactic(auto)]
 
 mod board;

@@ -1,4 +1,4 @@
-// The steps of one call, on the shared part of the table.
+// The steps of one call, on the table that the seats share.
 ghost use Rattle.std.specs.Prelude.{◌≡◌, ◌+◌, ◌<◌, ◌≤◌, [], ◌∷◌, length, cond, false, IfSome, IfNone, None, Some};
 ghost use Rattle.turn_board.specs.Plays.{IsMachineTaken};
 ghost use Rattle.turn_board.specs.Totals.{AreBelow};

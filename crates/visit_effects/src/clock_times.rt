@@ -1,4 +1,4 @@
-// The days and minutes that days of a month and clock times name.
+// Which days the days of a month mean, and which minutes the clock times mean.
 ghost use Rattle.std.specs.Prelude.{◌≡◌, ◌≤◌, ◌<◌, ◌+◌, ◌^◌, IfSome};
 ghost use Rattle.apron_rules.specs.Rules.{IsAirport};
 ghost use Rattle.visit_effects.specs.ClockTimes.{is_nearest, is_of_month, latest_day, minute_on, nearest_day, plan_day_of, plan_minute_of};

@@ -1,4 +1,4 @@
-// A board with the notes of its history.
+// A board with the notes of its history: which parts lost their stands, and by which entries.
 ghost use Rattle.std.specs.Prelude.{◌≡◌, ◌≤◌, ◌<◌, ◌+◌, ◌++◌, ◌&&◌, [], length, None, IfErr, IfOk, IfSome, OnOk, if◌then◌else◌};
 ghost use Rattle.apron_base.specs.Counts.{Counts};
 ghost use Rattle.apron_base.specs.Keeper.{with_last};

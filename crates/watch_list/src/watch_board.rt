@@ -1,4 +1,4 @@
-// A board with the notes of its history and watches, as a machine.
+// A board with watches, and with the notes of its history, as a machine.
 ghost use Rattle.std.specs.Prelude.{◌≡◌, ◌≤◌, ◌<◌, ◌+◌, length, None, IfErr, IfOk, IfSome};
 ghost use Rattle.apron_base.specs.Counts.{Counts};
 ghost use Rattle.apron_base.specs.Histories.{Rises};
