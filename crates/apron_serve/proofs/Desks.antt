@@ -52,7 +52,7 @@ abbrev pub desks_serve : {In Out K R : Type 0} (service : Service In Out) (tells
     → IsOpened tells files before.disk board
     → met ≡ Ok ends
     → IfOk met (λ ended. ServesBoard service.states (fed_sessions service.feeds) task.connections (record { listeners = before.listeners; board = machine_state tells board }) (record { listeners = after.listeners; board = machine_state tells left }) ended.desks)
-    → IfOk met (λ ended. ShowsFrom service.states (record { airport = files.airport; history = board.history }) task before.screens (record { listeners = after.screens; history = left.history; end = ended.screens; missed = ended.missed }))
+    → IfOk met (λ ended. ShowsFrom service.states (record { airport = files.airport; history = board.history }) task before.screens (record { listeners = after.screens; history = left.history; end = ended.screens }))
     → IfOk met (λ ended. ended.missed ≡ true → 0 < length before.screens)
     → served ≡ served_end (end_of (ends.desks ∷ ends.screens ∷ [])) ends.missed
     → after.disk.faults ≡ (tells left.keeper).faults → KeepsHistory (record { airport = left.airport; digests = files.digests }) left.history (read_entry_at_risk left.airport (tells left.keeper)) after.disk
@@ -74,7 +74,7 @@ desks_serve {R = R} service tells files task before after board left met ends se
           ServesBoard service.states (fed_sessions service.feeds) task.connections (record { listeners = before.listeners; board = m }) (record { listeners = after.listeners; board = machine_state tells left }) ends.desks) fresh serves;
       looks = ends.screens;
       shows = subst (λ (r : Result ShownEnd R).
-          IfOk r (λ ended. ShowsFrom service.states (record { airport = files.airport; history = board.history }) task before.screens (record { listeners = after.screens; history = left.history; end = ended.screens; missed = ended.missed }))) is show;
+          IfOk r (λ ended. ShowsFrom service.states (record { airport = files.airport; history = board.history }) task before.screens (record { listeners = after.screens; history = left.history; end = ended.screens }))) is show;
       missed = ends.missed;
       screens = subst (λ (r : Result ShownEnd R). IfOk r (λ ended. ended.missed ≡ true → 0 < length before.screens)) is missed;
       end_is = end_is;

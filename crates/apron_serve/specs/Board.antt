@@ -65,10 +65,10 @@ module _ {In Out : Type 0} (service : Service In Out) (files : AirportFiles) (ta
   -- still legal. This is the entry of a request on a connection of one of the workers, which got
   -- the answer that it could not be kept, and no entry was added after it. Beside the desks each
   -- screen's connections were shown its sheets, one look each. A screen had seen the chart of the
-  -- opened plan, and its sheets are charts of the day of plans of the airport whose versions never
-  -- fall. Each screen has a writer, whose sheets are charts of fronts of the history. Serving ended
-  -- as the first worker in order that stopped early, those of the desks before those of the
-  -- screens. If none did, it says whether a writer of a screen does not show the last version.
+  -- opened plan, and its sheets are charts of the day of plans that fronts of the history make,
+  -- whose versions never fall. Serving ended as the first worker in order that stopped early, those
+  -- of the desks before those of the screens. If none did, and there are screens, it may say that a
+  -- version was missed. Whether one was is said of the hall, in `serve_hall`.
   pub record ServesDesks (before after : ServeEnds In Out) (end : ServeEnd) : Type 0 where
     pub opened : List Entry
     pub opens : OpensTo files before.disk opened
@@ -84,12 +84,7 @@ module _ {In Out : Type 0} (service : Service In Out) (files : AirportFiles) (ta
     pub missed : Bool
     pub shows : ShowsFrom service.states (record { airport = files.airport; history = opened }) task
         before.screens
-        (record {
-          listeners = after.screens;
-          history = board.history;
-          end = looks;
-          missed = missed;
-        })
+        (record { listeners = after.screens; history = board.history; end = looks })
     pub screens : missed ≡ true → 0 < length before.screens
     pub end_is : end ≡ served_end (end_of (desks ∷ looks ∷ [])) missed
     pub faults : after.disk.faults ≡ board.faults

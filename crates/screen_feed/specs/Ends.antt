@@ -7,8 +7,8 @@ use Rattle.screen_feed.specs.Logs.{begun_after, shown_in}
 use Rattle.screen_feed.specs.Pages.{Knows, PageState, sheets_with}
 use Rattle.screen_feed.specs.Sheets.{AreSheets, ShownChart, last_version}
 
--- the writer's page is the one that its screen sees, and its appender knows that each sheet up to
--- this page is shown
+-- the writer's page is the one that it published last, and its appender knows that each sheet up
+-- to this page is shown
 pub record IsWriter (page : PageState) (appender : AppenderState) (shown : ShownChart)
     (version : ℕ) : Type 0 where
   pub book : page.book ≡ appender.book

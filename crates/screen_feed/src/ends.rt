@@ -161,8 +161,8 @@ impl ScreenWriter {
     }
 
     /// Shows a plan whose version is greater than the last one. One of the same version changes
-    /// nothing. At `Err` there is no memory, and the screen sees what it saw. It may wait for a
-    /// screen that is looking.
+    /// nothing. At `Err` there is no memory, and the list of the sheets that were shown is as it
+    /// was. It may wait for a screen that is looking.
     pub fn show<R: Wait>(
         &mut self,
         rt: &R,
@@ -228,7 +228,7 @@ impl ScreenWriter {
         self.appender.knows(&screen.front.seen);
     }
 
-    /// Ends the writer. Its screen finds no sheet any more. It may wait for a screen that is
+    /// Ends the writer, and takes what its screen looks at. It may wait for a screen that is
     /// looking, and takes no memory.
     pub fn close<R: Wait>(self, rt: &R) {
         let ScreenWriter {

@@ -59,7 +59,7 @@ IsShown plan before after =
     let sheet = sheet_of plan before.shown.day in
     (after ≡ after_show before sheet) ⊎ (after ≡ after_try before sheet) ⊎ (after ≡ before)
 
--- the pairs of these writers, each of which has its screen
+-- the pairs of these writers, in order
 abbrev pub pairs_of : List WriterState → List Book
 pairs_of writers = map (λ (writer : WriterState). writer.pair) writers
 

@@ -79,8 +79,8 @@ impl<'s, 'w, 'a, W: Wait, K: Keeper, R: Stated, T: NoteTest> Hall<'s, 'w, 'a, W,
         }
     }
 
-    /// Whether a show of the last act wanted memory: exactly where some writer does not show the
-    /// version of the board's plan. False before the first act. It takes no memory.
+    /// Whether some writer does not show the version of the board's plan, since a show of the last
+    /// act had no memory. False before the first act. It takes no memory.
     pub fn missed(&self) -> bool
         ensures value { result ≡ self.now.missed }
         ensures shows { IsHall self.now }

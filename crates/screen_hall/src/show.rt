@@ -10,9 +10,9 @@ use screen_feed::{Screen, ScreenWriter};
 use std::alloc::Global;
 use std::sync::Wait;
 
-/// Shows a plan on each of these. It gives whether a show wanted memory: exactly where some writer
-/// does not show the plan's version. Writers of one day that follow each other share a chart. It
-/// may wait for screens that are looking.
+/// Shows a plan on each of these. It gives whether some writer does not show the plan's version,
+/// since a show had no memory. Writers of one day that follow each other share a chart. It may wait
+/// for screens that are looking.
 pub(crate) fn show_on_all<W: Wait>(
     rt: &W,
     alloc: Global,

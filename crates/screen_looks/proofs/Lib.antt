@@ -1,5 +1,5 @@
 mod Boards
 mod Lasting
 mod Looking
+mod Screens
 mod Together
-mod Writers

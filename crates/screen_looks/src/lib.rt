@@ -9,5 +9,5 @@ mod wall;
 mod walls;
 mod writers;
 
-pub use shown::{ShownEnd, Task, serve_watched};
+pub use shown::{ShownEnd, Task, serve_hall, serve_watched};
 pub use wall::Wall;

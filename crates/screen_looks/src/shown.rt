@@ -85,7 +85,6 @@ pub fn serve_watched<
           listeners = map W.state walls.new;
           history = result.1.history;
           end = ends.screens;
-          missed = ends.missed;
         })) }
     ensures missed { IfOk result.0 (λ ends. ends.missed ≡ true → 0 < length walls.old) }
     ensures refused { IfErr result.0 (λ _. (listeners.new ≡ listeners.old)
@@ -115,10 +114,10 @@ pub fn serve_watched<
     (ended, hall.into_board().into_board())
 }
 
-// Serves desks at the board, and beside them each of these screens on the listener of the same
-// place. At `Err` there is no memory for this, or there was none for a screen, and nothing was
-// served.
-fn serve_hall<
+/// Serves desks at the hall, and beside them each of the screens of its writers on the listener of
+/// the same place. Then it says whether a writer does not show the last version. `Err` if there is
+/// no memory for this, or there are not as many listeners as screens; then nothing was served.
+pub fn serve_hall<
     'a,
     Rt: Threads + Wait + Sync,
     K: Keeper + Send,

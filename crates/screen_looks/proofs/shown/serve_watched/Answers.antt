@@ -6,7 +6,7 @@ use Rattle.screen_hall.specs.Halls.{pairs_of}
 use Rattle.screen_looks.specs.Looks.{IsNewScreen}
 use Rattle.screen_looks.specs.Shown.{Opened}
 use Rattle.screen_looks.proofs.Boards.{board_served}
-use Rattle.screen_looks.proofs.Writers.{screens_left}
+use Rattle.screen_looks.proofs.Screens.{screens_left}
 use Rattle.screen_looks.proofs.shown.serve_watched.Goals as goal
 
 pub returns-clause-serves : goal.returns-clause-serves
@@ -31,10 +31,9 @@ returns-clause-shows g c =
     c.new-hall.result c.serve_hall-ended.result.1
     (subst (Every (IsNewScreen opened.airport opened.history c.args.task.day)) (sym c.as_mut_slice.ensures.value) c.writers_of-writers.ensures.screens)
     (ap (λ held. held.board.airport) c.new-hall.ensures.board ∙ sym c.requires.airport)
-    c.serve_hall-ended.requires.pairs
     g.K.Keeper.state g.R.Stated.tells c.into_board-2.result (map g.W.Workplace.state c.args.listeners.now) (map g.W.Workplace.state c.serve_hall-ended.new.listeners)
     c.serve_hall-ended.result.0 (c.into_board-2.ensures.value ∙ ap (λ w. w.board) c.into_board.ensures.board)
-    c.serve_hall-ended.ensures.serves c.serve_hall-ended.ensures.shows c.serve_hall-ended.ensures.fronts c.serve_hall-ended.ensures.hall c.serve_hall-ended.ensures.note
+    c.serve_hall-ended.ensures.serves c.serve_hall-ended.ensures.shows c.serve_hall-ended.ensures.fronts
 
 pub returns-clause-missed : goal.returns-clause-missed
 returns-clause-missed g c = c.serve_hall-ended.ensures.missed
