@@ -1,6 +1,6 @@
 //! Desks that take turns at one machine: a board, or a board with watches, which answers feeds too.
-//! A desk asks through a port: that of its seat, or that of a machine which it has to itself. A
-//! worker serves a listener's connections over such a port. The workers of all listeners at one
+//! A desk asks through a `DeskPort`: that of its seat, or that of a machine which it has to itself.
+//! A worker serves a listener's connections over a `DeskPort`. The workers of all listeners at one
 //! machine have a thread each, and a job may run beside them. The crate knows nothing of the
 //! command line and of sockets, nor of what a machine adds to its board.
 #![tactic(auto)]

@@ -1,5 +1,5 @@
-//! What is done with the connections of screens: one look each. It also serves desks at a board
-//! beside the screens on which that board is shown. It knows nothing of words of the command line
+//! What is done with the connections of screens: one look each. Beside the screens that show a
+//! board, the crate also serves desks at that board. It knows nothing of words of the command line
 //! and of files, nor of where connections come from.
 #![tactic(auto)]
 

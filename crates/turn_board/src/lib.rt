@@ -1,4 +1,4 @@
-//! Turns at one machine between seats, one for each worker, in any number of threads. It knows
+//! Seats, one for each worker, take turns at one machine, in any number of threads. The crate knows
 //! nothing of what the machine is asked.
 #![tactic(auto)]
 
