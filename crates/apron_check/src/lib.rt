@@ -1,5 +1,5 @@
-//! Two files on a shelf that describe an airport: the airport, with the files' digests, or why they
-//! make none, and the lines that say so. It knows nothing of plans and desks.
+//! Two files on a shelf: the airport that they make, with the files' digests, or why they make none;
+//! and the lines that say which of these it is. It knows nothing of plans and desks.
 #![tactic(auto)]
 
 mod faults;
