@@ -1,6 +1,6 @@
-//! A day that is generated: visits of randomly drawn types and times, put on randomly drawn stands
-//! of one airport and delayed by messages, all asked of a board. It is for measuring and comparing,
-//! and says nothing of real days. It knows nothing of files, desks and the command line.
+//! A generated day: visits of randomly drawn types and times, put on randomly drawn stands of one
+//! airport and delayed by messages; a board is asked to make each change. It is for measuring and
+//! comparing: it says nothing of real days, and knows nothing of files, desks and command lines.
 #![tactic(auto)]
 
 mod airport;

@@ -1,7 +1,7 @@
 //! Entries on a disk, each safely there before it is acknowledged. A journal has a header, and then
-//! records in two parts. Its format byte says whether its entries are those of the old part (format
-//! 1) or those of the new part after it (format 2). A journal of format 1 can be read and upgraded
-//! to format 2; no entry is appended to it. The crate doesn't know what an entry means.
+//! two parts, each a list of records. Its format byte says whether its entries are those of the old
+//! part (format 1) or those of the new part after it (format 2). A journal of format 1 can be read
+//! and upgraded; no entry is appended to it. The crate doesn't know what an entry means.
 #![tactic(auto)]
 
 mod borrowed_disk;

@@ -1,4 +1,4 @@
-//! What is done with the connections of screens: one look each. Beside the screens that show a
+//! What is done with the connections of screens: one look each. Besides the screens that show a
 //! board, the crate also serves desks at that board. It knows nothing of words of the command line
 //! and of files, nor of where connections come from.
 #![tactic(auto)]
