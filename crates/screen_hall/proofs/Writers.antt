@@ -129,8 +129,8 @@ module _ (airport : AirportParts) where
   new_writer : (history : List Entry) (writer : WriterState) → IsLegal airport history → IsNewWriter airport history writer → IsWriterOf airport history writer
   new_writer history writer legal new = record {
     airport_is = new.0;
-    sheets = subst (Every (IsOfFront airport history writer.shown.day)) (sym new.1.0) (whole history writer.shown.day legal, tt);
-    tried = subst (Every (IsOfFront airport history writer.shown.day)) (sym new.1.1) (whole history writer.shown.day legal, tt);
+    sheets = subst (Every (IsOfFront airport history writer.shown.day)) (sym new.1) (whole history writer.shown.day legal, tt);
+    tried = subst (Every (IsOfFront airport history writer.shown.day)) (sym new.2) (whole history writer.shown.day legal, tt);
   }
 
   pub new_writers : (history : List Entry) (writers : List WriterState) → IsLegal airport history → Every (IsNewWriter airport history) writers
@@ -141,7 +141,7 @@ module _ (airport : AirportParts) where
   pub new_show : (history : List Entry) (writers : List WriterState) → Every (IsNewWriter airport history) writers
       → Every (ShowsVersion (replay airport history).version) writers
   new_show history [] new = tt
-  new_show history (writer ∷ writers) new = (ap last_version new.0.1.0, new_show history writers new.1)
+  new_show history (writer ∷ writers) new = (ap last_version new.0.1, new_show history writers new.1)
 
   can_show : (before after : List Entry) (writer : WriterState) → GoesOn before after → IsLegal airport after → IsWriterOf airport before writer
       → CanShow (replay airport after) writer

@@ -1,4 +1,5 @@
 mod Boards
+mod Kept
 mod Lasting
 mod Looking
 mod Screens

@@ -4,7 +4,6 @@ use Rattle.apron_base.specs.Histories.{Every}
 use Rattle.apron_base.specs.Listener.{ListenerState}
 use Rattle.desk_turns.specs.Crew.{end_of}
 use Rattle.desk_turns.specs.Work.{Connection, EndStates}
-use Rattle.logbook.specs.Pages.{Book}
 use Rattle.desk_turns.specs.declared.worker.WorkEnd.{WorkEnd}
 use Rattle.desk_turns.specs.declared.worker.WorkEnd.TheVariants.{Done}
 use Rattle.desk_turns.proofs.Together.{ends}
@@ -62,20 +61,20 @@ module _ {In Out L : Type 0} (states : EndStates In Out) (state : L → Listener
   of_first (screen ∷ []) (seen ∷ []) rest others_seen (wall ∷ []) walls (shown ∷ other ∷ more) left one others end single only each all is = absurd each.1
 
 module _ {In Out : Type 0} (states : EndStates In Out) (asked : ℕ) where
-  abbrev pub pair_of : ScreenState → Book
-  pair_of screen = screen.pair
-
   looks_pair : (before after : ScreenState) (connections : List (Connection In Out)) → HaveLooks states before connections after → after.pair ≡ before.pair
-  looks_pair before after [] looks = ap pair_of looks
+  looks_pair before after [] looks = ap (λ (screen : ScreenState). screen.pair) looks
   looks_pair before after (connection ∷ connections) looks = looks_pair looks.0 after connections looks.2 ∙ looks.1.looks.looked.pair
 
   workers_pairs : (workers : List (ScreenWorker In Out)) → Every (λ (worker : ScreenWorker In Out). ShowsOn states asked worker.before worker.after worker.end) workers
-      → map pair_of (map (λ (worker : ScreenWorker In Out). worker.after.screen) workers) ≡ map pair_of (map (λ (worker : ScreenWorker In Out). worker.before.screen) workers)
+      → map (λ (screen : ScreenState). screen.pair) (map (λ (worker : ScreenWorker In Out). worker.after.screen) workers)
+      ≡ map (λ (screen : ScreenState). screen.pair) (map (λ (worker : ScreenWorker In Out). worker.before.screen) workers)
   workers_pairs [] work = refl
   workers_pairs (worker ∷ workers) work =
       let first : worker.after.screen.pair ≡ worker.before.screen.pair = looks_pair worker.before.screen worker.after.screen work.0.connections work.0.shows.looks in
       let rest = workers_pairs workers work.1 in cc (first, rest)
 
   -- each screen keeps its pair
-  pub shown_pairs : (before after : WallsState In Out) (end : WorkEnd) → ShowsAll states asked before after end → map pair_of after.screens ≡ map pair_of before.screens
-  shown_pairs before after end shows = ap (map pair_of) shows.seen ∙ (workers_pairs shows.workers shows.work ∙ sym (ap (map pair_of) shows.looks))
+  pub shown_pairs : (before after : WallsState In Out) (end : WorkEnd) → ShowsAll states asked before after end
+      → map (λ (screen : ScreenState). screen.pair) after.screens ≡ map (λ (screen : ScreenState). screen.pair) before.screens
+  shown_pairs before after end shows =
+      ap (map (λ (screen : ScreenState). screen.pair)) shows.seen ∙ (workers_pairs shows.workers shows.work ∙ sym (ap (map (λ (screen : ScreenState). screen.pair)) shows.looks))

@@ -11,7 +11,7 @@ ghost use Rattle.history_core.specs.Board.{machine_state};
 ghost use Rattle.screen_hall.specs.Halls.{IsHall, SeesFronts, hall_state, pairs_of};
 ghost use Rattle.turn_board.specs.Views.{all_shares};
 ghost use Rattle.screen_looks.specs.Looks.{IsNewScreen};
-ghost use Rattle.screen_looks.specs.Shown.{ShowsFrom};
+ghost use Rattle.screen_looks.specs.Shown.{Opened, ShowsFrom};
 ghost use Rattle.screen_looks.specs.Walls.{ShowsAll, walls_of};
 
 use crate::wall::Wall;
@@ -68,19 +68,18 @@ pub fn serve_watched<
     requires at_risk { (machine_state K.state board.board).at_risk ≡ None }
     requires few { length listeners.old < all_shares }
     requires day { 0 < length walls.old → (1 ≤ task.day) × (task.day ≤ airport.now.days) }
-    ensures serves { let kinds = fed_sessions (feed_texts R.tells board.entry.watches) in
-        let before = record {
+    ensures serves { IfOk result.0 (λ ends. ServesBoard W.states
+        (fed_sessions (feed_texts R.tells board.entry.watches)) task.connections
+        (record {
           listeners = map W.state listeners.old;
           board = machine_state K.state board.entry.board;
-        } in
-        let after = record {
+        })
+        (record {
           listeners = map W.state listeners.new;
           board = machine_state K.state result.1;
-        } in
-        IfOk result.0
-        (λ ends. ServesBoard W.states kinds task.connections before after ends.desks) }
+        }) ends.desks) }
     ensures shows { let history = board.entry.board.history in
-        let opened = record { airport = airport.now; history = history } in
+        let opened : Opened = record { airport = airport.now; history = history } in
         IfOk result.0 (λ ends. ShowsFrom W.states opened task (map W.state walls.old) (record {
           listeners = map W.state walls.new;
           history = result.1.history;

@@ -2,4 +2,4 @@ use Rattle.std.proofs.Common.{length}
 use Rattle.screen_hall.proofs.show.+know_all.Given as goal
 
 abbrev pub decreases-know_all : goal.decreases-know_all
-decreases-know_all g l = length l.writers.now
+decreases-know_all l = length l.writers.now

@@ -20,7 +20,7 @@ returns-clause-serves g c =
     (c.into_board-2.ensures.value ∙ ap (λ w. w.board) c.into_board.ensures.board) c.serve_hall-ended.ensures.serves
 
 pub serve_hall-ended-requires-clause-pairs : goal.serve_hall-ended-requires-clause-pairs
-serve_hall-ended-requires-clause-pairs g c =
+serve_hall-ended-requires-clause-pairs g c κs within =
     ap pairs_of c.new-hall.ensures.writers ∙ (c.writers_of-writers.ensures.pairs ∙ ap (map (λ (screen : ScreenState). screen.pair)) (sym c.as_mut_slice.ensures.value))
 
 pub returns-clause-shows : goal.returns-clause-shows

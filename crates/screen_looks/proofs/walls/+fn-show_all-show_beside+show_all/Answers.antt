@@ -1,6 +1,6 @@
 use Rattle.std.proofs.Common.{rules, map}
 use Rattle.screen_looks.specs.Walls.{ShowsAll, ShowsEach}
-use Rattle.screen_looks.proofs.Together.{of_first}
+use Rattle.screen_looks.proofs.Together.{none_show, of_first}
 use Rattle.screen_looks.proofs.walls.+fn-show_all-show_beside+show_all.Goals as goal
 
 pub returns : goal.returns
@@ -18,3 +18,7 @@ returns g t c =
           (of_first g.W.Workplace.states state c.args.connections front c.show_beside-one.new.screens others c.others-1.given.0 first rest c.show_beside-one.new.walls c.rest-1.given.0
           c.show_beside-one.result.0 c.show_beside-one.result.1 c.first_end.result (search rules) (search rules) each all c.first_end.ensures.is);
     }
+
+pub returns-then-is_empty : goal.returns-then-is_empty
+returns-then-is_empty g t c =
+    record { shows = none_show g.W.Workplace.states g.W.Workplace.state c.args.connections c.args.screens.now c.args.walls.now c.requires.same (search rules) }

@@ -1,11 +1,12 @@
 use Rattle.std.proofs.Common.{◌≡◌, ◌∙◌, false, List, length, ap, sym, subst}
 use Rattle.std.specs.Prelude.{◌↔◌}
+use Rattle.std.specs.Vec.{with_items}
 use Rattle.std.proofs.lemmas.List.{with_items_is}
 use Rattle.std.proofs.lemmas.Slice.Zip.{AllZip-long}
 use Rattle.apron_base.specs.Histories.{Every}
 use Rattle.plan_core.specs.PlanState.{PlanState}
 use Rattle.history_core.specs.Board.{BoardHeld}
-use Rattle.history_core.specs.History.{IsLegal, replay}
+use Rattle.history_core.specs.History.{IsLegal, call_of, replay}
 use Rattle.history_core.proofs.Replay.{replay-airport}
 use Rattle.screen_feed.specs.Screens.{WriterState}
 use Rattle.watch_list.specs.declared.watch_asks.WatchFixed.{WatchFixed}
@@ -65,5 +66,11 @@ returns-clause-acts g c =
     AllZip-long (IsShown c.of-charts.result) c.as_mut_slice.result.now left c.show_on_all-self-inside.ensures.shown ∙ c.as_mut_slice.ensures.len in
     let pairs = ap pairs_of (with_items_is writers left long)
     ∙ (same_pairs c.of-charts.result c.as_mut_slice.result.now left c.show_on_all-self-inside.ensures.shown ∙ ap pairs_of c.as_mut_slice.ensures.value) in
-    subst (λ (hall : HallHeld g.row.K.Denot g.row.R.Denot). Acts _ (hall_state g.K.Keeper.state hall) _ c.args.call c.act-acted.result) c.self.view_is
-    (hall_acts g.K.Keeper.state _ _ c.args.call c.act-acted.result c.act-acted.ensures.acts pairs)
+    let before : HallHeld g.row.K.Denot g.row.R.Denot = record { board = c.self.inside.board; writers = writers.items; missed = c.self.inside.missed } in
+    let after : HallHeld g.row.K.Denot g.row.R.Denot = record {
+      board = c.act-acted.new.self;
+      writers = (with_items writers left).items;
+      missed = c.show_on_all-self-inside.result;
+    } in
+    subst (λ (hall : HallHeld g.row.K.Denot g.row.R.Denot). Acts call_of (hall_state g.K.Keeper.state hall) (hall_state g.K.Keeper.state after) c.args.call c.act-acted.result)
+    c.self.view_is (hall_acts g.K.Keeper.state before after c.args.call c.act-acted.result c.act-acted.ensures.acts pairs)
