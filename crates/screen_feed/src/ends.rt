@@ -1,4 +1,4 @@
-// The writer, its screen, and what the screen is told by the writer.
+// The writer, its screen, and what the writer tells its screen.
 ghost use Rattle.std.specs.Prelude.{◌≡◌, ◌≤◌, ◌⊎◌, [], ◌∷◌, IfOk, OnErr, OnOk};
 ghost use Rattle.screen_feed.specs.Screens.{HasLearned, HasLooked, after_show, after_try, screen_of, told_of};
 ghost use Rattle.screen_feed.specs.Sheets.{AreAmong, AreSheets, Begins, IsLast, IsSheet, last_version, sheet_of};

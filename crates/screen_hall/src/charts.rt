@@ -63,7 +63,7 @@ impl<'p> Charts<'p> {
     }
 
     /// Shows the plan on a writer, if it does not show this version. At `Err` there is no memory,
-    /// and the writer is as it was. It may wait for a screen that is looking.
+    /// and the writer may have tried in vain. It may wait for a screen that is looking.
     pub(crate) fn show_on<W: Wait>(
         &mut self,
         rt: &W,

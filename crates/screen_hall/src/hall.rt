@@ -125,7 +125,7 @@ impl<'s, 'w, 'a, W: Wait, K: Keeper, R: Stated, T: NoteTest> Hall<'s, 'w, 'a, W,
     }
 
     /// What the board answers. Then each writer shows the board's plan, where that has another
-    /// version. The answer is the same whether they do or want memory. It may wait for screens that
+    /// version. The answer is the same if memory runs out for that. It may wait for screens that
     /// are looking.
     pub fn ask(&mut self, alloc: Global, call: u64, ask: &WatchAsk) -> Acted
         requires valid { IsWatchAskOf (watch_fixed self.old.board) ask.now }
