@@ -77,24 +77,25 @@ only_at_risk before after new (inr (inr (failed, (entry, is, asked)))) safe =
 
 -- an append that failed was that of a visit which the plan accepts
 pub fault_stops : (airport : AirportParts) (number : ℕ) (before after : Reached) (new : NewVisit) → ActsAs airport before.history before.next (asking new) Fault after.history
-    → Counts true before.faults after.faults → LeavesAtRisk (standing_at before) before.next (asking new).what true (standing_at after)
+    → after.next ≡ before.next + 1 → Counts true before.faults after.faults → LeavesAtRisk (standing_at before) before.next (asking new).what true (standing_at after)
     → StopsImport airport number before new after DiskFault
-fault_stops airport number before after new (keeper_fault, is, (took, same)) counts risk = (
+fault_stops airport number before after new (keeper_fault, is, (took, same)) next counts risk = (
   subst (λ (s : Sought). IsAccepted (replay airport before.history) (length before.history) s) (seeks (replay airport before.history) before.history new) took,
   same,
+  next,
   counts,
   only_at_risk before after new risk,
 )
-fault_stops airport number before after new (replied reply, is, gives) counts risk = absurd cc
-fault_stops airport number before after new (no_memory, is, gives) counts risk = absurd cc
+fault_stops airport number before after new (replied reply, is, gives) next counts risk = absurd cc
+fault_stops airport number before after new (no_memory, is, gives) next counts risk = absurd cc
 
 -- if memory ran out nothing has changed
 pub memory_stops : (airport : AirportParts) (number : ℕ) (before after : Reached) (new : NewVisit) → ActsAs airport before.history before.next (asking new) NoMemory after.history
-    → after.faults ≡ before.faults → LeavesAtRisk (standing_at before) before.next (asking new).what false (standing_at after)
+    → after.next ≡ before.next + 1 → after.faults ≡ before.faults → LeavesAtRisk (standing_at before) before.next (asking new).what false (standing_at after)
     → StopsImport airport number before new after Memory
-memory_stops airport number before after new (no_memory, is, same) counts risk = (same, counts, no_more before after new risk)
-memory_stops airport number before after new (replied reply, is, gives) counts risk = absurd cc
-memory_stops airport number before after new (keeper_fault, is, gives) counts risk = absurd cc
+memory_stops airport number before after new (no_memory, is, same) next counts risk = (same, next, counts, no_more before after new risk)
+memory_stops airport number before after new (replied reply, is, gives) next counts risk = absurd cc
+memory_stops airport number before after new (keeper_fault, is, gives) next counts risk = absurd cc
 
 -- if entries came, the visit was added
 came_by : (before after : List Entry) (call : ℕ) (command : Command) (stepped : Stepped) → after ≡ before ++ added_entries call command stepped → length before < length after
@@ -298,10 +299,10 @@ module _ (airport : AirportParts) where
       let (entry, same) = step_there (replay airport at.history) (length at.history) new (refused (name other)) there asks.takes in absurd cc
   stops_same number at new after (Full told) visits there (is, asks) =
       let (entry, same) = step_there (replay airport at.history) (length at.history) new full there asks.takes in absurd cc
-  stops_same number at new after DiskFault visits there (takes, history, faults, risk) =
+  stops_same number at new after DiskFault visits there (takes, history, next, faults, risk) =
       let (entry, same) = step_there (replay airport at.history) (length at.history) new accepted there takes in absurd cc
   stops_same number at new after Spent visits there (next, same) = (ap (λ (r : Reached). r.history) same, tt)
-  stops_same number at new after Memory visits there (same, faults, risk) = (same, tt)
+  stops_same number at new after Memory visits there (same, next, faults, risk) = (same, tt)
   stops_same number at new after imported visits there stops = absurd stops
 
   -- what holds of all holds of those in front, and of the one after them

@@ -177,7 +177,7 @@ module _ (airport : AirportParts) (visits : List NewVisit) (before after : Reach
       well : (imported : Imported) → StopsImport airport (record_behind stops.front) stops.at stops.new after imported → imported ≡ how.Memory
       well (how.Refused told) (is, (other, asks)) = let (visit, named, number) = asks.takes in absurd (here.name visit named)
       well (how.Full told) (is, asks) = let (none, no_place) = asks.takes in absurd (no_place (here.place none))
-      well how.DiskFault (takes, history, counts, risk) =
+      well how.DiskFault (takes, history, next, counts, risk) =
           let same : stops.at.faults ≡ before.faults = all_faults airport stops.front before stops.at stops.met in
           absurd (still (subst (λ (n : ℕ). Rose n after.faults) same counts.1))
       well how.Spent (last, same) =

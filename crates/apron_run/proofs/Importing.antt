@@ -72,9 +72,9 @@ stop_faults : (airport : AirportParts) (number : ℕ) (at : Reached) (new : NewV
     → Counts (is_disk_fault (status_of_imported imported)) at.faults after.faults
 stop_faults airport number at new after (Refused told) (is, (other, asks)) = asks.faults
 stop_faults airport number at new after (Full told) (is, asks) = asks.faults
-stop_faults airport number at new after DiskFault (takes, history, faults, risk) = faults
+stop_faults airport number at new after DiskFault (takes, history, next, faults, risk) = faults
 stop_faults airport number at new after Spent (next, same) = ap (λ (r : Reached). r.faults) same
-stop_faults airport number at new after Memory (history, faults, risk) = faults
+stop_faults airport number at new after Memory (history, next, faults, risk) = faults
 stop_faults airport number at new after imported stops = absurd stops
 
 among_faults : (airport : AirportParts) (visits : List NewVisit) (before after : Reached) (imported : Imported) → StopsAmong airport visits before after imported

@@ -97,8 +97,9 @@ module _ (airport : AirportParts) where
 
   -- why the asks stopped at the visit of the record of this number: another visit has its name; it
   -- is new and there is no place for it; the keeper failed at its entry, which may be at risk then;
-  -- there was no call number for it; or memory has run out. Only the first two are asks that were
-  -- answered, and none changed the history.
+  -- there was no call number for it; or memory has run out. It was asked to be added once, or not
+  -- at all if there was no number. Only the first two asks were answered, and none changed the
+  -- history.
   abbrev pub StopsImport : ℕ → Reached → NewVisit → Reached → Imported → Type 0
   StopsImport number at new after (Refused told) = (told ≡ number)
       × ((other : VisitNo) × Asks at new (refused (name other)) after)
@@ -106,11 +107,15 @@ module _ (airport : AirportParts) where
   StopsImport number at new after DiskFault =
       TakesAs at new accepted
       × (after.history ≡ at.history)
+      × (after.next ≡ at.next + 1)
       × Counts true at.faults after.faults
       × OnlyAtRisk at new after
   StopsImport number at new after Spent = (at.next ≡ call_limit) × (after ≡ at)
   StopsImport number at new after Memory =
-      (after.history ≡ at.history) × (after.faults ≡ at.faults) × NoMoreAtRisk at after
+      (after.history ≡ at.history)
+      × (after.next ≡ at.next + 1)
+      × (after.faults ≡ at.faults)
+      × NoMoreAtRisk at after
   StopsImport number at new after imported = ⊥
 
   -- the visits before one of these were asked and met, and then the asks stopped: those after it

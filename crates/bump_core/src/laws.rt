@@ -19,8 +19,8 @@ ghost use Rattle.bump_core.specs.Records.{IsRecordOf};
 ghost use Rattle.bump_core.specs.Settle.{settle, settled_place, settled_visit};
 ghost use Rattle.bump_core.specs.Settled.{IsChanged, with_changed, with_settled};
 
-/// There is exactly one way for parts to stay: each stays, unless a better one that stays clashes
-/// with it.
+/// There is exactly one way for parts to stay: each that is in place in fact stays, and each planned
+/// one, unless a better one that stays clashes with it.
 pub fn parts_stay_in_one_way()
     ensures kept { (airport : AirportParts) (parts kept : List Ranked)
         → Stay airport parts kept ↔ (kept ≡ kept_of airport parts) }
