@@ -104,12 +104,24 @@ fn journal(alloc: Global) -> Result<MemoryDisk, Memory> {
     Ok(disk)
 }
 
+// A listener of this many connections that send this, whose accepts of these numbers fail.
+fn failing_listener(
+    alloc: Global,
+    input: &[u8],
+    count: usize,
+    failing: &[u64],
+) -> Result<ListListener<ListSource, ListSink>, Memory> {
+    let mut to_come = Vec::new(alloc);
+    for _ in 0..count {
+        let source = ListSource::new(input.to_vec(alloc)?, Vec::new(alloc), Vec::new(alloc));
+        to_come.push((source, ListSink::new(alloc, 10_000, Vec::new(alloc))?))?;
+    }
+    Ok(ListListener::new(alloc, to_come, failing.to_vec(alloc)?)?)
+}
+
 // A listener of one connection that sends this.
 fn listener(alloc: Global, input: &[u8]) -> Result<ListListener<ListSource, ListSink>, Memory> {
-    let source = ListSource::new(input.to_vec(alloc)?, Vec::new(alloc), Vec::new(alloc));
-    let sink = ListSink::new(alloc, 10_000, Vec::new(alloc))?;
-    let to_come = Vec::from_array(alloc, [(source, sink)])?;
-    Ok(ListListener::new(alloc, to_come, Vec::new(alloc))?)
+    failing_listener(alloc, input, 1, &[])
 }
 
 // What the first connection of a listener was sent.

@@ -1,5 +1,5 @@
 // Screens beside desks.
-use super::{DONE, journal, listener, shelf, told};
+use super::{DONE, failing_listener, journal, listener, shelf, told};
 use apron_base::{ListListener, ListSink, ListSource, Memory};
 use apron_serve::serve_all;
 use std::alloc::Global;
@@ -174,6 +174,31 @@ fn a_screen_shows_a_chart_of_the_plan_while_a_desk_works(rt: HostRuntime) -> Res
 #[test]
 fn eight_screens_show_a_chart_each(rt: HostRuntime) -> Result<(), Fail> {
     let is = charts_are_shown(&rt, rt.alloc(), 8)?;
+    assert!(rt; is);
+    Ok(())
+}
+
+// Whether each of these listeners has finished one connection.
+fn have_one(listeners: &[ListListener<ListSource, ListSink>]) -> bool {
+    listeners
+        .iter()
+        .all(|listener| listener.finished().len() == 1)
+}
+
+// Whether a worker and a screen take one connection each, if their second accepts fail and more
+// connections are to come.
+fn take_one_each<R: Wait + Threads + Sync>(rt: &R, alloc: Global) -> Result<bool, Memory> {
+    let mut desks = Vec::from_array(alloc, [failing_listener(alloc, FIRST, 3, &[1])?])?;
+    let mut screens = Vec::from_array(alloc, [failing_listener(alloc, b"", 3, &[1])?])?;
+    let texts = "serve A T 3 screen 1";
+    let want: (u8, &[u8]) = (11, b"listener fault\n");
+    let is = are_served(rt, alloc, texts, &mut desks, &mut screens, want)?;
+    Ok(is && have_one(desks.as_slice()) && have_one(screens.as_slice()))
+}
+
+#[test]
+fn none_is_taken_after_an_accept_that_failed(rt: HostRuntime) -> Result<(), Fail> {
+    let is = take_one_each(&rt, rt.alloc())?;
     assert!(rt; is);
     Ok(())
 }
