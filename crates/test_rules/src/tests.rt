@@ -14,43 +14,37 @@ mod folding;
 mod phases;
 mod stays;
 
+use stays::stand;
+
 const NARROW: u16 = 0;
 
 const WIDE: u16 = 1;
 
-fn stand(name: &[u8], centre: u32, letter: Letter, half_of: Option<Name>) -> Option<StandRow> {
-    Some(StandRow {
-        name: Name::new(name)?,
-        frontage: Name::new(b"F")?,
-        centre,
-        letter,
-        buffer: 10,
-        half_of,
-    })
+fn half(name: Name, centre: u32) -> StandRow {
+    let mut half = stand(name, Name::literal(b"F"), centre, Letter::C);
+    half.half_of = Some(Name::literal(b"W"));
+    half
 }
 
 // Two pairs of stands, 4,029 and 4,030 cm apart; a whole stand with two halves 4,030 cm apart; two
 // stands with a restriction; two stands with an object beside each.
-fn stands() -> Option<[StandRow; 10]> {
-    let whole = Name::new(b"W");
-    Some([
-        stand(b"A", 10_000, Letter::C, None)?,
-        stand(b"B", 14_029, Letter::C, None)?,
-        stand(b"C", 18_059, Letter::C, None)?,
-        stand(b"W", 30_000, Letter::E, None)?,
-        stand(b"WL", 28_000, Letter::C, whole)?,
-        stand(b"WR", 32_030, Letter::C, whole)?,
-        stand(b"P", 50_000, Letter::E, None)?,
-        stand(b"Q", 60_000, Letter::E, None)?,
-        stand(b"X", 70_000, Letter::C, None)?,
-        stand(b"Y", 80_000, Letter::C, None)?,
-    ])
+fn stands() -> [StandRow; 10] {
+    let f = Name::literal(b"F");
+    [
+        stand(Name::literal(b"A"), f, 10_000, Letter::C),
+        stand(Name::literal(b"B"), f, 14_029, Letter::C),
+        stand(Name::literal(b"C"), f, 18_059, Letter::C),
+        stand(Name::literal(b"W"), f, 30_000, Letter::E),
+        half(Name::literal(b"WL"), 28_000),
+        half(Name::literal(b"WR"), 32_030),
+        stand(Name::literal(b"P"), f, 50_000, Letter::E),
+        stand(Name::literal(b"Q"), f, 60_000, Letter::E),
+        stand(Name::literal(b"X"), f, 70_000, Letter::C),
+        stand(Name::literal(b"Y"), f, 80_000, Letter::C),
+    ]
 }
 
 fn airport(alloc: Global) -> Result<Airport, Fail> {
-    let Some(stands) = stands() else {
-        return Err(Fail::new("stands"));
-    };
     let frontage = Frontage {
         name: Name::literal(b"F"),
         objects: Listed::from_vec(Vec::from_array(alloc, [72_240, 82_239])?),
@@ -68,7 +62,7 @@ fn airport(alloc: Global) -> Result<Airport, Fail> {
         AirportParts {
             days: 1,
             frontages: Listed::from_vec(Vec::from_array(alloc, [frontage])?),
-            stands: Listed::from_vec(Vec::from_array(alloc, stands)?),
+            stands: Listed::from_vec(Vec::from_array(alloc, stands())?),
             pairs: Listed::from_vec(Vec::from_array(alloc, [pair])?),
             types: Listed::from_vec(Vec::from_array(alloc, [narrow, wide])?),
             ..empty_parts(alloc)
