@@ -1,5 +1,5 @@
-//! What the program does with files, journals and input that end, fail or are missing: tables of
-//! test cases, and nothing else.
+//! What the program does with whole sessions, and with files, journals and input that end, fail or
+//! are missing: tables of test cases, and nothing else.
 #![tactic(auto)]
 
 #[cfg(test)]

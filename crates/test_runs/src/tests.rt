@@ -1,9 +1,10 @@
-// What the program does with whole inputs, files and journals. The expected texts are written by
-// hand from the format of requests and replies.
+// What the program does with whole sessions, and with files, disks and streams that fail. The
+// expected texts are written by hand from the format of requests and replies.
 mod crashes;
-mod hostile;
+mod failing;
 mod imports;
 mod journals;
-mod proposals;
+mod lines;
+mod runs;
+mod sessions;
 mod upgrades;
-mod words_and_files;

@@ -1,9 +1,10 @@
 // What a desk finds after a stop at any call of the disk.
+use super::lines::Session;
+use super::runs::{DEMO, Ended, Run};
 use journal_disk::{MemoryDisk, Unsynced};
 use std::alloc::Global;
 use std::test::Fail;
 use test_support::FIRST;
-use test_texts::{DEMO, Ended, Run, Session};
 
 // The requests that add three visits, and the one for the version.
 const THREE: &[u8] =
@@ -95,14 +96,13 @@ const SYNC_FAILED: [(u32, u32); 18] = [
 
 // A desk on a disk of these bytes says that the plan has this version.
 fn has_version(alloc: Global, stored: &[u8], version: u32) -> Result<bool, Fail> {
-    let mut session = Session::new(alloc);
-    let reply = format!(in alloc; "200 {version} {{\"version\":{version}}}")?;
-    session.tell(alloc, &reply)?;
+    let reply = format!(in alloc; "< 200 {version} {{\"version\":{version}}}")?;
+    let session = Session::of(alloc, &reply)?;
     Ok(session.is_told_on(alloc, stored, VERSION)?)
 }
 
 // What becomes of what is not safe.
-const EACH_UNSYNCED: [Unsynced; 4] = [
+pub(super) const EACH_UNSYNCED: [Unsynced; 4] = [
     Unsynced::LeftOut,
     Unsynced::Whole,
     Unsynced::LastHalf,

@@ -10,39 +10,39 @@ use watch_list::{Shown, Watch, Watches};
 
 /// What the program is run on.
 #[derive(Clone, Copy)]
-pub struct Run<'a> {
+pub(super) struct Run<'a> {
     /// The words, with spaces between.
-    pub words: &'a str,
+    pub(super) words: &'a str,
     /// The text of the file `A`.
-    pub airport: &'a str,
+    pub(super) airport: &'a str,
     /// The text of the file `T`.
-    pub types: &'a str,
+    pub(super) types: &'a str,
     /// The bytes of the file `S`.
-    pub season: &'a [u8],
+    pub(super) season: &'a [u8],
     /// The watches: their names, and what they show. Without one it is a run that takes no watches.
-    pub watches: &'a [(&'a str, Shown)],
+    pub(super) watches: &'a [(&'a str, Shown)],
     /// The bytes that the source has.
-    pub input: &'a [u8],
+    pub(super) input: &'a [u8],
     /// How many bytes of them the source gives at a time; after the last of these it gives the rest
     /// at once.
-    pub pieces: &'a [usize],
+    pub(super) pieces: &'a [usize],
     /// The numbers of the calls of the shelf that fail, from 0.
-    pub failing_files: &'a [u64],
+    pub(super) failing_files: &'a [u64],
     /// The numbers of the reads that fail.
-    pub failing_reads: &'a [u64],
+    pub(super) failing_reads: &'a [u64],
     /// The numbers of the writes of output that fail.
-    pub failing_puts: &'a [u64],
+    pub(super) failing_puts: &'a [u64],
     /// Whether the disk has a journal of the two files with no entry; otherwise it has the stored
     /// bytes.
-    pub is_new: bool,
+    pub(super) is_new: bool,
     /// What the disk has if it is not new.
-    pub stored: &'a [u8],
+    pub(super) stored: &'a [u8],
     /// The numbers of the calls of the disk that fail.
-    pub failing_calls: &'a [u64],
+    pub(super) failing_calls: &'a [u64],
 }
 
 /// A session at the example airport, on an empty journal, whose input is empty.
-pub const DEMO: Run = Run {
+pub(super) const DEMO: Run = Run {
     words: "desk A T",
     airport: AIRPORT,
     types: TYPES,
@@ -60,18 +60,18 @@ pub const DEMO: Run = Run {
 
 /// What became of a run.
 #[derive(Drop)]
-pub struct Ended {
+pub(super) struct Ended {
     /// The bytes that it wrote.
-    pub output: Vec<u8>,
+    pub(super) output: Vec<u8>,
     /// Its status.
-    pub status: u8,
+    pub(super) status: u8,
     /// Its disk.
-    pub disk: MemoryDisk,
+    pub(super) disk: MemoryDisk,
 }
 
 impl Ended {
     /// Whether it wrote this, and ended with this status.
-    pub fn is(&self, output: &[u8], status: u8) -> bool {
+    pub(super) fn is(&self, output: &[u8], status: u8) -> bool {
         self.status == status && self.output.as_slice() == output
     }
 
@@ -85,7 +85,7 @@ impl Ended {
 impl Run<'_> {
     /// Runs the program. `Err` if it wrote another output or ended with another status, with what
     /// it shows, or if there is no memory.
-    pub fn gives(
+    pub(super) fn gives(
         &self,
         alloc: Global,
         shows: &impl Debug,
@@ -101,7 +101,7 @@ impl Run<'_> {
     }
 
     /// Runs the program. `Err` if there is no memory.
-    pub fn ends(&self, alloc: Global) -> Result<Ended, Memory> {
+    pub(super) fn ends(&self, alloc: Global) -> Result<Ended, Memory> {
         let words = words(alloc, self.words)?;
         let mut shelf = self.shelf(alloc)?;
         let mut source = self.source(alloc)?;
@@ -159,7 +159,7 @@ impl Run<'_> {
 
     fn disk(&self, alloc: Global) -> Result<MemoryDisk, Memory> {
         let first = if self.is_new {
-            empty_journal(alloc, self.airport, self.types)?
+            journal(alloc, self, FORMAT_2, &[&[], &[]])?
         } else {
             self.stored.to_vec(alloc)?
         };
@@ -177,25 +177,36 @@ fn put_file(
     Ok(())
 }
 
-/// A journal of these two files with no entry: a header and two closed gates. `Err` if there is no
-/// memory.
-pub fn empty_journal(alloc: Global, airport: &str, types: &str) -> Result<Vec<u8>, Memory> {
-    let mut journal = header(alloc, b"APRNJ2\r\n", airport, types)?;
-    journal.extend_from_slice(&[0, 0])?;
+// What a journal of each format begins with.
+pub(super) const FORMAT_1: &[u8] = b"APRNJ1\r\n";
+
+pub(super) const FORMAT_2: &[u8] = b"APRNJ2\r\n";
+
+/// A journal of the two files of a run that begins so, with a part for each of these lists of
+/// entries. `Err` if there is no memory.
+pub(super) fn journal(
+    alloc: Global,
+    run: &Run,
+    begins: &[u8],
+    parts: &[&[&[u8]]],
+) -> Result<Vec<u8>, Memory> {
+    let mut journal = Vec::from_slice(alloc, begins)?;
+    journal.extend_from_slice(&digest_of(run.airport.as_bytes()))?;
+    journal.extend_from_slice(&digest_of(run.types.as_bytes()))?;
+    for part in parts {
+        put_records(&mut journal, part)?;
+        journal.push(0)?;
+    }
     Ok(journal)
 }
 
-/// The same in format 1: a header and a closed gate. `Err` if there is no memory.
-pub fn former_journal(alloc: Global, airport: &str, types: &str) -> Result<Vec<u8>, Memory> {
-    let mut journal = header(alloc, b"APRNJ1\r\n", airport, types)?;
-    journal.push(0)?;
-    Ok(journal)
-}
-
-// What a journal begins with, and the digests of both files.
-fn header(alloc: Global, begins: &[u8], airport: &str, types: &str) -> Result<Vec<u8>, Memory> {
-    let mut header = Vec::from_slice(alloc, begins)?;
-    header.extend_from_slice(&digest_of(airport.as_bytes()))?;
-    header.extend_from_slice(&digest_of(types.as_bytes()))?;
-    Ok(header)
+/// Adds a record for each of these entries: an open gate, the length in two bytes, and the entry.
+/// `Err` if there is no memory.
+pub(super) fn put_records(journal: &mut Vec<u8>, entries: &[&[u8]]) -> Result<(), Memory> {
+    for entry in entries {
+        journal.push(1)?;
+        journal.extend_from_slice(&(entry.len().min(1024) as u16).to_le_bytes())?;
+        journal.extend_from_slice(entry)?;
+    }
+    Ok(())
 }
