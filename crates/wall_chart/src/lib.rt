@@ -15,6 +15,3 @@ mod whole;
 pub use rows::{push_part, push_rule};
 pub use times::{push_number, push_time};
 pub use whole::chart;
-
-#[cfg(test)]
-mod tests;
