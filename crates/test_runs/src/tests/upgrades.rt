@@ -4,7 +4,7 @@ use super::journals::{ADDS, PUTS};
 use super::lines::Session;
 use super::runs::{DEMO, Ended, FORMAT_1, FORMAT_2, Run, journal};
 use apron_base::Memory;
-use journal_disk::{MemoryDisk, Unsynced};
+use journal_disk::Unsynced;
 use std::alloc::Global;
 use std::test::Fail;
 
@@ -46,25 +46,45 @@ const ALREADY: &[u8] = b"already format 2\n";
 
 const OLD: &[u8] = b"journal: old format\n";
 
-// Whether each of these words on the journal prints its line with its status, and what the disk
-// then has: a desk leaves a journal of format 1, an upgrade lifts it, and a second one leaves it.
-fn is_upgraded_once(alloc: Global) -> Result<[bool; 3], Memory> {
+// The calls of an upgrade of two entries: three open the journal, three write the records and the
+// gate, a sync makes them safe, and two write the format byte and make it safe.
+const CALLS: usize = 9;
+
+// A desk leaves a journal of format 1.
+fn is_refused(alloc: Global) -> Result<bool, Memory> {
+    let former = former_of_two(alloc)?;
+    let ended = ends_on(alloc, "desk A T", &former, &[])?;
+    Ok(former.len() == 132 && ended.is(OLD, 8) && ended.disk.bytes() == former.as_slice())
+}
+
+// An upgrade lifts it.
+fn is_lifted(alloc: Global) -> Result<bool, Memory> {
     let former = former_of_two(alloc)?;
     let wanted = upgraded_of_two(alloc)?;
-    let desk = ends_on(alloc, "desk A T", &former, &[])?;
-    let first = ends_on(alloc, UPGRADE, &former, &[])?;
-    let second = ends_on(alloc, UPGRADE, &wanted, &[])?;
-    Ok([
-        former.len() == 132 && desk.is(OLD, 8) && desk.disk.bytes() == former.as_slice(),
-        wanted.len() == 192 && first.is(UPGRADED, 0) && first.disk.bytes() == wanted.as_slice(),
-        second.is(ALREADY, 0) && second.disk.bytes() == wanted.as_slice(),
-    ])
+    let ended = ends_on(alloc, UPGRADE, &former, &[])?;
+    Ok(
+        wanted.len() == 192
+            && ended.is(UPGRADED, 0)
+            && ended.disk.bytes() == wanted.as_slice()
+            && ended.disk.calls().len() == CALLS,
+    )
+}
+
+// A second upgrade leaves it.
+fn is_left(alloc: Global) -> Result<bool, Memory> {
+    let wanted = upgraded_of_two(alloc)?;
+    let ended = ends_on(alloc, UPGRADE, &wanted, &[])?;
+    Ok(ended.is(ALREADY, 0) && ended.disk.bytes() == wanted.as_slice())
 }
 
 #[test]
 fn a_journal_of_format_1_is_refused_until_it_is_upgraded(rt: HostRuntime) -> Result<(), Fail> {
-    let upgraded = is_upgraded_once(rt.alloc())?;
-    assert_eq!(rt; upgraded, [true; 3]);
+    let steps = [
+        is_refused(rt.alloc())?,
+        is_lifted(rt.alloc())?,
+        is_left(rt.alloc())?,
+    ];
+    assert_eq!(rt; steps, [true; 3]);
     Ok(())
 }
 
@@ -86,34 +106,25 @@ fn succeeds(alloc: Global, image: &[u8], wanted: &[u8]) -> Result<bool, Memory> 
     Ok(is_told && ended.disk.bytes().starts_with(wanted))
 }
 
-// What becomes of what is not safe, if an upgrade after a stop at this moment does not succeed.
-fn stops_at(
-    alloc: Global,
-    disk: &MemoryDisk,
-    wanted: &[u8],
-    moment: usize,
-) -> Result<Option<Unsynced>, Memory> {
+// What becomes of what is not safe, if an upgrade after a stop of another at this moment does not
+// succeed.
+fn stops_at(alloc: Global, moment: usize) -> Result<Option<Unsynced>, Memory> {
+    let former = former_of_two(alloc)?;
+    let wanted = upgraded_of_two(alloc)?;
+    let ended = ends_on(alloc, UPGRADE, &former, &[])?;
     for unsynced in EACH_UNSYNCED {
-        let image = disk.image(alloc, moment, unsynced)?;
-        if !succeeds(alloc, &image, wanted)? {
+        let image = ended.disk.image(alloc, moment, unsynced)?;
+        if !succeeds(alloc, &image, &wanted)? {
             return Ok(Some(unsynced));
         }
     }
     Ok(None)
 }
 
-// The calls of an upgrade of two entries: three open the journal, three write the records and the
-// gate, a sync makes them safe, and two write the format byte and make it safe.
-const CALLS: usize = 9;
-
 #[test]
 fn an_upgrade_after_a_stop_succeeds(rt: HostRuntime) -> Result<(), Fail> {
-    let former = former_of_two(rt.alloc())?;
-    let wanted = upgraded_of_two(rt.alloc())?;
-    let ended = ends_on(rt.alloc(), UPGRADE, &former, &[])?;
-    assert!(rt; ended.disk.calls().len() == CALLS);
     for moment in 0..=CALLS {
-        let stops = stops_at(rt.alloc(), &ended.disk, &wanted, moment)?;
+        let stops = stops_at(rt.alloc(), moment)?;
         assert_eq!(rt; stops, None, "{moment}");
     }
     Ok(())
