@@ -1,0 +1,74 @@
+"""Runs the blocks of commands of a page as they are written, in a fresh clone, and compares what they print with what the page shows."""
+
+import os
+import shutil
+import signal
+import subprocess
+
+PATIENCE = 300
+# A page has a network of its own, so that the ports that it names are free.
+APART = ["unshare", "--user", "--map-root-user", "--net", "/bin/sh", "-c", 'ip link set lo up && exec "$@"', "page"]
+
+
+def parse_fault(block):
+    """Why a block is no shell script, or None."""
+    ran = subprocess.run(["bash", "-n"], input=block.text, capture_output=True, text=True)
+    return ran.stderr.strip() or "it is no shell script" if ran.returncode else None
+
+
+def has_networks():
+    """Whether this machine gives a process a network of its own."""
+    return all(map(shutil.which, ("unshare", "ip"))) and subprocess.run([*APART, "true"], capture_output=True).returncode == 0
+
+
+def script_of(blocks, room):
+    """One script of all blocks. Each prints to a file of its own, and leaves one more behind when it has ended well."""
+    lines = ["set -e"]
+    for number, block in enumerate(blocks):
+        lines += [f"exec 1>'{room}/{number}.output'", block.text, f": >'{room}/{number}.ended'"]
+    return "\n".join(lines) + "\n"
+
+
+def clone(top, room):
+    """A fresh clone of what is committed."""
+    folder = os.path.join(room, "apron")
+    subprocess.run(["git", "clone", "--quiet", "--no-hardlinks", top, folder], check=True, capture_output=True, timeout=PATIENCE)
+    return folder
+
+
+def run_page(blocks, room, folder, environment):
+    """Runs the blocks one after the other in one shell; all that they started is ended after them. Gives standard error."""
+    words = [*(APART if has_networks() else []), "bash", "-c", script_of(blocks, room)]
+    with open(os.path.join(room, "errors"), "wb") as errors:
+        process = subprocess.Popen(words, cwd=folder, env=environment, stdin=subprocess.DEVNULL, stdout=subprocess.DEVNULL, stderr=errors,
+                                   start_new_session=True)
+        try:
+            process.wait(PATIENCE)
+        except subprocess.TimeoutExpired:
+            pass
+        finally:
+            os.killpg(process.pid, signal.SIGKILL)
+            process.wait()
+    with open(os.path.join(room, "errors"), errors="replace") as file:
+        return file.read()
+
+
+def output_fault(number, block, room):
+    """Why what a block printed is not what the page shows, or None."""
+    with open(os.path.join(room, f"{number}.output"), errors="replace") as file:
+        printed = file.read()
+    if block.shown is None or printed.rstrip() == block.shown.rstrip():
+        return None
+    return f"it printed\n{printed.rstrip()}\nand the page shows\n{block.shown.rstrip()}"
+
+
+def page_faults(top, page, blocks, room, environment):
+    """What does not hold of the blocks of a page that are run."""
+    errors = run_page(blocks, room, clone(top, room), environment)
+    for number, block in enumerate(blocks):
+        if not os.path.exists(os.path.join(room, f"{number}.ended")):
+            yield f"{page.path}:{block.line}: these commands failed, or did not end:\n{block.text}\n{errors[-2000:]}"
+            return
+        fault = output_fault(number, block, room)
+        if fault:
+            yield f"{page.path}:{block.line}: {fault}"
