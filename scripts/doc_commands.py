@@ -4,6 +4,7 @@ import os
 import shutil
 import signal
 import subprocess
+import time
 
 PATIENCE = 300
 # A page has a network of its own, so that the ports that it names are free.
@@ -42,13 +43,12 @@ def run_page(blocks, room, folder, environment):
     with open(os.path.join(room, "errors"), "wb") as errors:
         process = subprocess.Popen(words, cwd=folder, env=environment, stdin=subprocess.DEVNULL, stdout=subprocess.DEVNULL, stderr=errors,
                                    start_new_session=True)
-        try:
-            process.wait(PATIENCE)
-        except subprocess.TimeoutExpired:
-            pass
-        finally:
-            os.killpg(process.pid, signal.SIGKILL)
-            process.wait()
+        until = time.monotonic() + PATIENCE
+        # The shell is not reaped before its group is ended, so that no other process can have the group's number.
+        while os.waitid(os.P_PID, process.pid, os.WEXITED | os.WNOHANG | os.WNOWAIT) is None and time.monotonic() < until:
+            time.sleep(0.05)
+        os.killpg(process.pid, signal.SIGKILL)
+        process.wait()
     with open(os.path.join(room, "errors"), errors="replace") as file:
         return file.read()
 
