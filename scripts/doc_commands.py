@@ -1,4 +1,5 @@
-"""Runs the blocks of commands of a page as they are written, in a fresh clone, and compares what they print with what the page shows."""
+"""Runs the blocks of commands of a page as they are written, in a fresh clone or with an installed package, and compares what they print with
+what the page shows."""
 
 import os
 import shutil
@@ -37,6 +38,15 @@ def clone(top, room):
     return folder
 
 
+def unpacked(package, room):
+    """What a Debian package has for a reader: a folder with its documents and examples, and with its program in the place of the launcher."""
+    root = os.path.join(room, "root")
+    subprocess.run(["dpkg-deb", "--extract", package, root], check=True, timeout=PATIENCE)
+    folder = os.path.join(root, "usr", "share", "doc", "apron")
+    os.symlink(os.path.join(root, "usr", "bin", "apron"), os.path.join(folder, "apron"))
+    return folder
+
+
 def run_page(blocks, room, folder, environment):
     """Runs the blocks one after the other in one shell; all that they started is ended after them. Gives standard error."""
     words = [*(APART if has_networks() else []), "bash", "-c", script_of(blocks, room)]
@@ -62,9 +72,9 @@ def output_fault(number, block, room):
     return f"it printed\n{printed.rstrip()}\nand the page shows\n{block.shown.rstrip()}"
 
 
-def page_faults(top, page, blocks, room, environment):
-    """What does not hold of the blocks of a page that are run."""
-    errors = run_page(blocks, room, clone(top, room), environment)
+def page_faults(page, blocks, room, folder, environment):
+    """What does not hold of the blocks of a page that are run in a folder."""
+    errors = run_page(blocks, room, folder, environment)
     for number, block in enumerate(blocks):
         if not os.path.exists(os.path.join(room, f"{number}.ended")):
             yield f"{page.path}:{block.line}: these commands failed, or did not end:\n{block.text}\n{errors[-2000:]}"
