@@ -174,7 +174,7 @@ class Draws:
         if change in ("number", "day") and target.count("/") == 2:
             return f"/{word}/" + self.pick("0", "01", "4294967296", "4294967295", "99999999999", "x", "", "1/1", "-1", "+1", "٣")
         if target.startswith("/feeds"):
-            return self.pick("/feeds/all/0", "/feeds/ALL/00", "/feeds/ALL", "/feeds/ALL/0/0", "/feeds//0", "/feeds/THIRTEEN-CHAR/0", "/feeds/ALL/4294967296")
+            return "/feeds/" + self.pick("all/0", "ALL/00", "ALL", "ALL/0/0", "/0", "THIRTEEN-CHAR/0", "ALL/4294967296")
         return self.pick(target.upper(), "/stands", "*", "/", "/visits", "http://apron/version", "/vérsion")
 
     def change_head(self, drawn):
@@ -224,7 +224,8 @@ class Draws:
         elif isinstance(holder[key], int) and change < 0.8:
             holder[key] = self.pick(-1, MOST_32, MOST_32 + 1, 255, 256, 9, 10, 0, 2 ** 64, 10 ** 30, 1.0, 0.5, "1", None, True)
         elif isinstance(holder[key], str) and change < 0.8:
-            holder[key] = self.pick("", "a", "A_B", "THIRTEEN-CHAR", "TWELVE-CHARS", "A\n", "LH", "LH12345", "12A1", "lh1", "LH1a", "LH01A", "ABCD1", "Ä", 1, None)
+            holder[key] = self.pick("", "a", "A_B", "THIRTEEN-CHAR", "TWELVE-CHARS", "A\n", "LH", "LH12345", "12A1", "lh1", "LH1a", "LH01A", "ABCD1",
+                                    "Ä", 1, None)
         elif isinstance(holder[key], list) and change < 0.8:
             holder[key] = self.pick([], holder[key] * self.pick(13, 33, 65), [None], {}, None)
         else:
@@ -239,8 +240,8 @@ class Draws:
             text[:self.draw.randrange(len(text))], text + self.pick("x", "}", "\n", " \t\r\n", "\0", "\u00a0"), "[" + text + "]", "",
             "null", '"x"', "[" * deep + "]" * deep, f'{{{inner},"note":{"[" * deep}{"]" * deep}}}', f'{{{inner},"note":{number}}}',
             f'{{{inner},"note":{written}}}', f'{{{written}:1,{inner}}}', f'{{"visit":"x",{inner}}}', f'{{{inner},{inner}}}', text.replace(":", " :\n\t"),
-            text.replace('"', "'"), text.replace(",", ",,", 1), f"{{{inner},}}", text.replace(" 1,", self.pick(" 1.0,", " 1e0,", " -0,", " +1,"), 1),
-            "//\n" + text]
+            text.replace('"', "'"), text.replace(",", ",,", 1), f"{{{inner},}}", "//\n" + text,
+            text.replace(" 1,", self.pick(" 1.0,", " 1e0,", " -0,", " +1,"), 1)]
         data = self.draw.choice(texts).encode("utf-8", "surrogatepass")
         return self.draw.choices([data, b"\xef\xbb\xbf" + data, data.replace(b"V", b"\xff", 1), data.decode().encode("utf-16")], [20, 1, 1, 1])[0]
 
@@ -249,10 +250,11 @@ class Draws:
         lines = text.decode("latin-1").split("\n")
         at, change = self.draw.randrange(len(lines)), self.draw.random()
         if change < 0.3:
-            lines[at] += " " + self.pick("AD2460", "AA1000/", "EA1040", "ED3200000", "ED0000/0010", "AA0010 AA0010", "EA1040 APRX", "EA1040APR", "AD", "AD\t1", "SIX", "ED9")
+            lines[at] += " " + self.pick("AD2460", "AA1000/", "EA1040", "ED3200000", "ED0000/0010", "AA0010 AA0010", "EA1040 APRX", "EA1040APR", "AD",
+                                         "AD\t1", "SIX", "ED9")
         elif change < 0.5:
-            lines[at] = self.pick("", "MVT", "MVT ", " MVT", "MVT\r", "mvt", "LH1/00.A.APR", "LH1/32.A.APR", "LH1/1.A.APR", "LH/01.A.APR", "LH1/01..APR",
-                                  "LH1/01.ABCDEFGHIJK.APR", "LH1/01.A-B.AP", "9W12/01.A.APR", "99W1/01.A.APR", "AA0010 AA0010", "AD0010\r\r", "EDX\r")
+            lines[at] = self.pick("", "MVT", "MVT ", " MVT", "MVT\r", "mvt", "LH1/00.A.APR", "LH1/32.A.APR", "LH1/1.A.APR", "LH/01.A.APR",
+                                  "LH1/01..APR", "LH1/01.ABCDEFGHIJK.APR", "LH1/01.A-B.AP", "9W12/01.A.APR", "99W1/01.A.APR", "AA0010 AA0010", "AD0010\r\r", "EDX\r")
         elif change < 0.65:
             lines[at:at] = [self.pick("", "x", "MVT", "AA1000", "ED1000 ED1000", "SI")] * self.pick(1, 1, 21)
         elif change < 0.75:
@@ -260,5 +262,6 @@ class Draws:
         data = bytearray("\n".join(lines).encode("latin-1"))
         if change >= 0.75 and data:
             place = self.draw.randrange(len(data))
-            data[place:place + self.pick(0, 1, 3)] = self.pick(b"", b"\n", b" ", b"\r", b"/", b"\xff", b"\0", b"AD", b"AA0000 ", b"x" * self.pick(1, 3900, 4000))
+            data[place:place + self.pick(0, 1, 3)] = self.pick(b"", b"\n", b" ", b"\r", b"/", b"\xff", b"\0", b"AD", b"AA0000 ",
+                                                               b"x" * self.pick(1, 3900, 4000))
         return bytes(data)

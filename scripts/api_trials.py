@@ -62,10 +62,10 @@ def shown(asked):
     return f"{asked.method} {asked.target} {dict(asked.fields)} {asked.body[:200]!r}"
 
 
-def desk(program, files, journal, stream, folder=None):
+def desk(program, files, journal, stream):
     """What a desk answers to a stream."""
-    ran = subprocess.run([program, "desk", *files, journal], input=stream, stdout=subprocess.PIPE, stderr=subprocess.DEVNULL, cwd=folder, timeout=PATIENCE)
-    return ran.stdout
+    words = [program, "desk", *files, journal]
+    return subprocess.run(words, input=stream, stdout=subprocess.PIPE, stderr=subprocess.DEVNULL, timeout=PATIENCE).stdout
 
 
 def made(program, files, journal):
