@@ -1,4 +1,4 @@
-"""The bytes of a journal, written from docs/JOURNAL.md: entries, a part that has them, and a whole journal of format 2. So a script makes a
+"""The bytes of a journal, written from docs/reference/journal-format.md: entries, a part that has them, and a whole journal of format 2. So a script makes a
 long history in seconds, and asks no desk for it."""
 
 import hashlib

@@ -1,6 +1,6 @@
-"""The answers of a plan, worked out anew and apart from the program: visits, commits, cancels and reads of an airport, as docs/HTTP.md
-tells them, and the history in a journal's bytes of format 2, as docs/JOURNAL.md tells them. There are no messages and reports here, so that
-no part is ever on block or bumped. Only a wall chart, which docs/CHART.md tells, is of any visits as replies tell them, with facts and bumps."""
+"""The answers of a plan, worked out anew and apart from the program: visits, commits, cancels and reads of an airport, as docs/reference/http.md
+tells them, and the history in a journal's bytes of format 2, as docs/reference/journal-format.md tells them. There are no messages and reports here, so that
+no part is ever on block or bumped. Only a wall chart, which docs/reference/chart.md tells, is of any visits as replies tell them, with facts and bumps."""
 
 import csv
 import datetime
