@@ -5,8 +5,8 @@
  * @typedef {{status: number, text?: string, failed?: "slow" | "nobody" | "cut" | "redirect", seconds?: number}} Got  what fetch gave: a status
  *   and a text, or status 0 and why there is none
  * @typedef {"login" | "forbidden" | "missing" | "gateway" | "slow" | "nobody" | "cut" | "redirect" | "foreign" | "status" | "disk" | "memory"} Cause
- * @typedef {{is: "ok", body: any} | {is: "refused", status: number, body: any} | {is: "trouble", cause: Cause, words: string, mayBeTaken: boolean}} Outcome
- *   `mayBeTaken`: whether a command that was sent may be in the plan all the same
+ * @typedef {{is: "ok", body: any} | {is: "refused", status: number, body: any} |
+ *   {is: "trouble", cause: Cause, words: string, mayBeTaken: boolean}} Outcome  `mayBeTaken`: whether a command that was sent may be in the plan all the same
  * @typedef {(value: any) => string | null} Form  what is wrong with a value, to be read after its name; or null
  */
 
@@ -41,12 +41,14 @@ function listOf(form, least = 0, most = Infinity) {
 
 // A record of these fields, which together pass a test; others are passed over.
 function record(fields, test = () => null) {
-  const forms = Object.entries(fields);
+  const names = Object.keys(fields);
+  const forms = Object.values(fields);
   return (value) => {
     if (typeof value !== "object" || value === null || Array.isArray(value)) return " is not an object";
-    for (const [name, form] of forms) {
-      const fault = Object.hasOwn(value, name) ? form(value[name]) : " is missing";
-      if (fault !== null) return `.${name}${fault}`;
+    for (let place = 0; place < names.length; place++) {
+      const it = value[names[place]];
+      const fault = it === undefined ? " is missing" : forms[place](it);
+      if (fault !== null) return `.${names[place]}${fault}`;
     }
     return test(value);
   };

@@ -41,7 +41,8 @@ function offForm(model, visit, minute, says, words) {
 
 /**
  * The messages that say these minutes on and off block of a visit, in the order in which they are to be sent, and why a time can't be said.
- * With `actual` they are facts, otherwise estimates, and one that the visit has already is not sent. The registration, and the station of an estimate from elsewhere, are not known of a visit.
+ * With `actual` they are facts, otherwise estimates, and one that the visit has already is not sent. The registration, and the station of an
+ * estimate from elsewhere, are not known of a visit.
  * @param {Model} model @param {Map<number, Visit>} visits @param {Visit} visit
  * @param {{on?: number, off?: number, actual?: boolean, registration?: string}} wanted
  * @returns {{messages: Movement[], cannot: Cannot[]}}

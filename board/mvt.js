@@ -153,7 +153,8 @@ export function meantOf(visits, arrives, flight, day) {
   let meant = null;
   for (const visit of visits.values()) {
     const key = arrives ? visit.arr : visit.dep;
-    if (isLive(visit) && key !== null && key.day === day && sameFlight(key.flight, flight) && (meant === null || visit.visit < meant.visit)) meant = visit;
+    if (!isLive(visit) || key === null || key.day !== day || !sameFlight(key.flight, flight)) continue;
+    if (meant === null || visit.visit < meant.visit) meant = visit;
   }
   return meant;
 }

@@ -65,7 +65,8 @@ const refusal = (error) => ({ ...NOTHING, refused: { error } });
 function previewOf(model, visits, after, final = null, notes = []) {
   const bumped = bumpedBy(model, visits, after);
   const alarms = alarmsBy(model, visits, after);
-  return { ...NOTHING, visit: after.visit, after, bumped, alarms, notes, final, asks: bumped.length + alarms.length + notes.length > 0 || final !== null };
+  const asks = bumped.length + alarms.length + notes.length > 0 || final !== null;
+  return { ...NOTHING, visit: after.visit, after, bumped, alarms, notes, final, asks };
 }
 
 const GONE = "Off block can't be undone: the visit has then left, and its later parts are removed.";
@@ -92,8 +93,9 @@ function notesOf(model, visit, { part, stand }) {
   const planned = visit.parts[part - 1].stand;
   const by = unfitOf(model, model.standOf.get(stand), model.typeOf.get(visit.type));
   const notes = planned === null || planned === stand ? [] : [`It ${visit.parts[part - 1].actual ? "was reported" : "is planned"} on ${planned}.`];
-  if (by !== null) notes.push(`A ${visit.type} does not fit ${stand}: ${by === "letter" ? "its code letter is too great" : `object ${by.object} is too near`}.`);
-  return notes;
+  if (by === null) return notes;
+  const why = by === "letter" ? "its code letter is too great" : `object ${by.object} of the frontage is too near`;
+  return [...notes, `A ${visit.type} does not fit ${stand}: ${why}.`];
 }
 
 /**

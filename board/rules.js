@@ -47,8 +47,9 @@ export const clearanceOf = (span) => rowOf(span).clearance;
  */
 export function modelOf(airport) {
   const widest = Math.max(...airport.types.map((type) => type.span));
+  const restricted = restrictionsOf(airport.pairs);
   const near = airport.stands.map((one) => airport.stands
-    .map((two, stand) => beside(airport, one, two, stand))
+    .map((two, stand) => beside(restricted, one, two, stand))
     .filter((it) => ruleOf(it, widest, widest) !== null));
   return {
     ...airport,
@@ -60,17 +61,25 @@ export function modelOf(airport) {
   };
 }
 
+// The letters that are restricted on two stands, by the names of both, in either order.
+function restrictionsOf(pairs) {
+  const restricted = new Map();
+  const add = (key, letters) => restricted.set(key, [...(restricted.get(key) ?? []), letters]);
+  for (const { a, la, b, lb } of pairs) {
+    add(`${a} ${b}`, [la, lb]);
+    add(`${b} ${a}`, [lb, la]);
+  }
+  return restricted;
+}
+
 // How the second stand, at this place, lies beside the first.
-function beside(airport, one, two, stand) {
+function beside(restricted, one, two, stand) {
   const split = one.half_of === two.name || two.half_of === one.name;
   return {
     stand,
     rule: one === two ? "same" : split ? "split" : null,
     room: one.frontage === two.frontage ? 2 * Math.abs(one.centre - two.centre) : Infinity,
-    pairs: airport.pairs.flatMap(({ a, la, b, lb }) => {
-      if (a === one.name && b === two.name) return [[la, lb]];
-      return a === two.name && b === one.name ? [[lb, la]] : [];
-    }),
+    pairs: restricted.size === 0 ? [] : restricted.get(`${one.name} ${two.name}`) ?? [],
   };
 }
 

@@ -58,13 +58,10 @@ function partAt({ parts }, now) {
 export function found(model, visits, text, now, most = 12) {
   const wanted = plain(text);
   if (wanted === "") return [];
-  const flights = [...visits.values()].map((visit) => ({ visit, score: visitScore(visit, wanted) })).filter(({ score }) => score !== null)
-    .map(({ visit, score }) => {
-      const part = partAt(visit, now);
-      return { kind: "flight", words: visitWords(visit), visit: visit.visit, part, score, far: (isLive(visit) ? 0 : 1e6) + distance(visit.parts[part - 1], now) };
-    })
-    .sort((one, other) => one.score - other.score || one.far - other.far)
-    .map(({ far: _, ...it }) => it);
+  const flights = [...visits.values()].map((visit) => ({ visit, part: partAt(visit, now), score: visitScore(visit, wanted) }))
+    .filter(({ score }) => score !== null)
+    .sort((one, other) => one.score - other.score || farness(one, now) - farness(other, now))
+    .map(({ visit, part, score }) => ({ kind: "flight", words: visitWords(visit), visit: visit.visit, part, score }));
   const named = (list, make) => list.map(({ name }, place) => ({ ...make(name, place), words: name, score: scoreOf(name, wanted) }))
     .filter(({ score }) => score !== null);
   const stands = named(model.stands, (_, stand) => ({ kind: "stand", stand }));
@@ -72,4 +69,8 @@ export function found(model, visits, text, now, most = 12) {
   return [...flights, ...stands, ...types].sort((one, other) => one.score - other.score).slice(0, most);
 }
 
-const distance = ({ from, to }, now) => (now < from ? from - now : Math.max(0, now - to));
+// How far a part is from the present minute; visits that have left or are cancelled come after all others.
+function farness({ visit, part }, now) {
+  const { from, to } = visit.parts[part - 1];
+  return (isLive(visit) ? 0 : 1e6) + Math.max(0, from - now, now - to);
+}

@@ -38,7 +38,8 @@ const meetingWith = (model, slot, present, now) =>
 export function standingIn(model, index, visits, visit, part, stand, now, within = 60) {
   const slot = slotOn(model, visit, part, stand);
   if (slot.from > now + within) return [];
-  return presentOf(index, visits, now).filter(({ to }) => to < now).flatMap((present) => standingBy(meetingWith(model, slot, present, now), present, now));
+  const late = presentOf(index, visits, now).filter(({ to }) => to < now);
+  return late.flatMap((present) => standingBy(meetingWith(model, slot, present, now), present, now));
 }
 
 const standingBy = (met, { visit, part, stand, to }, now) =>
@@ -96,8 +97,8 @@ function unplaced(round, visit, part) {
   const holder = bump === null ? undefined : present.find((it) => it.visit === bump.blocker.visit && it.part === bump.blocker.part);
   const isNeeded = holder !== undefined && isEarly(visit, part);
   return warning(round, visit, part, {
-    kind: isNeeded ? "needed" : "nostand", level: levelOf(round, from - now), minute: from, stand: bump === null ? null : model.standOf.get(bump.stand),
-    by: isNeeded ? standingBy(bump, holder, now)[0] : null,
+    kind: isNeeded ? "needed" : "nostand", level: levelOf(round, from - now), minute: from,
+    stand: bump === null ? null : model.standOf.get(bump.stand), by: isNeeded ? standingBy(bump, holder, now)[0] : null,
   });
 }
 
@@ -124,5 +125,6 @@ export function soonWords({ kind, minute, visit, part, stand, by }, { name, stan
   if (by === null) return `${what} has no stand, and comes at ${when(minute)}`;
   const where = by.stand === stand ? "there" : `on ${place(by.stand)}`;
   const since = by.overdue > 0 ? `, ${by.overdue} min over its time` : "";
-  return `${place(stand)} is not clear for ${what} at ${when(minute)}${kind === "needed" ? ", which is early" : ""}: ${name(by)} is still ${where}${since}`;
+  const early = kind === "needed" ? ", which is early" : "";
+  return `${place(stand)} is not clear for ${what} at ${when(minute)}${early}: ${name(by)} is still ${where}${since}`;
 }
