@@ -98,7 +98,7 @@ export function changeWords({ kind, now, was }, when) {
     put: () => `put on ${now.stand}`,
     moved: () => `${was.stand} → ${now.stand}`,
     lifted: () => `taken off ${was.stand}`,
-    lost: () => `lost ${was.stand ?? now.bump.stand}`,
+    lost: () => `lost ${was.stand}`,
     times: () => `${stay(was)} → ${stay(now)}`,
     cut: () => `${stay(now)} is a part of its own`,
     joined: () => "joined with its next part",
@@ -108,7 +108,7 @@ export function changeWords({ kind, now, was }, when) {
 
 function placeWords(was, now) {
   if (now.stand === null) return " without a stand";
-  const planned = was !== null && was.stand !== null && was.stand !== now.stand ? `, planned on ${was.stand}` : "";
+  const planned = was.stand !== null && was.stand !== now.stand ? `, planned on ${was.stand}` : "";
   return ` on ${now.stand}${planned}`;
 }
 

@@ -23,6 +23,7 @@ test("a visit that the days had not is new, or comes into them from another day"
   const late = visit(5, "A320", [part(1500, 1560)], { on: 1300, off: 1360 });
   assert.deepEqual(told(picture(5, [1, 2]), picture(6, [1, 2], fresh, late)), ["new 4.1", "here 5.1"]);
   assert.deepEqual(told(picture(5, [2]), picture(6, [1, 2], fresh)), []);
+  assert.deepEqual(told(picture(5, [1]), picture(6, [1], { ...late, parts: [part(600, 700)], on: 600 }, fresh)), ["new 4.1", "here 5.1"]);
 });
 
 test("a visit that the days no longer have is cancelled or away, by what is known of it", () => {
@@ -42,6 +43,7 @@ test("what changed of a visit is told part by part", () => {
   const rows = [
     [on, off, "lifted 1.1"], [off, on, "put 1.1"], [on, visit(1, "A320", [part(600, 660, "N2")]), "moved 1.1"],
     [on, visit(1, "A320", [part(600, 660, null, { bump })]), "lost 1.1"], [on, visit(1, "A320", [part(645, 685, "N1")]), "times 1.1"],
+    [on, visit(1, "A320", [part(600, 685, "N1")]), "times 1.1"],
     [on, visit(1, "A320", [part(645, 685, null, { bump })]), "lost 1.1, times 1.1"], [on, here, "onblock 1.1"],
     [here, { ...here, state: "gone", parts: [part(605, 671, "N2", { actual: true })] }, "gone 1.1"], [on, on, ""],
     [off, { ...off, state: "onblock" }, "onblock 1.1"], [visit(1, "A320", [part(600, 720, "N1")]), cut, "cut 1.2"],
@@ -60,6 +62,15 @@ test("a change reads as a line, and a lost stand is an event", () => {
   assert.deepEqual(changes.map((it) => changeLine(it, when)), ["LH1 A320: lost N1", "V2 A320: on block at 10:05 on S1, planned on N2"]);
   assert.deepEqual(changes.map(isEvent), [true, false]);
   assert.ok(changes.every(({ version }) => version === 6));
+});
+
+test("an aircraft on block without a plan, or on its planned stand, is not said to be elsewhere", () => {
+  const now = part(645, 700, "N2");
+  const rows = [[part(600, 660, "N2"), "on block at 10:45 on N2"], [part(600, 660), "on block at 10:45 on N2"], [part(600, 660, "N1"), "on block at 10:45 on N2, planned on N1"]];
+  for (const [was, words] of rows) assert.equal(changeWords({ kind: "onblock", now, was }, when), words);
+  assert.equal(changeWords({ kind: "onblock", now: part(645, 700), was: part(600, 660) }, when), "on block at 10:45 without a stand");
+  const [gone] = changesOf(demo, picture(5, [1], present(1, "A320", 600, 660, "N1")), picture(6, [1], present(1, "A320", 600, 671, "N1", { state: "gone" })));
+  assert.deepEqual([gone.was.to, gone.now.to], [660, 671]);
 });
 
 test("each kind of change has words", () => {

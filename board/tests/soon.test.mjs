@@ -2,9 +2,9 @@
 
 import assert from "node:assert/strict";
 import { test } from "node:test";
-import { indexOf } from "../rules.js";
+import { indexOf, modelOf } from "../rules.js";
 import { soonOf, soonWords, standingIn } from "../soon.js";
-import { at, demo, part, planOf, present, visit } from "./plans.mjs";
+import { DEMO, at, demo, part, planOf, present, visit } from "./plans.mjs";
 
 const told = (plan, now, minutes) => soonOf(demo, plan, now, minutes).map(({ kind, level, minute, visit: number }) => `${kind} ${level} ${minute} ${number}`);
 const next = visit(2, "A320", [part(680, 740, "N1")]);
@@ -18,6 +18,19 @@ test("a stand that is still occupied when the next is due: amber, then red, by t
   assert.deepEqual(told(plan, 660, { red: 20 }), ["occupied red 680 2"]);
   const [warning] = soonOf(demo, plan, 672);
   assert.deepEqual([warning.left, warning.by, warning.stand], [8, { visit: 1, part: 1, stand: at("N1"), rule: "same", overdue: 12 }, at("N1")]);
+});
+
+test("folded wing tips are in nobody's way until they unfold", () => {
+  const model = modelOf({ ...DEMO, pairs: [{ a: "14", b: "15", la: "F", lb: "C" }] });
+  const beside = visit(2, "A320", [part(720, 780, "15")]);
+  assert.deepEqual(soonOf(model, planOf(present(1, "B779", 600, 1000, "14"), beside), 700), []);
+  assert.deepEqual(soonOf(model, planOf(present(1, "B779", 600, 690, "14"), beside), 700).map(({ level, minute }) => [level, minute]), [["amber", 720]]);
+});
+
+test("what is cancelled warns of nothing, and an aircraft is there from its minute on block on", () => {
+  assert.deepEqual(told(planOf(visit(1, "A320", [part(680, 740)], { state: "cancelled" })), 670), []);
+  assert.deepEqual(told(planOf(present(1, "A320", 671, 672, "N1"), next), 670), []);
+  assert.deepEqual(told(planOf(present(1, "A320", 670, 675, "N1"), next), 670), ["occupied watch 680 2"]);
 });
 
 test("it is over when the aircraft has left or was towed on", () => {
@@ -52,13 +65,19 @@ test("a part without a stand whose time comes, with the stands that it fits", ()
   assert.equal(names[0], "N1");
   assert.ok(!names.includes("N2") && !names.includes("N3"), "others are near");
   assert.ok(!names.includes("S1"), "somebody overdue stands there");
-  assert.ok(names.indexOf("14") > names.indexOf("12"), "the least letters come first");
   assert.deepEqual(told(plan, 740), []);
+});
+
+test("of the stands that mend it those of the least letter come first, and then the first of the airport", () => {
+  const [{ fits }] = soonOf(demo, planOf(visit(1, "A320", [part(680, 740)])), 670);
+  assert.deepEqual(fits.map((stand) => demo.stands[stand].name), ["N1", "N2", "S1", "S2", "S4", "S5", "12L", "12R", "N3", "S3", "12", "15", "14"]);
 });
 
 test("warnings are in the order of their minutes", () => {
   const plan = planOf(visit(1, "A320", [part(690, 740)]), visit(2, "A320", [part(680, 740, "N1")]), present(3, "A320", 600, 660, "N1"), visit(4, "A320", [part(675, 740)]));
   assert.deepEqual(told(plan, 670), ["nostand red 675 4", "occupied red 680 2", "nostand amber 690 1"]);
+  const same = planOf(visit(6, "A320", [part(680, 740)]), visit(5, "A320", [part(680, 740)]), next, present(1, "A320", 600, 675, "N1"));
+  assert.deepEqual(told(same, 670), ["nostand red 680 5", "nostand red 680 6", "occupied watch 680 2"]);
 });
 
 test("a drop on a stand where somebody overdue still is says so, if it is for soon", () => {
