@@ -38,22 +38,22 @@ export function keptOf(model, visits, edit) {
 }
 
 /**
- * The edits without those that a later one makes vain: a part that is put or lifted again, with no cut or join of its visit between.
- * @param {Edit[]} edits
- * @returns {Edit[]}
+ * The edits of a draft without those that a later one makes vain: a part that is put or lifted again, with no cut or join of its visit between.
+ * @param {Kept[]} kept
+ * @returns {Kept[]}
  */
-export function folded(edits) {
+export function folded(kept) {
   const last = new Map();
-  const kept = [];
-  for (const edit of [...edits].reverse()) {
-    const { kind, said } = editOf(edit);
+  const stays = [];
+  for (const it of [...kept].reverse()) {
+    const { kind, said } = editOf(it.edit);
     const settled = last.get(said.visit) ?? new Set();
     if (kind === "cut" || kind === "join") last.set(said.visit, new Set());
     else if (settled.has(said.part)) continue;
     else last.set(said.visit, settled.add(said.part));
-    kept.unshift(edit);
+    stays.unshift(it);
   }
-  return kept;
+  return stays;
 }
 
 /**

@@ -123,6 +123,35 @@ export function previewCancel(model, visits, { visit: number }) {
 }
 
 /**
+ * The plan as a preview leaves it. Records of lost stands have the number of the entry, 0 where that is not known.
+ * @param {Visits} visits @param {Preview} preview @param {number} [entry]
+ * @returns {Visits}
+ */
+export function planAfter(visits, { after, bumped }, entry = 0) {
+  const plan = after === null ? new Map(visits) : new Map(visits).set(after.visit, after);
+  for (const { visit: number, part, stand, blocker, minute, rule } of bumped) {
+    const visit = plan.get(number);
+    const bump = { blocker, entry, minute, rule, stand };
+    plan.set(number, { ...visit, parts: visit.parts.map((it, place) => (place === part - 1 ? { ...it, stand: null, bump } : it)) });
+  }
+  return plan;
+}
+
+/**
+ * What messages would do, each after the ones before it.
+ * @param {Model} model @param {Visits} visits @param {string[]} texts
+ * @returns {Preview[]}
+ */
+export function previewMessages(model, visits, texts) {
+  let plan = visits;
+  return texts.map((text) => {
+    const preview = previewMessage(model, plan, text);
+    plan = planAfter(plan, preview);
+    return preview;
+  });
+}
+
+/**
  * The days that have to be read for a preview to be sure.
  * @param {Model} model @param {Preview} preview
  * @returns {number[]}

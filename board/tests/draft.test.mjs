@@ -59,7 +59,7 @@ test("edits that a later one makes vain are folded away", () => {
     [[put(1, 1, "N1"), cut, put(1, 1, "N2")], [put(1, 1, "N1"), cut, put(1, 1, "N2")]], [[put(1, 1, "N1"), put(1, 2, "N2")], [put(1, 1, "N1"), put(1, 2, "N2")]],
     [[put(1, 1, "N1"), cut, put(2, 1, "S1"), put(2, 1, "S2")], [put(1, 1, "N1"), cut, put(2, 1, "S2")]],
   ];
-  for (const [edits, wanted] of rows) assert.deepEqual(folded(edits), wanted);
+  for (const [edits, wanted] of rows) assert.deepEqual(folded(edits.map((edit) => ({ edit }))), wanted.map((edit) => ({ edit })));
 });
 
 test("the base rises while nothing of the draft was edited by others", () => {

@@ -5,7 +5,7 @@ import { test } from "node:test";
 import { readReply } from "../forms.js";
 import { movementOf } from "../movement.js";
 import { effectOf, minuteOf, planDayOf, readFlight, readMvt, sameFlight } from "../mvt.js";
-import { daysOfPreview, previewCancel, previewMessage, previewReport } from "../preview.js";
+import { daysOfPreview, planAfter, previewCancel, previewMessage, previewMessages, previewReport } from "../preview.js";
 import { judge } from "../draft.js";
 import { visitsAfter } from "../visits.js";
 import { demo, part, planOf, present, visit } from "./plans.mjs";
@@ -110,6 +110,14 @@ test("given times of a visit make the message that says them", () => {
   assert.match(movementOf(demo, planOf(it, twin), twin, { on: 645 }).cannot[0].why, /visit V1 has the same arrival flight/);
 });
 
+test("of two messages the second finds what the first has done", () => {
+  const it = visit(1, "A320", [part(600, 660, "N1")], { ...lh123, class: 1 });
+  const plan = planOf(it, visit(2, "A320", [part(680, 740, "N1")], { class: 5 }), visit(3, "A320", [part(760, 800, "N1")], { class: 5 }));
+  const texts = movementOf(demo, plan, it, { on: 645, off: 755 }).messages.map(({ text }) => text);
+  const [first, second] = previewMessages(demo, plan, texts);
+  assert.deepEqual([first.bumped.map((of) => of.visit), second.bumped.map((of) => of.visit)], [[2], [3]]);
+});
+
 // ---------------------------------------------------------------- The example sessions
 
 const PREVIEWS = { mvt: previewMessage, reports: previewReport, cancels: previewCancel };
@@ -149,17 +157,8 @@ class Replay {
     const bumped = preview.bumped.map((it) => ({ part: it.part, visit: it.visit }));
     if (target !== "cancels") assert.deepEqual(rest.bumped, bumped);
     if (target === "mvt") assert.equal(rest.visit, preview.visit);
-    this.take(preview, version);
+    this.visits = planAfter(this.visits, preview, version);
     return bumped.length > 0 ? `${target} bumps` : target;
-  }
-
-  take({ after, bumped }, entry) {
-    if (after !== null) this.visits.set(after.visit, after);
-    for (const { visit: number, part: of, stand, blocker, minute, rule } of bumped) {
-      const it = this.visits.get(number);
-      const parts = it.parts.map((old, place) => (place === of - 1 ? { ...old, stand: null, bump: { blocker, entry, minute, rule, stand } } : old));
-      this.visits.set(number, { ...it, parts });
-    }
   }
 }
 

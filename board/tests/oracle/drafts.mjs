@@ -88,7 +88,7 @@ function isLater({ model, visits }, edits, { a, b, minute }) {
 function checkParts(world, edits, verdict) {
   const { model, visits } = world;
   checkRow(world, edits, verdict);
-  const less = folded(edits);
+  const less = folded(edits.map((edit) => ({ edit }))).map(({ edit }) => edit);
   if (verdict === null) {
     assert.equal(judge(model, visits, less), null, `folded, ${told(edits)} is refused`);
     const partsOf = (list) => [...visitsAfter(model, visits, list).changed].map(([number, { parts }]) => [number, parts]).sort(([one], [two]) => one - two);

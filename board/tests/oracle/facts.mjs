@@ -3,7 +3,7 @@
 import assert from "node:assert/strict";
 import { monthDayOf } from "../../mvt.js";
 import { movementOf } from "../../movement.js";
-import { previewCancel, previewMessage, previewReport } from "../../preview.js";
+import { planAfter, previewCancel, previewMessage, previewReport } from "../../preview.js";
 import { alarmsOf, indexOf } from "../../rules.js";
 import { same, told } from "./world.mjs";
 
@@ -82,7 +82,6 @@ async function tryMovement(world, draws) {
 }
 
 async function compare(world, preview, method, target, said, what) {
-  const before = new Map(world.visits);
   const reply = await world.ask(method, target, said);
   const { version, ...body } = reply.body;
   const where = `${what} ${told(said)}`;
@@ -95,19 +94,9 @@ async function compare(world, preview, method, target, said, what) {
   const bumped = preview.bumped.map(({ part, visit }) => ({ part, visit }));
   if (target !== "cancels") same(target === "mvt" ? { bumped, visit: preview.visit } : { bumped }, body, where);
   world.count(preview.none !== null ? `${what}: no effect` : bumped.length > 0 ? `${what}: ${bumped.length === 1 ? "one loses" : "several lose"} a stand` : what);
-  if (preview.after !== null) await world.expect([preview.visit, ...bumped.map(({ visit }) => visit)], expectedOf(before, preview, version), where);
+  const numbers = preview.after === null ? [] : [preview.visit, ...bumped.map(({ visit }) => visit)];
+  await world.expect(numbers, planAfter(world.visits, preview, version), where);
   if (preview.alarms.length > 0) world.count("makes an alarm");
-}
-
-// The visits that a preview changes, as the server has to have them after this entry.
-function expectedOf(before, { after, bumped }, entry) {
-  const expected = new Map([[after.visit, after]]);
-  for (const { visit, part, stand, blocker, minute, rule } of bumped) {
-    const it = expected.get(visit) ?? before.get(visit);
-    const parts = it.parts.map((old, place) => (place === part - 1 ? { ...old, stand: null, bump: { blocker, entry, minute, rule, stand } } : old));
-    expected.set(visit, { ...it, parts });
-  }
-  return expected;
 }
 
 /** The alarms of the page are those of the server's charts. */
