@@ -99,12 +99,14 @@ test("given times of a visit make the message that says them", () => {
   assert.deepEqual(texts({ on: 610, actual: true, registration: "DAIQA" }), ["MVT\nLH123/27.DAIQA.APR\nAA1005/1010\n"]);
   assert.deepEqual(texts({ off: 655, actual: true }), ["MVT\nLH124/27.UNKNOWN.APR\nAD1055\n"]);
   assert.deepEqual(texts({ on: 2000 }), ["MVT\nLH123/27.UNKNOWN.ZZZ\nEA280915 APR\n"]);
+  assert.deepEqual(texts({ on: 5 }), ["MVT\nLH123/27.UNKNOWN.ZZZ\nEA0000 APR\n"]);
+  assert.deepEqual([texts({ off: 4319 }), why({ off: 4320 })], [["MVT\nLH124/27.UNKNOWN.APR\nED292359\n"], ["the time is outside the plan"]]);
   assert.deepEqual(texts({ on: 600, off: 660 }), []);
   assert.deepEqual([made({ on: 645 }).messages[0].after.parts[0].to, made({ on: 645 }).messages[0].says], [685, "EA"]);
   assert.match(why({ on: 645 }, visit(1, "A320", [part(600, 660)]))[0], /no arrival flight/);
   assert.match(why({ off: 620 })[0], /lasts 40 minutes at least/);
   assert.match(why({ on: 645 }, present(1, "A320", 600, 660, "N1", lh123))[0], /on block already/);
-  assert.match(why({ on: 3 })[0], /outside the plan/);
+  assert.match(why({ on: 4 })[0], /outside the plan/);
   assert.match(why({ off: 700 }, { ...it, state: "gone" })[0], /has left/);
   const twin = visit(2, "A320", [part(600, 660)], lh123);
   assert.match(movementOf(demo, planOf(it, twin), twin, { on: 645 }).cannot[0].why, /visit V1 has the same arrival flight/);
