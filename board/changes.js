@@ -117,9 +117,3 @@ function placeWords(was, now) {
  * @param {Change} change @param {(minute: number) => string} when
  */
 export const changeLine = (change, when) => `${flightOf(change.it)} ${change.it.type}: ${changeWords(change, when)}`;
-
-/**
- * Whether somebody has to deal with a change: a part lost its stand.
- * @param {Change} change
- */
-export const isEvent = ({ kind }) => kind === "lost";

@@ -1,7 +1,5 @@
-// The server's clock, by the Date fields of its replies, and the minutes of the plan. The clock of the machine that shows a page may be wrong,
-// and that of a server for training may run faster.
-
-import { DAY } from "./rules.js";
+// The server's clock, by the Date fields of its replies. The clock of the machine that shows a page may be wrong, and that of a server for
+// training may run faster.
 
 /**
  * @typedef {{server: number, sent: number, got: number}} Sample  the second that a reply told, and the machine's milliseconds around it
@@ -81,44 +79,4 @@ function spanWords(milliseconds) {
   if (seconds < 120) return `${seconds} seconds`;
   const minutes = Math.round(seconds / 60);
   return minutes < 120 ? `${minutes} minutes` : `${Math.round(minutes / 60)} hours`;
-}
-
-// ---------------------------------------------------------------- Minutes of the plan
-
-/** @typedef {import("./rules.js").Model} Model */
-
-const zeroOf = ({ first_day: first }) => Date.parse(`${first}T00:00Z`);
-
-/** @param {Model} model @param {number} instant  in milliseconds since 1970 */
-export const minuteAt = (model, instant) => Math.floor((instant - zeroOf(model)) / 60000);
-
-/** @param {Model} model @param {number} minute */
-export const dateOf = (model, minute) => new Date(zeroOf(model) + minute * 60000);
-
-/**
- * The day of a minute: 1 is the plan's first.
- * @param {number} minute
- */
-export const dayOf = (minute) => Math.floor(minute / DAY) + 1;
-
-/**
- * Whether a minute is in the plan.
- * @param {Model} model @param {number} minute
- * @returns {"before" | "in" | "after"}
- */
-export function placeInPlan(model, minute) {
-  if (minute < 0) return "before";
-  return minute < model.days * DAY ? "in" : "after";
-}
-
-/**
- * The minute that "1020", "10:20" or "3/10:20", with a day of the plan in front, says; or null.
- * @param {string} text @param {number} day  that is meant where the text has none
- */
-export function minuteOfText(text, day) {
-  const read = /^(?:(\d{1,2})\/)?(\d{1,2}):?(\d{2})$/.exec(text.trim());
-  if (read === null) return null;
-  const [hours, minutes] = [Number(read[2]), Number(read[3])];
-  if (hours > 24 || minutes > 59 || (hours === 24 && minutes > 0)) return null;
-  return ((read[1] === undefined ? day : Number(read[1])) - 1) * DAY + hours * 60 + minutes;
 }

@@ -90,13 +90,3 @@ export function opening(visit) {
   if (visit.state === "onblock") return { refused: "the closure was reported on block: report it off block" };
   return isLive(visit) ? { cancel: { visit: visit.visit } } : { refused: "the stand is open again already" };
 }
-
-/**
- * The closures of these minutes, by their beginnings. One that was displaced has no stand.
- * @param {Iterable<Visit>} visits @param {number} begin @param {number} end
- * @returns {{visit: number, part: number, stand: string | null, from: number, to: number}[]}
- */
-export const closuresOf = (visits, begin, end) => [...visits].filter((visit) => isClosure(visit) && isLive(visit))
-  .flatMap((visit) => visit.parts.map(({ stand, from, to }, place) => ({ visit: visit.visit, part: place + 1, stand, from, to })))
-  .filter(({ from, to }) => from < end && to > begin)
-  .sort((one, other) => one.from - other.from);

@@ -90,5 +90,6 @@ function obstacleOf(model, visits, visit, time, minute, kind) {
   if (first < 0 || minute >= model.days * DAY) return "the time is outside the plan";
   if (planDayOf(model, monthDayOf(model, key.day), 0) !== key.day) return "a later day of the plan has the same day of the month";
   const meant = meantOf(visits, arrives, key.flight, key.day);
+  if (meant === null) return `a message can't name the flight ${key.flight}`;
   return meant.visit === visit.visit ? null : `visit ${meant.name} has the same ${flight} flight, and a message would be about that`;
 }

@@ -188,7 +188,7 @@ function changesFrom(slot, other, first, until) {
  * The order of parts: by visit, then by part.
  * @param {PartId} one @param {PartId} other
  */
-export const isBefore = (one, other) => one.visit < other.visit || (one.visit === other.visit && one.part < other.part);
+const isBefore = (one, other) => one.visit < other.visit || (one.visit === other.visit && one.part < other.part);
 
 const partOf = ({ part, visit }) => ({ part, visit });
 

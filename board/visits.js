@@ -61,7 +61,7 @@ export function isListed(model, visit, day) {
  * The rank of a part: of two that clash the one with the lower rank keeps its stand.
  * @param {Visit} visit @param {number} part
  */
-export const rankOf = (visit, part) => [visit.class, visit.on, visit.visit, part];
+const rankOf = (visit, part) => [visit.class, visit.on, visit.visit, part];
 
 /** @param {{visit: Visit, part: number}} one @param {{visit: Visit, part: number}} other */
 export function byRank(one, other) {

@@ -2,7 +2,7 @@
 
 import assert from "node:assert/strict";
 import { test } from "node:test";
-import { changeLine, changeWords, changesOf, isEvent } from "../changes.js";
+import { changeLine, changeWords, changesOf } from "../changes.js";
 import { demo, part, planOf, present, visit } from "./plans.mjs";
 
 const picture = (version, days, ...visits) => ({ version, covers: new Set(days), visits: planOf(...visits) });
@@ -54,13 +54,12 @@ test("what changed of a visit is told part by part", () => {
   for (const [before, after, wanted] of rows) assert.equal(told(picture(5, [1], before), picture(6, [1], after)).join(", "), wanted);
 });
 
-test("a change reads as a line, and a lost stand is an event", () => {
+test("a change reads as a line, with its version", () => {
   const bump = { blocker: { part: 1, visit: 9 }, entry: 6, minute: 600, rule: "same", stand: "N1" };
   const before = picture(5, [1], visit(1, "A320", [part(600, 660, "N1")], { arr: { day: 1, flight: "LH1" } }), visit(2, "A320", [part(600, 660, "N2")]));
   const after = picture(6, [1], visit(1, "A320", [part(600, 660, null, { bump })], { arr: { day: 1, flight: "LH1" } }), present(2, "A320", 605, 660, "S1"));
   const changes = changesOf(demo, before, after);
   assert.deepEqual(changes.map((it) => changeLine(it, when)), ["LH1 A320: lost N1", "V2 A320: on block at 10:05 on S1, planned on N2"]);
-  assert.deepEqual(changes.map(isEvent), [true, false]);
   assert.ok(changes.every(({ version }) => version === 6));
 });
 

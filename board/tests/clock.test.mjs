@@ -1,9 +1,8 @@
-// The server's clock by the Date fields of its replies, and the minutes of the plan.
+// The server's clock by the Date fields of its replies.
 
 import assert from "node:assert/strict";
 import { test } from "node:test";
-import { dateOf, dayOf, heard, instantOf, minuteAt, minuteOfText, newClock, placeInPlan, skewOf, skewWords, speedOf } from "../clock.js";
-import { demo } from "./plans.mjs";
+import { heard, instantOf, newClock, skewOf, skewWords, speedOf } from "../clock.js";
 
 const BEGIN = Date.parse("2026-03-27T10:20:00Z");
 
@@ -55,13 +54,4 @@ test("in training a clock that runs faster is followed without a word", () => {
 test("a reply without a Date, or with a strange one, says nothing", () => {
   const clock = newClock();
   for (const date of [null, "", "yesterday"]) assert.equal(heard(clock, { date, sent: 0, got: 1 }), clock);
-});
-
-test("minutes of the plan are counted from its first day", () => {
-  assert.equal(minuteAt(demo, BEGIN), 620);
-  assert.equal(dateOf(demo, 2060).toISOString(), "2026-03-28T10:20:00.000Z");
-  assert.deepEqual([dayOf(0), dayOf(1439), dayOf(1440), dayOf(-1)], [1, 1, 2, 0]);
-  assert.deepEqual([-1, 0, 4319, 4320].map((minute) => placeInPlan(demo, minute)), ["before", "in", "in", "after"]);
-  const rows = [["1020", 620], ["10:20", 620], ["3/10:20", 3500], [" 24:00 ", 1440], ["24:01", null], ["1060", null], ["x", null], ["", null]];
-  for (const [text, minute] of rows) assert.equal(minuteOfText(text, 1), minute, text);
 });

@@ -2,7 +2,7 @@
 
 import assert from "node:assert/strict";
 import { test } from "node:test";
-import { closing, closuresOf, closureTypes, isClosure, opening } from "../closures.js";
+import { closing, closureTypes, isClosure, opening } from "../closures.js";
 import { judge } from "../draft.js";
 import { at, demo, part, planOf, present, visit } from "./plans.mjs";
 
@@ -44,11 +44,9 @@ test("a closure is opened by a cancel", () => {
   assert.match(opening(visit(1, "A320", [part(600, 660)])).refused, /no closure/);
 });
 
-test("closures are known by name and class, and listed with those that were displaced", () => {
+test("closures are known by name and class", () => {
   const rows = [[closed(4, 600, 720, "N1"), true], [closed(4, 600, 720, "N1", { class: 5 }), false], [closed(4, 600, 720, "N1", { name: "CLOSED-X" }), false]];
   for (const [it, is] of rows) assert.equal(isClosure(it), is);
-  const plan = [closed(4, 600, 720, "N1"), closed(5, 500, 650, null), closed(6, 100, 200, "N2"), closed(7, 600, 700, "N3", { state: "cancelled" })];
-  assert.deepEqual(closuresOf(plan, 550, 800).map((it) => [it.visit, it.stand]), [[5, null], [4, "N1"]]);
 });
 
 test("the types that close a stand begin with the narrowest", () => {
