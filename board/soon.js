@@ -11,7 +11,7 @@ import { isLive, stateOf } from "./visits.js";
  * @typedef {{visit: number, part: number, stand: number, rule: import("./rules.js").Rule, overdue: number}} Standing  an aircraft in the way, and for
  *   how many minutes it should have been gone
  * @typedef {{key: string, kind: "occupied" | "needed" | "nostand", level: "watch" | "amber" | "red", minute: number, left: number, visit: number,
- *   part: number, stand: number | null, by: Standing | null, fits: number[]}} Warning  `left` minutes from now, `minute` is when the two would
+ *   part: number, how: "comes" | "here" | "tow", stand: number | null, by: Standing | null, fits: number[]}} Warning  `left` minutes from now, `minute` is when the two would
  *   meet or the part begins; `stand` is the part's place, or the one that it lost; `fits` are the stands that would mend it, best first
  */
 
@@ -105,8 +105,11 @@ function unplaced(round, visit, part) {
 function warning(round, visit, part, { kind, level, minute, stand, by }) {
   const key = `${kind} ${visit.visit}.${part}${by === null ? "" : ` ${by.visit}.${by.part}`}`;
   const fits = level === "watch" ? [] : mending(round, visit, part);
-  return { key, kind, level, minute, left: minute - round.now, visit: visit.visit, part, stand, by, fits };
+  return { key, kind, level, minute, left: minute - round.now, visit: visit.visit, part, how: howOf(visit, part), stand, by, fits };
 }
+
+// Whether the aircraft comes to its stand from the air or from another stand, or is here already.
+const howOf = ({ state }, part) => (state === "expected" ? "comes" : part === 1 ? "here" : "tow");
 
 // The stands that take the part, with nobody overdue in the way: of the least letters first, and then in the airport's order.
 function mending({ model, late }, visit, part) {
@@ -115,14 +118,20 @@ function mending({ model, late }, visit, part) {
   return fitsOf(model, late, visit, part).flatMap((off, stand) => (off === null ? [stand] : [])).sort((one, other) => spare(one) - spare(other));
 }
 
+const NO_STAND = {
+  comes: (time) => `comes at ${time} and has no stand`,
+  here: (time) => `is here since ${time} and has no stand`,
+  tow: (time) => `is to be towed at ${time} and has no stand to go to`,
+};
+
 /**
  * A warning in words. `name` writes a part, `stand` a place, `when` a minute.
  * @param {Warning} warning @param {{name: (part: {visit: number, part: number}) => string, stand: (place: number) => string,
  *   when: (minute: number) => string}} say
  */
-export function soonWords({ kind, minute, visit, part, stand, by }, { name, stand: place, when }) {
+export function soonWords({ kind, minute, visit, part, how, stand, by }, { name, stand: place, when }) {
   const what = name({ visit, part });
-  if (by === null) return `${what} has no stand, and comes at ${when(minute)}`;
+  if (by === null) return `${what} ${NO_STAND[how](when(minute))}${stand === null ? "" : `, it lost ${place(stand)}`}`;
   const where = by.stand === stand ? "there" : `on ${place(by.stand)}`;
   const since = by.overdue > 0 ? `, ${by.overdue} min over its time` : "";
   const early = kind === "needed" ? ", which is early" : "";

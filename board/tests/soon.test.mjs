@@ -93,5 +93,11 @@ test("a warning reads as a sentence", () => {
   const words = (plan, now) => soonOf(demo, plan, now).map((it) => soonWords(it, say));
   assert.deepEqual(words(planOf(present(1, "A320", 600, 660, "N1"), next), 672), ["N1 is not clear for V2 at 680: V1 is still there, 12 min over its time"]);
   assert.deepEqual(words(planOf(present(1, "B77W", 500, 680, "N2"), next), 672), ["N1 is not clear for V2 at 680: V1 is still on N2"]);
-  assert.deepEqual(words(planOf(visit(1, "A320", [part(680, 740)])), 672), ["V1 has no stand, and comes at 680"]);
+  const bump = { blocker: { part: 1, visit: 9 }, entry: 5, minute: 680, rule: "same", stand: "N1" };
+  assert.deepEqual(words(planOf(visit(1, "A320", [part(680, 740, null, { bump })])), 672), ["V1 comes at 680 and has no stand, it lost N1"]);
+  assert.deepEqual(words(planOf(visit(1, "A320", [part(660, 740)], { state: "onblock" })), 672), ["V1 is here since 660 and has no stand"]);
+  const towed = present(1, "A320", 600, 675, "N1");
+  towed.parts.push(part(695, 740));
+  assert.deepEqual(words(planOf(towed), 672), ["V1 is to be towed at 695 and has no stand to go to"]);
+  assert.deepEqual(words(planOf(visit(1, "A320", [part(680, 740)])), 672), ["V1 comes at 680 and has no stand"]);
 });
