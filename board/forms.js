@@ -6,7 +6,8 @@
  *   and a text, or status 0 and why there is none
  * @typedef {"login" | "forbidden" | "missing" | "gateway" | "slow" | "nobody" | "cut" | "redirect" | "foreign" | "status" | "disk" | "memory"} Cause
  * @typedef {{is: "ok", body: any} | {is: "refused", status: number, body: any} |
- *   {is: "trouble", cause: Cause, words: string, mayBeTaken: boolean}} Outcome  `mayBeTaken`: whether a command that was sent may be in the plan all the same
+ *   {is: "trouble", cause: Cause, words: string, mayBeTaken: boolean}} Outcome
+ *   `mayBeTaken`: whether a command that was sent may be in the plan all the same
  * @typedef {(value: any) => string | null} Form  what is wrong with a value, to be read after its name; or null
  */
 

@@ -11,8 +11,8 @@ import { isLive, stateOf } from "./visits.js";
  * @typedef {{visit: number, part: number, stand: number, rule: import("./rules.js").Rule, overdue: number}} Standing  an aircraft in the way, and for
  *   how many minutes it should have been gone
  * @typedef {{key: string, kind: "occupied" | "needed" | "nostand", level: "watch" | "amber" | "red", minute: number, left: number, visit: number,
- *   part: number, how: "comes" | "here" | "tow", stand: number | null, by: Standing | null, fits: number[]}} Warning  `left` minutes from now, `minute` is when the two would
- *   meet or the part begins; `stand` is the part's place, or the one that it lost; `fits` are the stands that would mend it, best first
+ *   part: number, how: "comes" | "here" | "tow", stand: number | null, by: Standing | null, fits: number[]}} Warning  `left` minutes from now,
+ *   `minute` is when the two would meet or the part begins; `stand` is the part's place, or the one that it lost; `fits` are the stands that would mend it, best first
  */
 
 // While an aircraft is expected to leave in time, there is nothing to be done.

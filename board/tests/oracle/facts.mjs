@@ -61,7 +61,8 @@ function messageOf(model, visit, draws) {
   const day = two(monthDayOf(model, draws.chance(5) ? draws.between(0, 3) : key.day));
   const flight = draws.chance(20) ? key.flight.replace(/^(\D{2}|9X)/, "$10") : key.flight;
   const head = [...(draws.chance(20) ? ["QU FLDOPXX", ".MUCAPXX 271040", ""] : []), "MVT", `${flight}/${day}.DAIQA.${isOurs ? "FLD" : "MUC"}`];
-  return draws.one(["\n", "\r\n"]).replace(/^/, "").length === 1 ? `${[...head, ...lines].join("\n")}\n` : `${[...head, ...lines].join("\r\n")}\r\n`;
+  const end = draws.one(["\n", "\r\n"]);
+  return [...head, ...lines].map((line) => `${line}${end}`).join("");
 }
 
 // The message that says new times of a visit says them to the server too.
