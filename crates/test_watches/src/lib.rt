@@ -1,5 +1,4 @@
-//! Tests of `watch_list`: which notes histories have, what watches are fed with, and the replies to
-//! feeds.
+//! Tests of `watch_list`: what watches are fed with, and which names they take.
 #![tactic(auto)]
 
 #[cfg(test)]

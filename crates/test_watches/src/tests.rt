@@ -1,22 +1,14 @@
-// Notes, watches and feeds at an airport of two stands.
+// Watches and feeds over notes.
 ghost use Rattle.std.specs.Prelude.{◌≡◌, Bool};
 ghost use Rattle.watch_list.specs.declared.note.Note.{Note};
 
-mod boards;
 mod cases;
 
-use apron_base::{Memory, Name, SteadyKeeper};
-use apron_rules::Airport;
-use boards::{airport, board_of, feed_reply, opened_again};
-use cases::{
-    A_MESSAGE_BUMPS, ALL, BUMPED_TWICE, Bumped, CASES, Case, FEEDS, Fed, HIGH, ROWS, Row, note,
-};
-use history_core::OpenFault;
+use apron_base::{Memory, Name};
+use cases::{ALL, BY_A_MESSAGE, BY_A_REPORT, Bumped, FEEDS, Fed, note};
 use std::alloc::Global;
 use std::test::Fail;
-use watch_list::{
-    Note, NoteTest, Shown, Stated, TestBy, Watch, WatchBoard, WatchFault, Watches, feed, notes_of,
-};
+use watch_list::{Note, NoteTest, Shown, Stated, TestBy, Watch, WatchFault, Watches, feed};
 
 fn are_notes(notes: &[Note], expected: &[Bumped]) -> bool {
     if notes.len() != expected.len() {
@@ -28,91 +20,6 @@ fn are_notes(notes: &[Note], expected: &[Bumped]) -> bool {
         }
     }
     true
-}
-
-fn no_watches(alloc: Global) -> Result<Watches<Shown, Shown>, Fail> {
-    match Watches::new(alloc) {
-        Ok(watches) => Ok(watches),
-        Err(_) => Err(Fail::new("memory")),
-    }
-}
-
-// Whether the board has these notes, and its history when it is read again.
-fn has_both(
-    alloc: Global,
-    board: &WatchBoard<'_, '_, SteadyKeeper, Shown, Shown>,
-    expected: &[Bumped],
-) -> Result<bool, Fail> {
-    let plain = board.board();
-    let again = notes_of(alloc, plain.airport(), plain.history())?;
-    Ok(are_notes(again.as_slice(), expected) && are_notes(board.notes(), expected))
-}
-
-// Whether there are these notes after the deeds.
-fn has_notes(alloc: Global, airport: &Airport, case: &Case) -> Result<bool, Fail> {
-    let watches = no_watches(alloc)?;
-    let board = board_of(alloc, airport, &watches, case.deeds)?;
-    has_both(alloc, &board, case.notes)
-}
-
-#[test]
-fn each_entry_has_the_notes_of_the_parts_that_it_bumped(rt: HostRuntime) -> Result<(), Fail> {
-    let airport = airport(rt.alloc())?;
-    for case in &CASES {
-        let holds = has_notes(rt.alloc(), &airport, case)?;
-        assert!(rt; holds, "{}", case.name);
-    }
-    Ok(())
-}
-
-// Whether a board over the entries of the deeds has these notes.
-fn opens_with_notes(alloc: Global, airport: &Airport, case: &Case) -> Result<bool, Fail> {
-    let watches = no_watches(alloc)?;
-    let made = board_of(alloc, airport, &watches, case.deeds)?;
-    let Ok(board) = opened_again(alloc, airport, &watches, made, None)? else {
-        return Ok(false);
-    };
-    let all = board.board().history().len() == case.deeds.len();
-    Ok(all && has_both(alloc, &board, case.notes)?)
-}
-
-#[test]
-fn a_board_opened_over_its_entries_has_their_notes(rt: HostRuntime) -> Result<(), Fail> {
-    let airport = airport(rt.alloc())?;
-    for case in &CASES {
-        let holds = opens_with_notes(rt.alloc(), &airport, case)?;
-        assert!(rt; holds, "{}", case.name);
-    }
-    Ok(())
-}
-
-// Why no board is opened over the entries of a message that bumps and this one after them.
-fn fault_after(alloc: Global, airport: &Airport, more: &[u8]) -> Result<Option<OpenFault>, Fail> {
-    let watches = no_watches(alloc)?;
-    let made = board_of(alloc, airport, &watches, &A_MESSAGE_BUMPS)?;
-    match opened_again(alloc, airport, &watches, made, Some(more))? {
-        Ok(_) => Ok(None),
-        Err(fault) => Ok(Some(fault)),
-    }
-}
-
-#[test]
-fn the_first_entry_that_cannot_stand_is_named(rt: HostRuntime) -> Result<(), Fail> {
-    let airport = airport(rt.alloc())?;
-    // The second visit is cancelled by the sixth call and by the fifth; and an entry is cut short.
-    let rows: [(&[u8], Option<OpenFault>); 3] = [
-        (b"\x06\0\0\0\0\0\0\0\x05\x02\0\0\0", None),
-        (
-            b"\x05\0\0\0\0\0\0\0\x05\x02\0\0\0",
-            Some(OpenFault::WrongEntry(6)),
-        ),
-        (b"\x06\0\0\0\0\0\0\0\x05", Some(OpenFault::BadEntry(6))),
-    ];
-    for (more, want) in rows {
-        let is = fault_after(rt.alloc(), &airport, more)?;
-        assert_eq!(rt; is, want);
-    }
-    Ok(())
 }
 
 // What a watch is fed with after an entry, by this test.
@@ -149,16 +56,10 @@ fn right_feeds(alloc: Global, notes: &[Note]) -> Result<usize, Fail> {
     Ok(FEEDS.len())
 }
 
-fn right_feeds_of_board(alloc: Global, airport: &Airport) -> Result<usize, Fail> {
-    let watches = no_watches(alloc)?;
-    let board = board_of(alloc, airport, &watches, &BUMPED_TWICE)?;
-    right_feeds(alloc, board.notes())
-}
-
 #[test]
 fn a_watch_is_fed_with_what_it_shows_after_an_entry(rt: HostRuntime) -> Result<(), Fail> {
-    let airport = airport(rt.alloc())?;
-    let right = right_feeds_of_board(rt.alloc(), &airport)?;
+    let notes = [note(&BY_A_MESSAGE), note(&BY_A_REPORT)];
+    let right = right_feeds(rt.alloc(), &notes)?;
     assert_eq!(rt; right, FEEDS.len());
     Ok(())
 }
@@ -177,7 +78,7 @@ fn is_added(watches: &mut Watches<Shown, Shown>, name: &[u8], fault: Option<Watc
 
 #[test]
 fn a_name_is_taken_once_and_sixteen_are_all(rt: HostRuntime) -> Result<(), Fail> {
-    let mut watches = no_watches(rt.alloc())?;
+    let mut watches = Watches::new(rt.alloc())?;
     for name in b'A'..=b'P' {
         let added = is_added(&mut watches, &[name], None);
         let again = is_added(&mut watches, &[name], Some(WatchFault::Taken));
@@ -186,30 +87,5 @@ fn a_name_is_taken_once_and_sixteen_are_all(rt: HostRuntime) -> Result<(), Fail>
     let full = is_added(&mut watches, b"Q", Some(WatchFault::Full));
     let taken = is_added(&mut watches, b"A", Some(WatchFault::Taken));
     assert!(rt; full && taken);
-    Ok(())
-}
-
-// Whether the reply to the feed is this.
-fn is_answered(alloc: Global, airport: &Airport, row: &Row) -> Result<bool, Fail> {
-    let mut watches = no_watches(alloc)?;
-    if !is_added(&mut watches, b"ALL", None) {
-        return Ok(false);
-    }
-    let high = Watch::new(Name::literal(b"HIGH"), HIGH, HIGH);
-    if watches.add(high).is_err() {
-        return Ok(false);
-    }
-    let mut board = board_of(alloc, airport, &watches, row.deeds)?;
-    let reply = feed_reply(alloc, &mut board, row.seen, row.watch, row.after)?;
-    Ok(reply.as_slice() == row.reply)
-}
-
-#[test]
-fn feeds_are_answered_byte_for_byte(rt: HostRuntime) -> Result<(), Fail> {
-    let airport = airport(rt.alloc())?;
-    for row in &ROWS {
-        let holds = is_answered(rt.alloc(), &airport, row)?;
-        assert!(rt; holds, "{}", row.name);
-    }
     Ok(())
 }
