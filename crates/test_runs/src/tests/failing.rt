@@ -30,9 +30,12 @@ type Failing = (
     &'static [u64],
 );
 
-// The words, what fails, the output, and the status. The source has the two requests, and gives 100
-// bytes at a time: four reads, of which the last finds the end.
-const ROWS: [(&str, Failing, &[u8], u8); 58] = [
+// The words, what fails, the output, and the status.
+type Row = (&'static str, Failing, &'static [u8], u8);
+
+// The source has the two requests, and gives 100 bytes at a time: four reads, of which the last
+// finds the end.
+const A_DESK: [Row; 23] = [
     ("desk A T", (&[0], &[0], &[], &[]), SHELF, 4),
     ("desk A T", (&[1], &[0], &[], &[]), SHELF, 4),
     ("desk A T", (&[2], &[], &[], &[]), STANDS, 0),
@@ -56,6 +59,10 @@ const ROWS: [(&str, Failing, &[u8], u8); 58] = [
     ("desk A T", (&[], &[], &[], &[9]), VISIT_KEPT, 0),
     ("desk A T", (&[], &[], &[], &[10]), VISIT_KEPT, 0),
     ("desk A T", (&[], &[], &[], &[11]), STANDS, 0),
+];
+
+// Where a file or the disk fails no read of the source is tried.
+const FILES_AND_DISK: [Row; 13] = [
     ("init A T", (&[0], &[0], &[], &[]), SHELF, 4),
     ("init A T", (&[1], &[0], &[], &[]), SHELF, 4),
     ("check A T", (&[0], &[0], &[], &[]), SHELF, 4),
@@ -69,6 +76,10 @@ const ROWS: [(&str, Failing, &[u8], u8); 58] = [
     ("propose A T P 1", (&[0], &[0], &[], &[]), SHELF, 4),
     ("propose A T P 1", (&[1], &[0], &[], &[]), SHELF, 4),
     ("propose A T P 1", (&[], &[0], &[], &[0]), DISK, 7),
+];
+
+// Where output can't be written.
+const OUTPUT: [Row; 22] = [
     ("desk", (&[], &[], &[0], &[]), b"", 2),
     ("make 0", (&[], &[], &[0], &[]), b"", 2),
     ("chart A T 4", (&[], &[], &[0], &[]), b"", 2),
@@ -116,8 +127,24 @@ fn gives(
 }
 
 #[test]
-fn each_call_that_fails_has_its_status_or_reply(rt: HostRuntime) -> Result<(), Fail> {
-    for (words, failing, output, status) in ROWS {
+fn each_call_of_a_desk_that_fails_has_its_status_or_reply(rt: HostRuntime) -> Result<(), Fail> {
+    for (words, failing, output, status) in A_DESK {
+        gives(rt.alloc(), words, failing, output, status)?;
+    }
+    Ok(())
+}
+
+#[test]
+fn a_file_or_a_disk_that_fails_ends_each_command(rt: HostRuntime) -> Result<(), Fail> {
+    for (words, failing, output, status) in FILES_AND_DISK {
+        gives(rt.alloc(), words, failing, output, status)?;
+    }
+    Ok(())
+}
+
+#[test]
+fn an_output_that_fails_counts_after_other_faults(rt: HostRuntime) -> Result<(), Fail> {
+    for (words, failing, output, status) in OUTPUT {
         gives(rt.alloc(), words, failing, output, status)?;
     }
     Ok(())

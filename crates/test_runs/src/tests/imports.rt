@@ -1,6 +1,6 @@
 // Season files that are imported and exported. The expected texts were worked out by hand from the
 // format of season files.
-use super::runs::{DEMO, FORMAT_2, Run, journal};
+use super::runs::{DEMO, Ended, FORMAT_2, Run, journal};
 use apron_base::Memory;
 use std::alloc::Global;
 use std::test::Fail;
@@ -12,9 +12,12 @@ const TWO: &[u8] =
 const OTHER: &[u8] =
     b"name,type,class,on,off,arr,arrday,dep,depday\nV1,A320,3,600,660,LH123,1,LH124,1\nV2,AT76,5,700,760,,,,\nV1,A320,4,600,660,LH123,1,LH124,1\nV3,A320,3,800,860,,,,\n";
 
-// The words and the season file of runs on one disk, one after the other, the output and the
-// status, and whether a run changes the journal.
-const STEPS: [(&str, &[u8], &[u8], u8, bool); 5] = [
+// The words and the season file of a run, the output and the status, and whether the run changes
+// the journal.
+type Step = (&'static str, &'static [u8], &'static [u8], u8, bool);
+
+// On one disk, one after the other.
+const STEPS: [Step; 5] = [
     ("import A T S", TWO, b"added 2 present 0\n", 0, true),
     ("import A T S", TWO, b"added 0 present 2\n", 0, false),
     ("export A T", b"", TWO, 0, false),
@@ -22,13 +25,13 @@ const STEPS: [(&str, &[u8], &[u8], u8, bool); 5] = [
     ("export A T", b"", TWO, 0, false),
 ];
 
-// The disk after a step, and whether the step did what it has to do. No byte of the input is taken.
-fn stepped(
+// What comes of these words on this disk, if no byte of the input can be taken.
+fn ended_on<'a>(
     alloc: Global,
-    stored: &[u8],
-    step: (&str, &[u8], &[u8], u8, bool),
-) -> Result<(Vec<u8>, bool), Memory> {
-    let (words, season, output, status, changes) = step;
+    stored: &'a [u8],
+    words: &'a str,
+    season: &'a [u8],
+) -> Result<Ended, Memory> {
     let run = Run {
         words,
         season,
@@ -37,7 +40,13 @@ fn stepped(
         failing_reads: &[0],
         ..DEMO
     };
-    let ended = run.ends(alloc)?;
+    run.ends(alloc)
+}
+
+// The disk after a step, and whether the step did what it has to do.
+fn stepped(alloc: Global, stored: &[u8], step: Step) -> Result<(Vec<u8>, bool), Memory> {
+    let (words, season, output, status, changes) = step;
+    let ended = ended_on(alloc, stored, words, season)?;
     let after = ended.disk.bytes().to_vec(alloc)?;
     let holds = ended.is(output, status) && (after.as_slice() != stored) == changes;
     Ok((after, holds))

@@ -1,6 +1,6 @@
 // Journals: how they are made, what desks keep in them, and appends that fail.
 use super::lines::Session;
-use super::runs::{DEMO, FORMAT_2, Run, journal, put_records};
+use super::runs::{DEMO, Ended, FORMAT_2, Run, journal, put_records};
 use apron_base::Memory;
 use std::alloc::Global;
 use std::test::Fail;
@@ -89,21 +89,33 @@ const MAKINGS: [Making; 11] = [
     (PROPOSE, Before::Letter, (&[], &[0]), (b"", 8), false),
 ];
 
-// Whether the row holds, if no byte of the input can be taken.
-fn makes(alloc: Global, making: Making) -> Result<bool, Memory> {
-    let (words, before, (failing_calls, failing_puts), (line, status), is_journal) = making;
-    let stored = stored_before(alloc, before)?;
+// What comes of these words on such a disk, if the calls of the disk and the puts of these numbers
+// fail, and no byte of the input can be taken.
+fn ended_on<'a>(
+    alloc: Global,
+    words: &'a str,
+    stored: &'a [u8],
+    fails: (&'a [u64], &'a [u64]),
+) -> Result<Ended, Memory> {
+    let (failing_calls, failing_puts) = fails;
     let run = Run {
         words,
         is_new: false,
-        stored: &stored,
+        stored,
         failing_calls,
         failing_puts,
         failing_reads: &[0],
         ..DEMO
     };
+    run.ends(alloc)
+}
+
+// Whether the row holds.
+fn makes(alloc: Global, making: Making) -> Result<bool, Memory> {
+    let (words, before, fails, (line, status), is_journal) = making;
+    let stored = stored_before(alloc, before)?;
+    let ended = ended_on(alloc, words, &stored, fails)?;
     let empty = journal(alloc, &DEMO, FORMAT_2, &[&[], &[]])?;
-    let ended = run.ends(alloc)?;
     let is = empty.len() == 74 && ended.disk.bytes() == empty.as_slice();
     Ok(ended.is(line, status) && is == is_journal)
 }
