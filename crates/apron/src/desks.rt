@@ -3,19 +3,22 @@
 ghost use Rattle.std.specs.Prelude.{◌≡◌, IfOk, length};
 ghost use Rattle.apron.specs.Desks.{connections_named, named_up_to, screens_named, workers_named};
 
+use crate::opening::{BoundPlace, Endpoint, Opening, Peers};
 use crate::reporting_desks::ReportingDesks;
+use crate::time_limits::time_limits;
+use crate::unclear::tell_unclear;
 use apron_base::{MAX_DIGITS, Memory, Sink, Word, number_of};
 use apron_run::{Status, is_plain_number};
 use apron_serve::{MAX_CONNECTIONS, MAX_LISTENERS, MAX_SCREENS, serve_all};
-use host_files::{FileDisk, FileShelf, report_cause};
+use host_files::{FileDisk, FileShelf, report_meaning};
 use std::alloc::Global;
-use std::fmt;
 use std::fs::File;
+use std::io;
 use std::net::{Net, TcpListener, TcpStream};
-use std::rt::Files;
+use std::rt::{Clock, Env, Files};
 use std::sync::Wait;
 use std::thread::Threads;
-use tcp_desks::TcpDesks;
+use tcp_desks::{TcpDesks, TimeLimits};
 use watch_list::{Shown, Watches};
 
 /// The words ask for desks to be served, and perhaps for screens beside them.
@@ -24,14 +27,18 @@ pub(crate) fn are_asked(words: &[Word]) -> bool {
 }
 
 /// Serves the desks that come to an address on the journal of a path, and shows the wall chart of a
-/// day on screens at another address if the words ask for it. A line about a fault goes to the
-/// sink. Standard error says where it listens, and how it ended.
+/// day on screens at another address if the words ask for it. The journal's lock is taken first,
+/// and then all addresses: without one of them no listener accepts a connection, and without the
+/// lock no address is taken. A line about a fault goes to the sink. Standard error says where it
+/// listens once the journal is open, and how it ended.
 pub(crate) fn serve_words<
     R: Wait
         + Threads
         + Sync
         + AllocGlobal
         + Eprint
+        + Env
+        + Clock
         + Files<File = File>
         + Net<Listener = TcpListener, Stream = TcpStream>,
     W: Sink,
@@ -41,9 +48,14 @@ pub(crate) fn serve_words<
     };
     let alloc: Global = rt.alloc();
     let disk = FileDisk::open(rt, order.journal);
-    let Ok((mut desks, mut screens)) = listeners_of(rt, alloc, order) else {
+    let is_locked = disk.is_open();
+    let Ok((is_bound, listeners)) = listeners_of(rt, alloc, order, is_locked) else {
         return Status::Memory.code();
     };
+    let Listeners {
+        mut desks,
+        mut screens,
+    } = listeners;
     let mut shelf = FileShelf::new(rt);
     let (status, _disk) = serve_all(
         rt,
@@ -56,9 +68,15 @@ pub(crate) fn serve_words<
         sink,
         disk,
     );
-    let why = why_ended(status);
-    // If standard error fails too, only the status says it.
-    let _ = eprintln!(rt; "apron: ended with status {status}: {why}");
+    if status == Status::Usage.code() {
+        tell_unclear(rt, words);
+    }
+    // Why there is no address was said, and that no desk was served.
+    if is_bound || status != Status::ListenerFault.code() {
+        let why = why_ended(status);
+        // If standard error fails too, only the status says it.
+        let _ = eprintln!(rt; "apron: ended with status {status}: {why}");
+    }
     status
 }
 
@@ -66,12 +84,12 @@ pub(crate) fn serve_words<
 fn why_ended(status: u8) -> &'static str {
     match status {
         0 => "each worker has had its connections",
-        2 => "the words ask for nothing that there is",
+        2 => "the plan has no such day",
         3 => "the airport file or the type file has a fault",
         4 => "the airport file or the type file could not be read",
         7 => "the journal could not be opened or read",
         8 => "the journal is of an earlier format, of another airport, or damaged",
-        11 => "there are no connections for a worker",
+        11 => "a worker or a screen could take no more connections",
         _ => "there is not enough memory",
     }
 }
@@ -84,23 +102,6 @@ struct ServeWords<'a> {
     desks: Endpoint<'a>,
     screens: Option<Endpoint<'a>>,
     journal: &'a str,
-}
-
-// An address, how many listeners there are at it, each of one worker, and whom they serve.
-#[derive(Clone, Copy)]
-struct Endpoint<'a> {
-    address: &'a str,
-    listeners: u64,
-    served: Peers<'a>,
-}
-
-// Whom a place serves.
-#[derive(Clone, Copy)]
-enum Peers<'a> {
-    // the desks at the journal of this path
-    Desks(&'a str),
-    // the screens of this day
-    Screens(&'a str),
 }
 
 // What the words order, if they ask for desks.
@@ -179,8 +180,8 @@ pub(crate) fn connections_of(text: &str) -> u64
     number_up_to(text, u64::from(MAX_CONNECTIONS))
 }
 
-// How many workers the word names, 1 to 16; 0 if it names no such number.
-fn workers_of(text: &str) -> u64
+/// How many workers the word names, 1 to 16; 0 if it names no such number.
+pub(crate) fn workers_of(text: &str) -> u64
     ensures named { result ≡ workers_named text.now }
 {
     number_up_to(text, MAX_LISTENERS as u64)
@@ -205,82 +206,142 @@ fn number_up_to(text: &str, most: u64) -> u64
 }
 
 // A listener for each worker of desks, and one for each screen.
-type Listeners<'a, R> = (Vec<ReportingDesks<'a, R>>, Vec<ReportingDesks<'a, R>>);
+#[derive(Drop)]
+struct Listeners<'a, R> {
+    desks: Vec<ReportingDesks<'a, R>>,
+    screens: Vec<ReportingDesks<'a, R>>,
+}
 
-fn listeners_of<'a, R: Eprint + Net<Listener = TcpListener, Stream = TcpStream>>(
+// The listeners that the words order, and whether they have their addresses. If one can't be had,
+// standard error says which and why; then, and if none is to be taken, each accept fails.
+fn listeners_of<
+    'a,
+    R: Eprint + Env + AllocGlobal + Net<Listener = TcpListener, Stream = TcpStream>,
+>(
     rt: &'a R,
     alloc: Global,
     order: ServeWords<'a>,
-) -> Result<Listeners<'a, R>, Memory> {
-    let desks = listeners_at(rt, alloc, order.desks)?;
+    is_to_bind: bool,
+) -> Result<(bool, Listeners<'a, R>), Memory> {
+    if is_to_bind {
+        let limits = time_limits(rt);
+        if let Some(listeners) = bound_listeners(rt, alloc, order, limits)? {
+            return Ok((true, listeners));
+        }
+    }
+    let nowhere = TcpDesks::nowhere();
+    let desks = all_beside(rt, alloc, order.desks, &nowhere, None)?;
     let screens = match order.screens {
-        Some(place) => listeners_at(rt, alloc, place)?,
+        Some(place) => all_beside(rt, alloc, place, &nowhere, None)?,
         None => Vec::new(alloc),
     };
-    Ok((desks, screens))
+    Ok((false, Listeners { desks, screens }))
 }
 
-// As many listeners as the place has. If its address can't be bound, standard error says why, and
-// then each accept fails.
-fn listeners_at<'a, R: Eprint + Net<Listener = TcpListener, Stream = TcpStream>>(
+// The listeners at all addresses that the words order. `None` if one can't be had: standard error
+// says which and why.
+fn bound_listeners<'a, R: Eprint + Net<Listener = TcpListener, Stream = TcpStream>>(
     rt: &'a R,
     alloc: Global,
-    place: Endpoint<'a>,
-) -> Result<Vec<ReportingDesks<'a, R>>, Memory>
-    ensures as_many { IfOk result (λ listeners. length listeners.items ≡ place.entry.listeners) }
-{
-    let first = match TcpDesks::bind(rt, place.address) {
-        Ok(first) => {
-            tell_listening(rt, place, &first);
-            first
-        }
-        Err(cause) => {
-            report_cause(rt, place.address, &cause);
-            TcpDesks::nowhere()
-        }
+    order: ServeWords<'a>,
+    limits: TimeLimits,
+) -> Result<Option<Listeners<'a, R>>, Memory> {
+    let Some(first) = bind(rt, limits, order.desks) else {
+        return Ok(None);
     };
-    all_beside(rt, alloc, place, &first)
+    let (at_screens, screens) = match order.screens {
+        Some(place) => {
+            let Some(first) = bind(rt, limits, place) else {
+                return Ok(None);
+            };
+            let listeners = all_beside(rt, alloc, place, &first, None)?;
+            (Some(bound_at(place, &first)), listeners)
+        }
+        None => (None, Vec::new(alloc)),
+    };
+    let opening = Opening {
+        desks: bound_at(order.desks, &first),
+        screens: at_screens,
+        journal: order.journal,
+        limits,
+    };
+    let desks = all_beside(rt, alloc, order.desks, &first, Some(opening))?;
+    let are_all = are_listening(rt, order.desks.address, desks.as_slice())
+        && are_listening(rt, order.desks.address, screens.as_slice());
+    Ok(if are_all {
+        Some(Listeners { desks, screens })
+    } else {
+        None
+    })
 }
 
-// Says where it listens, with the port that the system chose if none was asked for.
-fn tell_listening<R: Eprint>(rt: &R, place: Endpoint<'_>, first: &TcpDesks) {
-    match first.address() {
-        Some(bound) => tell_served(rt, place, bound),
-        None => tell_served(rt, place, place.address),
+// The first listener at a place. `None` if its address can't be had: standard error says why.
+fn bind<'a, R: Eprint + Net<Listener = TcpListener, Stream = TcpStream>>(
+    rt: &'a R,
+    limits: TimeLimits,
+    place: Endpoint<'a>,
+) -> Option<TcpDesks<'a, R>> {
+    match TcpDesks::bind(rt, limits, place.address) {
+        Ok(first) => Some(first),
+        Err(cause) => {
+            report_meaning(rt, place.address, &cause, meaning_of(&cause));
+            None
+        }
     }
 }
 
-// Says whom the place serves, at the address as it is bound.
-fn tell_served<R: Eprint, A: fmt::Display + Drop>(rt: &R, place: Endpoint<'_>, bound: A) {
-    let listeners = place.listeners;
-    // If standard error fails too, all are served all the same.
-    let _ = match place.served {
-        Peers::Desks(journal) => {
-            eprintln!(rt; "apron: listening at {bound}, workers: {listeners}, journal: {journal}")
-        }
-        Peers::Screens(day) => {
-            eprintln!(rt; "apron: screens at {bound}, screens: {listeners}, day: {day}")
-        }
-    };
+fn bound_at<'a, R>(place: Endpoint<'a>, first: &TcpDesks<'a, R>) -> BoundPlace<'a> {
+    BoundPlace {
+        place,
+        bound: first.address(),
+    }
 }
 
-// As many listeners beside this one as the place has. The first listener of desks says that the
-// journal is open.
+// Whether the system gave a listener for each of these. If not, standard error says why.
+fn are_listening<R: Eprint>(rt: &R, address: &str, listeners: &[ReportingDesks<'_, R>]) -> bool {
+    match listeners.iter().find_map(ReportingDesks::cause) {
+        Some(cause) => {
+            report_meaning(rt, address, &cause, meaning_of(&cause));
+            false
+        }
+        None => true,
+    }
+}
+
+// What it means that an address can't be had for this cause.
+fn meaning_of(cause: &io::Error) -> &'static str {
+    match cause.kind() {
+        io::ErrorKind::InvalidInput => {
+            "an address is written as 127.0.0.1:8080, [::1]:8080 or localhost:8080; no desk was served"
+        }
+        _ if is_want_of_descriptors(cause) => FEW_DESCRIPTORS_TO_SERVE,
+        _ => "no desk was served",
+    }
+}
+
+const FEW_DESCRIPTORS_TO_SERVE: &str =
+    "a server needs 12 open files and 3 for each worker and screen (ulimit -n); no desk was served";
+
+// Whether the process, or the system, has no descriptor left: EMFILE or ENFILE.
+fn is_want_of_descriptors(cause: &io::Error) -> bool {
+    matches!(cause.raw_os_error(), Some(23) | Some(24))
+}
+
+// As many listeners beside this one as the place has. The first of them has the opening, if one is
+// given.
 fn all_beside<'a, R: Eprint>(
     rt: &'a R,
     alloc: Global,
     place: Endpoint<'a>,
-    first: &TcpDesks,
+    first: &TcpDesks<'a, R>,
+    opening: Option<Opening<'a>>,
 ) -> Result<Vec<ReportingDesks<'a, R>>, Memory>
     ensures as_many { IfOk result (λ listeners. length listeners.items ≡ place.entry.listeners) }
 {
     let mut listeners = Vec::new(alloc);
     for made in 0..place.listeners {
-        let journal = match place.served {
-            Peers::Desks(journal) if made == 0 => Some(journal),
-            _ => None,
-        };
-        listeners.push(ReportingDesks::new(rt, place.address, journal, first.beside()))?;
+        let opening = if made == 0 { opening } else { None };
+        listeners.push(ReportingDesks::new(rt, place.address, opening, first.beside()))?;
     }
     Ok(listeners)
 }

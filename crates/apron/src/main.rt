@@ -4,14 +4,16 @@
 
 mod desks;
 mod forms;
+mod opening;
 mod reporting_desks;
+mod time_limits;
 mod unclear;
 mod watches;
 
 use apron_base::{Memory, ReaderSource, Word, WriterSink};
 use apron_run::{Status, run_with};
 use forms::{JournalUse, journal_use};
-use host_files::{FileDisk, FileShelf, ToldStream, report_cause};
+use host_files::{FileDisk, FileShelf, ToldStream, report_meaning};
 use journal_disk::{Disk, MemoryDisk, Room};
 use std::alloc::Global;
 use std::fs::File;
@@ -27,7 +29,7 @@ fn main(rt: HostRuntime) -> ExitCode {
     let _kept = match null_devices(&rt) {
         Ok(files) => files,
         Err(cause) => {
-            report_cause(&rt, NULL_DEVICE, &cause);
+            report_meaning(&rt, NULL_DEVICE, &cause, FEW_DESCRIPTORS);
             return ExitCode::from(Status::WriteFault.code());
         }
     };
@@ -55,6 +57,10 @@ fn words_and_watches(
 }
 
 const NULL_DEVICE: &str = "/dev/null";
+
+// What is wanted if the null device can't be opened, which mostly has no other cause.
+const FEW_DESCRIPTORS: &str =
+    "apron needs 10 open files, and a server 12 and 3 for each worker and screen (ulimit -n)";
 
 const INPUT: &str = "standard input";
 

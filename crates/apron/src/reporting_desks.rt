@@ -1,22 +1,23 @@
 // Desks that come over TCP, and what standard error says of them.
 ghost use Rattle.std.specs.Prelude.{◌≡◌};
 
+use crate::opening::Opening;
 use apron_base::{Failed, Listener, Outcome, ReaderSource, WriterSink};
 use host_files::report_cause;
 use std::io;
 use std::marker::Model;
-use std::net::TcpStream;
 use std::sync::Wait;
-use tcp_desks::{Reporter, TcpDesks};
+use std::time::Clock;
+use tcp_desks::{Reporter, TcpDesks, TimedReader, TimedWriter};
 
 /// Desks over TCP. Standard error says why an accept failed, and while none can succeed, that it is
-/// tried again. Before the first accept of those that have the journal's name, it says that the
-/// journal is open. Contracts see the desks.
+/// tried again. Before the first accept of those that have the server's opening, it says where the
+/// server listens and that the journal is open. Contracts see the desks.
 #[derive(Drop)]
 pub(crate) struct ReportingDesks<'a, R> {
     notices: Notices<'a, R>,
-    journal: Option<&'a str>,
-    desks: TcpDesks,
+    opening: Option<Opening<'a>>,
+    desks: TcpDesks<'a, R>,
 }
 
 // What standard error says of accepts at an address.
@@ -52,28 +53,32 @@ impl<'a, R> Model for ReportingDesks<'a, R> {
 }
 
 impl<'a, R: Eprint> ReportingDesks<'a, R> {
-    /// The desks that come to this address. They say that the journal is open if they have its
-    /// name.
+    /// The desks that come to this address. They say that the server is open if they have its
+    /// opening.
     pub(crate) fn new(
         rt: &'a R,
         address: &'a str,
-        journal: Option<&'a str>,
-        desks: TcpDesks,
+        opening: Option<Opening<'a>>,
+        desks: TcpDesks<'a, R>,
     ) -> Self {
         ReportingDesks {
             notices: Notices { rt, address },
-            journal,
+            opening,
             desks,
         }
+    }
+
+    /// Why it can't accept, if the system gave no listener for it.
+    pub(crate) fn cause(&self) -> Option<io::Error> {
+        self.desks.cause()
     }
 
     fn tell_open(&mut self)
         ensures desks { self.new ≡ self.old }
     {
-        if let Some(journal) = self.journal {
-            // If standard error fails too, desks are served all the same.
-            let _ = eprintln!(self.notices.rt; "apron: {journal} is open, and desks are served");
-            self.journal = None;
+        if let Some(opening) = self.opening {
+            opening.tell(self.notices.rt);
+            self.opening = None;
         }
     }
 
@@ -84,12 +89,12 @@ impl<'a, R: Eprint> ReportingDesks<'a, R> {
     }
 }
 
-impl<'a, R: Eprint> Listener for ReportingDesks<'a, R> {
+impl<'a, R: Eprint + Clock> Listener for ReportingDesks<'a, R> {
     ghost use Rattle.tcp_desks.specs.Desks.{tcp_listener_state};
 
-    type In = ReaderSource<TcpStream>;
+    type In = ReaderSource<TimedReader<'a, R>>;
 
-    type Out = WriterSink<TcpStream>;
+    type Out = WriterSink<TimedWriter>;
 
     ghost state = { tcp_listener_state };
 

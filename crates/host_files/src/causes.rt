@@ -9,6 +9,12 @@ pub fn report_cause<R: Eprint>(rt: &R, name: &str, cause: &io::Error) {
     let _ = eprintln!(rt; "apron: {name}: {cause}");
 }
 
+/// Says why a call failed, as `report_cause`, and what that means: `apron: NAME: CAUSE; MEANING`.
+pub fn report_meaning<R: Eprint>(rt: &R, name: &str, cause: &io::Error, meaning: &str) {
+    // If standard error fails too, there is no other place to say it.
+    let _ = eprintln!(rt; "apron: {name}: {cause}; {meaning}");
+}
+
 /// The last cause reported for one kind of call, until a call of that kind succeeds.
 #[derive(Clone, Copy)]
 pub(crate) struct LastCause {
@@ -22,12 +28,40 @@ impl LastCause {
     /// Takes in how a call went, and says why it failed, unless that was said already. A call that
     /// a signal interrupted is made again, and is no fault.
     pub(crate) fn hear<R: Eprint, T>(&mut self, rt: &R, name: &str, answer: &io::Result<T>) {
+        if let Some(cause) = self.news_of(answer) {
+            report_cause(rt, name, &cause);
+        }
+    }
+
+    /// The same of a call that writes or syncs. If it failed for another cause than room, it also
+    /// says what that means.
+    pub(crate) fn hear_change<R: Eprint>(
+        &mut self,
+        rt: &R,
+        name: &str,
+        answer: &io::Result<()>,
+        meaning: &str,
+    ) {
+        match self.news_of(answer) {
+            Some(cause) if wants_room(&cause) => report_cause(rt, name, &cause),
+            Some(cause) => report_meaning(rt, name, &cause, meaning),
+            None => {}
+        }
+    }
+
+    // The cause of a failed call, if it was not reported yet.
+    fn news_of<T>(&mut self, answer: &io::Result<T>) -> Option<io::Error> {
         match answer {
-            Ok(_) => self.said = None,
-            Err(cause) if cause.kind() == io::ErrorKind::Interrupted => {}
+            Ok(_) => {
+                self.said = None;
+                None
+            }
+            Err(cause) if cause.kind() == io::ErrorKind::Interrupted => None,
             Err(cause) => {
                 if self.is_news(os_error_number(cause)) {
-                    report_cause(rt, name, cause);
+                    Some(*cause)
+                } else {
+                    None
                 }
             }
         }
@@ -40,6 +74,13 @@ impl LastCause {
         self.said = Some(cause);
         is_news
     }
+}
+
+// Whether room is wanting: on the disk, in the user's share of it, or below a limit on files.
+fn wants_room(cause: &io::Error) -> bool {
+    cause.kind() == io::ErrorKind::StorageFull
+        || cause.kind() == io::ErrorKind::QuotaExceeded
+        || cause.kind() == io::ErrorKind::FileTooLarge
 }
 
 // The system's number of a cause; 0 if it is not the system's.

@@ -8,7 +8,7 @@ mod file_disk;
 mod file_shelf;
 mod told_stream;
 
-pub use causes::report_cause;
+pub use causes::{report_cause, report_meaning};
 pub use file_disk::FileDisk;
 pub use file_shelf::FileShelf;
 pub use told_stream::ToldStream;

@@ -191,6 +191,30 @@ fn a_file_that_is_read_alone_is_synced_and_not_written(rt: HostRuntime) -> Resul
     Ok(())
 }
 
+#[test]
+fn a_file_that_is_moved_or_replaced_is_not_written(rt: HostRuntime) -> Result<(), Fail> {
+    fs::write(&rt, "here", b"abc")?;
+    let mut disk = FileDisk::open(&rt, "here");
+    assert!(rt; disk.is_open() && disk.write_at(3, b"d") == Ok(()));
+    fs::rename(&rt, "here", "there")?;
+    assert!(rt; disk.write_at(4, b"e") == Err(Failed));
+    fs::write(&rt, "here", b"another")?;
+    assert!(rt; disk.write_at(4, b"e") == Err(Failed) && disk.length() == Ok(4));
+    fs::rename(&rt, "there", "here")?;
+    assert!(rt; disk.write_at(4, b"e") == Ok(()) && disk.length() == Ok(5));
+    fs::remove_file(&rt, "here")?;
+    Ok(())
+}
+
+#[test]
+fn a_folder_and_a_device_are_no_files(rt: HostRuntime) {
+    for path in [".", "/dev/null"] {
+        assert!(rt; !FileDisk::open(&rt, path).is_open(), "{path}");
+        assert!(rt; !FileDisk::open_to_read(&rt, path).is_open(), "{path}");
+        assert!(rt; !FileDisk::make(&rt, path).is_open(), "{path}");
+    }
+}
+
 // The call that fails, how many calls the first append then makes, and how many the second one.
 const GATES: [(u64, usize, usize); 5] = [(99, 4, 4), (6, 1, 4), (7, 2, 4), (8, 3, 6), (9, 4, 6)];
 

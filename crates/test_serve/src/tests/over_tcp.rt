@@ -5,10 +5,11 @@ use std::alloc::Global;
 use std::io;
 use std::io::{Read, Write};
 use std::net::{Net, SocketAddr, TcpListener, TcpStream};
+use std::rt::Clock;
 use std::sync::Wait;
 use std::test::Fail;
 use std::thread::{Threads, join};
-use tcp_desks::TcpDesks;
+use tcp_desks::{TcpDesks, TimeLimits};
 
 // Two workers take this many connections each.
 const EACH: usize = 2;
@@ -20,11 +21,11 @@ const ADDED_TOLD: &[u8] =
     b"HTTP/1.1 200 OK\r\nContent-Type: application/json\r\nContent-Length: 23\r\nX-Version: 1\r\n\r\n{\"version\":1,\"visit\":1}";
 
 // Whether all connections are taken, and one visit is in the journal afterwards.
-fn are_served<R: Wait + Threads + Sync>(
+fn are_served<R: Wait + Threads + Clock + Sync>(
     rt: &R,
     alloc: Global,
-    one: TcpDesks,
-    two: TcpDesks,
+    one: TcpDesks<'_, R>,
+    two: TcpDesks<'_, R>,
 ) -> Result<bool, Memory> {
     let mut desks = Vec::from_array(alloc, [one, two])?;
     let mut shelf = shelf(alloc, &[])?;
@@ -60,7 +61,7 @@ fn are_told<N: Net<Listener = TcpListener, Stream = TcpStream>>(
 #[test]
 fn desks_are_served_over_tcp(rt: HostRuntime) -> Result<(), Fail> {
     let alloc = rt.alloc();
-    let one = TcpDesks::bind(&rt, "127.0.0.1:0")?;
+    let one = TcpDesks::bind(&rt, TimeLimits::USUAL, "127.0.0.1:0")?;
     let Some(address) = one.address() else {
         return Err(Fail::new("an address"));
     };
