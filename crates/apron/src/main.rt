@@ -3,19 +3,26 @@
 #![tactic(auto)]
 
 mod desks;
+mod file_lines;
 mod forms;
+mod front;
+mod journal_faults;
 mod opening;
 mod reporting_desks;
 mod time_limits;
 mod unclear;
 mod watches;
 
-use apron_base::{Memory, ReaderSource, Word, WriterSink};
+use apron_base::{ListSink, Memory, ReaderSource, Word, WriterSink};
 use apron_run::{Status, run_with};
+use file_lines::{import_files, tell_files_fault};
 use forms::{JournalUse, journal_use};
+use front::{Front, FrontStream};
 use host_files::{FileDisk, FileShelf, ToldStream, report_meaning};
 use journal_disk::{Disk, MemoryDisk, Room};
+use journal_faults::tell_journal_fault;
 use std::alloc::Global;
+use std::cell::Cell;
 use std::fs::File;
 use std::process::ExitCode;
 use std::rt::{Env, Files};
@@ -35,18 +42,27 @@ fn main(rt: HostRuntime) -> ExitCode {
     };
     let status = match words_and_watches(&rt) {
         Ok((words, watches)) if desks::are_asked(words.as_slice()) => {
-            let output = ToldStream::new(&rt, OUTPUT, rt.stdout());
-            desks::serve_words(
+            let front = Cell::new(Front::NONE);
+            let output = FrontStream::new(ToldStream::new(&rt, OUTPUT, rt.stdout()), &front);
+            let status = desks::serve_words(
                 &rt,
                 words.as_slice(),
                 &watches,
                 &mut WriterSink::new(output),
-            )
+            );
+            tell_faults(&rt, words.as_slice(), status, &front.get());
+            status
         }
         Ok((words, watches)) => run_program(&rt, words.as_slice(), &watches),
         Err(Memory) => Status::Memory.code(),
     };
     ExitCode::from(status)
+}
+
+// If a file or the journal has a fault, says on standard error what is wrong in it.
+fn tell_faults<R: Eprint + Files + AllocGlobal>(rt: &R, words: &[Word], status: u8, front: &Front) {
+    tell_files_fault(rt, words, status);
+    tell_journal_fault(rt, words, status, front);
 }
 
 // The words after the program's name, and the watches that desks can follow.
@@ -75,34 +91,47 @@ fn null_devices<R: Files<File = File>>(rt: &R) -> io::Result<(File, File, File)>
 }
 
 // Does what the words ask for. If they ask for nothing, standard error says what was not
-// understood.
+// understood; if a file or the journal has a fault, what is wrong in it.
 fn run_program(rt: &HostRuntime, words: &[Word], watches: &Watches<Shown, Shown>) -> u8 {
-    let status = run_with_journal(rt, words, watches);
+    let front = Cell::new(Front::NONE);
+    let status = run_with_journal(rt, words, watches, &front);
     if status == Status::Usage.code() {
         unclear::tell_unclear(rt, words);
     }
+    tell_faults(rt, words, status, &front.get());
     status
 }
 
 // Words that have a journal have its path last. Others get an empty disk in memory, and so do no
 // words, which is what words come to that are too few or too many.
-fn run_with_journal(rt: &HostRuntime, words: &[Word], watches: &Watches<Shown, Shown>) -> u8 {
+fn run_with_journal(
+    rt: &HostRuntime,
+    words: &[Word],
+    watches: &Watches<Shown, Shown>,
+    front: &Cell<Front>,
+) -> u8 {
     match (journal_use(words), words.split_last()) {
-        (Some(JournalUse::None), _) => run_on_nothing(rt, words, watches),
+        (Some(JournalUse::None), _) => run_on_nothing(rt, words, watches, front),
         (Some(JournalUse::Made), Some((path, asked))) => {
-            run_on(rt, asked, watches, FileDisk::make(rt, path.text()))
+            run_on(rt, asked, watches, FileDisk::make(rt, path.text()), front)
         }
         (Some(JournalUse::Read), Some((path, asked))) => {
-            run_on(rt, asked, watches, FileDisk::open_to_read(rt, path.text()))
+            let disk = FileDisk::open_to_read(rt, path.text());
+            run_on(rt, asked, watches, disk, front)
         }
         (Some(JournalUse::Written), Some((path, asked))) => {
-            run_on(rt, asked, watches, FileDisk::open(rt, path.text()))
+            run_on(rt, asked, watches, FileDisk::open(rt, path.text()), front)
         }
-        _ => run_on_nothing(rt, &[], watches),
+        _ => run_on_nothing(rt, &[], watches, front),
     }
 }
 
-fn run_on_nothing(rt: &HostRuntime, words: &[Word], watches: &Watches<Shown, Shown>) -> u8 {
+fn run_on_nothing(
+    rt: &HostRuntime,
+    words: &[Word],
+    watches: &Watches<Shown, Shown>,
+    front: &Cell<Front>,
+) -> u8 {
     let alloc: Global = rt.alloc();
     let room = Room {
         bytes: 0,
@@ -110,7 +139,7 @@ fn run_on_nothing(rt: &HostRuntime, words: &[Word], watches: &Watches<Shown, Sho
         calls: 0,
     };
     match MemoryDisk::new(alloc, Vec::new(alloc), room, Vec::new(alloc)) {
-        Ok(disk) => run_on(rt, words, watches, disk),
+        Ok(disk) => run_on(rt, words, watches, disk, front),
         Err(Memory) => Status::Memory.code(),
     }
 }
@@ -120,12 +149,14 @@ fn run_on<D: Disk + Drop>(
     words: &[Word],
     watches: &Watches<Shown, Shown>,
     disk: D,
+    front: &Cell<Front>,
 ) -> u8 {
     let mut disk = disk;
     let mut shelf = FileShelf::new(rt);
     let mut source = ReaderSource::new(ToldStream::new(rt, INPUT, rt.stdin()));
-    let mut sink = WriterSink::new(ToldStream::new(rt, OUTPUT, rt.stdout()));
-    run_with(
+    let output = FrontStream::new(ToldStream::new(rt, OUTPUT, rt.stdout()), front);
+    let mut sink = WriterSink::new(output);
+    let status = run_with(
         rt.alloc(),
         words,
         watches,
@@ -133,8 +164,67 @@ fn run_on<D: Disk + Drop>(
         &mut source,
         &mut sink,
         &mut disk,
-    )
+    );
+    tell_import(rt, words, watches, &mut disk, status, &front.get());
+    status
 }
+
+// Says which dates an import was read as, or what is wrong with the record that it refused. If the
+// record's form is right, the plan has its visit with other data, which its season file tells.
+fn tell_import<D: Disk + Drop>(
+    rt: &HostRuntime,
+    words: &[Word],
+    watches: &Watches<Shown, Shown>,
+    disk: &mut D,
+    status: u8,
+    front: &Front,
+) {
+    let is_done = status == Status::Done.code();
+    if !is_done && status != Status::SeasonFault.code() {
+        return;
+    }
+    let Some(files) = import_files(rt, words) else {
+        return;
+    };
+    if is_done {
+        files.tell_dates(rt);
+    } else if let Some(record) = front.number_after(b"season: record ")
+        && !files.tell_form(rt, record)
+        && let Ok(kept) = season_of_plan(rt, words, watches, disk)
+    {
+        files.tell_there(rt, record, kept.bytes());
+    }
+}
+
+// The season file of the plan in the journal on the disk.
+fn season_of_plan<D: Disk + Drop>(
+    rt: &HostRuntime,
+    words: &[Word],
+    watches: &Watches<Shown, Shown>,
+    disk: &mut D,
+) -> Result<ListSink, Memory> {
+    let alloc: Global = rt.alloc();
+    let mut asked = Vec::new(alloc);
+    asked.push(Word::new(alloc, "export")?)?;
+    for word in words.iter().skip(1).take(2) {
+        asked.push(Word::new(alloc, word.text())?)?;
+    }
+    let mut sink = ListSink::new(alloc, MOST_EXPORTED, Vec::new(alloc))?;
+    let mut source = ReaderSource::new(ToldStream::new(rt, INPUT, rt.stdin()));
+    let _exported = run_with(
+        alloc,
+        asked.as_slice(),
+        watches,
+        &mut FileShelf::new(rt),
+        &mut source,
+        &mut sink,
+        disk,
+    );
+    Ok(sink)
+}
+
+// More bytes than a season file of 20,000 visits has.
+const MOST_EXPORTED: usize = 4_194_304;
 
 // The words after the program's name. If one is not text, there are none, which is as faulty.
 fn words(rt: &(impl Env + AllocGlobal)) -> Result<Vec<Word>, Memory> {
