@@ -51,11 +51,10 @@ fn missing(alloc: Global, file: &str, text: &[u8], rule: Rule) -> Result<Told, M
 }
 
 fn wrong(alloc: Global, file: &str, text: &[u8], rule: Rule) -> Result<Told, Memory> {
-    let wrong = match place_of(text, &rule).value {
-        Some(value) => Wrong::Value(value, rule.wanted),
-        None => Wrong::Unshown(rule.wanted),
-    };
-    told(alloc, file, text, rule, wrong)
+    match place_of(text, &rule).value {
+        Some(value) => told(alloc, file, text, rule, Wrong::Value(value, rule.wanted)),
+        None => told(alloc, file, text, rule, Wrong::Unshown(rule.wanted)),
+    }
 }
 
 fn says(
