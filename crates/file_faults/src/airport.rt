@@ -51,19 +51,24 @@ fn missing(alloc: Global, file: &str, text: &[u8], rule: Rule) -> Result<Told, M
 }
 
 fn wrong(alloc: Global, file: &str, text: &[u8], rule: Rule) -> Result<Told, Memory> {
-    match place_of(text, &rule).value {
-        Some(value) => told(alloc, file, text, rule, Wrong::Value(value, rule.wanted)),
-        None => told(alloc, file, text, rule, Wrong::Unshown(rule.wanted)),
+    if place_of(text, &rule).value.is_none() {
+        return told(alloc, file, text, rule, Wrong::Unshown(rule.wanted));
     }
+    let value = place_of(text, &rule).value.unwrap_or(b"");
+    told(alloc, file, text, rule, Wrong::Value(value, rule.wanted))
 }
 
+// What is said of the value of a key, if the key was found.
 fn says(
     alloc: Global,
     file: &str,
     text: &[u8],
-    rule: Rule,
+    found: Option<Rule>,
     what: &'static str,
 ) -> Result<Told, Memory> {
+    let Some(rule) = found else {
+        return Ok(None);
+    };
     let value = place_of(text, &rule).value.unwrap_or(b"");
     told(alloc, file, text, rule, Wrong::Says(value, what))
 }
@@ -90,30 +95,40 @@ fn of_airport(
     let Ok(document) = toml::table_from_slice(alloc, text) else {
         return Ok(None);
     };
-    let (rule, what) = match fault {
-        AirportFault::DuplicateName(name) => (
-            repeated(&document, name),
-            "is the name of an earlier one",
-        ),
-        AirportFault::UnknownName(name) => (
-            unknown(&document, name),
-            "is not the name of one in this file",
-        ),
-        AirportFault::BadHalf(name) => (half(&document, name), BAD_HALF),
-        AirportFault::LimitPassed(limit) => {
-            return match over(&document, *limit) {
-                Some(rule) if rule.word.is_empty() => counted(alloc, file, &document, rule),
-                Some(rule) => wrong(alloc, file, text, rule),
-                None => Ok(None),
-            };
+    match fault {
+        AirportFault::DuplicateName(name) => {
+            says(alloc, file, text, repeated(&document, name), REPEATED)
         }
-        AirportFault::BadSpan(_) | AirportFault::BadFold(_) | AirportFault::Memory => (None, ""),
-    };
-    match rule {
-        Some(rule) => says(alloc, file, text, rule, what),
-        None => Ok(None),
+        AirportFault::UnknownName(name) => {
+            says(alloc, file, text, unknown(&document, name), UNKNOWN)
+        }
+        AirportFault::BadHalf(name) => says(alloc, file, text, half(&document, name), BAD_HALF),
+        AirportFault::LimitPassed(limit) => passed(alloc, file, text, &document, *limit),
+        AirportFault::BadSpan(_) | AirportFault::BadFold(_) | AirportFault::Memory => Ok(None),
     }
 }
+
+// The key whose value passes a limit, or the array with too many tables in it, or none.
+fn passed(
+    alloc: Global,
+    file: &str,
+    text: &[u8],
+    document: &Table,
+    limit: Limit,
+) -> Result<Told, Memory> {
+    let Some(rule) = over(document, limit) else {
+        return Ok(None);
+    };
+    if rule.word.is_empty() {
+        counted(alloc, file, document, rule)
+    } else {
+        wrong(alloc, file, text, rule)
+    }
+}
+
+const REPEATED: &str = "is the name of an earlier one";
+
+const UNKNOWN: &str = "is not the name of one in this file";
 
 const BAD_HALF: &str =
     "can't have this half: it is a half itself, is on another frontage, or has two halves already";
