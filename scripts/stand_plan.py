@@ -9,10 +9,7 @@ import struct
 import tomllib
 from typing import NamedTuple
 
-DAY = 1440
-MOST = 2 ** 32 - 1
-MOST_PARTS = 3
-LETTERS = [(1500, "A", 300), (2400, "B", 300), (3600, "C", 450), (5200, "D", 750), (6500, "E", 750), (8000, "F", 750)]
+from stand_planning.rules import DAY, MOST, MOST_PARTS, Rules, Type, letter_of
 
 
 def compact(value):
@@ -20,111 +17,29 @@ def compact(value):
     return json.dumps(value, sort_keys=True, separators=(",", ":")).encode()
 
 
-class Type(NamedTuple):
-    """A type of aircraft: lengths in centimetres, times in minutes."""
-    name: str
-    span: int
-    least: int
-    parked: int
-    fold: int
-
-    @staticmethod
-    def of(record):
-        """The type of a record of three fields, or of five."""
-        name, span, least, *folding = record
-        parked, fold = folding or (span, 0)
-        return Type(name, int(span), int(least), int(parked), int(fold))
-
-    def span_at(self, begin, to, minute):
-        """The wing span at this minute of a part from begin to to, and of its buffer: full near both ends, and parked between."""
-        return self.span if minute < begin + self.fold or minute + self.fold >= to else self.parked
-
-    def changes(self, begin, to):
-        """The minutes of such a part at which the wing span may change."""
-        return {begin + self.fold, to - self.fold}
-
-
-class Airport:
+class Airport(Rules):
     """The airport of two files."""
 
     def __init__(self, airport, types):
         with open(airport, "rb") as file:
             described = tomllib.load(file)
         with open(types, newline="") as file:
-            self.types = [Type.of(record) for record in list(csv.reader(file))[1:]]
+            records = [Type.of(record) for record in list(csv.reader(file))[1:]]
+        super().__init__(described["frontage"], described["stand"], described.get("pair", []), records)
         self.described = described
         self.days, self.tow = described["airport"]["days"], described["airport"]["tow"]
         self.minutes = self.days * DAY
-        self.objects = {it["name"]: it["objects"] for it in described["frontage"]}
-        self.stands, self.pairs = described["stand"], described.get("pair", [])
-        self.stand_of = {it["name"]: place for place, it in enumerate(self.stands)}
-        self.type_of = {type.name: place for place, type in enumerate(self.types)}
-        self.rules = {}
-        # Every rule grows stricter with the spans, so that stands that exclude each other do so for the widest type.
-        widest = max(type.span for type in self.types)
-        self.near = [
-            [other for other in range(len(self.stands)) if self.breaks(stand, widest, other, widest)] for stand in range(len(self.stands))]
-
-    def letter(self, span):
-        """The code letter of a wing span and its clearance."""
-        return next((letter, clearance) for below, letter, clearance in LETTERS if span < below)
 
     def told(self):
         """The airport as a desk reads it."""
         stands = [{key: it.get(key) for key in ("buffer", "centre", "frontage", "half_of", "letter", "name")} for it in self.stands]
         types = [
-            {"fold": it.fold, "least": it.least, "letter": self.letter(it.span)[0], "name": it.name, "parked": it.parked, "span": it.span}
+            {"fold": it.fold, "least": it.least, "letter": letter_of(it.span)[0], "name": it.name, "parked": it.parked, "span": it.span}
             for it in self.types]
         frontages = [{key: it[key] for key in ("name", "objects")} for it in self.described["frontage"]]
         pairs = [{key: it[key] for key in ("a", "b", "la", "lb")} for it in self.pairs]
         keys = {key: self.described["airport"][key] for key in ("days", "first_day", "station", "taxi_in", "tow")}
         return {**keys, "frontages": frontages, "pairs": pairs, "stands": stands, "types": types}
-
-    def breaks(self, stand, span, other, other_span):
-        """The first rule by which two stands exclude each other with aircraft of these wing spans on them, or None."""
-        key = stand, span, other, other_span
-        if key not in self.rules:
-            self.rules[key] = self.first_rule(*key)
-        return self.rules[key]
-
-    def first_rule(self, stand, span, other, other_span):
-        one, two = self.stands[stand], self.stands[other]
-        if stand == other:
-            return "same"
-        if one.get("half_of") == two["name"] or two.get("half_of") == one["name"]:
-            return "split"
-        (letter, clearance), (other_letter, other_clearance) = self.letter(span), self.letter(other_span)
-        wide = span + other_span + 2 * max(clearance, other_clearance)
-        if one["frontage"] == two["frontage"] and 2 * abs(one["centre"] - two["centre"]) < wide:
-            return "clearance"
-        on = {one["name"]: letter, two["name"]: other_letter}
-        if any(on.get(it["a"], "") >= it["la"] and on.get(it["b"], "") >= it["lb"] for it in self.pairs):
-            return "pair"
-        return None
-
-    def meeting(self, slot, other, begins=0, ends=MOST):
-        """The first of these minutes at which two slots of types clash, and the rule of that minute, or None."""
-        (type, stand, begin, end), (other_type, other_stand, other_begin, other_end) = slot, other
-        first, type, other_type = max(begin, other_begin, begins), self.types[type], self.types[other_type]
-        to, other_to = end - self.stands[stand]["buffer"], other_end - self.stands[other_stand]["buffer"]
-        for minute in sorted({first} | type.changes(begin, to) | other_type.changes(other_begin, other_to)):
-            if first <= minute < min(end, other_end, ends):
-                span, other_span = type.span_at(begin, to, minute), other_type.span_at(other_begin, other_to, minute)
-                rule = self.breaks(stand, span, other_stand, other_span)
-                if rule is not None:
-                    return minute, rule
-        return None
-
-    def unfit(self, stand, type):
-        """Why the type does not fit the stand, or None."""
-        it, span = self.stands[stand], self.types[type].span
-        letter, clearance = self.letter(span)
-        if letter > it["letter"]:
-            return "letter"
-        for number, place in enumerate(self.objects[it["frontage"]], 1):
-            if 2 * abs(it["centre"] - place) < span + 2 * clearance:
-                return {"object": number}
-        return None
 
 
 class Visit:

@@ -1,0 +1,176 @@
+"""The methods by which parts that wait get stands. Each begins with the plan of the server and none is worse than `fit`: `chain` begins with
+what `fit` left, and `search` with what `chain` left, and each keeps only what is better."""
+
+import math
+import random
+import time
+
+# How many parts may be in the way on a stand for a chain to move them, how many stands are tried so, and how deep a chain goes.
+MOST_IN_WAY, MOST_CHANCES, DEPTH = 3, 6, 2
+# What a part of class 9 without a stand weighs for a search, which may for a while take what is worse; each class before it twice as much.
+WEIGHT = 1000
+# The temperatures of a search at its begin and its end, in costs.
+HOT, COLD = 4000, 8
+
+
+def waiting(allocation):
+    """The parts without a stand, by rank."""
+    return sorted((it for it in allocation.parts if it.is_free and it.stand is None), key=lambda it: it.rank)
+
+
+def first_fit(allocation):
+    """As `apron propose`: by rank, each part on the first stand in the order of the airport file."""
+    for part in waiting(allocation):
+        stand = next((it for it in sorted(part.options) if not allocation.blockers(part, it)), None)
+        if stand is not None:
+            allocation.put(part, stand)
+    allocation.trail.clear()
+
+
+def best_stand(allocation, part, is_tightest_first):
+    """The free stand that a planner would take: the tightest of the cheapest ones or the cheapest of the tightest; among equals the one with
+    the longest gaps before and after."""
+    stands, best = allocation.rules.stands, None
+    for stand in part.options:
+        tight = stands[stand]["letter"], len(allocation.near[stand])
+        key = (*tight, part.costs[stand]) if is_tightest_first else (part.costs[stand], *tight)
+        if best is not None and key > best[0][0]:
+            continue
+        if not allocation.blockers(part, stand):
+            found = (key, allocation.tightness(part, stand)), stand
+            if best is None or found[0] < best[0]:
+                best = found
+    return None if best is None else best[1]
+
+
+def fit(allocation):
+    """Each part that waits gets the best free stand, class by class. Of four orders, which are two of the parts of a class and two of stands,
+    the one that does best is kept."""
+    parts, found = waiting(allocation), []
+    orders = parts, sorted(parts, key=lambda it: (it.of_class, len(it.options), it.rank))
+    for is_tightest_first in (False, True):
+        for order in orders:
+            for part in order:
+                stand = best_stand(allocation, part, is_tightest_first)
+                if stand is not None:
+                    allocation.put(part, stand)
+            found.append((allocation.value(), len(found), allocation.stands()))
+            allocation.back_to(0)
+    allocation.settle(min(found, key=lambda it: it[:2])[2])
+
+
+def seat(allocation, part, depth, kept, dice):
+    """Puts the part on a free stand, or on one where all that are in its way find others: so far down as the depth says. Parts in `kept` stay.
+    A part of a lower class that waited itself may lose the stand that it just got."""
+    chances = []
+    for stand in part.options:
+        found = allocation.blockers(part, stand)
+        if not found:
+            allocation.put(part, stand)
+            return True
+        if depth and len(found) <= MOST_IN_WAY and all(it.is_free and it not in kept for it in found):
+            chances.append((sum(it.end - it.begin for it in found), dice.random(), stand, found))
+    for _, _, stand, found in sorted(chances)[:MOST_CHANCES]:
+        mark = len(allocation.trail)
+        for it in found:
+            allocation.put(it, None)
+        allocation.put(part, stand)
+        if all(seat(allocation, it, depth - 1, kept | {part}, dice) or (it.waits and it.of_class > part.of_class)
+               for it in sorted(found, key=lambda it: it.of_class)) and allocation.moves <= allocation.most_moves:
+            return True
+        allocation.back_to(mark)
+    return False
+
+
+def chain(allocation, dice):
+    """Puts parts that are left where those in their way find other stands, if the plan is then better."""
+    for part in waiting(allocation):
+        before = allocation.value()
+        seat(allocation, part, DEPTH, frozenset(), dice)
+        if allocation.value() >= before or not allocation.is_allowed():
+            allocation.back_to(0)
+        allocation.trail.clear()
+
+
+def worse_by(before, after):
+    """By how much a value is worse than the one before, for a search: by the first class that has more parts left, or by cost."""
+    for of_class, (old, new) in enumerate(zip(before[0], after[0])):
+        if old != new:
+            return (new - old) * WEIGHT * 2 ** (len(before[0]) - 1 - of_class)
+    return after[1] - before[1]
+
+
+class Search:
+    """Simulated annealing: puts random parts on random stands, with those in the way elsewhere or nowhere. What is better stays; what is worse
+    stays more seldom the worse it is and the later it comes. The best plan that was met is kept."""
+
+    def __init__(self, allocation, dice):
+        self.allocation, self.dice = allocation, dice
+        self.free = [it for it in allocation.parts if it.is_free and it.options]
+        self.best, self.kept = allocation.value(), allocation.stands()
+
+    def run(self, seconds, is_stopped=lambda: False):
+        """Searches for these seconds of a processor. How many tries it made."""
+        began, tries = time.process_time(), 0
+        while self.free and not is_stopped():
+            spent = (time.process_time() - began) / seconds if seconds else 1
+            if spent >= 1:
+                break
+            tries += 1
+            self.step(HOT * (COLD / HOT) ** spent, tries % 2)
+        self.allocation.settle(self.kept)
+        return tries
+
+    def step(self, heat, is_of_waiting):
+        allocation, dice = self.allocation, self.dice
+        waits = [it for it in self.free if it.stand is None] if is_of_waiting else None
+        part = dice.choice(waits or self.free)
+        stand = dice.choice(part.options) if dice.random() < 0.6 else part.options[int(len(part.options) * dice.random() ** 3)]
+        found = allocation.blockers(part, stand) if stand != part.stand else None
+        if found is None or not all(it.is_free for it in found):
+            return
+        before = allocation.value()
+        for it in found:
+            allocation.put(it, None)
+        allocation.put(part, stand)
+        for it in sorted(found, key=lambda it: (it.of_class, dice.random())):
+            seat(allocation, it, int(dice.random() < 0.2), frozenset([part]), dice)
+        worse = worse_by(before, allocation.value())
+        if not allocation.is_allowed() or (worse > 0 and dice.random() >= math.exp(-worse / heat)):
+            allocation.back_to(0)
+        allocation.trail.clear()
+        if allocation.value() < self.best:
+            self.best, self.kept = allocation.value(), allocation.stands()
+
+
+def fit_beside(allocation, wanted):
+    """As `fit`, but first each part that waits gets the stand of this table, by visit and part, if it is still free. The better of the two is
+    kept."""
+    start = allocation.stands()
+    fit(allocation)
+    value, stands = allocation.value(), allocation.stands()
+    allocation.settle(start)
+    for is_wanted in (True, False):
+        for part in waiting(allocation):
+            stand = wanted.get((part.visit, part.number)) if is_wanted else best_stand(allocation, part, False)
+            if stand is not None and not allocation.blockers(part, stand):
+                allocation.put(part, stand)
+    if value < allocation.value():
+        allocation.settle(stands)
+    allocation.trail.clear()
+
+
+def plan(allocation, method, seconds, wanted=(), is_stopped=lambda: False, seed=1):
+    """Plans by the method of this name. After a refusal the stands of the plan before are wanted, and a search takes a quarter of its time."""
+    dice = random.Random(seed)
+    if method == "propose":
+        first_fit(allocation)
+        return
+    if wanted:
+        fit_beside(allocation, wanted)
+    else:
+        fit(allocation)
+    if method != "fit":
+        chain(allocation, dice)
+    if method == "search":
+        Search(allocation, dice).run(seconds / 4 if wanted else seconds, is_stopped)
