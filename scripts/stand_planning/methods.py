@@ -82,6 +82,41 @@ def seat(allocation, part, depth, kept, dice):
     return False
 
 
+def improve(allocation):
+    """Moves parts to stands that cost less, and those in their way elsewhere, as long as the plan gets better."""
+    is_better = True
+    while is_better:
+        is_better = False
+        for part in [it for it in allocation.parts if it.is_free and it.stand is not None]:
+            for stand in part.options:
+                if part.costs[stand] >= part.costs[part.stand]:
+                    break
+                if is_cheaper(allocation, part, stand):
+                    is_better = True
+                    break
+
+
+def is_cheaper(allocation, part, stand):
+    """Moves the part to a stand, and those in its way to others, if all cost less then; else nothing is changed."""
+    found, before = allocation.blockers(part, stand), allocation.value()
+    if len(found) > MOST_IN_WAY or not all(it.is_free for it in found):
+        return False
+    gain = part.costs[part.stand] - part.costs[stand]
+    most = {it: it.costs[it.stand] + gain for it in found}
+    for it in found:
+        allocation.put(it, None)
+    allocation.put(part, stand)
+    for it in found:
+        other = next((other for other in it.options if it.costs[other] >= most[it] or not allocation.blockers(it, other)), None)
+        if other is not None and it.costs[other] < most[it]:
+            allocation.put(it, other)
+    is_done = allocation.value() < before and allocation.is_allowed()
+    if not is_done:
+        allocation.back_to(0)
+    allocation.trail.clear()
+    return is_done
+
+
 def chain(allocation, dice):
     """Puts parts that are left where those in their way find other stands, if the plan is then better."""
     for part in waiting(allocation):
