@@ -83,17 +83,11 @@ def seat(allocation, part, depth, kept, dice):
 
 
 def improve(allocation):
-    """Moves parts to stands that cost less, and those in their way elsewhere, as long as the plan gets better."""
-    is_better = True
-    while is_better:
-        is_better = False
-        for part in [it for it in allocation.parts if it.is_free and it.stand is not None]:
-            for stand in part.options:
-                if part.costs[stand] >= part.costs[part.stand]:
-                    break
-                if is_cheaper(allocation, part, stand):
-                    is_better = True
-                    break
+    """Moves parts to stands that cost less, and those in their way elsewhere. After two rounds little is left to gain."""
+    for part in [it for it in allocation.parts if it.is_free and it.stand is not None] * 2:
+        for stand in part.options:
+            if part.costs[stand] >= part.costs[part.stand] or is_cheaper(allocation, part, stand):
+                break
 
 
 def is_cheaper(allocation, part, stand):
@@ -207,5 +201,7 @@ def plan(allocation, method, seconds, wanted=(), is_stopped=lambda: False, seed=
         fit(allocation)
     if method != "fit":
         chain(allocation, dice)
+    improve(allocation)
     if method == "search":
         Search(allocation, dice).run(seconds / 4 if wanted else seconds, is_stopped)
+        improve(allocation)
