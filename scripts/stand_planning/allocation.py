@@ -4,7 +4,7 @@ to a mark. Of two allocations the better one leaves fewer parts of class 0, then
 import copy
 from bisect import bisect_left
 
-from stand_planning.rules import letter_of
+from stand_planning.rules import MOST
 
 CLASSES = 10
 # What it costs to move a planned part, beside costs of preferences, which are of 1 to 3 digits.
@@ -16,9 +16,14 @@ SLACK = 20
 class Part:
     """A part of a visit, by its numbers. Its stand is a place in the list of stands, or None; `was` is that of the server's plan."""
 
+    __slots__ = ("visit", "number", "type", "of_class", "begin", "end", "was", "stand", "waits", "is_free", "costs", "options", "rank", "label",
+                 "airline", "pieces", "cut")
+
     def __init__(self, visit, number, type, of_class, begin, end, was, is_free):
         self.visit, self.number, self.type, self.of_class = visit, number, type, of_class
         self.begin, self.end, self.was, self.stand = begin, end, was, None
+        # Whether it waits for a stand in the server's plan.
+        self.waits = was is None
         # Whether a method may give it another stand; one that waits in the plan is planned here, another one has moved.
         self.is_free = is_free
         self.costs, self.options, self.rank = {}, [], 0
@@ -37,11 +42,6 @@ class Part:
         part.begin, part.end, part.number, part.pieces = begin, end, number, self.pieces + 1
         return part
 
-    @property
-    def waits(self):
-        """Whether it waits for a stand in the server's plan."""
-        return self.was is None
-
 
 class Allocation:
     """Parts on stands. What is counted of it: parts left by class, the cost of those on stands, and moves of planned parts."""
@@ -52,8 +52,10 @@ class Allocation:
         # The longest stay on each stand so far, with its buffer: what begins earlier than this before a minute is gone at it.
         self.longest = [0] * len(rules.stands)
         self.buffer = [it["buffer"] for it in rules.stands]
-        # For each stand those near it, each with what is known of the types that exclude each other there.
-        self.near = [[(other, {}) for other in near] for near in rules.near]
+        # Whether parts overlap on a stand, as aircraft may that are there in fact.
+        self.is_tangled = [False] * len(rules.stands)
+        # For each stand itself and then those near it, each with what is known of the types that exclude each other there.
+        self.near = [[(other, {}) for other in sorted(near, key=lambda it: it != stand)] for stand, near in enumerate(rules.near)]
         self.left, self.cost, self.moves, self.lifted, self.trail = [0] * CLASSES, 0, 0, 0, []
         for part in parts:
             self.add(part)
@@ -83,9 +85,10 @@ class Allocation:
         if part.stand is not None:
             self.take_off(part)
         if stand is not None:
-            place = bisect_left(self.begins[stand], part.begin)
+            place, held = bisect_left(self.begins[stand], part.begin), self.held[stand]
+            self.is_tangled[stand] |= (place > 0 and held[place - 1].end > part.begin) or (place < len(held) and held[place].begin < part.end)
             self.begins[stand].insert(place, part.begin)
-            self.held[stand].insert(place, part)
+            held.insert(place, part)
             self.longest[stand] = max(self.longest[stand], part.end - part.begin + self.buffer[stand])
             self.count(part, stand, 1)
         part.stand = stand
@@ -128,14 +131,22 @@ class Allocation:
         """The stands of the parts that are free."""
         return {part: part.stand for part in self.parts if part.is_free}
 
-    def blockers(self, part, stand):
-        """The parts in the way of this one on a stand."""
-        begin, end, found = part.begin, part.end + self.buffer[stand], []
+    def blockers(self, part, stand, most=MOST):
+        """The parts in the way of this one on a stand; if they are more than `most`, one more than that."""
+        begin, end, type, found = part.begin, part.end + self.buffer[stand], part.type, []
         for other, known in self.near[stand]:
-            begins, buffer = self.begins[other], self.buffer[other]
-            for it in self.held[other][bisect_left(begins, begin - self.longest[other]):bisect_left(begins, end)]:
-                if begin < it.end + buffer and it.visit != part.visit and self.excludes(part, stand, it, other, known):
+            begins, held, buffer = self.begins[other], self.held[other], self.buffer[other]
+            place, first = bisect_left(begins, end) - 1, begin - self.longest[other]
+            while place >= 0 and begins[place] >= first:
+                it = held[place]
+                place -= 1
+                if it.end + buffer <= begin:
+                    if not self.is_tangled[other]:
+                        break
+                elif it.visit != part.visit and (known.get((type, it.type)) or self.excludes(part, stand, it, other, known)):
                     found.append(it)
+                    if len(found) > most:
+                        return found
         return found
 
     def excludes(self, part, stand, it, other, known):

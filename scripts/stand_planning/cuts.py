@@ -54,7 +54,7 @@ def cut_in_two(allocation, airport, part, least):
     if at is None:
         return None
     pieces = [part.piece(part.begin, at, part.number), part.piece(at + airport.tow, part.end, part.number + 1)]
-    stands = [next((stand for stand in part.options if not allocation.blockers(piece, stand)), None) for piece in pieces]
+    stands = [next((stand for stand in part.options if not allocation.blockers(piece, stand, 0)), None) for piece in pieces]
     if None in stands:
         return None
     cut = Cut(part, pieces)

@@ -96,10 +96,10 @@ class Window:
     def has(self, begin, end):
         return begin < self.end and end > self.begin
 
-    def may_move(self, it, low, high):
-        """Whether a planned part may move, where the plan was read from the minute low to the minute high."""
-        return (self.moves > 0 and not it["actual"] and self.has(it["from"], it["to"]) and it["from"] >= self.now + self.frozen
-                and low <= it["from"] and it["to"] + MOST_BUFFER <= high)
+    def may_move(self, it, days, airport):
+        """Whether a planned part may move, where the plan was read on these days: all that could be in its way has to be known."""
+        is_known = it["from"] >= (days.start - 1) * DAY and (it["to"] + MOST_BUFFER <= (days.stop - 1) * DAY or days.stop > airport.days)
+        return self.moves > 0 and not it["actual"] and self.has(it["from"], it["to"]) and it["from"] >= self.now + self.frozen and is_known
 
 
 class Picture:
@@ -109,31 +109,32 @@ class Picture:
         self.version, self.parts, self.past = version, parts, past
 
 
-def read(desk, airport, window):
-    """The picture of a window of the plan. While desks work its parts may be of several versions: then its version is the first, and the
-    server refuses a draft over it that would undo what came later."""
+def read(desk, airport, window, is_whole=False):
+    """The picture of a window of the plan, read on the days of the parts that wait there, or on all days. While desks work its parts may be of
+    several versions: then its version is the first, and the server refuses a draft over it that would undo what came later."""
     for _ in range(MOST_LOOKS):
         wait = desk.get("/unplaced")
         rows = [it for it in wait["parts"] if window.has(it["from"], it["to"])]
-        ranks = {(it["visit"], it["part"]): rank for rank, it in enumerate(rows) if it["to"] > window.now}
         chosen = [it for it in rows if it["to"] > window.now]
-        if not chosen:
-            return Picture(wait["version"], [], len(rows))
-        first = max(1, min(it["from"] for it in chosen) // DAY + 1)
-        last = min(airport.days, (max(it["to"] for it in chosen) + MOST_BUFFER) // DAY + 1)
-        visits, versions = {}, {wait["version"]}
-        for day in range(first, last + 1):
-            told = desk.get(f"/day/{day}")
-            versions.add(told["version"])
-            visits.update({it["visit"]: it for it in told["visits"]})
-        if len(versions) == 1:
+        days = range(1, airport.days + 1) if is_whole else days_of(chosen, airport)
+        replies = [desk.get(f"/day/{day}") for day in days]
+        if all(it["version"] == wait["version"] for it in replies):
             break
-    low, high = (0 if first == 1 else (first - 1) * DAY), (last * DAY if last < airport.days else (last + 2) * DAY)
-    parts = [part for visit in visits.values() for part in parts_of(airport, window, visit, ranks, low, high)]
+    visits = {it["visit"]: it for reply in replies for it in reply["visits"]}
+    ranks = {(it["visit"], it["part"]): rank for rank, it in enumerate(chosen)}
+    parts = [part for visit in visits.values() for part in parts_of(airport, window, visit, ranks, days)]
     return Picture(wait["version"], parts, len(rows) - len(chosen))
 
 
-def parts_of(airport, window, visit, ranks, low, high):
+def days_of(rows, airport):
+    """The days on which something may be in the way of these parts, wherever they stand."""
+    if not rows:
+        return range(0)
+    first, last = min(it["from"] for it in rows) // DAY + 1, (max(it["to"] for it in rows) + MOST_BUFFER) // DAY + 1
+    return range(min(first, airport.days), min(last, airport.days) + 1)
+
+
+def parts_of(airport, window, visit, ranks, days):
     """The parts of a visit that hold stands, and those that are to be planned."""
     rules, flight = airport.rules, visit["arr"] or visit["dep"]
     for number, it in enumerate(visit["parts"], 1):
@@ -141,7 +142,7 @@ def parts_of(airport, window, visit, ranks, low, high):
         is_planned_here = was is None and (visit["visit"], number) in ranks
         if was is None and not is_planned_here:
             continue
-        is_free = is_planned_here or (visit["state"] not in ("gone", "cancelled") and window.may_move(it, low, high))
+        is_free = is_planned_here or (visit["state"] not in ("gone", "cancelled") and window.may_move(it, days, airport))
         part = Part(visit["visit"], number, rules.type_of[visit["type"]], visit["class"], it["from"], it["to"], was, is_free)
         part.label = flight["flight"] if flight else visit["name"]
         part.airline = airline_of(flight["flight"]) if flight else ""

@@ -21,7 +21,7 @@ def waiting(allocation):
 def first_fit(allocation):
     """As `apron propose`: by rank, each part on the first stand in the order of the airport file."""
     for part in waiting(allocation):
-        stand = next((it for it in sorted(part.options) if not allocation.blockers(part, it)), None)
+        stand = next((it for it in sorted(part.options) if not allocation.blockers(part, it, 0)), None)
         if stand is not None:
             allocation.put(part, stand)
     allocation.trail.clear()
@@ -36,11 +36,20 @@ def best_stand(allocation, part, is_tightest_first):
         key = (*tight, part.costs[stand]) if is_tightest_first else (part.costs[stand], *tight)
         if best is not None and key > best[0][0]:
             continue
-        if not allocation.blockers(part, stand):
+        if not allocation.blockers(part, stand, 0):
             found = (key, allocation.tightness(part, stand)), stand
             if best is None or found[0] < best[0]:
                 best = found
     return None if best is None else best[1]
+
+
+def place(allocation):
+    """Puts parts that wait on the best free stands."""
+    for part in waiting(allocation):
+        stand = best_stand(allocation, part, False)
+        if stand is not None:
+            allocation.put(part, stand)
+    allocation.trail.clear()
 
 
 def fit(allocation):
@@ -64,7 +73,7 @@ def seat(allocation, part, depth, kept, dice):
     A part of a lower class that waited itself may lose the stand that it just got."""
     chances = []
     for stand in part.options:
-        found = allocation.blockers(part, stand)
+        found = allocation.blockers(part, stand, MOST_IN_WAY if depth else 0)
         if not found:
             allocation.put(part, stand)
             return True
@@ -83,16 +92,18 @@ def seat(allocation, part, depth, kept, dice):
 
 
 def improve(allocation):
-    """Moves parts to stands that cost less, and those in their way elsewhere. After two rounds little is left to gain."""
+    """Moves parts to stands that cost less, and those in their way elsewhere. After two rounds little is left to gain.
+    What then finds a free stand is put on it."""
     for part in [it for it in allocation.parts if it.is_free and it.stand is not None] * 2:
         for stand in part.options:
             if part.costs[stand] >= part.costs[part.stand] or is_cheaper(allocation, part, stand):
                 break
+    place(allocation)
 
 
 def is_cheaper(allocation, part, stand):
     """Moves the part to a stand, and those in its way to others, if all cost less then; else nothing is changed."""
-    found, before = allocation.blockers(part, stand), allocation.value()
+    found, before = allocation.blockers(part, stand, MOST_IN_WAY), allocation.value()
     if len(found) > MOST_IN_WAY or not all(it.is_free for it in found):
         return False
     gain = part.costs[part.stand] - part.costs[stand]
@@ -101,7 +112,7 @@ def is_cheaper(allocation, part, stand):
         allocation.put(it, None)
     allocation.put(part, stand)
     for it in found:
-        other = next((other for other in it.options if it.costs[other] >= most[it] or not allocation.blockers(it, other)), None)
+        other = next((other for other in it.options if it.costs[other] >= most[it] or not allocation.blockers(it, other, 0)), None)
         if other is not None and it.costs[other] < most[it]:
             allocation.put(it, other)
     is_done = allocation.value() < before and allocation.is_allowed()
@@ -179,11 +190,11 @@ def fit_beside(allocation, wanted):
     fit(allocation)
     value, stands = allocation.value(), allocation.stands()
     allocation.settle(start)
-    for is_wanted in (True, False):
-        for part in waiting(allocation):
-            stand = wanted.get((part.visit, part.number)) if is_wanted else best_stand(allocation, part, False)
-            if stand is not None and not allocation.blockers(part, stand):
-                allocation.put(part, stand)
+    for part in waiting(allocation):
+        stand = wanted.get((part.visit, part.number))
+        if stand is not None and not allocation.blockers(part, stand, 0):
+            allocation.put(part, stand)
+    place(allocation)
     if value < allocation.value():
         allocation.settle(stands)
     allocation.trail.clear()
@@ -199,9 +210,10 @@ def plan(allocation, method, seconds, wanted=(), is_stopped=lambda: False, seed=
         fit_beside(allocation, wanted)
     else:
         fit(allocation)
+    improve(allocation)
     if method != "fit":
         chain(allocation, dice)
-    improve(allocation)
+        improve(allocation)
     if method == "search":
         Search(allocation, dice).run(seconds / 4 if wanted else seconds, is_stopped)
         improve(allocation)
