@@ -6,7 +6,7 @@ import random
 import time
 
 # How many parts may be in the way on a stand for a chain to move them, how many stands are tried so, and how deep a chain goes.
-MOST_IN_WAY, MOST_CHANCES, DEPTH = 3, 6, 2
+MOST_IN_WAY, MOST_CHANCES, DEPTH = 3, 12, 2
 # What a part of class 9 without a stand weighs for a search, which may for a while take what is worse; each class before it twice as much.
 WEIGHT = 1000
 # The temperatures of a search at its begin and its end, in costs.
