@@ -109,13 +109,13 @@ class Planner:
         end = (self.airport.days + 2) * DAY if given.end is None else given.end
         return desk.Window(begin, end, now, given.frozen, given.moves - len(self.moved))
 
-    def allocation(self, picture, window):
-        return Allocation(self.airport.rules, picture.parts, window.moves)
-
     def planned(self, picture, window, method):
-        """A plan of the picture, and its cuts. After a refusal a search goes on from the plan that it had found before."""
-        allocation = self.allocation(picture, window)
-        methods.plan(allocation, method, self.given.seconds, self.wanted, self.stop)
+        """A plan of the picture, and its cuts. After a refusal it is the plan of before, as far as that is still possible."""
+        allocation = Allocation(self.airport.rules, picture.parts, window.moves)
+        if self.wanted:
+            methods.take_over(allocation, self.wanted)
+        else:
+            methods.plan(allocation, method, self.given.seconds, self.stop)
         cuts = cut_those_left(allocation, self.airport, self.given.tow) if self.given.tow and method != "propose" else []
         return allocation, cuts
 
@@ -128,8 +128,10 @@ class Planner:
         return picture, window
 
     def run(self):
-        """Plans and sends until all is in the plan. Whether it came to that."""
+        """Plans and sends until all is in the plan. Whether it came to that. After a refusal drafts have half as many edits, so that fewer of them
+        meet an edit of another desk."""
         placed = drafts = refused = 0
+        most = desk.MOST_EDITS
         while True:
             picture, window = self.look()
             allocation, cuts = self.planned(picture, window, self.given.method)
@@ -137,14 +139,14 @@ class Planner:
                 return self.tell(picture, window, allocation, cuts)
             moves = {(it.visit, it.number) for it in allocation.parts if it.is_free and not it.waits and it.stand != it.was}
             self.wanted = {(it.visit, it.number): it.stand for it in allocation.parts if it.is_free and it.stand is not None}
-            sent = desk.send(self.desk, picture.version, desk.drafts_of(self.airport, allocation, cuts), moves, self.stop)
+            sent = desk.send(self.desk, picture.version, desk.drafts_of(self.airport, allocation, cuts, most), moves, self.stop)
             self.moved |= sent.moved
             placed, drafts, refused = placed + sent.edits, drafts + sent.drafts, 0 if sent.drafts else refused
             if sent.refusal is None:
                 break
             if sent.refusal["error"] not in ("overtaken", "clash", "gone", "onblock", "part", "cut"):
                 raise desk.Fault(f"a draft was refused: {json.dumps(sent.refusal)}")
-            refused += 1
+            refused, most = refused + 1, max(most // 2, 1)
             print(f"a draft was refused as {sent.refusal['error']}, since another desk was quicker: the plan is read again", file=sys.stderr)
             if refused == MOST_REFUSED:
                 raise desk.Fault("others edit all the time; what was sent so far is in the plan")

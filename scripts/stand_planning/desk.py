@@ -195,14 +195,14 @@ def circles(nodes, needs):
     return made
 
 
-def drafts_of(airport, allocation, cuts=()):
-    """The drafts of a plan: lists of at most 64 edits that apply one after the other, each whole. Cuts come last, a visit's later parts
-    first, so that no cut changes the number of a part that is named after it."""
+def drafts_of(airport, allocation, cuts=(), most=MOST_EDITS):
+    """The drafts of a plan: lists of at most so many edits, or of one group, that apply one after the other, each whole. Cuts come last, a
+    visit's later parts first, so that no cut changes the number of a part that is named after it."""
     made = [[]]
     edits = [[edit_of("put", it, stand=airport.names[it.stand]) for it in group] for group in groups(allocation)]
     edits += [cut.edits(airport) for cut in sorted(cuts, key=lambda cut: -cut.part.number)]
     for group in edits:
-        if len(made[-1]) + len(group) > MOST_EDITS:
+        if len(made[-1]) + len(group) > most:
             made.append([])
         made[-1].extend(group)
     return [it for it in made if it]

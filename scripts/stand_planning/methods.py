@@ -183,37 +183,37 @@ class Search:
             self.best, self.kept = allocation.value(), allocation.stands()
 
 
-def fit_beside(allocation, wanted):
-    """As `fit`, but first each part that waits gets the stand of this table, by visit and part, if it is still free. The better of the two is
-    kept."""
+def take_over(allocation, wanted):
+    """After a refusal: gives parts the stands of this table, by visit and part, as far as these are still free, planned parts first. The rest is
+    placed anew; if `fit` alone does better, its plan is kept."""
     start = allocation.stands()
     fit(allocation)
     value, stands = allocation.value(), allocation.stands()
     allocation.settle(start)
-    for part in waiting(allocation):
-        stand = wanted.get((part.visit, part.number))
-        if stand is not None and not allocation.blockers(part, stand, 0):
-            allocation.put(part, stand)
+    goals = {part: wanted[part.visit, part.number] for part in start if wanted.get((part.visit, part.number), part.stand) != part.stand}
+    for part in goals:
+        allocation.put(part, None)
+    for part in sorted(goals, key=lambda it: (it.waits, it.rank)):
+        stand = next((it for it in (goals[part], part.was) if it is not None and not allocation.blockers(part, it, 0)), None)
+        allocation.put(part, stand)
+    if not allocation.is_allowed():
+        allocation.settle(start)
     place(allocation)
     if value < allocation.value():
         allocation.settle(stands)
-    allocation.trail.clear()
 
 
-def plan(allocation, method, seconds, wanted=(), is_stopped=lambda: False, seed=1):
-    """Plans by the method of this name. After a refusal the stands of the plan before are wanted, and a search takes a quarter of its time."""
+def plan(allocation, method, seconds, is_stopped=lambda: False, seed=1):
+    """Plans by the method of this name."""
     dice = random.Random(seed)
     if method == "propose":
         first_fit(allocation)
         return
-    if wanted:
-        fit_beside(allocation, wanted)
-    else:
-        fit(allocation)
+    fit(allocation)
     improve(allocation)
     if method != "fit":
         chain(allocation, dice)
         improve(allocation)
     if method == "search":
-        Search(allocation, dice).run(seconds / 4 if wanted else seconds, is_stopped)
+        Search(allocation, dice).run(seconds, is_stopped)
         improve(allocation)
