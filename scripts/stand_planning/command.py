@@ -128,8 +128,8 @@ class Planner:
         return picture, window
 
     def run(self):
-        """Plans and sends until all is in the plan. Whether it came to that. After a refusal drafts have half as many edits, so that fewer of them
-        meet an edit of another desk."""
+        """Plans and sends until all is in the plan. Whether it came to that. After a refusal the next draft has half as many edits, so that it is less
+        likely to meet an edit of another desk."""
         placed = drafts = refused = 0
         most = desk.MOST_EDITS
         while True:

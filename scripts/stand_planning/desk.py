@@ -196,16 +196,18 @@ def circles(nodes, needs):
 
 
 def drafts_of(airport, allocation, cuts=(), most=MOST_EDITS):
-    """The drafts of a plan: lists of at most so many edits, or of one group, that apply one after the other, each whole. Cuts come last, a
-    visit's later parts first, so that no cut changes the number of a part that is named after it."""
+    """The drafts of a plan: lists of edits that apply one after the other, each whole. The first has at most so many, or one group, and each
+    further one twice as many as the one before, up to 64. Cuts come last, a visit's later parts first, so that no cut changes the number
+    of a part that is named after it."""
     made = [[]]
     edits = [[edit_of("put", it, stand=airport.names[it.stand]) for it in group] for group in groups(allocation)]
     edits += [cut.edits(airport) for cut in sorted(cuts, key=lambda cut: -cut.part.number)]
     for group in edits:
-        if len(made[-1]) + len(group) > most:
+        if made[-1] and len(made[-1]) + len(group) > most:
             made.append([])
+            most = min(2 * most, MOST_EDITS)
         made[-1].extend(group)
-    return [it for it in made if it]
+    return made if made[0] else []
 
 
 class Sent:
