@@ -23,11 +23,14 @@ class Model:
 
     def __init__(self, rules, visits):
         self.rules, self.parts = rules, visits
-        self.groups, self.group_of = [], {}
+        # Which stands exclude each other with the widest aircraft that fit them, and groups of stands that exclude no other ones.
+        widest = [max((type.span for place, type in enumerate(rules.types) if rules.unfit(stand, place) is None), default=1)
+                  for stand in range(len(rules.stands))]
+        self.near = [[it for it in rules.near[stand] if rules.breaks(stand, widest[stand], it, widest[it])] for stand in range(len(rules.stands))]
         alike = {}
         for stand in range(len(rules.stands)):
             fits = tuple(rules.unfit(stand, type) is None for type in range(len(rules.types)))
-            key = (fits, rules.stands[stand]["buffer"]) if rules.near[stand] == [stand] else stand
+            key = (fits, rules.stands[stand]["buffer"]) if self.near[stand] == [stand] else stand
             alike.setdefault(key, []).append(stand)
         self.groups = list(alike.values())
         self.columns = [(part, group) for part, (type, *_) in enumerate(visits) for group, stands in enumerate(self.groups)
@@ -51,7 +54,7 @@ class Model:
         for group, stands in enumerate(self.groups):
             yield from ((row, len(stands)) for row in self.at_once(self.on.get(group, ())))
             for other in range(group + 1, len(self.groups)):
-                if self.groups[other][0] in self.rules.near[stands[0]]:
+                if self.groups[other][0] in self.near[stands[0]]:
                     yield from ((row, 1) for row in self.exclusions(group, other))
 
     def at_once(self, columns):
@@ -63,13 +66,14 @@ class Model:
 
     def exclusions(self, group, other):
         """Of two stands that exclude each other with aircraft of at least some spans: the columns of such aircraft that share a minute."""
-        stand, near = self.groups[group][0], self.groups[other][0]
+        stand, near, least = self.groups[group][0], self.groups[other][0], {}
+        span_of = {it: self.rules.types[self.times(it)[0]].parked for it in (*self.on.get(group, ()), *self.on.get(other, ()))}
+        for span in sorted({span_of[it] for it in self.on.get(group, ())}, reverse=True):
+            least[tuple(it for it in self.on.get(other, ()) if self.rules.breaks(stand, span, near, span_of[it]))] = span
         found = set()
-        for span in sorted({self.rules.types[self.times(it)[0]].parked for it in self.on.get(group, ())}):
-            wide = [it for it in self.on[group] if self.rules.types[self.times(it)[0]].parked >= span]
-            hit = [it for it in self.on.get(other, ()) if self.rules.breaks(stand, span, near, self.rules.types[self.times(it)[0]].parked)]
+        for hit, span in least.items():
             if hit:
-                found.update(self.at_once(wide + hit))
+                found.update(self.at_once([it for it in self.on[group] if span_of[it] >= span] + list(hit)))
         return found
 
 

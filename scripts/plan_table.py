@@ -49,9 +49,10 @@ def table(results):
 
 def bound_table(bounds, results):
     """How far the best plan that was found is from what any plan has to leave."""
-    lines = ["| Airport, visits | Seed | Any plan leaves at least | Best found | Its weight is at least | Best found | Processor seconds |", "|---|---|---|---|---|---|---|"]
+    lines = ["| Airport, visits | Seed | Any plan leaves at least | Best found | Weight at least | Best found | Processor seconds |", "|---|---|---|---|---|---|---|"]
     for it in sorted(bounds, key=lambda it: (it["airport"] == "large", it["visits"], it["seed"])):
-        found = [row["left"] for row in results if row["state"] == "empty" and (row["airport"], row["visits"], row["seed"]) == (it["airport"], it["visits"], it["seed"])]
+        key = it["airport"], it["visits"], it["seed"], "empty"
+        found = [row["left"] for row in results if (row["airport"], row["visits"], row["seed"], row["state"]) == key]
         best = (str(min(map(sum, found))), str(min(map(weight_of, found)))) if found else ("", "")
         least = ["did not end" if it[name] is None else str(it[name]) for name in ("least", "weight")]
         lines.append(f"| {it['airport']} {it['visits']} | {it['seed']} | {least[0]} | {best[0]} | {least[1]} | {best[1]} | {it['seconds']:.0f} |")

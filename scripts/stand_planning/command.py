@@ -18,7 +18,7 @@ from plan_server import add_proxy_words, server_of
 MOST_REFUSED, MOST_MOVES = 10, 64
 TIME = re.compile(r"([1-9][0-9]?)(?:/([01][0-9]|2[0-3]):?([0-5][0-9]))?")
 EPILOGUE = """A time is a day of the plan, or a day, a slash and a time of it in UTC: 2, or 2/0430. A day alone is its first minute for --from,
-and its last for --to. It ends with status 0 if all that was planned is in the plan, 1 if not, and 130 after Ctrl+C."""
+and its last for --to. It ends with status 0 if all that was planned is in the plan, 1 if not, 2 for other words, and 130 after Ctrl+C."""
 
 
 class Stop:
@@ -66,22 +66,26 @@ def number_in(least, most):
 
 
 def asked(about):
-    it = argparse.ArgumentParser(usage="%(prog)s SERVER [options]", description=about, epilog=EPILOGUE, formatter_class=argparse.RawDescriptionHelpFormatter)
+    it = argparse.ArgumentParser(usage="%(prog)s SERVER [options]", description=about, epilog=EPILOGUE,
+                                 formatter_class=argparse.RawDescriptionHelpFormatter)
     it.add_argument("server", metavar="SERVER", help="where the server is, as http://127.0.0.1:8080 or https://localhost:8443/ham")
     add_proxy_words(it)
     it.add_argument("--preferences", metavar="FILE", help="where parts would rather stand (docs/FILES.md)")
-    it.add_argument("--from", dest="begin", type=lambda word: minute_of(word, False), metavar="TIME", help="the first minute that is planned; else the plan's first")
-    it.add_argument("--to", dest="end", type=lambda word: minute_of(word, True), metavar="TIME", help="where planning ends; else the plan's end")
+    it.add_argument("--from", dest="begin", type=lambda word: minute_of(word, False), metavar="TIME", help="where planning begins; else with the plan")
+    it.add_argument("--to", dest="end", type=lambda word: minute_of(word, True), metavar="TIME", help="where planning ends; else with the plan")
     it.add_argument("--method", choices=["fit", "chain", "search"], default="fit", help="fit (if it is left out), chain or search")
-    it.add_argument("--seconds", type=number_in(1, 3600), default=10, metavar="N", help="for how many seconds of a processor search goes on, 10 if it is left out")
-    it.add_argument("--moves", type=number_in(0, MOST_MOVES), default=0, metavar="N", help="how many planned parts may move to another stand, 0 if it is left out")
-    it.add_argument("--frozen", type=number_in(0, 100000), default=60, metavar="MINUTES", help="no part that begins within so many minutes of now moves, 60 if it is left out")
+    it.add_argument("--seconds", type=number_in(1, 3600), default=10, metavar="N", help="how many seconds of a processor search takes, 10 if it is left out")
+    it.add_argument("--moves", type=number_in(0, MOST_MOVES), default=0, metavar="N", help="how many planned parts may move to another stand, 0 if left out")
+    it.add_argument("--frozen", type=number_in(0, 100000), default=60, metavar="MINUTES",
+                    help="no part that begins within so many minutes of now moves, 60 if it is left out")
     it.add_argument("--now", type=moment_of, metavar="TIME", help="the time that counts as now, as 2026-07-02T04:30Z; else the machine's")
     it.add_argument("--tow", type=number_in(1, 100000), metavar="MINUTES", help="stays of at least so many minutes may be cut, with a tow between the pieces")
     it.add_argument("--dry-run", action="store_true", help="tells what would be done, and sends nothing")
     it.add_argument("--draft", metavar="FILE", help="with --dry-run: writes the edits to a file, which the board opens")
     it.add_argument("--desk", default="PLAN", metavar="NAME", help="the beginning of the desk's name, up to 5 capitals and digits, PLAN if it is left out")
     given = it.parse_args()
+    if given.begin is not None and given.end is not None and given.end <= given.begin:
+        it.error("--to is not after --from")
     if given.draft and not given.dry_run:
         it.error("--draft needs --dry-run")
     if not re.fullmatch("[A-Z0-9]{1,5}", given.desk):
@@ -92,8 +96,8 @@ def asked(about):
 class Planner:
     """A run of the program."""
 
-    def __init__(self, given, stop):
-        self.given, self.stop, self.desk = given, stop, desk.Desk(server_of(given), given.desk)
+    def __init__(self, given, server, stop):
+        self.given, self.stop, self.desk = given, stop, desk.Desk(server, given.desk)
         self.airport = desk.Airport(self.desk.get("/airport"))
         rules = self.airport.rules
         self.preferences = preferences.read(given.preferences, rules) if given.preferences else preferences.Preferences(rules)
@@ -128,7 +132,7 @@ class Planner:
         return picture, window
 
     def run(self):
-        """Plans and sends until all is in the plan. Whether it came to that. After a refusal the next draft has half as many edits, so that it is less
+        """Plans and sends until all is in the plan, or Ctrl+C is pressed. After a refusal the next draft has half as many edits, so that it is less
         likely to meet an edit of another desk."""
         placed = drafts = refused = 0
         most = desk.MOST_EDITS
@@ -136,10 +140,12 @@ class Planner:
             picture, window = self.look()
             allocation, cuts = self.planned(picture, window, self.given.method)
             if self.given.dry_run:
-                return self.tell(picture, window, allocation, cuts)
+                self.tell(picture, window, allocation, cuts)
+                return
             moves = {(it.visit, it.number) for it in allocation.parts if it.is_free and not it.waits and it.stand != it.was}
             self.wanted = {(it.visit, it.number): it.stand for it in allocation.parts if it.is_free and it.stand is not None}
-            sent = desk.send(self.desk, picture.version, desk.drafts_of(self.airport, allocation, cuts, most), moves, self.stop)
+            planned = desk.drafts_of(self.airport, allocation, cuts, most)
+            sent = desk.send(self.desk, picture.version, planned, moves, self.stop)
             self.moved |= sent.moved
             placed, drafts, refused = placed + sent.edits, drafts + sent.drafts, 0 if sent.drafts else refused
             if sent.refusal is None:
@@ -150,15 +156,11 @@ class Planner:
             print(f"a draft was refused as {sent.refusal['error']}, since another desk was quicker: the plan is read again", file=sys.stderr)
             if refused == MOST_REFUSED:
                 raise desk.Fault("others edit all the time; what was sent so far is in the plan")
-        return self.told(allocation, cuts, placed, drafts)
-
-    def told(self, allocation, cuts, placed, drafts):
-        """Prints what was done."""
         for line in words.left_lines(self.airport, allocation):
             print(f"left: {line}")
+        unsent = sum(map(len, planned)) - sent.edits
         print(f"{placed} edits are in the plan, in {drafts} drafts of the desk {self.desk.name}; {len(self.moved)} planned parts moved, "
-              f"and {sum(allocation.left)} parts are left")
-        return not self.stop()
+              f"and {sum(allocation.left)} parts are left" + (f"; {unsent} edits were not sent" if unsent else ""))
 
     def tell(self, picture, window, allocation, cuts):
         """Prints what would be done, what is left, and the score beside that of `propose`."""
@@ -172,7 +174,6 @@ class Planner:
             print(words.Score(self.airport, it, self.preferences).row(name))
         if self.given.draft:
             self.write(picture, desk.drafts_of(self.airport, allocation, cuts))
-        return True
 
     def write(self, picture, drafts):
         """Writes the file of a draft (docs/PLANNER.md)."""
@@ -184,13 +185,14 @@ class Planner:
 
 
 def main(about):
-    given, stop = asked(about), Stop()
+    given = asked(about)
     try:
-        is_done = Planner(given, stop).run()
+        server, stop = server_of(given), Stop()
+        Planner(given, server, stop).run()
     except (desk.Fault, preferences.Fault, OSError) as why:
         sys.exit(f"plan: {why}")
     except KeyboardInterrupt:
         sys.exit(130)
     if stop():
         print("plan: ended by Ctrl+C", file=sys.stderr)
-    sys.exit(130 if stop() else 0 if is_done else 1)
+        sys.exit(130)

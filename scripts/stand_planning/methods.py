@@ -43,10 +43,10 @@ def best_stand(allocation, part, is_tightest_first):
     return None if best is None else best[1]
 
 
-def place(allocation):
-    """Puts parts that wait on the best free stands."""
-    for part in waiting(allocation):
-        stand = best_stand(allocation, part, False)
+def place(allocation, parts, is_tightest_first=False):
+    """Puts these parts, one after the other, on the best free stands."""
+    for part in parts:
+        stand = best_stand(allocation, part, is_tightest_first)
         if stand is not None:
             allocation.put(part, stand)
     allocation.trail.clear()
@@ -54,17 +54,14 @@ def place(allocation):
 
 def fit(allocation):
     """Each part that waits gets the best free stand, class by class. Of four orders, which are two of the parts of a class and two of stands,
-    the one that does best is kept."""
-    parts, found = waiting(allocation), []
+    and of first fit, the one that does best is kept."""
+    parts, start, found = waiting(allocation), allocation.stands(), []
     orders = parts, sorted(parts, key=lambda it: (it.of_class, len(it.options), it.rank))
-    for is_tightest_first in (False, True):
-        for order in orders:
-            for part in order:
-                stand = best_stand(allocation, part, is_tightest_first)
-                if stand is not None:
-                    allocation.put(part, stand)
-            found.append((allocation.value(), len(found), allocation.stands()))
-            allocation.back_to(0)
+    ways = [lambda order=order, is_tightest_first=it: place(allocation, order, is_tightest_first) for it in (False, True) for order in orders]
+    for way in (*ways, lambda: first_fit(allocation)):
+        way()
+        found.append((allocation.value(), len(found), allocation.stands()))
+        allocation.settle(start)
     allocation.settle(min(found, key=lambda it: it[:2])[2])
 
 
@@ -98,7 +95,7 @@ def improve(allocation):
         for stand in part.options:
             if part.costs[stand] >= part.costs[part.stand] or is_cheaper(allocation, part, stand):
                 break
-    place(allocation)
+    place(allocation, waiting(allocation))
 
 
 def is_cheaper(allocation, part, stand):
@@ -198,7 +195,7 @@ def take_over(allocation, wanted):
         allocation.put(part, stand)
     if not allocation.is_allowed():
         allocation.settle(start)
-    place(allocation)
+    place(allocation, waiting(allocation))
     if value < allocation.value():
         allocation.settle(stands)
 

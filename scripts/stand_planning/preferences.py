@@ -38,14 +38,16 @@ class Preferences:
     """The records by stand, and the costs that were worked out. A stand without a record costs nothing."""
 
     def __init__(self, rules, records=()):
-        self.rules, self.records, self.known = rules, {it.stand: it for it in records}, {}
+        self.rules, self.records, self.known, self.homes = rules, {it.stand: it for it in records}, {}, {}
 
     def home(self, airline, type):
         """The kinds, the terminals and the areas of the stands that are meant for this airline and type, and that the type fits."""
-        number = self.rules.type_of[type]
-        named = [it for it in self.records.values() if it.names(airline, type) and self.rules.unfit(self.rules.stand_of[it.stand], number) is None]
-        kinds, terminals, areas = ({getattr(it, key) for it in named} for key in ("kind", "terminal", "area"))
-        return kinds or {"contact"}, terminals, areas
+        if (airline, type) not in self.homes:
+            number, stand_of = self.rules.type_of[type], self.rules.stand_of
+            named = [it for it in self.records.values() if it.names(airline, type) and self.rules.unfit(stand_of[it.stand], number) is None]
+            kinds, terminals, areas = ({getattr(it, key) for it in named} for key in ("kind", "terminal", "area"))
+            self.homes[airline, type] = kinds or {"contact"}, terminals, areas
+        return self.homes[airline, type]
 
     def costs(self, airline, type):
         """What a part of this airline and type costs on each stand that has a record: its cost, once for each column that does not suit."""
