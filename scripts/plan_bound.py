@@ -1,6 +1,6 @@
-"""How many parts any plan of an empty day has to leave, for scripts/plan-trials --bound: a whole model of the day as an integer program, which
-HiGHS solves (the Debian package python3-scipy). The model leaves out what folding wing tips and a few triples of stands forbid, so that
-what it finds is a bound and no plan: no plan leaves fewer."""
+"""How many parts any plan of an empty day has to leave, for scripts/plan-trials --bound: a whole model of the day, whose linear relaxation
+HiGHS solves (the Debian package python3-scipy). A part may be on fractions of stands, and wing tips that fold count as folded, so that
+what it finds is a bound and no plan: no plan leaves less."""
 
 import csv
 import io
@@ -100,12 +100,10 @@ def bounds(seconds, airport, visits, seed):
     at = [(row, column) for row, (columns, _) in enumerate(rows) for column in columns]
     matrix = scipy.sparse.csr_matrix((numpy.ones(len(at)), ([it[0] for it in at], [it[1] for it in at])), (len(rows), len(model.columns)))
     most = numpy.array([count for _, count in rows])
-    result = {"airport": airport, "visits": visits, "seed": seed, "state": "bound", "method": "", "limit": seconds}
+    result = {"airport": airport, "visits": visits, "seed": seed, "state": "bound", "method": "", "limit": None}
     for name, weight in (("least", lambda of_class: 1), ("weight", lambda of_class: 2 ** (9 - of_class))):
         worth = numpy.array([weight(parts[part][3]) for part, _ in model.columns])
         whole = sum(weight(of_class) for *_, of_class in parts)
-        told = scipy.optimize.milp(-worth, constraints=scipy.optimize.LinearConstraint(matrix, -numpy.inf, most), bounds=scipy.optimize.Bounds(0, 1),
-                                   integrality=numpy.ones(len(worth)), options={"time_limit": seconds})
-        bound = getattr(told, "mip_dual_bound", None)
-        result[name] = None if bound is None or not math.isfinite(bound) else max(0, math.ceil(whole + bound - 1e-6))
+        told = scipy.optimize.linprog(-worth, A_ub=matrix, b_ub=most, bounds=(0, 1), method="highs-ipm", options={"time_limit": seconds})
+        result[name] = max(0, math.ceil(whole + told.fun - 1e-4)) if told.status == 0 else None
     return [{**result, "columns": len(model.columns), "rows": len(rows), "seconds": round(time.process_time() - began, 1)}]
