@@ -2,6 +2,7 @@
 
 import statistics
 
+TITLES = {"empty": "Days that begin empty", "tidy": "Days of which 30 % is planned tidily, with the aircraft of the night on block"}
 ORDER = ["propose", "fit", "chain", "search", "chain --moves 10", "search --moves 10"]
 HEAD = ("| Airport, visits | Method | Left | Left by class, all seeds together | Weight left | Passengers on remote stands | Cost | Moves | "
         "Close gaps | Processor seconds | Drafts, refused |\n|---|---|---|---|---|---|---|---|---|---|---|")
@@ -39,7 +40,7 @@ def table(results):
             if row["state"] == state:
                 groups.setdefault((row["airport"], row["visits"], ORDER.index(row["method"]), row["limit"] or 0), []).append(row)
         seeds = sorted({len(rows) for rows in groups.values()})
-        parts.append(f"Days that begin {state}, {' or '.join(map(str, seeds))} seeds each:\n\n{HEAD}\n"
+        parts.append(f"{TITLES[state]}, {' or '.join(map(str, seeds))} seeds a size:\n\n{HEAD}\n"
                      + "\n".join(line(groups[key]) for key in sorted(groups, key=lambda key: (key[0] == "large", *key))))
     bounds = [it for it in results if it["state"] == "bound"]
     if bounds:
