@@ -70,7 +70,7 @@ def asked(about):
                                  formatter_class=argparse.RawDescriptionHelpFormatter)
     it.add_argument("server", metavar="SERVER", help="where the server is, as http://127.0.0.1:8080 or https://localhost:8443/ham")
     add_proxy_words(it)
-    it.add_argument("--preferences", metavar="FILE", help="where parts would rather stand (docs/FILES.md)")
+    it.add_argument("--preferences", metavar="FILE", help="where parts would rather stand (docs/reference/files.md)")
     it.add_argument("--from", dest="begin", type=lambda word: minute_of(word, False), metavar="TIME", help="where planning begins; else with the plan")
     it.add_argument("--to", dest="end", type=lambda word: minute_of(word, True), metavar="TIME", help="where planning ends; else with the plan")
     it.add_argument("--method", choices=["fit", "chain", "search"], default="fit", help="fit (if it is left out), chain or search")
@@ -176,7 +176,7 @@ class Planner:
             self.write(picture, desk.drafts_of(self.airport, allocation, cuts))
 
     def write(self, picture, drafts):
-        """Writes the file of a draft (docs/PLANNER.md)."""
+        """Writes the file of a draft (docs/guide/planner.md)."""
         value = {"station": self.airport.station, "first_day": self.airport.first_day, "version": picture.version, "base": picture.version,
                  "drafts": [len(it) for it in drafts], "edits": [edit for it in drafts for edit in it]}
         with open(self.given.draft, "w") as file:

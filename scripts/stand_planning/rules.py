@@ -1,4 +1,4 @@
-"""The rules of stands, as docs/FILES.md and docs/HTTP.md tell them: what fits a stand, which two stands exclude each other with aircraft of
+"""The rules of stands, as docs/reference/files.md and http.md tell them: what fits a stand, which two stands exclude each other with aircraft of
 given wing spans on them, and from which minute on two parts clash. Lengths are centimetres, times are minutes."""
 
 from typing import NamedTuple
