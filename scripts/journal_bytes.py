@@ -118,11 +118,11 @@ class Fields:
         self.entry, self.place = entry, 0
 
     def bytes(self, size):
-        taken = self.entry[self.place:self.place + size]
-        if len(taken) < size:
+        begin = self.place
+        self.place = begin + size
+        if self.place > len(self.entry):
             raise Unspelled("an entry is cut short")
-        self.place += size
-        return taken
+        return self.entry[begin:self.place]
 
     def number(self, size, most=2 ** 32 - 1):
         number = int.from_bytes(self.bytes(size), "little")
