@@ -12,7 +12,7 @@ import journal_bytes
 
 HERE = os.path.dirname(os.path.realpath(__file__))
 LAUNCHER = os.path.normpath(os.path.join(HERE, "..", "apron"))
-PROGRAM = LAUNCHER if os.path.exists(LAUNCHER) else "/usr/bin/apron"
+PROGRAM = LAUNCHER if os.path.isfile(LAUNCHER) else "/usr/bin/apron"
 NAMES = "airport.toml", "types.csv"
 # The status of a journal of format 2 whose new part can't be what an upgrade wrote.
 EMPTIED = 20
