@@ -153,9 +153,13 @@ class Hosts:
         self.gluster("volume", "start", VOLUME, "force")
 
         def is_whole():
-            said = self.gluster("volume", "heal", VOLUME, "info", "summary").stdout
-            return said.count("Status: Connected") == 3 and not re.search(r"Total Number of entries: [1-9]", said)
-        self.until(is_whole)
+            self.gluster("volume", "heal", VOLUME)
+            self.said = self.gluster("volume", "heal", VOLUME, "info", "summary").stdout
+            return self.said.count("Status: Connected") == 3 and not re.search(r"Total Number of entries: [1-9]", self.said)
+        try:
+            self.until(is_whole, 120)
+        except TimeoutError:
+            raise TimeoutError(f"the bricks do not heal: {self.said}") from None
 
     def brick_file(self, host, name):
         return self.place(host, "brick", VOLUME, name)
