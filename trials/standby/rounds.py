@@ -174,7 +174,8 @@ class Play:
 
     def is_back(self, it, other, first):
         """Whether the new server had ended before this reply of the old host, which then serves again by right."""
-        return not any(reply.host == other and reply.sent > it.came for desk in self.desks for reply in desk.taken) and self.units[other].process.poll() is not None
+        is_later = any(reply.host == other and reply.sent > it.came for desk in self.desks for reply in desk.taken)
+        return not is_later and self.units[other].process.poll() is not None
 
     def break_(self, kind, host):
         """Makes the fault, and says when."""
