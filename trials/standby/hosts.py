@@ -148,9 +148,14 @@ class Hosts:
         with open(path) as file:
             return int(file.read())
 
-    def heal(self):
-        """Starts bricks that are away, and waits until all have the same."""
+    def start_bricks(self):
+        """Starts bricks that are away, and waits until all are there. They heal while desks go on, and heal info then always has an entry."""
         self.gluster("volume", "start", VOLUME, "force")
+        self.until(lambda: self.gluster("volume", "heal", VOLUME, "info", "summary").stdout.count("Status: Connected") == 3)
+
+    def heal(self):
+        """Waits until all bricks have the same. Nobody may write meanwhile."""
+        self.start_bricks()
 
         def is_whole():
             self.gluster("volume", "heal", VOLUME)

@@ -200,9 +200,9 @@ class Play:
         elif kind == "cut":
             self.hosts.link(host, True)
             time.sleep(HOLD)
-            self.hosts.heal()
+            self.hosts.start_bricks()
         elif kind == "brick":
-            self.hosts.heal()
+            self.hosts.start_bricks()
         elif kind == "stop":
             os.kill(self.stopped, signal.SIGCONT)
 
