@@ -35,12 +35,12 @@ Taken = collections.namedtuple("Taken", "name version host sent came")
 class Unit(threading.Thread):
     """What apron-standby.service does on a host: it waits for the journal, runs the server under the watchdog, and begins again."""
 
-    def __init__(self, hosts, host, program, journal, is_written_back):
+    def __init__(self, hosts, host, program, journal, is_written_back, is_watched=True):
         super().__init__(daemon=True)
         self.hosts, self.host, self.over, self.ends, self.process = hosts, host, False, collections.Counter(), None
         wait = [os.path.join(SCRIPTS, "await-journal"), journal] if is_written_back else ["bash", "-c", ONLY_WAIT, journal]
         serve = [program, "serve", *FILES, "1000000", f"{NET[host]}:{PORT}", str(WORKERS), journal]
-        self.steps = wait, [os.path.join(SCRIPTS, "watchdog"), journal, *serve]
+        self.is_watched, self.steps = is_watched, (wait, [os.path.join(SCRIPTS, "watchdog"), journal, *serve] if is_watched else serve)
         self.start()
 
     def run(self):
@@ -57,12 +57,9 @@ class Unit(threading.Thread):
                 time.sleep(0.2)
 
     def server(self):
-        """The process of the server."""
-        return int(subprocess.run(["pgrep", "-P", str(self.watchdog())], stdout=subprocess.PIPE).stdout.split()[0])
-
-    def watchdog(self):
-        # nsenter becomes the command.
-        return self.process.pid
+        """The process of the server: nsenter becomes the watchdog, or the server itself."""
+        started = self.process.pid
+        return int(subprocess.run(["pgrep", "-P", str(started)], stdout=subprocess.PIPE).stdout.split()[0]) if self.is_watched else started
 
     def end(self):
         self.over = True
@@ -115,8 +112,8 @@ class Desk(threading.Thread):
 class Play:
     """A run of rounds on one new journal."""
 
-    def __init__(self, hosts, program, name, seed, is_written_back=True):
-        self.hosts, self.program, self.name, self.draw, self.is_written_back = hosts, program, name, random.Random(seed), is_written_back
+    def __init__(self, hosts, program, name, seed, is_watched=True):
+        self.hosts, self.program, self.name, self.draw, self.is_watched = hosts, program, name, random.Random(seed), is_watched
         self.times, self.faults, self.acknowledged = [], [], 0
         made = subprocess.run([*hosts.inside("a"), program, "init", *FILES, self.journal("a")], stdout=subprocess.PIPE)
         assert made.returncode == 0, made.stdout
@@ -125,7 +122,7 @@ class Play:
         return os.path.join(self.hosts.mount_of(host), self.name)
 
     def __enter__(self):
-        self.units = {host: Unit(self.hosts, host, self.program, self.journal(host), self.is_written_back) for host in SERVING}
+        self.units = {host: Unit(self.hosts, host, self.program, self.journal(host), True, self.is_watched) for host in SERVING}
         self.desks = [Desk(number, SERVING[0]) for number in range(DESKS)]
         return self
 
@@ -213,6 +210,9 @@ class Play:
         at = {name: version for version, name in enumerate(entries, 1)}
         replies = [it for desk in self.desks for it in desk.taken]
         self.acknowledged = len(replies)
+        alarms = sum(unit.ends[8] for unit in self.units.values())
+        if alarms:
+            self.faults.append(f"{alarms} servers found damage in the journal that is not there")
         lost = [it for it in replies if at.get(it.name) != it.version]
         if lost:
             self.faults.append(f"{len(lost)} acknowledged commands are lost or have another version, the first {lost[0].name} of version {lost[0].version}")
