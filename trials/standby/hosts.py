@@ -85,7 +85,7 @@ class Hosts:
         subprocess.run([*self.inside(host), "glusterd"], check=True)
 
     @staticmethod
-    def until(holds, seconds=60):
+    def until(holds, seconds=240):
         end = time.monotonic() + seconds
         while not holds():
             if time.monotonic() > end:
@@ -162,7 +162,7 @@ class Hosts:
             self.said = self.gluster("volume", "heal", VOLUME, "info", "summary").stdout
             return self.said.count("Status: Connected") == 3 and not re.search(r"Total Number of entries: [1-9]", self.said)
         try:
-            self.until(is_whole, 120)
+            self.until(is_whole)
         except TimeoutError:
             raise TimeoutError(f"the bricks do not heal: {self.said}") from None
 
