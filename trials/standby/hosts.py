@@ -150,8 +150,11 @@ class Hosts:
 
     def start_bricks(self):
         """Starts bricks that are away, and waits until all are there. They heal while desks go on, and heal info then always has an entry."""
-        self.gluster("volume", "start", VOLUME, "force")
-        self.until(lambda: self.gluster("volume", "heal", VOLUME, "info", "summary").stdout.count("Status: Connected") == 3)
+        def are_there():
+            # glusterd may not yet have seen that a brick has ended, or be busy.
+            self.gluster("volume", "start", VOLUME, "force")
+            return self.gluster("volume", "heal", VOLUME, "info", "summary").stdout.count("Status: Connected") == 3
+        self.until(are_there)
 
     def heal(self):
         """Waits until all bricks have the same. Nobody may write meanwhile."""

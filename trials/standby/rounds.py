@@ -112,8 +112,8 @@ class Desk(threading.Thread):
 class Play:
     """A run of rounds on one new journal."""
 
-    def __init__(self, hosts, program, name, seed, is_watched=True):
-        self.hosts, self.program, self.name, self.draw, self.is_watched = hosts, program, name, random.Random(seed), is_watched
+    def __init__(self, hosts, program, name, seed, without=None):
+        self.hosts, self.program, self.name, self.draw, self.without = hosts, program, name, random.Random(seed), without
         self.times, self.faults, self.acknowledged = [], [], 0
         made = subprocess.run([*hosts.inside("a"), program, "init", *FILES, self.journal("a")], stdout=subprocess.PIPE)
         assert made.returncode == 0, made.stdout
@@ -122,7 +122,9 @@ class Play:
         return os.path.join(self.hosts.mount_of(host), self.name)
 
     def __enter__(self):
-        self.units = {host: Unit(self.hosts, host, self.program, self.journal(host), True, self.is_watched) for host in SERVING}
+        # What await-journal and the watchdog do would hide for what the setting is needed.
+        ways = self.without != "attribute-timeout", self.without != "strict-locks"
+        self.units = {host: Unit(self.hosts, host, self.program, self.journal(host), *ways) for host in SERVING}
         self.desks = [Desk(number, SERVING[0]) for number in range(DESKS)]
         return self
 
