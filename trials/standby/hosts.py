@@ -52,6 +52,10 @@ class Hosts:
         with open(f"{self.place(host)}.holder") as file:
             return ["nsenter", "-t", file.read().strip(), "-m", "-n", "-u", "--"]
 
+    def are_there(self):
+        """Whether another trial has made hosts."""
+        return any(self.netns(host) in run("ip", "netns", "list").stdout.split() for host in (*HOSTS, "d"))
+
     def up(self):
         """Makes the hosts, their network, and the volume."""
         ip = lambda *words: subprocess.run(["ip", *words], check=True)
