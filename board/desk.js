@@ -1,101 +1,59 @@
-// The desk that a tab is, and its requests to the server: who it is, what it keeps in the browser, and one request at a time.
+// The desk that a tab is: its name, the lock of that name, and the count of its drafts.
 
-const READ_PATIENCE = 5000;
-const COMMAND_PATIENCE = 30000;
-const HERE = new URL(".", location.href).pathname;
+import { HERE, keep, read } from "./store.js";
 
-export function read(store, key, otherwise) {
-  try {
-    return JSON.parse(store.getItem(`apron ${HERE} ${key}`)) ?? otherwise;
-  } catch {
-    return otherwise;
-  }
+// A tab is a desk of its own, by the user's name and random letters. What a tab keeps is copied when the tab is duplicated: so a desk is
+// the one of the page that has the lock of its name, and any other page takes new letters. A name is used only once its lock is held.
+const state = { name: "", drafts: 0, isHeld: false };
+const LOCK_PATIENCE = 1500;
+
+export const deskName = () => state.name;
+export const isHeld = () => state.isHeld;
+
+// The next number of this desk's drafts. It is kept before it is used, so that it is never used twice.
+export function nextDraft() {
+  state.drafts += 1;
+  keep(sessionStorage, "desk", { name: state.name, drafts: state.drafts });
+  return state.drafts;
 }
 
-// Where a browser keeps nothing, the page does without: a reload then makes a new desk.
-export function keep(store, key, value) {
-  try {
-    store.setItem(`apron ${HERE} ${key}`, JSON.stringify(value));
-  } catch {
-    // There is nobody to tell.
-  }
-}
-
-// A tab is a desk of its own, by the user's name and random letters. What a tab keeps is copied when the tab is duplicated: so a desk
-// is the one of the page that has the lock of its name, and any other page takes new letters. Where the browser has no locks each
-// page is a new desk.
-export const desk = { name: "", drafts: 0 };
-
-export function newDesk(user) {
+// Makes a new name for this tab, and resolves once its lock is held. Nobody else can have the lock of new letters, so there is no limit of
+// time. Where the browser has no locks a new name is this page's alone.
+export async function newDesk(user) {
   const letters = [...crypto.getRandomValues(new Uint8Array(6))].map((byte) => String.fromCharCode(65 + (byte % 26))).join("");
-  desk.name = `${user.slice(0, 5)}-${letters}`;
-  desk.drafts = 0;
-  holdLock(desk.name, 100);
-  keep(sessionStorage, "desk", desk);
+  Object.assign(state, { name: `${user.slice(0, 5)}-${letters}`, drafts: 0, isHeld: false });
+  keep(sessionStorage, "desk", { name: state.name, drafts: 0 });
+  const { name } = state;
+  if (navigator.locks !== undefined) await held(name);
+  if (state.name === name) state.isHeld = true;
 }
 
-// Whether this page has the lock of the desk, which it then keeps until it ends.
-function holdLock(name, patience) {
-  if (navigator.locks === undefined) return Promise.resolve(false);
+const lockOf = (name) => `apron ${HERE} ${name}`;
+
+// Resolves with whether this page has the lock of the name, which it then keeps until it ends.
+function held(name, options = {}) {
   return new Promise((done) => {
     const taken = () => {
       done(true);
       return new Promise(() => {});
     };
-    navigator.locks.request(`apron ${HERE} ${name}`, { signal: AbortSignal.timeout(patience) }, taken).catch(() => done(false));
+    navigator.locks.request(lockOf(name), options, taken).catch(() => done(false));
   });
 }
 
-// Takes up the desk that this tab had before a reload, or makes a new one of the user's name. Gives whether the draft that the tab kept is
-// this page's: that of a tab that this one was copied from will be sent there.
+// Takes up the desk that this tab had before a reload, or makes a new one of the user's name. Gives the name of the desk that the tab kept,
+// and whether it is this page's: the draft of a tab that this one was copied from will be sent there.
 export async function takeDesk(user) {
   const kept = read(sessionStorage, "desk", null);
-  const held = kept !== null && (await holdLock(kept.name, 1500));
-  if (held) Object.assign(desk, kept);
-  else newDesk(user);
-  return held || navigator.locks === undefined;
+  const isOurs = kept !== null && navigator.locks !== undefined && (await held(kept.name, { signal: AbortSignal.timeout(LOCK_PATIENCE) }));
+  if (isOurs) Object.assign(state, kept, { isHeld: true });
+  else await newDesk(user);
+  return { before: kept?.name ?? null, isOurs: isOurs || navigator.locks === undefined };
 }
 
-export const link = { turn: Promise.resolve(), seen: read(sessionStorage, "seen", 0), fresh: null, trouble: null };
-
-// Asks the server, after every earlier ask of this page has its reply: so there is one connection at most. The reply's status is 0 where
-// none came.
-export function ask(method, target, { body, desk: named } = {}) {
-  const asked = link.turn.then(() => exchange(method, target, body, named));
-  link.turn = asked;
-  return asked;
+// The desks of other pages of this browser that are open now.
+export async function openDesks() {
+  if (navigator.locks === undefined) return [];
+  const { held: all } = await navigator.locks.query();
+  return all.map(({ name }) => name).filter((name) => name.startsWith(lockOf(""))).map((name) => name.slice(lockOf("").length));
 }
-
-async function exchange(method, target, body, named) {
-  const headers = { "X-Seen": String(link.seen) };
-  if (named) headers["X-Desk"] = named;
-  const patience = method === "GET" ? READ_PATIENCE : COMMAND_PATIENCE;
-  try {
-    const got = await fetch(target, { method, body, headers, cache: "no-store", redirect: "error", signal: AbortSignal.timeout(patience) });
-    const text = await got.text();
-    learn(Number(got.headers.get("X-Version") ?? 0));
-    return { status: got.status, body: parsed(text) };
-  } catch {
-    return { status: 0, body: {} };
-  }
-}
-
-function parsed(text) {
-  try {
-    return JSON.parse(text);
-  } catch {
-    return {};
-  }
-}
-
-function learn(version) {
-  if (version > link.seen) {
-    link.seen = version;
-    keep(sessionStorage, "seen", version);
-  }
-}
-
-// Whether a reply says if the command was taken. Without one it is asked for again.
-export const isAnswer = ({ status }) => status === 200 || (status >= 400 && status < 500);
-export const post = (target, said, named) => ask("POST", target, { body: JSON.stringify(said), desk: named });
-export const pause = (time) => new Promise((done) => setTimeout(done, time));
