@@ -1,0 +1,169 @@
+"""The contracts of the crates as the sources have them: public calls with their clauses, and the claims of guarantees.md that cite them."""
+import os
+import re
+from typing import NamedTuple
+
+TOP = os.path.dirname(os.path.dirname(os.path.abspath(__file__)))
+GUARANTEES = "docs/assurance/guarantees.md"
+BLOCK = re.compile(r"(?:impl|(?:pub )?trait)\b")
+CALL = re.compile(r"( *)(?:pub )?fn (\w+)")
+CLAUSE = re.compile(r" +ensures (\w+) \{")
+CITED = re.compile(r"`(\w+)` `([\w: ]+)`: ((?:`\w+`(?:, )?)+)")
+
+
+class Clause(NamedTuple):
+    """A clause by its name, with its text and the comment before it."""
+    name: str
+    text: str
+    comment: str
+
+
+class Call(NamedTuple):
+    """A public call: its crate, its file, its name, the lines of its doc comment, and its clauses."""
+    crate: str
+    path: str
+    name: str
+    doc: list
+    clauses: list
+
+
+def text_of(path):
+    with open(os.path.join(TOP, path), encoding="utf-8") as file:
+        return file.read()
+
+
+def crates():
+    """The crates in the order of crates.txt, each with those that it stands on and the title of its part of the list."""
+    found, title = {}, ""
+    for line in text_of("crates.txt").split("\n"):
+        if line.startswith("#"):
+            title = line[1:].strip()
+        elif ":" in line:
+            name, _, rest = line.partition(":")
+            found[name.split()[0]] = (rest.split(), title)
+    return found
+
+
+def files_of(crate):
+    """The files of code of a crate, without its tests."""
+    for folder, folders, names in sorted(os.walk(os.path.join(TOP, "crates", crate, "src"))):
+        folders[:] = [name for name in folders if name != "tests"]
+        for name in sorted(names):
+            if name.endswith(".rt") and name != "tests.rt":
+                yield os.path.relpath(os.path.join(folder, name), TOP)
+
+
+def exports(crate):
+    """The names that a crate shows, and those of its public modules."""
+    path = f"crates/{crate}/src/lib.rt"
+    text = text_of(path) if os.path.exists(os.path.join(TOP, path)) else ""
+    names = re.findall(r"\w+", " ".join(re.findall(r"^pub use \w+((?:::\w+)*(?:::\{.*?\})?);", text, re.M | re.S)))
+    return set(names), set(re.findall(r"^pub mod (\w+);", text, re.M))
+
+
+def without_generics(text):
+    """The text without what is between < and >."""
+    kept, depth = [], 0
+    for place, letter in enumerate(text):
+        depth += letter == "<"
+        if depth == 0:
+            kept.append(letter)
+        depth -= letter == ">" and text[place - 1] != "-"
+    return "".join(kept)
+
+
+def owner_of(head):
+    """What a block of calls belongs to: `Type`, `Trait`, or `Type as Trait`; and the name that has to be public."""
+    words = without_generics(head.split("{")[0].split(" where ")[0]).replace("pub ", "").split()
+    if words[0] == "trait":
+        name = words[1].rstrip(":")
+        return name, name
+    if "for" in words:
+        at = words.index("for")
+        kind = words[at + 1].lstrip("&").split("::")[-1]
+        return f"{kind} as {words[at - 1].split('::')[-1]}", kind
+    return words[1], words[1]
+
+
+def clauses_in(lines):
+    """The clauses of the head of a call."""
+    found, name, text, comment = [], None, [], []
+    for line in lines:
+        begins = CLAUSE.match(line)
+        other = re.match(r" +(requires|measure|decreases) ", line)
+        if (begins or other) and name:
+            found.append(Clause(name, "\n".join(text), " ".join(comment)))
+            name, text, comment = None, [], []
+        if line.strip().startswith("//"):
+            if name:
+                found.append(Clause(name, "\n".join(text), " ".join(comment)))
+                name, text, comment = None, [], []
+            comment.append(line.strip().lstrip("/ "))
+        elif begins:
+            name, text = begins[1], [line]
+        elif other:
+            comment = []
+        elif name:
+            text.append(line)
+    return found + ([Clause(name, "\n".join(text), " ".join(comment))] if name else [])
+
+
+def head_of(lines, at, indent):
+    """The lines of the head of the call that begins at this line, up to its body or its semicolon."""
+    depth = 0
+    for end in range(at, len(lines)):
+        line = lines[end]
+        if depth == 0 and (line.startswith(indent + "{") or line.startswith((indent + ")", indent + "pub", indent + "fn")) and line.endswith(("{", "{}"))):
+            return lines[at:end]
+        depth += line.count("{") - line.count("}")
+        if depth == 0 and line.endswith(";"):
+            return lines[at:end + 1]
+    return lines[at:]
+
+
+def doc_before(lines, at):
+    """The doc comment right before a line."""
+    found = []
+    while at > 0 and lines[at - 1].strip().startswith(("///", "#[")):
+        at -= 1
+        if lines[at].strip().startswith("///"):
+            found.append(lines[at].strip()[3:].strip())
+    return found[::-1]
+
+
+def calls_in(crate, path, shown, modules):
+    """The public calls of a file that have clauses."""
+    lines = text_of(path).split("\n")
+    module = path.split("/src/")[1].split("/")[0].removesuffix(".rt")
+    owner, public, trait = "", "", False
+    for at, line in enumerate(lines):
+        if BLOCK.match(line):
+            end = next(it for it in range(at, len(lines)) if "{" in lines[it])
+            owner, public = owner_of(" ".join(lines[at:end + 1]))
+            trait = line.startswith(("pub trait", "trait")) or " as " in owner
+        elif line == "}":
+            owner, public, trait = "", "", False
+        found = CALL.match(line)
+        if not found or (found[1] == "") != (owner == "") or len(found[1]) > 4:
+            continue
+        if not (trait or line.strip().startswith("pub ")) or (public or found[2]) not in shown and module not in modules:
+            continue
+        clauses = clauses_in(head_of(lines, at, found[1]))
+        if clauses:
+            yield Call(crate, path, f"{owner}::{found[2]}" if owner else found[2], doc_before(lines, at), clauses)
+
+
+def calls_of(crate):
+    shown, modules = exports(crate)
+    return [call for path in files_of(crate) for call in calls_in(crate, path, shown, modules)]
+
+
+def claims():
+    """The claims of guarantees.md: by its name, what it says, and the crate, call and clauses of each citation."""
+    found = {}
+    for line in text_of(GUARANTEES).split("\n"):
+        row = re.fullmatch(r"\| \*\*([\w -]+)\*\*[.:] (.*) \| (.*) \|", line)
+        if row:
+            cited = [(crate, call, re.findall(r"\w+", names)) for crate, call, names in CITED.findall(row[3])]
+            found[row[1].lower().replace(" ", "-")] = (row[2], cited)
+    return found
