@@ -92,11 +92,11 @@ def clauses_in(lines):
         begins = CLAUSE.match(line)
         other = re.match(r" +(requires|measure|decreases) ", line)
         if (begins or other) and name:
-            found.append(Clause(name, "\n".join(text), " ".join(comment)))
+            found.append(Clause(name, "\n".join(text).rstrip(), " ".join(comment)))
             name, text, comment = None, [], []
         if line.strip().startswith("//"):
             if name:
-                found.append(Clause(name, "\n".join(text), " ".join(comment)))
+                found.append(Clause(name, "\n".join(text).rstrip(), " ".join(comment)))
                 name, text, comment = None, [], []
             comment.append(line.strip().lstrip("/ "))
         elif begins:
@@ -105,7 +105,7 @@ def clauses_in(lines):
             comment = []
         elif name:
             text.append(line)
-    return found + ([Clause(name, "\n".join(text), " ".join(comment))] if name else [])
+    return found + ([Clause(name, "\n".join(text).rstrip(), " ".join(comment))] if name else [])
 
 
 def head_of(lines, at, indent):
