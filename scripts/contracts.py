@@ -7,7 +7,9 @@ TOP = os.path.dirname(os.path.dirname(os.path.abspath(__file__)))
 GUARANTEES = "docs/assurance/guarantees.md"
 BLOCK = re.compile(r"(?:impl|(?:pub )?trait)\b")
 CALL = re.compile(r"( *)(?:pub )?fn (\w+)")
-CLAUSE = re.compile(r" +ensures (\w+) \{")
+CLAUSE = re.compile(r" +(ensures|requires|measure|decreases) (\w+)")
+# The last line of the head of a call without clauses.
+BODY = re.compile(r"^ {0,4}(?:\)|pub |fn ).*\{\}?$")
 CITED = re.compile(r"`(\w+)` `([\w: ]+)`: ((?:`\w+`(?:, )?)+)")
 
 
@@ -86,26 +88,21 @@ def owner_of(head):
 
 
 def clauses_in(lines):
-    """The clauses of the head of a call."""
-    found, name, text, comment = [], None, [], []
+    """The clauses of the head of a call, each with the comment right before it."""
+    found, text, comment = [], None, []
     for line in lines:
         begins = CLAUSE.match(line)
-        other = re.match(r" +(requires|measure|decreases) ", line)
-        if (begins or other) and name:
-            found.append(Clause(name, "\n".join(text).rstrip(), " ".join(comment)))
-            name, text, comment = None, [], []
         if line.strip().startswith("//"):
-            if name:
-                found.append(Clause(name, "\n".join(text).rstrip(), " ".join(comment)))
-                name, text, comment = None, [], []
+            text = None
             comment.append(line.strip().lstrip("/ "))
         elif begins:
-            name, text = begins[1], [line]
-        elif other:
+            text = [line] if begins[1] == "ensures" else None
+            if text:
+                found.append((begins[2], text, " ".join(comment)))
             comment = []
-        elif name:
+        elif text:
             text.append(line)
-    return found + ([Clause(name, "\n".join(text).rstrip(), " ".join(comment))] if name else [])
+    return [Clause(name, "\n".join(text).rstrip(), comment) for name, text, comment in found]
 
 
 def head_of(lines, at, indent):
@@ -113,7 +110,7 @@ def head_of(lines, at, indent):
     depth = 0
     for end in range(at, len(lines)):
         line = lines[end]
-        if depth == 0 and (line.startswith(indent + "{") or line.startswith((indent + ")", indent + "pub", indent + "fn")) and line.endswith(("{", "{}"))):
+        if depth == 0 and (line.startswith(indent + "{") or BODY.search(line)):
             return lines[at:end]
         depth += line.count("{") - line.count("}")
         if depth == 0 and line.endswith(";"):
