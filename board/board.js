@@ -1,5 +1,5 @@
 // The board: the plan of an airport's stands on a large screen, and changes to it. It talks to the server that serves this page, by the
-// requests of docs/HTTP.md, and shows what comes from there as text alone. docs/BOARD.md says how it is used. This module starts the page:
+// requests of docs/reference/http.md, and shows what comes from there as text alone. docs/guide/board.md says how it is used. This module starts the page:
 // it joins the others, and does nothing of their work.
 
 import * as axis from "./axis.js";

@@ -1,4 +1,4 @@
-// Whether a reply is the server's (docs/HTTP.md), and in words what it is where it is not: a page of a proxy, a body that is cut short,
+// Whether a reply is the server's (docs/reference/http.md), and in words what it is where it is not: a page of a proxy, a body that is cut short,
 // another status, or none at all. Everything that comes from outside is tested here once; the other modules rely on it.
 
 /**

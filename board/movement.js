@@ -1,4 +1,4 @@
-// The movement message that says given times of a visit (docs/MESSAGES.md): an estimate or a fact of its touchdown, or of its off block.
+// The movement message that says given times of a visit (docs/reference/messages.md): an estimate or a fact of its touchdown, or of its off block.
 
 import { DAY } from "./rules.js";
 import { effectOf, minuteOf, monthDayOf, planDayOf, meantOf, readMvt } from "./mvt.js";

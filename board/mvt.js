@@ -1,4 +1,4 @@
-// The text of a movement message as the server reads it, and what it says of which visit (docs/MESSAGES.md).
+// The text of a movement message as the server reads it, and what it says of which visit (docs/reference/messages.md).
 
 import { DAY } from "./rules.js";
 import { arrived, departed, isLive, offExpected, pushed } from "./visits.js";

@@ -1,4 +1,4 @@
-// A first-fit draft for the parts that wait, as the server's own command proposes one (docs/COMMANDS.md): by rank, each on the first stand of the
+// A first-fit draft for the parts that wait, as the server's own command proposes one (docs/reference/cli.md): by rank, each on the first stand of the
 // airport file that it fits. It does not look ahead.
 
 import { firstClash, indexOf, slotOn, unfitOf } from "./rules.js";

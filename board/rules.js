@@ -1,4 +1,4 @@
-// The rules of stands, as the server has them (docs/FILES.md and docs/HTTP.md): what keeps an aircraft off a stand, and when two exclude
+// The rules of stands, as the server has them (docs/reference/files.md and docs/reference/http.md): what keeps an aircraft off a stand, and when two exclude
 // each other. Nothing here knows of a page. Times are minutes from 00:00 UTC of the plan's first day, lengths are centimetres.
 
 /**

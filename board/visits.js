@@ -1,4 +1,4 @@
-// What an edit or a fact does to the parts of one visit (docs/HTTP.md, A commit, and docs/MESSAGES.md), and what a visit is: its flight,
+// What an edit or a fact does to the parts of one visit (docs/reference/http.md, A commit, and docs/reference/messages.md), and what a visit is: its flight,
 // its rank, its days. A visit that is given is left as it is.
 
 import { DAY, MOST_PARTS, unfitOf } from "./rules.js";

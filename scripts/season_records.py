@@ -1,4 +1,4 @@
-"""The records of a season file (docs/FILES.md), in minutes of a plan or by times of day and days of operation. It needs Python 3 alone."""
+"""The records of a season file (docs/reference/files.md), in minutes of a plan or by times of day and days of operation. It needs Python 3 alone."""
 
 import collections
 import csv

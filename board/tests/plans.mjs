@@ -1,4 +1,4 @@
-// What the tests share: the demo airport of docs/FILES.md as GET /airport tells it, an airport of folding wing tips, and visits.
+// What the tests share: the demo airport of docs/reference/files.md as GET /airport tells it, an airport of folding wing tips, and visits.
 
 import { letterOf, modelOf } from "../rules.js";
 

@@ -1,4 +1,4 @@
-// Messages, and what a message, a report or a cancel would do, against docs/MESSAGES.md and the example sessions.
+// Messages, and what a message, a report or a cancel would do, against docs/reference/messages.md and the example sessions.
 
 import assert from "node:assert/strict";
 import { test } from "node:test";

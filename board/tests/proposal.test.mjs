@@ -1,4 +1,4 @@
-// First fit, against docs/COMMANDS.md, What `propose` prints.
+// First fit, against docs/reference/cli.md, What `propose` prints.
 
 import assert from "node:assert/strict";
 import { test } from "node:test";

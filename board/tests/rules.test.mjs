@@ -1,4 +1,4 @@
-// The rules of stands against the worked cases of docs/FILES.md, docs/HTTP.md and the example sessions.
+// The rules of stands against the worked cases of docs/reference/files.md, docs/reference/http.md and the example sessions.
 
 import assert from "node:assert/strict";
 import { test } from "node:test";

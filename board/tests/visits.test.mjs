@@ -1,4 +1,4 @@
-// What edits, estimates and facts do to the parts of a visit, against docs/HTTP.md and docs/MESSAGES.md.
+// What edits, estimates and facts do to the parts of a visit, against docs/reference/http.md and docs/reference/messages.md.
 
 import assert from "node:assert/strict";
 import { test } from "node:test";
