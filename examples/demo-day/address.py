@@ -1,5 +1,5 @@
-"""The address of the demonstration: the board's files and the server's routes at one port of 127.0.0.1, each reply with the time of the
-demonstration's clock and with a field that says that this is training. It hands requests on over a few connections that it keeps."""
+"""One address of 127.0.0.1 for the board's files and the server's routes. Each reply has the time of a clock, and fields that it is given. It
+hands requests on over a few connections that it keeps."""
 
 import email.utils
 import http.client
@@ -23,16 +23,16 @@ class Address(http.server.ThreadingHTTPServer):
     allow_reuse_address = True
     request_queue_size = 128
 
-    def __init__(self, port, board, clock):
-        super().__init__(("127.0.0.1", port), Exchange)
-        self.board, self.clock, self.links = board, clock, queue.LifoQueue()
+    def __init__(self, port, board, clock, fields, exchange=None):
+        super().__init__(("127.0.0.1", port), exchange or Exchange)
+        self.board, self.clock, self.fields, self.links = board, clock, fields, queue.LifoQueue()
 
     @property
     def port(self):
         return self.server_address[1]
 
     def lead_to(self, port):
-        """Has requests handed on to the server at a port."""
+        """Has requests handed on to the server at a port of this machine."""
         for _ in range(CONNECTIONS):
             self.links.put(http.client.HTTPConnection("127.0.0.1", port, timeout=PATIENCE))
 
@@ -109,7 +109,7 @@ class Exchange(http.server.BaseHTTPRequestHandler):
     def reply(self, code, body, fields):
         self.send_response_only(code)
         whole = {"Content-Type": "application/json", **fields, "Date": email.utils.formatdate(self.server.clock.seconds(), usegmt=True),
-                 "X-Training": "yes", "Cache-Control": "no-cache", "Content-Security-Policy": POLICY, "X-Content-Type-Options": "nosniff"}
+                 "Cache-Control": "no-cache", "Content-Security-Policy": POLICY, "X-Content-Type-Options": "nosniff", **self.server.fields}
         if code != 204:
             whole["Content-Length"] = str(len(body))
         for name, value in whole.items():

@@ -18,6 +18,8 @@ from program import Link, Server, Unable
 from timetable import visits_of, write_airport, write_season
 
 STATION = "LRG"
+# The field by which the board knows that nothing here is real.
+TRAINING = {"X-Training": "yes"}
 YESTERDAY, TODAY, TOMORROW = 1, 2, 3
 # Today is played at once from the evening before on, in steps of so many minutes.
 EVENING, STEP = 300, 15
@@ -33,7 +35,7 @@ class Demo:
     def __init__(self, program, board, port, speed, seed, at):
         self.clock, self.seed, self.stack, self.failed = Clock(speed, at), seed, contextlib.ExitStack(), threading.Event()
         try:
-            self.address = Address(port, board, self.clock)
+            self.address = Address(port, board, self.clock, TRAINING)
         except OSError as why:
             taken = why.errno == errno.EADDRINUSE
             words = f"port {port} of 127.0.0.1 is taken: end what uses it, or choose another port with --port" if taken else f"port {port}: {why.strerror}"

@@ -1,0 +1,167 @@
+"""A page with the board, and the hands and eyes of the person before it."""
+
+import contextlib
+import json
+import os
+import time
+
+import served
+from board_trials.chromium import CONTROL, SHIFT, Broken
+
+CLOCK = os.path.join(os.path.dirname(os.path.abspath(__file__)), "clock.js")
+PICTURES = os.path.normpath(os.path.join(served.HERE, "..", "out", "board"))
+SETTINGS = {"name": "ANNA", "zone": "", "theme": "night", "rows": "normal"}
+
+
+def wait(what, holds, patience=20.0):
+    """Waits until this holds, and gives what it then is."""
+    until = time.monotonic() + patience
+    while True:
+        with contextlib.suppress(Broken):
+            found = holds()
+            if found:
+                return found
+        assert time.monotonic() < until, f"after {patience} s it is not so: {what}"
+        time.sleep(0.03)
+
+
+def waiting_item(visit):
+    """The selector of a visit's first part in the list of those that wait."""
+    return f'.wait[data-key="{visit}.1"]'
+
+
+def bar_of(visit, part=1):
+    return f'[id="p{visit}.{part}"]'
+
+
+class Desk:
+    """A board in a page of its own. Its clock runs ahead of the machine's, if it is given how far."""
+
+    def __init__(self, page, origin, ahead=None, **settings):
+        self.page, self.origin = page, origin
+        if ahead is not None:
+            with open(CLOCK) as file:
+                page.before_scripts(file.read().replace("AHEAD", str(round(1000 * ahead))))
+        kept = json.dumps(json.dumps({**SETTINGS, **settings}))
+        page.before_scripts(f"try {{ if (!localStorage.getItem('apron / settings')) localStorage.setItem('apron / settings', {kept}); }} catch {{}}")
+
+    def open(self, query="", bars=True):
+        self.page.go(f"{self.origin}/{query}")
+        if bars:
+            wait("the board has bars", lambda: self.count(".bar"))
+        return self
+
+    def reload(self, bars=True):
+        self.page.reload()
+        time.sleep(0.2)
+        if bars:
+            wait("the board has bars", lambda: self.count(".bar"))
+
+    def run(self, script, *words):
+        return self.page.run(script, *words)
+
+    def move(self, seconds):
+        """Moves the page's clock on."""
+        self.run("moveClock(args[0])", 1000 * seconds)
+
+    # ---- eyes
+
+    def count(self, selector):
+        return self.run("return document.querySelectorAll(args[0]).length", selector)
+
+    def shown(self, selector):
+        """How many elements are there and can be seen."""
+        return self.run("return [...document.querySelectorAll(args[0])].filter((it) => it.checkVisibility({ visibilityProperty: true })).length", selector)
+
+    def one(self, selector, patience=20.0):
+        wait(f"there is {selector}", lambda: self.count(selector), patience)
+
+    def text(self, selector="body"):
+        return self.run("return document.querySelector(args[0])?.textContent ?? ''", selector)
+
+    def texts(self, selector):
+        return self.run("return [...document.querySelectorAll(args[0])].map((it) => it.textContent)", selector)
+
+    def key_of(self, selector):
+        """The visit and the part that an element is of."""
+        return wait(f"there is {selector}", lambda: self.run("return document.querySelector(args[0])?.dataset.key", selector))
+
+    def attribute(self, selector, name):
+        return self.run("return document.querySelector(args[0])?.getAttribute(args[1]) ?? null", selector, name)
+
+    def place_of(self, selector):
+        """Where an element is in the window, in pixels."""
+        self.one(selector)
+        return self.run("return document.querySelector(args[0]).getBoundingClientRect().toJSON()", selector)
+
+    def middle(self, selector):
+        """The middle of what is in sight of an element, after it is brought there."""
+        self.one(selector)
+        return self.run("""
+            const it = document.querySelector(args[0]);
+            it.scrollIntoView({ block: "nearest", inline: "nearest" });
+            await new Promise((go) => requestAnimationFrame(() => requestAnimationFrame(go)));
+            const box = document.querySelector(args[0]).getBoundingClientRect(); const side = document.querySelector("#s0, .stand")?.getBoundingClientRect();
+            const chart = document.getElementById("chart").getBoundingClientRect(); const inside = document.querySelector(args[0]).closest("#rows") !== null;
+            const left = inside ? Math.max(box.left, side.right) : box.left; const right = inside ? Math.min(box.right, chart.right) : box.right;
+            return [(left + Math.max(right, left + 2)) / 2, box.top + box.height / 2];
+        """, selector)
+
+    def row_of(self, stand):
+        """The place of a stand's name in the window, after it is brought there."""
+        return self.run("""
+            const find = () => [...document.querySelectorAll(".row")].find((row) => row.querySelector(".stand b")?.textContent === args[0]);
+            const chart = document.getElementById("chart");
+            for (let top = 0; !find() && top < chart.scrollHeight; top += 200) {
+              chart.scrollTop = top;
+              await new Promise((go) => requestAnimationFrame(() => requestAnimationFrame(go)));
+            }
+            find().scrollIntoView({ block: "nearest" });
+            await new Promise((go) => requestAnimationFrame(() => requestAnimationFrame(go)));
+            const box = find().querySelector(".stand").getBoundingClientRect();
+            return [box.left + box.width / 2, box.top + box.height / 2];
+        """, stand)
+
+    # ---- hands
+
+    def click(self, selector, modifiers=0, clicks=1):
+        self.page.click_at(*self.middle(selector), modifiers=modifiers, clicks=clicks)
+
+    def keys(self, *keys):
+        for key in keys:
+            self.page.key(key)
+
+    def control(self, key):
+        self.page.key(key, CONTROL)
+
+    def shift(self, key):
+        self.page.key(key, SHIFT)
+
+    def fill(self, selector, text):
+        """Types a text into a field in place of what it had."""
+        self.one(selector)
+        self.run("const it = document.querySelector(args[0]); it.focus(); it.select?.()", selector)
+        self.page.type(text)
+
+    def drag(self, source, stand):
+        """Drags an element to the row of a stand."""
+        end = self.row_of(stand)
+        begin = self.middle(source)
+        end = self.row_of(stand) if self.run("return document.querySelector(args[0]).closest('#rows') === null", source) else end
+        self.page.drag_through([begin, (begin[0] + 9, begin[1] + 9), (end[0] + 60, end[1]), (end[0], end[1]), (end[0], end[1])])
+
+    def message(self, text):
+        """Takes in a message by the dialogue."""
+        self.keys("t")
+        self.fill("#f-text", text)
+        self.click("#dialog button[type=submit]")
+
+    def publish(self):
+        self.click("#send")
+
+    def picture(self, name):
+        os.makedirs(PICTURES, exist_ok=True)
+        self.page.picture(os.path.join(PICTURES, f"{name}.png"))
+
+    def close(self):
+        self.page.close()
