@@ -57,6 +57,9 @@ class Exchange(http.server.BaseHTTPRequestHandler):
         super().setup()
         self.request.setsockopt(socket.SOL_SOCKET, socket.SO_KEEPALIVE, 1)
 
+    def log_message(self, *_):
+        """What a browser asks, and that it is silent, is nothing to tell."""
+
     def is_foreign(self):
         """Whether a page of another site asks, or a name of another machine leads here."""
         host = self.headers.get("Host", "")

@@ -1,5 +1,5 @@
 """The trials of the board, by subject."""
 
-from board_trials import basic
+from board_trials import basic, cost, drafts, faults, firefox, judged, looks, night, safe, warnings, work
 
-TRIALS = (*basic.TRIALS,)
+TRIALS = tuple(trial for subject in (basic, drafts, faults, night, warnings, work, safe, looks, judged, firefox, cost) for trial in subject.TRIALS)

@@ -94,7 +94,7 @@ def refused(room):
     bar, bubble = desk.place_of(bar_of(visit["visit"])), desk.place_of("#bubble")
     assert abs(bubble["y"] - bar["y"]) < 150 and bubble["x"] - 20 <= bar["x"] + bar["width"], f"the words are at {bubble}, the bar at {bar}"
     for it in pair:
-        assert desk.count(f"{bar_of(it['visit'])}.clash"), f"the bar of {flight_of(it)} has no frame"
+        assert desk.count(f"{bar_of(it['visit'])}.blamed"), f"the bar of {flight_of(it)} has no frame"
     return words
 
 

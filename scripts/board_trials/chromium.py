@@ -27,7 +27,7 @@ class Chromium:
     """A browser with a profile of its own."""
 
     def __init__(self, program, profile):
-        self.count, self.events, self.process = 0, [], None
+        self.count, self.events, self.process, self.ahead = 0, [], None, None
         os.makedirs(profile, exist_ok=True)
         port = os.path.join(profile, "DevToolsActivePort")
         with contextlib.suppress(FileNotFoundError):
@@ -43,15 +43,18 @@ class Chromium:
             with contextlib.suppress(FileNotFoundError), open(port) as file:
                 text = file.read()
         number, path = text.strip().split("\n")
-        self.socket = websocket.create_connection(f"ws://127.0.0.1:{number}{path}", timeout=PATIENCE, suppress_origin=True)
+        self.socket = websocket.create_connection(f"ws://127.0.0.1:{number}{path}", timeout=5 * PATIENCE, suppress_origin=True)
 
-    def call(self, method, session=None, **words):
+    def call(self, method, session=None, patience=PATIENCE, **words):
         """The result of a command to the browser, or to a page by its session."""
         self.count += 1
         number = self.count
         message = {"id": number, "method": method, "params": words, **({"sessionId": session} if session else {})}
         self.socket.send(json.dumps(message))
+        until = time.monotonic() + patience
         while True:
+            if time.monotonic() > until:
+                raise Broken(f"{method} has no answer after {patience} s")
             got = json.loads(self.socket.recv())
             if got.get("id") == number:
                 if "error" in got:
@@ -106,7 +109,7 @@ class Page:
     def __init__(self, browser, target, size=None):
         self.browser, self.target = browser, target
         self.session = browser.call("Target.attachToTarget", targetId=target, flatten=True)["sessionId"]
-        for domain in ("Page", "Runtime", "Network", "Log"):
+        for domain in ("Page", "Runtime"):
             self.call(f"{domain}.enable")
         if size is not None:
             self.size(size)
@@ -132,10 +135,10 @@ class Page:
     def reload(self):
         self.call("Page.reload")
 
-    def run(self, script, *words):
+    def run(self, script, *words, patience=PATIENCE):
         """What a function's body gives with these arguments, after it has waited for what it waits for."""
         source = f"(async () => {{ const args = {json.dumps(list(words))}; {script} }})()"
-        got = self.call("Runtime.evaluate", expression=source, awaitPromise=True, returnByValue=True, userGesture=False)
+        got = self.call("Runtime.evaluate", expression=source, awaitPromise=True, returnByValue=True, patience=patience)
         if "exceptionDetails" in got:
             told = got["exceptionDetails"]
             raise Broken(f"a script in the page: {told.get('exception', {}).get('description') or told.get('text')}")
@@ -152,7 +155,14 @@ class Page:
 
     # ---- hands
 
+    def front(self):
+        """Brings the page before the others of its window: one behind them takes no input, and draws nothing."""
+        if self.browser.ahead is not self:
+            self.call("Page.bringToFront")
+            self.browser.ahead = self
+
     def mouse(self, kind, x, y, button="none", clicks=0, modifiers=0, **more):
+        self.front()
         held = {"left": 1, "right": 2}.get(button, 0) if kind != "mouseReleased" else 0
         self.call("Input.dispatchMouseEvent", type=kind, x=x, y=y, button=button, buttons=held, clickCount=clicks, modifiers=modifiers, **more)
         self.at = (x, y)
@@ -182,6 +192,7 @@ class Page:
 
     def key(self, key, modifiers=0):
         """One key, down and up: a letter as a key with this letter on it gives it, also in capitals."""
+        self.front()
         if key in KEYS:
             code, text = KEYS[key]
             name = "Space" if key == " " else key

@@ -38,7 +38,7 @@ class Desk:
     """A board in a page of its own. Its clock runs ahead of the machine's, if it is given how far."""
 
     def __init__(self, page, origin, ahead=None, **settings):
-        self.page, self.origin = page, origin
+        self.page, self.origin, self.context = page, origin, None
         if ahead is not None:
             with open(CLOCK) as file:
                 page.before_scripts(file.read().replace("AHEAD", str(round(1000 * ahead))))
@@ -52,8 +52,9 @@ class Desk:
         return self
 
     def reload(self, bars=True):
+        self.run("globalThis.isBeforeReload = true")
         self.page.reload()
-        time.sleep(0.2)
+        wait("the page is loaded again", lambda: self.run("return globalThis.isBeforeReload === undefined && document.readyState === 'complete'"))
         if bars:
             wait("the board has bars", lambda: self.count(".bar"))
 
@@ -96,6 +97,7 @@ class Desk:
 
     def middle(self, selector):
         """The middle of what is in sight of an element, after it is brought there."""
+        self.page.front()
         self.one(selector)
         return self.run("""
             const it = document.querySelector(args[0]);
@@ -109,6 +111,7 @@ class Desk:
 
     def row_of(self, stand):
         """The place of a stand's name in the window, after it is brought there."""
+        self.page.front()
         return self.run("""
             const find = () => [...document.querySelectorAll(".row")].find((row) => row.querySelector(".stand b")?.textContent === args[0]);
             const chart = document.getElementById("chart");

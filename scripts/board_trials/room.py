@@ -4,20 +4,22 @@ import contextlib
 import json
 import os
 import re
+import shutil
 import time
 
 import served
 from board_trials import plan
-from board_trials.chromium import Broken
-from board_trials.desk import Desk
+from board_trials.chromium import Broken, Page
+from board_trials.desk import Desk, wait
 from board_trials.faulty import Faulty
 
 
 class Kit:
-    """What all trials share: the programs, the folder, the board that is tried and the one before it."""
+    """What all trials share: the program, the browser, a folder, a copy of the board that is tried, and the board before it."""
 
-    def __init__(self, program, folder, browser, board, before):
-        self.program, self.folder, self.browser, self.board, self.before = program, folder, browser, board, before
+    def __init__(self, program, folder, browser, source, before):
+        self.program, self.folder, self.browser, self.source, self.before = program, folder, browser, source, before
+        self.board = shutil.copytree(source, os.path.join(folder, "board"))
         made = os.path.join(folder, "made")
         os.mkdir(made)
         self.journal, self.airport = plan.make(program, made)
@@ -48,9 +50,20 @@ class Room:
 
     def desk(self, query="", proxy=None, context=None, size=(1920, 1080), bars=True, live=True, **settings):
         """A board, opened; its clock is that of the trial."""
-        page = self.browser.page(context or self.browser.context(), size)
-        self.desks.append(Desk(page, (proxy or self.proxy).origin, self.ahead if live else None, **settings))
+        context = context or self.browser.context()
+        self.desks.append(Desk(self.browser.page(context, size), (proxy or self.proxy).origin, self.ahead if live else None, **settings))
+        self.desks[-1].context = context
         return self.desks[-1].open(query, bars) if query is not None else self.desks[-1]
+
+    def twin(self, desk):
+        """A second tab, made by the first one, so that it begins with a copy of all that the first keeps."""
+        before = {it["targetId"] for it in self.browser.targets(desk.context)}
+        desk.page.call("Runtime.evaluate", expression="void window.open('/board.css')", userGesture=True)
+        found = wait("there is a second tab", lambda: [it for it in self.browser.targets(desk.context) if it["targetId"] not in before])
+        twin = Desk(Page(self.browser, found[0]["targetId"], (1920, 1080)), desk.origin, self.ahead)
+        twin.context = desk.context
+        self.desks.append(twin)
+        return twin.open()
 
     def move(self, minutes=0.0, seconds=0.0):
         """Has the clocks of the boards and of the replies move on."""

@@ -1,0 +1,140 @@
+"""Pictures for a person to look at, and what of them a script can measure: overlaps, contrast, the print, a tablet and a phone."""
+
+import json
+import os
+import re
+import time
+
+from board_trials.desk import PICTURES, wait
+from board_trials.plan import message_of
+from board_trials.warnings import add, come, free_stand, put
+
+# Texts that are drawn over another text: pairs of leaf elements with words whose boxes overlap by more than two pixels each way.
+OVERLAPS = """
+  const leaves = [...document.querySelectorAll("#top *, aside *, #foot *, #alarms *, #events *")].filter((it) => it.checkVisibility({ visibilityProperty: true }) && [...it.childNodes].some((node) => node.nodeType === 3 && node.textContent.trim()));
+  const boxes = leaves.map((it) => { const range = document.createRange(); range.selectNodeContents(it); const box = range.getBoundingClientRect();
+    let clip = { left: box.left, right: box.right, top: box.top, bottom: box.bottom };
+    for (let up = it; up; up = up.parentElement) { const style = getComputedStyle(up); if (style.overflow !== "visible" || up === document.body) { const outer = up.getBoundingClientRect();
+      clip = { left: Math.max(clip.left, outer.left), right: Math.min(clip.right, outer.right), top: Math.max(clip.top, outer.top), bottom: Math.min(clip.bottom, outer.bottom) }; } }
+    return clip; });
+  const found = [];
+  for (let one = 0; one < leaves.length; one += 1) for (let other = one + 1; other < leaves.length; other += 1) {
+    if (leaves[one].contains(leaves[other]) || leaves[other].contains(leaves[one])) continue;
+    const [a, b] = [boxes[one], boxes[other]];
+    if (Math.min(a.right, b.right) - Math.max(a.left, b.left) > 2 && Math.min(a.bottom, b.bottom) - Math.max(a.top, b.top) > 2) found.push(`${leaves[one].textContent.trim().slice(0, 30)} | ${leaves[other].textContent.trim().slice(0, 30)}`);
+  }
+  return found.slice(0, 5);
+"""
+# Words of a bar that reach beyond what they may be drawn in: they lie over a buffer or another bar.
+BEYOND = """
+  return [...document.querySelectorAll(".bar")].flatMap((bar) => {
+    const box = bar.getBoundingClientRect();
+    return [...bar.querySelectorAll("b, span, i, em")].filter((it) => it.checkVisibility() && it.textContent.trim() && !it.classList.contains("delay"))
+      .filter((it) => { const range = document.createRange(); range.selectNodeContents(it); const at = range.getBoundingClientRect(); return at.width > 0 && getComputedStyle(bar).overflow === "visible" && getComputedStyle(it).overflow === "visible" && at.right > box.right + 3; })
+      .map((it) => `${bar.dataset.key} ${it.textContent.trim()}`);
+  }).slice(0, 5);
+"""
+# The least contrast of words with what is behind them, for elements with one plain colour behind.
+CONTRAST = """
+  const parsed = (text) => { const it = text.match(/[\\d.]+/g)?.map(Number) ?? [0, 0, 0, 0]; return /^color\\(srgb/.test(text) ? [...it.slice(0, 3).map((part) => part * 255), it[3] ?? 1] : [...it.slice(0, 3), it[3] ?? 1]; };
+  const light = ([r, g, b]) => { const [x, y, z] = [r, g, b].map((part) => { const at = part / 255; return at <= 0.04045 ? at / 12.92 : ((at + 0.055) / 1.055) ** 2.4; }); return 0.2126 * x + 0.7152 * y + 0.0722 * z; };
+  const over = (front, back) => front.slice(0, 3).map((part, at) => part * front[3] + back[at] * (1 - front[3]));
+  const behind = (it) => { let back = null; const stack = []; for (let up = it; up; up = up.parentElement) { const style = getComputedStyle(up); if (style.backgroundImage !== "none") return null; const colour = parsed(style.backgroundColor); stack.push(colour); if (colour[3] === 1) break; }
+    back = [255, 255, 255]; for (const colour of stack.reverse()) back = over(colour, back); return back; };
+  const worst = new Map();
+  for (const it of document.querySelectorAll("body *")) {
+    if (!it.checkVisibility({ visibilityProperty: true, opacityProperty: true }) || ![...it.childNodes].some((node) => node.nodeType === 3 && node.textContent.trim())) continue;
+    const back = behind(it); if (back === null) continue;
+    const [one, other] = [light(over(parsed(getComputedStyle(it).color), back)), light(back)]; const ratio = (Math.max(one, other) + 0.05) / (Math.min(one, other) + 0.05);
+    const name = `${it.tagName.toLowerCase()}${it.id ? `#${it.id}` : ""}${it.className && typeof it.className === "string" ? `.${it.className.trim().split(/\\s+/).join(".")}` : ""}`;
+    if (ratio < 4.5 && !it.closest(":disabled, [aria-hidden=true]")) worst.set(name, `${ratio.toFixed(1)} ${name} in ${it.parentElement.tagName.toLowerCase()}${it.parentElement.id ? `#${it.parentElement.id}` : ""}: ${it.textContent.trim().slice(0, 20)}`);
+  }
+  return [...worst.values()].slice(0, 8);
+"""
+
+
+def stir(room):
+    """Makes what a picture should show: a lost stand, an alarm, a delay, a closure and a warning."""
+    now = room.now()
+    stand = free_stand(room, now - 60, now + 100)
+    for name in ("ALARM-1", "ALARM-2"):
+        come(room, add(room, name, now - 30, now + 30), stand, now - 30)
+    closed = add(room, "CLOSED-900", now, now + 120, kind="B190", rank=0)
+    put(room, closed, free_stand(room, now, now + 140))
+    late = [it for it in room.visits() if it["state"] == "expected" and it["arr"] and it["arr"]["day"] >= 1 and it["parts"][0]["stand"] and now < it["parts"][0]["from"] < now + 240]
+    for visit in late[::6]:
+        room.asked.post("/mvt", message_of(visit, visit["on"] + 41))
+
+
+def pictures(room):
+    """Day, night, wall, 24 hours, a phone, a tablet and the print: nothing is drawn over anything else, and each word has a contrast of 4.5."""
+    stir(room)
+    wrong, made = [], []
+    for name, theme, size, query in (("day", "day", (1920, 1080), ""), ("night", "night", (1920, 1080), ""), ("wall", "night", (3840, 2160), "?wall"), ("hours-24", "day", (1920, 1080), "?hours=24"),
+                                     ("hours-4", "night", (1920, 1080), "?hours=4"), ("laptop", "day", (1366, 768), ""), ("tablet", "day", (1024, 768), "")):
+        desk = room.desk(query, theme=theme, size=size, zone="Europe/Berlin")
+        time.sleep(1.2)
+        desk.picture(name)
+        made.append(name)
+        wrong += [f"{name}: {it}" for script in (OVERLAPS, BEYOND) for it in desk.run(script)]
+        if name in ("day", "night"):
+            wrong += [f"{name}: contrast {it}" for it in desk.run(CONTRAST)]
+            desk.click("#waitlist .wait")
+            time.sleep(0.5)
+            desk.picture(f"{name}-picked")
+            desk.keys("Escape")
+    assert not wrong, "; ".join(wrong)
+    return f"{', '.join(made)} in {PICTURES}"
+
+
+def printed(room):
+    """The print is one page of A3, says when it was printed, and keeps the marks of overdue aircraft."""
+    desk = room.desk(theme="day")
+    room.move(minutes=60)
+    time.sleep(1.5)
+    for theme in ("day", "night"):
+        desk.run("localStorage.setItem('apron / settings', args[0])", json.dumps({"name": "ANNA", "theme": theme, "zone": "", "rows": "normal"}))
+        desk.reload()
+        time.sleep(1)
+        text = desk.page.printed()
+        os.makedirs(PICTURES, exist_ok=True)
+        with open(os.path.join(PICTURES, f"printed-{theme}.pdf"), "wb") as file:
+            file.write(text)
+        pages = len(re.findall(rb"/Type\s*/Page\b", text))
+        box = [float(it) for it in re.search(rb"/MediaBox\s*\[([^\]]*)\]", text)[1].split()]
+        assert pages == 1, f"it is printed on {pages} pages"
+        assert abs(box[2] - 1190.5) < 3 and abs(box[3] - 842) < 3, f"the page is {box}"
+    desk.page.call("Emulation.setEmulatedMedia", media="print")
+    desk.run("dispatchEvent(new Event('beforeprint'))")
+    words = desk.run("return document.body.innerText")
+    assert re.search(r"[Pp]rinted", words), "it does not say when it was printed"
+    marks = desk.run("return [...document.querySelectorAll('.bar.overdue')].map((it) => [getComputedStyle(it).borderTopStyle, getComputedStyle(it).printColorAdjust, it.textContent.includes('!')])")
+    assert marks and all(adjusted == "exact" or has_mark for _, adjusted, has_mark in marks), f"overdue aircraft are {marks[:2]}"
+
+
+def phone(room):
+    """A tablet of 1,024 pixels and a phone can read the board and report: nothing needed is out of sight."""
+    visit = next(it for it in room.visits() if it["state"] == "onblock" and it["parts"][0]["stand"])
+    for name, size in (("tablet", (1024, 768)), ("phone", (390, 844))):
+        desk = room.desk(None, size=size, theme="day")
+        desk.page.size(size, is_phone=name == "phone")
+        desk.open()
+        time.sleep(1)
+        desk.picture(name)
+        wide = desk.run("return document.documentElement.scrollWidth")
+        assert wide <= size[0] + 1, f"on a {name} the page is {wide} pixels wide"
+        bar = desk.run("return document.querySelector('.bar').getBoundingClientRect().height")
+        assert bar >= 17, f"a bar is {bar} pixels high"
+        desk.row_of(visit["parts"][0]["stand"])
+        x, y = desk.middle(f'[id="p{visit["visit"]}.1"]')
+        desk.page.click_at(x, y, clicks=2)
+        wait(f"on a {name} the menu is in sight", lambda: desk.shown("#menu button"))
+        box = desk.place_of("#menu")
+        assert box["left"] >= 0 and box["right"] <= size[0] and box["bottom"] <= size[1] + 1, f"the menu is at {box}"
+        desk.run("[...document.querySelectorAll('#menu button')].find((it) => /off block/i.test(it.textContent)).click()")
+        box = wait("the dialogue is there", lambda: desk.shown("#dialog[open]") and desk.place_of("#dialog"))
+        assert box["left"] >= 0 and box["right"] <= size[0] + 1, f"the dialogue is at {box}"
+        desk.keys("Escape")
+
+
+TRIALS = (pictures, printed, phone)
