@@ -109,12 +109,13 @@ class Exchange(http.server.BaseHTTPRequestHandler):
         finally:
             self.server.links.put(link)
 
-    def reply(self, code, body, fields):
+    def reply(self, code, body, fields, lacking=0):
+        """Sends a reply; lacking is by how many bytes its body is shorter than it says."""
         self.send_response_only(code)
         whole = {"Content-Type": "application/json", **fields, "Date": email.utils.formatdate(self.server.clock.seconds(), usegmt=True),
                  "Cache-Control": "no-cache", "Content-Security-Policy": POLICY, "X-Content-Type-Options": "nosniff", **self.server.fields}
         if code != 204:
-            whole["Content-Length"] = str(len(body))
+            whole["Content-Length"] = str(len(body) + lacking)
         for name, value in whole.items():
             self.send_header(name, value)
         self.end_headers()

@@ -205,4 +205,20 @@ def bumping(room):
     raise AssertionError("no two visits are so near")
 
 
-TRIALS = (chart, taken, refused, pressed, over_midnight, both_see, overtaken, bump)
+def overlaps(room):
+    """Three aircraft that are on one stand in fact are three lines, of which none covers another."""
+    now = room.now()
+    stand = room.airport.stands[2]["name"]
+    numbers = []
+    for name in ("OVER-A", "OVER-B", "OVER-C"):
+        number = room.asked.post("/visits", {"name": name, "type": "A320", "class": 3, "on": now - 40, "off": now + 60})[1]["visit"]
+        assert room.asked.post("/reports", {"visit": number, "on": {"part": 1, "stand": stand, "minute": now - 40}})[0] == 200
+        numbers.append(number)
+    desk = room.desk()
+    desk.row_of(stand)
+    places = sorted((desk.place_of(bar_of(it)) for it in numbers), key=lambda it: it["top"])
+    assert all(above["bottom"] <= below["top"] + 1 for above, below in zip(places, places[1:])), [(round(it["top"]), round(it["bottom"])) for it in places]
+    assert all(it["height"] >= 6 for it in places), f"the lines are {[round(it['height']) for it in places]} pixels high"
+
+
+TRIALS = (chart, taken, refused, pressed, over_midnight, both_see, overtaken, bump, overlaps)

@@ -174,11 +174,11 @@ class Page:
     def release(self, x, y, modifiers=0):
         self.mouse("mouseReleased", x, y, "left", 1, modifiers)
 
-    def click_at(self, x, y, modifiers=0, clicks=1):
+    def click_at(self, x, y, modifiers=0, clicks=1, button="left"):
         for count in range(1, clicks + 1):
             self.mouse("mouseMoved", x, y, modifiers=modifiers)
-            self.mouse("mousePressed", x, y, "left", count, modifiers)
-            self.mouse("mouseReleased", x, y, "left", count, modifiers)
+            self.mouse("mousePressed", x, y, button, count, modifiers)
+            self.mouse("mouseReleased", x, y, button, count, modifiers)
 
     def drag_through(self, places, modifiers=0):
         """Presses at the first place, goes through the others, and lets go at the last."""

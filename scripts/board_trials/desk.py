@@ -13,7 +13,7 @@ PICTURES = os.path.normpath(os.path.join(served.HERE, "..", "out", "board"))
 SETTINGS = {"name": "ANNA", "zone": "", "theme": "night", "rows": "normal"}
 
 
-def wait(what, holds, patience=20.0):
+def wait(what, holds, patience=30.0):
     """Waits until this holds, and gives what it then is."""
     until = time.monotonic() + patience
     while True:
@@ -74,7 +74,7 @@ class Desk:
         """How many elements are there and can be seen."""
         return self.run("return [...document.querySelectorAll(args[0])].filter((it) => it.checkVisibility({ visibilityProperty: true })).length", selector)
 
-    def one(self, selector, patience=20.0):
+    def one(self, selector, patience=30.0):
         wait(f"there is {selector}", lambda: self.count(selector), patience)
 
     def text(self, selector="body"):
@@ -160,7 +160,8 @@ class Desk:
         self.click("#dialog button[type=submit]")
 
     def publish(self):
-        self.click("#send")
+        """Publishes the draft by keys: a notice that comes just then moves no button away."""
+        self.control("Enter")
 
     def picture(self, name):
         os.makedirs(PICTURES, exist_ok=True)

@@ -6,7 +6,7 @@ from board_trials.desk import bar_of, wait, waiting_item
 from board_trials.plan import departure_of, flight_of
 from board_trials.room import version_in
 
-OTHERS = ("other", "portal", "empty", "cut", "wrong")
+OTHERS = ("other", "portal", "empty", "cut", "short", "wrong")
 # What each status and want is called.
 WORDS = {"401": "not allowed", "403": "forbidden", "404": "not found", "502": "gateway", "504": "gateway", "gone": "not there"}
 
@@ -40,7 +40,7 @@ def malformed_later(room):
 
 def malformed_at_load(room):
     """The same at load: words and no blank page with a green dot, and the board comes by itself once the replies are good."""
-    for kind in OTHERS[:3] + OTHERS[4:]:
+    for kind in ("other", "portal", "wrong"):
         for route in ("airport", "day"):
             room.proxy.fail(f"^GET /{route}", kind)
             desk = room.desk(bars=False)

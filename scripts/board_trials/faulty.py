@@ -4,6 +4,7 @@ what was asked."""
 import http.client
 import os
 import re
+import socket
 import sys
 import threading
 import time
@@ -50,7 +51,8 @@ class Faulty(Address):
         return f"http://127.0.0.1:{self.port}"
 
     def fail(self, pattern, kind, times=None):
-        """Switches a fault on: a status, 'portal', 'other' JSON, 'cut', 'empty', 'late' after the server took it, 'lost' before, or 'gone'."""
+        """Switches a fault on: a status, a 'portal', 'other' JSON, one that is 'cut', 'empty' or 'wrong', a body that ends too 'short'; a reply
+        that is lost after the server took the request, 'late', or before, 'lost' and 'gone'."""
         self.faults.append(Fault(pattern, kind, None if times is None else [times]))
 
     def heal(self):
@@ -72,15 +74,9 @@ class Faulty(Address):
 
 
 class FaultyExchange(Exchange):
-    """A connection of a page, or of a trial, which says so by a field and meets no fault."""
-
-    def is_foreign(self):
-        return self.headers.get("X-Trial") is None and super().is_foreign()
+    """A connection of a page, which meets the faults that are on."""
 
     def hand_on(self, body):
-        if self.headers.get("X-Trial"):
-            super().hand_on(body)
-            return
         kind = self.server.fault_of(self.command, self.path)
         if self.server.slow:
             time.sleep(self.server.slow)
@@ -91,7 +87,7 @@ class FaultyExchange(Exchange):
             self.close_connection = True
         elif kind == "gone":
             self.close_connection = True
-            self.connection.close()
+            self.connection.shutdown(socket.SHUT_RDWR)
         elif kind is not None:
             self.spoil(kind, body)
         else:
@@ -118,12 +114,14 @@ class FaultyExchange(Exchange):
         elif kind == "cut":
             text = self.ask_server(body)
             self.reply(200, text[:len(text) // 2], {})
+        elif kind == "short":
+            self.close_connection = True
+            self.reply(200, self.ask_server(body)[:-9], {}, 9)
         elif kind == "wrong":
             self.reply(200, self.ask_server(body).replace(b'"visits":[', b'"visits":[{"visit":7},', 1).replace(b'"days"', b'"dayz"', 1), {})
         else:
-            self.reply(STATUSES[kind], PORTAL, {**html, "WWW-Authenticate": 'Basic realm="apron"'} if kind == "401x" else html)
+            self.reply(STATUSES[kind], PORTAL, html)
 
-    def reply(self, code, body, fields):
-        if not self.headers.get("X-Trial"):
-            self.server.asked.append((time.monotonic(), self.command, self.path, code, len(body)))
-        super().reply(code, body, fields)
+    def reply(self, code, body, fields, lacking=0):
+        self.server.asked.append((time.monotonic(), self.command, self.path, code, len(body)))
+        super().reply(code, body, fields, lacking)

@@ -109,29 +109,45 @@ def waiting_list(room):
     wait("only it is listed", lambda: listed() == [visit["visit"]], 5)
 
 
-def several(room):
-    """Several parts are picked with Ctrl and Shift, lifted at once, moved to a row of stands, and two are swapped."""
-    desk = room.desk()
-    now = room.now()
-    numbers = []
+def pair_of(room, desk):
+    """Two parts of the same minutes, each on a stand of its own; their bars and their stands."""
+    now, numbers = room.now(), []
     for name in ("PAIR-A", "PAIR-B"):
         number = add(room, name, now + 60, now + 130)
         put(room, number, free_stand(room, now + 40, now + 200))
         numbers.append(number)
-    bars = [seen_bar(desk, room, it) for it in numbers]
+    return [seen_bar(desk, room, it) for it in numbers], [room.stand_of(it) for it in numbers]
+
+
+def pick_both(desk, bars):
     desk.click(bars[0])
     desk.click(bars[1], modifiers=CONTROL)
     wait("both are picked", lambda: desk.count(".bar.picked") == 2, 5)
+
+
+def several(room):
+    """Several parts are picked with Ctrl, lifted at once, swapped by the menu, and moved to a row of stands by one drag."""
+    desk = room.desk()
+    bars, stands = pair_of(room, desk)
+    pick_both(desk, bars)
     desk.keys("l")
     wait("both are lifted", lambda: desk.count("#draft li") == 2, 5)
-    desk.keys("u", "u")
+    desk.keys("u", "u", "Escape")
     wait("it is undone", lambda: not desk.count("#draft li"), 5)
-    desk.keys("Escape")
-    desk.click(bars[0])
-    desk.click(bars[1], modifiers=CONTROL)
-    wait("both are picked", lambda: desk.count(".bar.picked") == 2, 5)
-    desk.click(bars[1], clicks=2, modifiers=CONTROL) if not desk.shown("#menu button") else None
-    return desk.texts("#menu button")
+    pick_both(desk, bars)
+    desk.page.click_at(*desk.middle(bars[1]), button="right")
+    wait("there is a menu of both", lambda: desk.shown('#menu [data-act="swap"]'), 5)
+    desk.click('#menu [data-act="swap"]')
+    wait("they change places", lambda: sorted(re.findall(r"put on (\w+)", " ".join(desk.texts("#draft li")))) == sorted(stands), 5)
+    wait("it fits", lambda: "Fits" in desk.text("#draft"), 5)
+    desk.publish()
+    wait("the server has them in each other's places", lambda: [room.stand_of(int(it.split("p")[1].split(".")[0])) for it in bars] == stands[::-1])
+    pick_both(desk, bars)
+    goal = free_stand(room, room.now() + 40, room.now() + 200)
+    desk.drag(bars[0], goal)
+    words = wait("both are put", lambda: desk.count("#draft li") == 2 and " ".join(desk.texts("#draft li")), 5)
+    assert goal in words and len(set(re.findall(r"put on (\w+)", words))) == 2, words
+    return words
 
 
 def frame_picks(room):
