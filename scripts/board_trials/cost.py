@@ -7,7 +7,7 @@ import time
 from board_trials.desk import wait
 from board_trials.nginx import Nginx
 from board_trials.plan import DAY
-from board_trials.stubs import Stub, crowd
+from board_trials.stubs import Stub, crowd_of
 from board_trials.warnings import free_stand, put
 
 RUNS, LOADS, SCROLLS, MOVES = 5, 5, 3, 40
@@ -72,7 +72,7 @@ def pick(room):
 
 def pick_in_crowd(room):
     """A pick at 2,000 visits and 400 stands takes at most 100 ms of script."""
-    stub = Stub(*crowd(MANY_VISITS))
+    stub = Stub(*crowd_of(MANY_VISITS))
     room.ends.append(stub.end)
     values = middles(room, stub.port, pick_of)
     assert values["this version"] <= MOST_PICK_CROWD, told(values)
@@ -103,7 +103,7 @@ def version_change(room):
 
 def drag_frames(room):
     """Frames of a drag at 2,000 visits: at most 33 ms at the middle and 100 ms at the 95th."""
-    stub = Stub(*crowd(MANY_VISITS))
+    stub = Stub(*crowd_of(MANY_VISITS))
     room.ends.append(stub.end)
     slow = {}
 
@@ -127,9 +127,9 @@ def drag_frames(room):
     return words
 
 
-def crowded(room):
+def crowd(room):
     """400 stands and 1,500 visits are drawn in under one second, and scrolled without a stutter."""
-    stub = Stub(*crowd(VISITS))
+    stub = Stub(*crowd_of(VISITS))
     room.ends.append(stub.end)
     desk = room.desk(proxy=room.address(stub.port), size=(3840, 2160))
     # Other work on the machine can only make a load slower: the best of them is the nearest to what the page takes by itself.
@@ -138,7 +138,7 @@ def crowded(room):
         desk.open()
         drawn.append(desk.run("return performance.getEntriesByName('drawn')[0].startTime") / 1000)
     frame = min(frame_of(desk) for _ in range(SCROLLS))
-    desk.picture("crowded")
+    desk.picture("crowd")
     words = f"drawn in {min(drawn):.2f} s, {max(drawn):.2f} s at most; a frame while it is scrolled takes {frame:.1f} ms"
     assert min(drawn) < 1 and frame < 16, words
     return words
@@ -155,7 +155,7 @@ def frame_of(desk):
     return 1000 * sum(after[it] - before[it] for it in ("ScriptDuration", "LayoutDuration", "RecalcStyleDuration")) / frames
 
 
-def server_cost(room):
+def cost(room):
     """What a board costs the server, through nginx: nothing while it is hidden, and one small request a second when nothing happens."""
     with contextlib.closing(Nginx(room)) as nginx:
         desk = room.desk(None, proxy=nginx, live=False)
@@ -184,4 +184,4 @@ def server_cost(room):
         return "20 seconds with " + "; with ".join(words)
 
 
-TRIALS = (pick, pick_in_crowd, version_change, drag_frames, crowded, server_cost)
+TRIALS = (pick, pick_in_crowd, version_change, drag_frames, crowd, cost)

@@ -119,7 +119,8 @@ class Desk:
               chart.scrollTop = top;
               await new Promise((go) => requestAnimationFrame(() => requestAnimationFrame(go)));
             }
-            find().scrollIntoView({ block: "nearest" });
+            // In the middle: a drag near an edge scrolls.
+            find().scrollIntoView({ block: "center" });
             await new Promise((go) => requestAnimationFrame(() => requestAnimationFrame(go)));
             const box = find().querySelector(".stand").getBoundingClientRect();
             return [box.left + box.width / 2, box.top + box.height / 2];

@@ -15,7 +15,7 @@ def is_green(desk):
     return desk.count("#link.there") > 0
 
 
-def follows(desk, room, patience=20.0):
+def follows(desk, room, patience=30.0):
     """Another desk's entry comes to the board."""
     room.entry()
     version = room.version()
@@ -85,7 +85,10 @@ def fault_in_page(room):
     desk = room.desk()
     for script in ("setTimeout(() => { throw new TypeError('trial'); })", "Promise.reject(new TypeError('trial'))"):
         desk.run(f"{script}; return null")
-        wait("it is said", lambda: "fault" in desk.text("#link") + desk.text("#trouble"), 5)
+        wait("it is said", lambda: not is_green(desk) and "fault" in desk.text("#link"))
+        room.entry()
+        wait("it asks on", lambda: version_in(desk.text("#link")) == room.version())
+        room.move(seconds=30)
         follows(desk, room)
 
 

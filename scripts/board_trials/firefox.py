@@ -89,7 +89,7 @@ def row(browser, stand):
     """The middle of a stand's name, after its row is brought into sight."""
     return browser.run("""
       const find = () => [...document.querySelectorAll(".row")].find((row) => row.querySelector(".stand b")?.textContent === args[0]);
-      find().scrollIntoView({ block: "nearest" }); const box = find().querySelector(".stand").getBoundingClientRect();
+      find().scrollIntoView({ block: "center" }); const box = find().querySelector(".stand").getBoundingClientRect();
       return [box.left + box.width / 2, box.top + box.height / 2];""", stand)
 
 

@@ -1,5 +1,6 @@
 """Trials of the page's rules: against the server, in a browser and by the unit tests that run without one."""
 
+import json
 import os
 import random
 import subprocess
@@ -8,6 +9,7 @@ import served
 from board_trials import plan
 
 DRAGS, SEED, DAYS = 1000, 17, 3
+DRAFTS, SEEDS = 10_000, (1, 2, 3, 4, 5)
 UNITS_PATIENCE = 220
 
 JUDGED = """
@@ -119,4 +121,15 @@ def units(room):
     return ", ".join(f"{count} {word}" for word, count in counts.items())
 
 
-TRIALS = (judged, units)
+def oracle(room):
+    """10,000 random drafts of one to eight edits over up to three days, in plans of several seeds: the page's modules and the server say the same of each."""
+    script = os.path.join(room.kit.source, "tests", "oracle", "oracle.mjs")
+    told = []
+    for seed in SEEDS:
+        ran = subprocess.run(["node", script, room.kit.program, str(seed), str(DRAFTS // len(SEEDS))], stdout=subprocess.PIPE, stderr=subprocess.PIPE, text=True, timeout=UNITS_PATIENCE)
+        assert ran.returncode == 0, f"with seed {seed} they differ: {(ran.stdout + ran.stderr)[-500:]}"
+        told.append(sum(it for it in json.loads(ran.stdout).values() if isinstance(it, int)))
+    return f"{sum(told)} cases"
+
+
+TRIALS = (judged, units, oracle)

@@ -74,7 +74,7 @@ def visit_of(number, name, kind, stand, begin, end, state="expected", **more):
     return {"arr": None, "class": 3, "dep": None, "edited": 0, "name": name, "off": end, "on": begin, "parts": [{**part, **more}], "state": state, "type": kind, "visit": number}
 
 
-def crowd(visits):
+def crowd_of(visits):
     """An airport of 400 stands, and so many visits of a day on them, of which one in 25 waits."""
     frontages = [{"name": f"F{number}", "objects": [0]} for number in range(20)]
     stands = [{"buffer": 10, "centre": 4000 + 4100 * (place % 20), "frontage": f"F{place // 20}", "half_of": None, "letter": "C", "name": f"{place // 20 + 1}{'ABCDEFGHJKLMNPQRSTUV'[place % 20]}"}

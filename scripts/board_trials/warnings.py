@@ -49,13 +49,11 @@ def come(room, number, stand, minute):
 
 def delays(room):
     """A delay and an early arrival are minutes at the bar, in colour and shape, with a ghost of the old place; a stay that became shorter is marked."""
-    desk = room.desk()
-    now = room.now()
-    flight = {"flight": "QQ%d", "day": DAY}
-    told = {}
+    desk = room.desk("?hours=6")
+    now, told = room.now(), {}
     for number, (late, how) in enumerate(((60, "on-verylate"), (20, "on-late"), (-15, "on-early"))):
         begins = now + 120
-        visit = add(room, f"LATE-{number}", begins, begins + 75, arr={**flight, "flight": f"QQ{number + 1}"})
+        visit = add(room, f"LATE-{number}", begins, begins + 75, arr={"flight": f"QQ{number + 1}", "day": DAY})
         put(room, visit, free_stand(room, begins - 20, begins + 160))
         code, _ = room.asked.post("/mvt", message_of(room.visit(visit), begins + late - 9))
         assert code == 200 and room.visit(visit)["parts"][0]["from"] == begins + late
@@ -80,6 +78,11 @@ def late_here(room):
     assert "not here" in desk.attribute(bar, "aria-label"), desk.attribute(bar, "aria-label")
 
 
+def warning_of(number):
+    """The selector of the warning about the first part of a visit."""
+    return f'#soonlist li:has([data-goto="{number}.1"])'
+
+
 def soon(room):
     """Soon: a stand that is still occupied when the next aircraft is due, amber and then red, a part without a stand whose time comes, each with the stands that fit."""
     now = room.now()
@@ -89,15 +92,15 @@ def soon(room):
     put(room, after, stand)
     come(room, first, stand, now - 60)
     desk = room.desk()
-    level = lambda number: desk.attribute(f'#soonlist [data-key="{number}.1"]', "data-level")
+    level = lambda number: desk.attribute(warning_of(number), "data-level")
     time.sleep(2)
-    assert level(after) is None and level(without) is None, "it warns an hour before"
+    assert level(after) is None and level(without) is None, "it warns of what is far"
     room.move(minutes=22)
     wait("the next aircraft has an amber warning", lambda: level(after) == "amber")
     wait("the part without a stand has a warning", lambda: level(without) is not None)
-    words = desk.text(f'#soonlist [data-key="{after}.1"]')
+    words = desk.text(warning_of(after))
     assert stand in words and "STAYS" in words, words
-    assert desk.count(f'#soonlist [data-key="{without}.1"] .fit'), "no stand that fits is named"
+    assert desk.count(f"{warning_of(without)} .fit"), "no stand that fits is named"
     room.move(minutes=20)
     wait("the warning is red", lambda: level(after) == "red")
     room.asked.post("/reports", {"visit": first, "off": {"minute": room.now()}})
@@ -116,9 +119,9 @@ def early_needs(room):
     come(room, stays, stand, now - 100)
     desk = room.desk()
     time.sleep(2)
-    assert not desk.count(f'#soonlist [data-key="{comes}.1"]')
+    assert not desk.count(warning_of(comes))
     room.asked.post("/mvt", message_of(room.visit(comes), now + 20 - 9))
-    wait("it is warned of", lambda: desk.count(f'#soonlist [data-key="{comes}.1"]'))
+    wait("it is warned of", lambda: desk.count(warning_of(comes)))
 
 
 def still_there(room):
@@ -142,8 +145,7 @@ def still_there(room):
 def events(room):
     """A lost stand and an alarm are events: a banner with a count, the tab's title, 'seen' by whom, kept over a reload; past alarms open as a list."""
     desk = room.desk()
-    title = desk.run("return document.title")
-    assert not desk.shown("#events") and "(" not in title, title
+    see_all(desk)
     visit, late, other = bumping(room)
     room.asked.post("/mvt", message_of(visit, late))
     wait("the banner counts it", lambda: desk.shown("#events") and desk.text("#eventcount").strip() not in ("", "0"))
@@ -157,8 +159,10 @@ def events(room):
         come(room, number, stand, now - 30)
     wait("the alarm is an event", lambda: int(desk.text("#eventcount") or 0) > count)
     assert "ONE" in desk.text("#alarms") and "TWO" in desk.text("#alarms"), desk.text("#alarms")
+    count = int(desk.text("#eventcount"))
     desk.click("#seen")
-    wait("all are seen", lambda: not desk.shown("#events") and "(" not in desk.run("return document.title"))
+    wait("one less is to be dealt with", lambda: int(desk.text("#eventcount") or 0) == count - 1)
+    see_all(desk)
     desk.reload()
     time.sleep(2)
     assert not desk.shown("#events"), "after a reload they are unseen again"
@@ -173,6 +177,15 @@ def events(room):
     wait("the alarm is past", lambda: desk.shown("#past"))
     desk.click("#past")
     wait("the past alarm is listed", lambda: "ONE" in desk.text("#dialog"))
+
+
+def see_all(desk):
+    """Has the person see all events that are there; the banner and the count in the tab's title are then gone."""
+    if desk.shown("#events"):
+        desk.keys("e")
+        desk.one("#dialog[open]")
+        desk.run("[...document.querySelectorAll('#dialog button')].find((it) => /all/i.test(it.textContent)).click()")
+    wait("all are seen", lambda: not desk.shown("#events") and "(" not in desk.run("return document.title"))
 
 
 def closure(room):
