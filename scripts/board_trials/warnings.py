@@ -60,7 +60,8 @@ def delays(room):
         bar = seen_bar(desk, room, visit)
         wait(f"the bar says {late:+}", lambda bar=bar, late=late: f"{abs(late)}" in desk.text(f"{bar} .delay"))
         wait(f"it is drawn as {how}", lambda bar=bar, how=how: desk.count(f"{bar}.{how}"), 5)
-        wait("its old place is there", lambda visit=visit: desk.count(f'.sched[data-key="{visit}.1"]'), 5)
+        wait("its old place is there", lambda bar=bar, begins=begins: desk.run(
+            "return document.querySelector(args[0]).closest('.row').querySelector(`.sched[data-from='${args[1]}']`) !== null", bar, begins), 5)
         told[late] = desk.text(f"{bar} .delay")
     assert desk.count(".bar.short"), "the stay that became shorter is not marked"
     return told
@@ -103,7 +104,7 @@ def soon(room):
     assert desk.count(f"{warning_of(without)} .fit"), "no stand that fits is named"
     room.move(minutes=20)
     wait("the warning is red", lambda: level(after) == "red")
-    room.asked.post("/reports", {"visit": first, "off": {"minute": room.now()}})
+    room.asked.post("/reports", {"visit": first, "off": {"minute": now + 20}})
     wait("the warning is gone", lambda: level(after) is None)
     return words
 
@@ -205,9 +206,8 @@ def closure(room):
     desk.click(bar, clicks=2)
     wait("the menu has a way to open it", lambda: any("pen" in it for it in desk.texts("#menu button")))
     desk.run("[...document.querySelectorAll('#menu button')].find((it) => /open/i.test(it.textContent)).click()")
-    wait("the stand is open", lambda: desk.shown("#yes") or room.visit(number)["state"] == "cancelled")
-    if desk.shown("#yes"):
-        desk.click("#yes")
+    wait("it asks", lambda: desk.shown("#dialog[open]"))
+    desk.click("#dialog button[type=submit]")
     wait("the stand is open", lambda: room.visit(number)["state"] == "cancelled")
     return visit["name"]
 
@@ -215,6 +215,7 @@ def closure(room):
 def displaced(room):
     """An aircraft that comes on block on a closed stand is an event."""
     desk = room.desk()
+    see_all(desk)
     now = room.now()
     stand = free_stand(room, now - 10, now + 160)
     desk.click('[data-do="close"]')
@@ -242,8 +243,8 @@ def shadows(room):
     wait("the whole is hatched for the half's minutes", lambda: desk.run(
         "return [...document.querySelectorAll(`${args[0]} .shade.split`)].some((it) => Number(it.dataset.from) <= args[1] && Number(it.dataset.to) >= args[2])", row, part["from"], part["to"]))
     desk.keys(",")
-    desk.one("#dialog[open]")
-    assert desk.run("const it = document.getElementById('f-shadows'); if (it) it.click(); return it !== null"), "the settings have no shadows"
+    desk.one("#f-shadows")
+    desk.run("document.getElementById('f-shadows').value = 'off'")
     desk.click("#dialog button[type=submit]")
     wait("no shadow is left", lambda: not desk.count(".shade"))
 

@@ -75,7 +75,9 @@ def times_by_form(room):
     put(room, other, free_stand(room, room.now() + 30, room.now() + 200))
     chosen_bar(desk, room, other)
     desk.keys("m")
-    told = wait("it says why it can't", lambda: re.search(r"[^.]*\b(no|without|has not)\b[^.]*flight[^.]*", desk.text("#dialog") + desk.text("#say")))
+    desk.fill("#f-on", clock_of(room.now() + 80))
+    desk.run("document.getElementById('f-on').dispatchEvent(new Event('change', { bubbles: true }))")
+    told = wait("it says why it can't", lambda: re.search(r"[^.]*\bno arrival flight[^.]*", desk.text("#dialog")))
     return f"{words.strip()[:60]} .. {told[0].strip()[:80]}"
 
 
