@@ -218,7 +218,7 @@ def overlaps(room):
     desk.row_of(stand)
     places = sorted((desk.place_of(bar_of(it)) for it in numbers), key=lambda it: it["top"])
     assert all(above["bottom"] <= below["top"] + 1 for above, below in zip(places, places[1:])), [(round(it["top"]), round(it["bottom"])) for it in places]
-    assert all(it["height"] >= 6 for it in places), f"the lines are {[round(it['height']) for it in places]} pixels high"
+    assert all(it["height"] >= 5 for it in places), f"the lines are {[round(it['height']) for it in places]} pixels high"
 
 
 TRIALS = (chart, taken, refused, pressed, over_midnight, both_see, overtaken, bump, overlaps)

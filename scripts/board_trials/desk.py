@@ -148,11 +148,19 @@ class Desk:
         self.page.type(text)
 
     def drag(self, source, stand):
-        """Drags an element to the row of a stand."""
-        end = self.row_of(stand)
+        """Drags an element to the row of a stand, by where that is while the element is held."""
+        self.row_of(stand)
         begin = self.middle(source)
-        end = self.row_of(stand) if self.run("return document.querySelector(args[0]).closest('#rows') === null", source) else end
-        self.page.drag_through([begin, (begin[0] + 9, begin[1] + 9), (end[0] + 60, end[1]), (end[0], end[1]), (end[0], end[1])])
+        if self.run("return document.querySelector(args[0]).closest('#rows') === null", source):
+            self.row_of(stand)
+        self.page.press(*begin)
+        self.page.mouse("mouseMoved", begin[0] + 9, begin[1] + 9, "left")
+        for aside in (60, 0, 0):
+            x, y = self.run("""
+                const row = [...document.querySelectorAll(".row")].find((row) => row.querySelector(".stand b")?.textContent === args[0]);
+                const box = row.querySelector(".stand").getBoundingClientRect(); return [box.left + box.width / 2, box.top + box.height / 2];""", stand)
+            self.page.mouse("mouseMoved", x + aside, y, "left")
+        self.page.release(x, y)
 
     def message(self, text):
         """Takes in a message by the dialogue."""

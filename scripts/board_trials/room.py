@@ -49,8 +49,8 @@ class Room:
         return made
 
     def desk(self, query="", proxy=None, context=None, size=(1920, 1080), bars=True, live=True, **settings):
-        """A board, opened; its clock is that of the trial."""
-        context = context or self.browser.context()
+        """A board, opened; its clock is that of the trial. It keeps its things apart, unless it is given a context; "" is the browser's own profile."""
+        context = self.browser.context() if context is None else context
         self.desks.append(Desk(self.browser.page(context, size), (proxy or self.proxy).origin, self.ahead if live else None, **settings))
         self.desks[-1].context = context
         return self.desks[-1].open(query, bars) if query is not None else self.desks[-1]
