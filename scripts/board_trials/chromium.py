@@ -76,7 +76,7 @@ class Chromium:
         return self.call("Target.createBrowserContext", disposeOnDetach=False)["browserContextId"]
 
     def page(self, context=None, size=(1920, 1080)):
-        words = {"browserContextId": context} if context else {}
+        words = {"browserContextId": context} if context else {"newWindow": True}
         target = self.call("Target.createTarget", url="about:blank", width=size[0], height=size[1], **words)["targetId"]
         return Page(self, target, size)
 

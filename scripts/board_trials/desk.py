@@ -35,15 +35,16 @@ def bar_of(visit, part=1):
 
 
 class Desk:
-    """A board in a page of its own. Its clock runs ahead of the machine's, if it is given how far."""
+    """A board in a page of its own. Its clock runs ahead of the machine's, if it is given how far; a fresh one has no settings yet."""
 
-    def __init__(self, page, origin, ahead=None, **settings):
+    def __init__(self, page, origin, ahead=None, is_fresh=False, **settings):
         self.page, self.origin, self.context = page, origin, None
         if ahead is not None:
             with open(CLOCK) as file:
                 page.before_scripts(file.read().replace("AHEAD", str(round(1000 * ahead))))
         kept = json.dumps(json.dumps({**SETTINGS, **settings}))
-        page.before_scripts(f"try {{ if (!localStorage.getItem('apron / settings')) localStorage.setItem('apron / settings', {kept}); }} catch {{}}")
+        if not is_fresh:
+            page.before_scripts(f"try {{ if (!localStorage.getItem('apron / settings')) localStorage.setItem('apron / settings', {kept}); }} catch {{}}")
 
     def open(self, query="", bars=True):
         self.page.go(f"{self.origin}/{query}")
@@ -162,11 +163,13 @@ class Desk:
             self.page.mouse("mouseMoved", x + aside, y, "left")
         self.page.release(x, y)
 
-    def message(self, text):
-        """Takes in a message by the dialogue."""
-        self.keys("t")
-        self.fill("#f-text", text)
-        self.click("#dialog button[type=submit]")
+    def leave(self):
+        """Closes a dialogue, also one that asks since it has typed text."""
+        self.keys("Escape")
+        wait("it is closed, or asks", lambda: not self.count("#dialog[open]") or self.shown("#yes"), 5)
+        if self.shown("#yes"):
+            self.click("#yes")
+        wait("no dialogue is open", lambda: not self.count("#dialog[open]"), 5)
 
     def publish(self):
         """Publishes the draft by keys: a notice that comes just then moves no button away."""

@@ -10,8 +10,8 @@ from board_trials.desk import bar_of, wait, waiting_item
 from board_trials.plan import flight_of
 
 FIRST_FREE, DAYS = 3, 10
-# A browser writes what it keeps some seconds after the page said it.
-WRITTEN = 8
+# Chromium writes what a page keeps five seconds after the first change, and much later after others that come soon: so the page has no other.
+WRITTEN = 10
 LATE_LOCKS = """
   const ask = navigator.locks.request.bind(navigator.locks);
   navigator.locks.request = async (...words) => { await new Promise((go) => setTimeout(go, 400)); return ask(...words); };
@@ -200,7 +200,7 @@ def crashed(room):
     own = chromium.Chromium(chromium.found(), profile)
     room.browser = own
     try:
-        desk = room.desk(context="")
+        desk = room.desk(context="", is_fresh=True)
         visit, stand = drafted(desk, room)
         time.sleep(WRITTEN)
         own.kill()

@@ -159,10 +159,8 @@ def frame_picks(room):
     numbers = [add(room, name, now + 60, now + 130) for name in ("IN-A", "IN-B")]
     for number in numbers:
         put(room, number, free_stand(room, now + 40, now + 200))
-    places = []
-    for number in numbers:
-        bar = seen_bar(desk, room, number)
-        places.append(desk.place_of(bar))
+    bars = [seen_bar(desk, room, number) for number in numbers]
+    places = [desk.place_of(bar) for bar in bars]
     top, bottom = min(it["top"] for it in places) - 4, max(it["bottom"] for it in places) + 4
     left, right = min(it["left"] for it in places) - 12, max(it["right"] for it in places) + 12
     desk.page.drag_through([(left, top), ((left + right) / 2, (top + bottom) / 2), (right, bottom), (right, bottom)], modifiers=SHIFT)
@@ -205,8 +203,7 @@ def report_asks(room):
     desk.keys("Enter")
     time.sleep(1)
     assert room.version() == version, "No sent it"
-    desk.keys("Escape", "Escape")
-    wait("no dialogue is open", lambda: not desk.count("#dialog[open]"))
+    desk.leave()
     chosen_bar(desk, room, comes)
     desk.keys("Delete")
     wait("a cancel asks", lambda: desk.shown("#no"))
