@@ -166,9 +166,9 @@ class Desk:
     def leave(self):
         """Closes a dialogue, also one that asks since it has typed text."""
         self.keys("Escape")
-        wait("it is closed, or asks", lambda: not self.count("#dialog[open]") or self.shown("#yes"), 5)
-        if self.shown("#yes"):
-            self.click("#yes")
+        wait("it is closed, or asks", lambda: not self.count("#dialog[open]") or self.shown("#drop-typed"), 5)
+        if self.shown("#drop-typed"):
+            self.click("#drop-typed button:last-child")
         wait("no dialogue is open", lambda: not self.count("#dialog[open]"), 5)
 
     def publish(self):

@@ -34,6 +34,15 @@ BEYOND = """
       .map((it) => `${bar.dataset.key} ${it.textContent.trim()}`);
   }).slice(0, 5);
 """
+# Words of one row of the chart that lie over others: of bars and of shadows.
+OVERLAID = """
+  return [...document.querySelectorAll(".row")].flatMap((row) => {
+    const boxes = [...row.querySelectorAll(".bar b, .shade span")].filter((it) => it.checkVisibility() && it.textContent.trim()).map((it) => {
+      const range = document.createRange(); range.selectNodeContents(it); const box = range.getBoundingClientRect(); const outer = it.closest(".bar, .shade").getBoundingClientRect();
+      return { words: it.textContent.trim(), left: Math.max(box.left, outer.left), right: Math.min(box.right, outer.right), top: box.top, bottom: box.bottom }; });
+    return boxes.flatMap((a, at) => boxes.slice(at + 1).filter((b) => Math.min(a.right, b.right) - Math.max(a.left, b.left) > 3 && Math.min(a.bottom, b.bottom) - Math.max(a.top, b.top) > 4).map((b) => `${a.words} | ${b.words}`));
+  }).slice(0, 5);
+"""
 # The least contrast of words with what is behind them, for elements with one plain colour behind.
 CONTRAST = """
   const parsed = (text) => { const it = text.match(/[\\d.]+/g)?.map(Number) ?? [0, 0, 0, 0]; return /^color\\(srgb/.test(text) ? [...it.slice(0, 3).map((part) => part * 255), it[3] ?? 1] : [...it.slice(0, 3), it[3] ?? 1]; };
@@ -76,7 +85,7 @@ def pictures(room):
         time.sleep(1.2)
         desk.picture(name)
         made.append(name)
-        wrong += [f"{name}: {it}" for script in (OVERLAPS, BEYOND) for it in desk.run(script)]
+        wrong += [f"{name}: {it}" for script in (OVERLAPS, BEYOND, OVERLAID) for it in desk.run(script)]
         if name in ("day", "night"):
             wrong += [f"{name}: contrast {it}" for it in desk.run(CONTRAST)]
             desk.click("#waitlist .wait")

@@ -161,7 +161,7 @@ def frame_picks(room):
         put(room, number, free_stand(room, now + 40, now + 200))
     bars = [seen_bar(desk, room, number) for number in numbers]
     places = [desk.place_of(bar) for bar in bars]
-    top, bottom = min(it["top"] for it in places) - 4, max(it["bottom"] for it in places) + 4
+    top, bottom = min(it["top"] for it in places) + 4, max(it["bottom"] for it in places) - 4
     left, right = min(it["left"] for it in places) - 12, max(it["right"] for it in places) + 12
     desk.page.drag_through([(left, top), ((left + right) / 2, (top + bottom) / 2), (right, bottom), (right, bottom)], modifiers=SHIFT)
     wait("both are picked", lambda: all(desk.count(f"{bar_of(it)}.picked") for it in numbers), 5)
@@ -258,8 +258,8 @@ def esc_asks(room):
     desk.keys("t")
     desk.fill("#f-text", "MVT HALF")
     desk.keys("Escape")
-    wait("it asks", lambda: desk.shown("#no") or "drop" in desk.text("#dialog").lower(), 5)
-    desk.click("#no")
+    wait("it asks", lambda: desk.shown("#drop-typed"), 5)
+    desk.click("#keep-typing")
     wait("the text is there", lambda: desk.run("return document.getElementById('f-text')?.value") == "MVT HALF", 5)
 
 
