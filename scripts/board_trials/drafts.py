@@ -126,11 +126,12 @@ def late_locks(room):
     desk = room.desk(None)
     desk.page.before_scripts(LATE_LOCKS)
     desk.open()
+    wait("it has a name", lambda: desk.text("#draft h2 small"))
     twin = room.twin(desk)
+    name = wait("the second tab has a name", lambda: twin.text("#draft h2 small"))
+    assert name != desk.text("#draft h2 small"), f"both tabs are {name}"
     for it in (desk, twin):
         taken_by(it, room, *published(it, room))
-    names = desk.text("#draft h2 small"), twin.text("#draft h2 small")
-    assert names[0] != names[1], f"both tabs are {names[0]}"
 
 
 def compared(room):

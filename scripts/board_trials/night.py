@@ -119,7 +119,7 @@ def wall(room):
     plain = room.desk()
     size = plain.run("return parseFloat(getComputedStyle(document.querySelector('.bar')).fontSize)")
     desk = room.desk("?wall&frontage=AN,AS")
-    assert desk.run("return document.body.classList.contains('wall')")
+    assert desk.count(".wall"), "it is no board for a wall"
     assert desk.run("return parseFloat(getComputedStyle(document.querySelector('.bar')).fontSize)") > size, "its type is not larger"
     names = set(desk.texts(".row .stand b"))
     wanted = {it["name"] for it in room.airport.stands if it["frontage"] in ("AN", "AS")}
