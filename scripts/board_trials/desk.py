@@ -10,6 +10,8 @@ from board_trials.chromium import CONTROL, SHIFT, Broken
 
 CLOCK = os.path.join(os.path.dirname(os.path.abspath(__file__)), "clock.js")
 PICTURES = os.path.normpath(os.path.join(served.HERE, "..", "out", "board"))
+# How long a board may take until it has bars, on a machine with other work.
+LOADED = 60
 SETTINGS = {"name": "ANNA", "zone": "", "theme": "night", "rows": "normal"}
 
 
@@ -49,7 +51,7 @@ class Desk:
     def open(self, query="", bars=True):
         self.page.go(f"{self.origin}/{query}")
         if bars:
-            wait("the board has bars", lambda: self.count(".bar"))
+            wait("the board has bars", lambda: self.count(".bar"), LOADED)
         return self
 
     def reload(self, bars=True):
@@ -57,7 +59,7 @@ class Desk:
         self.page.reload()
         wait("the page is loaded again", lambda: self.run("return globalThis.isBeforeReload === undefined && document.readyState === 'complete'"))
         if bars:
-            wait("the board has bars", lambda: self.count(".bar"))
+            wait("the board has bars", lambda: self.count(".bar"), LOADED)
 
     def run(self, script, *words):
         return self.page.run(script, *words)

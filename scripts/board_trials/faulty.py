@@ -83,8 +83,9 @@ class FaultyExchange(Exchange):
         if kind == "lost":
             self.close_connection = True
         elif kind == "late":
+            # Not a closed connection: on one that is kept a browser then sends the request once more by itself.
             self.ask_server(body)
-            self.close_connection = True
+            self.reply(504, PORTAL, {"Content-Type": "text/html"})
         elif kind == "gone":
             self.close_connection = True
             self.connection.shutdown(socket.SHUT_RDWR)
