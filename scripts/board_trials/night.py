@@ -13,6 +13,8 @@ NOW_AT = """
   const box = chart.getBoundingClientRect(); const left = document.querySelector(".stand").getBoundingClientRect().right;
   return document.getElementById("nowline").checkVisibility() ? (line.left + line.width / 2 - left) / (box.left + chart.clientWidth - left) : null;
 """
+# What scrolls of the list of waiting parts: the list or what it is in.
+SCROLLED = "let it = document.getElementById('waitlist'); while (it.scrollHeight < it.clientHeight + 60 || getComputedStyle(it).overflowY === 'visible') it = it.parentElement; "
 SHIFT_HOURS, STEP = 8, 5
 # How much more a page may hold after a shift than after its first half hour.
 MOST_GROWTH = 8_000_000
@@ -140,8 +142,8 @@ def wall(room):
 def keeps(room):
     """A new version leaves scroll positions, focus, a half-typed message and an open menu as they are."""
     desk = room.desk()
-    desk.run("document.getElementById('waitlist').closest('section').scrollTop = 0; document.getElementById('chart').scrollTop = 260")
-    scrolled = desk.run("const list = [document.getElementById('waitlist'), document.getElementById('waiting')].find((it) => it.scrollHeight > it.clientHeight + 40); if (list) list.scrollTop = 40; return list?.id ?? null")
+    desk.run("document.getElementById('chart').scrollTop = 260")
+    assert desk.run(SCROLLED + "it.scrollTop = 40; return it.scrollTop") == 40, "the waiting list does not scroll"
     desk.keys("t")
     desk.fill("#f-text", "MVT HALF TYP")
     change(room)
@@ -150,8 +152,7 @@ def keeps(room):
     time.sleep(1)
     assert desk.run("return document.activeElement.id") == "f-text" and desk.run("return document.getElementById('f-text').value") == "MVT HALF TYP"
     assert desk.run("return document.getElementById('chart').scrollTop") == 260, "the chart was scrolled"
-    if scrolled:
-        assert desk.run("return document.getElementById(args[0]).scrollTop", scrolled) == 40, "the waiting list was scrolled"
+    assert desk.run(SCROLLED + "return it.scrollTop") == 40, "the waiting list was scrolled"
     desk = room.desk()
     desk.click(".bar.expected", clicks=2)
     wait("there is a menu", lambda: desk.shown("#menu button"))
