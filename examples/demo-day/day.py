@@ -2,7 +2,6 @@
 
 import contextlib
 import errno
-import http.client
 import os
 import tempfile
 import threading
@@ -27,13 +26,15 @@ EVENING, STEP = 300, 15
 LEFT, LEFT_AFTER, LEFT_LOST = 50, 45, 3
 # Seconds between two requests of what is filled while a board is open, and between two looks at what is due.
 PAUSE, LOOK = 0.02, 1.0
+# More rounds than a day's visits take.
+MOST_ROUNDS = 30
 
 
 class Demo:
     """Ends with its context."""
 
     def __init__(self, program, board, port, speed, seed, at):
-        self.clock, self.seed, self.stack, self.failed = Clock(speed, at), seed, contextlib.ExitStack(), threading.Event()
+        self.clock, self.seed, self.stack, self.failed, self.why = Clock(speed, at), seed, contextlib.ExitStack(), threading.Event(), None
         try:
             self.address = Address(port, board, self.clock, TRAINING)
         except OSError as why:
@@ -72,8 +73,9 @@ class Demo:
         self.address.lead_to(self.server.port)
 
     def place(self, link, wanted):
-        while self.server.place(link, wanted):
-            pass
+        for _ in range(MOST_ROUNDS):
+            if self.server.place(link, wanted) == 0:
+                return
 
     def open(self):
         """Answers at the address, and plays, until the demonstration ends."""
@@ -81,10 +83,11 @@ class Demo:
             threading.Thread(target=self.watched, args=(task,), daemon=True).start()
 
     def watched(self, task):
-        """Runs a task, and has the demonstration end if its server is gone."""
+        """Runs a task, and has the demonstration end if it fails: mostly since the server is gone."""
         try:
             task()
-        except (OSError, http.client.HTTPException, Unable, ValueError):
+        except Exception as why:
+            self.why = f"the server has ended: {self.server.said().strip()}" if self.server.has_ended() else f"{task.__name__} failed: {why!r}"
             self.failed.set()
 
     def live(self):

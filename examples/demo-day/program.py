@@ -56,6 +56,9 @@ class Server:
             self.port = found and int(found[1])
             time.sleep(0.002)
 
+    def has_ended(self):
+        return self.process.poll() is not None
+
     def said(self):
         with open(self.errors) as file:
             return file.read()
@@ -66,7 +69,8 @@ class Server:
             self.process.wait(PATIENCE)
 
     def place(self, link, wanted):
-        """Puts waiting parts of visits where the program proposes, one round of at most 64 parts; how many it put."""
+        """Puts waiting parts of visits where the program proposes, one round of at most 64 parts; how many it proposes. If a desk was quicker, and the
+        commit is refused, they are proposed again in the next round."""
         with self.placing:
             self.drafts += 1
             copy = shutil.copy(self.journal, os.path.join(self.folder, "copy"))
@@ -74,8 +78,9 @@ class Server:
             edits = [edit_of(line) for line in lines if line.startswith("put ")]
             edits = [it for it in edits if wanted(it["put"]["visit"])]
             commit = {"desk": DESK, "draft": self.drafts, "base": int(first.rpartition(" ")[2]), "edits": edits}
-            # A draft that another desk was quicker than leaves its parts to the next round.
-            return len(edits) if edits and link.post("/commits", commit)[0] == 200 else 0
+            if edits:
+                link.post("/commits", commit)
+            return len(edits)
 
 
 def edit_of(line):

@@ -8,9 +8,8 @@ import time
 from clock import MINUTES_OF_DAY
 
 LARGE = os.path.normpath(os.path.join(os.path.dirname(os.path.abspath(__file__)), "..", "large"))
-# The day of its plan on which the summer day of the example is, and the days of this plan that have one.
+# The day of its plan on which the summer day of the example is.
 SUMMER_DAY = 2
-DAYS = (1, 2, 3)
 
 
 def write_airport(folder, clock):

@@ -7,7 +7,6 @@ import re
 import shutil
 import time
 
-import served
 from board_trials import plan
 from board_trials.chromium import Broken, Page
 from board_trials.desk import Desk, wait
