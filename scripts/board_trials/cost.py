@@ -8,7 +8,7 @@ from board_trials.desk import wait
 from board_trials.nginx import Nginx
 from board_trials.plan import DAY
 from board_trials.stubs import Stub, crowd_of
-from board_trials.warnings import free_stand, put
+from board_trials.soon import free_stand, put
 
 RUNS, LOADS, SCROLLS, MOVES = 5, 5, 3, 40
 MOST_PICK, MOST_PICK_CROWD, MOST_FRAME, MOST_SLOW_FRAME = 50, 100, 33, 100

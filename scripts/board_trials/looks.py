@@ -7,56 +7,91 @@ import time
 
 from board_trials.desk import PICTURES, wait
 from board_trials.plan import message_of
-from board_trials.warnings import add, come, free_stand, put
+from board_trials.soon import add, come, free_stand, put
 
-# Texts that are drawn over another text: pairs of leaf elements with words whose boxes overlap by more than two pixels each way.
+# Texts that are drawn over another text: pairs of elements with words whose boxes, as far as they are in sight, overlap by more than two pixels.
 OVERLAPS = """
-  const leaves = [...document.querySelectorAll("#top *, aside *, #foot *, #alarms *, #events *")].filter((it) => it.checkVisibility({ visibilityProperty: true }) && [...it.childNodes].some((node) => node.nodeType === 3 && node.textContent.trim()));
-  const boxes = leaves.map((it) => { const range = document.createRange(); range.selectNodeContents(it); const box = range.getBoundingClientRect();
-    let clip = { left: box.left, right: box.right, top: box.top, bottom: box.bottom };
-    for (let up = it; up; up = up.parentElement) { const style = getComputedStyle(up); if (style.overflow !== "visible" || up === document.body) { const outer = up.getBoundingClientRect();
-      clip = { left: Math.max(clip.left, outer.left), right: Math.min(clip.right, outer.right), top: Math.max(clip.top, outer.top), bottom: Math.min(clip.bottom, outer.bottom) }; } }
-    return clip; });
+  const hasWords = (it) => [...it.childNodes].some((node) => node.nodeType === 3 && node.textContent.trim());
+  const leaves = [...document.querySelectorAll("#top *, aside *, #foot *, #alarms *, #events *")]
+    .filter((it) => it.checkVisibility({ visibilityProperty: true }) && hasWords(it));
+  const boxes = leaves.map((it) => {
+    const range = document.createRange(); range.selectNodeContents(it);
+    let { left, right, top, bottom } = range.getBoundingClientRect();
+    for (let up = it; up; up = up.parentElement) {
+      if (getComputedStyle(up).overflow === "visible" && up !== document.body) continue;
+      const outer = up.getBoundingClientRect();
+      [left, right] = [Math.max(left, outer.left), Math.min(right, outer.right)];
+      [top, bottom] = [Math.max(top, outer.top), Math.min(bottom, outer.bottom)];
+    }
+    return { left, right, top, bottom };
+  });
   const found = [];
-  for (let one = 0; one < leaves.length; one += 1) for (let other = one + 1; other < leaves.length; other += 1) {
-    if (leaves[one].contains(leaves[other]) || leaves[other].contains(leaves[one])) continue;
-    const [a, b] = [boxes[one], boxes[other]];
-    if (Math.min(a.right, b.right) - Math.max(a.left, b.left) > 2 && Math.min(a.bottom, b.bottom) - Math.max(a.top, b.top) > 2) found.push(`${leaves[one].textContent.trim().slice(0, 30)} | ${leaves[other].textContent.trim().slice(0, 30)}`);
-  }
+  const words = (it) => it.textContent.trim().slice(0, 30);
+  leaves.forEach((one, at) => leaves.slice(at + 1).forEach((other, behind) => {
+    if (one.contains(other) || other.contains(one)) return;
+    const [a, b] = [boxes[at], boxes[at + 1 + behind]];
+    const across = Math.min(a.right, b.right) - Math.max(a.left, b.left);
+    if (across > 2 && Math.min(a.bottom, b.bottom) - Math.max(a.top, b.top) > 2) found.push(`${words(one)} | ${words(other)}`);
+  }));
   return found.slice(0, 5);
 """
-# Words of a bar that reach beyond what they may be drawn in: they lie over a buffer or another bar.
+# Words of a bar that reach beyond it, over its buffer or another bar.
 BEYOND = """
+  const isOpen = (it) => getComputedStyle(it).overflow === "visible";
   return [...document.querySelectorAll(".bar")].flatMap((bar) => {
-    const box = bar.getBoundingClientRect();
-    return [...bar.querySelectorAll("b, span, i, em")].filter((it) => it.checkVisibility() && it.textContent.trim() && !it.classList.contains("delay"))
-      .filter((it) => { const range = document.createRange(); range.selectNodeContents(it); const at = range.getBoundingClientRect(); return at.width > 0 && getComputedStyle(bar).overflow === "visible" && getComputedStyle(it).overflow === "visible" && at.right > box.right + 3; })
+    const end = bar.getBoundingClientRect().right;
+    return [...bar.querySelectorAll("b, span, i, em")]
+      .filter((it) => it.checkVisibility() && it.textContent.trim() && !it.classList.contains("delay") && isOpen(bar) && isOpen(it))
+      .filter((it) => {
+        const range = document.createRange(); range.selectNodeContents(it);
+        const at = range.getBoundingClientRect();
+        return at.width > 0 && at.right > end + 3;
+      })
       .map((it) => `${bar.dataset.key} ${it.textContent.trim()}`);
   }).slice(0, 5);
 """
 # Words of one row of the chart that lie over others: of bars and of shadows.
 OVERLAID = """
+  const boxOf = (it) => {
+    const range = document.createRange(); range.selectNodeContents(it);
+    const [box, outer] = [range.getBoundingClientRect(), it.closest(".bar, .shade").getBoundingClientRect()];
+    return { words: it.textContent.trim(), left: Math.max(box.left, outer.left), right: Math.min(box.right, outer.right), top: box.top, bottom: box.bottom };
+  };
+  const isOver = (a, b) => Math.min(a.right, b.right) - Math.max(a.left, b.left) > 3 && Math.min(a.bottom, b.bottom) - Math.max(a.top, b.top) > 4;
   return [...document.querySelectorAll(".row")].flatMap((row) => {
-    const boxes = [...row.querySelectorAll(".bar b, .shade span")].filter((it) => it.checkVisibility() && it.textContent.trim()).map((it) => {
-      const range = document.createRange(); range.selectNodeContents(it); const box = range.getBoundingClientRect(); const outer = it.closest(".bar, .shade").getBoundingClientRect();
-      return { words: it.textContent.trim(), left: Math.max(box.left, outer.left), right: Math.min(box.right, outer.right), top: box.top, bottom: box.bottom }; });
-    return boxes.flatMap((a, at) => boxes.slice(at + 1).filter((b) => Math.min(a.right, b.right) - Math.max(a.left, b.left) > 3 && Math.min(a.bottom, b.bottom) - Math.max(a.top, b.top) > 4).map((b) => `${a.words} | ${b.words}`));
+    const boxes = [...row.querySelectorAll(".bar b, .shade span")].filter((it) => it.checkVisibility() && it.textContent.trim()).map(boxOf);
+    return boxes.flatMap((a, at) => boxes.slice(at + 1).filter((b) => isOver(a, b)).map((b) => `${a.words} | ${b.words}`));
   }).slice(0, 5);
 """
-# The least contrast of words with what is behind them, for elements with one plain colour behind.
+# Words with a contrast below 4.5 with what is behind them, of elements with one plain colour behind.
 CONTRAST = """
-  const parsed = (text) => { const it = text.match(/[\\d.]+/g)?.map(Number) ?? [0, 0, 0, 0]; return /^color\\(srgb/.test(text) ? [...it.slice(0, 3).map((part) => part * 255), it[3] ?? 1] : [...it.slice(0, 3), it[3] ?? 1]; };
-  const light = ([r, g, b]) => { const [x, y, z] = [r, g, b].map((part) => { const at = part / 255; return at <= 0.04045 ? at / 12.92 : ((at + 0.055) / 1.055) ** 2.4; }); return 0.2126 * x + 0.7152 * y + 0.0722 * z; };
+  const parsed = (text) => {
+    const it = text.match(/[\\d.]+/g)?.map(Number) ?? [0, 0, 0, 0];
+    return /^color\\(srgb/.test(text) ? [...it.slice(0, 3).map((part) => part * 255), it[3] ?? 1] : [...it.slice(0, 3), it[3] ?? 1];
+  };
+  const linear = (part) => (part / 255 <= 0.04045 ? part / 255 / 12.92 : ((part / 255 + 0.055) / 1.055) ** 2.4);
+  const light = ([r, g, b]) => 0.2126 * linear(r) + 0.7152 * linear(g) + 0.0722 * linear(b);
   const over = (front, back) => front.slice(0, 3).map((part, at) => part * front[3] + back[at] * (1 - front[3]));
-  const behind = (it) => { let back = null; const stack = []; for (let up = it; up; up = up.parentElement) { const style = getComputedStyle(up); if (style.backgroundImage !== "none") return null; const colour = parsed(style.backgroundColor); stack.push(colour); if (colour[3] === 1) break; }
-    back = [255, 255, 255]; for (const colour of stack.reverse()) back = over(colour, back); return back; };
+  const behind = (it) => {
+    const stack = [];
+    for (let up = it; up; up = up.parentElement) {
+      const style = getComputedStyle(up);
+      if (style.backgroundImage !== "none") return null;
+      stack.push(parsed(style.backgroundColor));
+      if (stack.at(-1)[3] === 1) break;
+    }
+    return stack.reverse().reduce((back, colour) => over(colour, back), [255, 255, 255]);
+  };
+  const nameOf = (it) => `${it.tagName.toLowerCase()}${it.id ? `#${it.id}` : ""}.${[...it.classList].join(".")}`;
   const worst = new Map();
   for (const it of document.querySelectorAll("body *")) {
-    if (!it.checkVisibility({ visibilityProperty: true, opacityProperty: true }) || ![...it.childNodes].some((node) => node.nodeType === 3 && node.textContent.trim())) continue;
-    const back = behind(it); if (back === null) continue;
-    const [one, other] = [light(over(parsed(getComputedStyle(it).color), back)), light(back)]; const ratio = (Math.max(one, other) + 0.05) / (Math.min(one, other) + 0.05);
-    const name = `${it.tagName.toLowerCase()}${it.id ? `#${it.id}` : ""}${it.className && typeof it.className === "string" ? `.${it.className.trim().split(/\\s+/).join(".")}` : ""}`;
-    if (ratio < 4.5 && !it.closest(":disabled, [aria-hidden=true]")) worst.set(name, `${ratio.toFixed(1)} ${name} in ${it.parentElement.tagName.toLowerCase()}${it.parentElement.id ? `#${it.parentElement.id}` : ""}: ${it.textContent.trim().slice(0, 20)}`);
+    const hasWords = [...it.childNodes].some((node) => node.nodeType === 3 && node.textContent.trim());
+    if (!hasWords || !it.checkVisibility({ visibilityProperty: true, opacityProperty: true }) || it.closest(":disabled, [aria-hidden=true]")) continue;
+    const back = behind(it);
+    if (back === null) continue;
+    const [one, other] = [light(over(parsed(getComputedStyle(it).color), back)), light(back)];
+    const ratio = (Math.max(one, other) + 0.05) / (Math.min(one, other) + 0.05);
+    if (ratio < 4.5) worst.set(nameOf(it), `${ratio.toFixed(1)} ${nameOf(it)} in ${nameOf(it.parentElement)}: ${it.textContent.trim().slice(0, 20)}`);
   }
   return [...worst.values()].slice(0, 8);
 """

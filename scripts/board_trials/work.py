@@ -7,7 +7,7 @@ from board_trials.chromium import CONTROL, SHIFT
 from board_trials.desk import bar_of, wait, waiting_item
 from board_trials.plan import DAY, flight_of
 from board_trials.room import clock_of
-from board_trials.warnings import add, free_stand, put, seen_bar
+from board_trials.soon import add, free_stand, put, seen_bar
 
 
 def answered(desk, room, version):
