@@ -119,6 +119,7 @@ def demonstration(room):
             minutes = int(desk.text("#utc")[:2]) * 60 + int(desk.text("#utc")[3:])
             assert 620 <= minutes < 700, f"the clock is {desk.text('#utc')}"
             wait("a stand is lost", lambda: desk.shown("#events"), 60)
+            desk.picture("demonstration")
         finally:
             demo.send_signal(signal.SIGINT)
         assert demo.wait(20) == 0
