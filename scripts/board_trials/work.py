@@ -137,7 +137,7 @@ def several(room):
     desk.keys("u", "u", "Escape")
     wait("it is undone", lambda: not desk.count("#draft li"), 5)
     pick_both(desk, bars)
-    desk.page.click_at(*desk.middle(bars[1]), button="right")
+    desk.page.click_at(*desk.middle(bars[0]), button="right")
     wait("there is a menu of both", lambda: desk.shown('#menu [data-act="swap"]'), 5)
     desk.click('#menu [data-act="swap"]')
     wait("they change places", lambda: sorted(re.findall(r"put on (\w+)", " ".join(desk.texts("#draft li")))) == sorted(stands), 5)
