@@ -48,7 +48,8 @@ class Demo:
         self.server = Server(program, write_airport(self.folder, self.clock), self.folder)
         self.stack.callback(self.server.end)
         self.writer = Writer(self.clock, STATION)
-        self.today = None
+        # Who plays today; and whether a stand is lost, and an alarm comes, soon after the beginning.
+        self.today, self.loses, self.alarms = None, False, False
 
     def __enter__(self):
         return self
@@ -69,7 +70,7 @@ class Demo:
         left = {it["visit"] for number, it in enumerate(visits) if number % LEFT == 0 and it["on"] > now + LEFT_AFTER}
         self.place(link, lambda visit: visit not in left)
         self.today.catch_up(MINUTES_OF_DAY - EVENING, now, STEP, LEFT_LOST)
-        prepare(self.today, now)
+        self.loses, self.alarms = prepare(self.today, now)
         self.address.lead_to(self.server.port)
 
     def place(self, link, wanted):

@@ -1,14 +1,14 @@
-"""The first things that happen once the address is printed: a stand is lost within a minute, and an alarm comes within two, whatever the seed."""
+"""The first things that happen once the address is printed, whatever the seed: at an hour with traffic a stand is lost within a minute, and an
+alarm comes within two."""
 
 # When they happen, in minutes after the beginning, and for how long an aircraft then stands where the next is due.
 TOLD_AT, ASTRAY_AT, OVER = 0.4, 1.2, 20
 
 
 def prepare(play, now):
-    """Changes the stories of one visit that stands and of one that is soon due, if there are such."""
+    """Changes the stories of one visit that stands and of one that is soon due; whether there is such a one of each."""
     play.step(now)
-    prepare_loss(play, now)
-    prepare_alarm(play, now)
+    return prepare_loss(play, now), prepare_alarm(play, now)
 
 
 def prepare_loss(play, now):
@@ -19,7 +19,8 @@ def prepare_loss(play, now):
         if after and not play.is_told(visit, "leaves") and part["to"] > now and now + 20 < min(after) < now + 120:
             play.leaves[visit["visit"]] = min(after) + OVER, part["to"]
             play.stories[visit["name"]] = play.story(visit)._replace(departure_told=part["to"] - now - TOLD_AT)
-            return
+            return True
+    return False
 
 
 def prepare_alarm(play, now):
@@ -31,4 +32,5 @@ def prepare_alarm(play, now):
             if beside is not None and not play.is_clear(beside):
                 changed = {"comes_late": now + ASTRAY_AT - due, "arrival_told": None, "is_by_message": False, "is_astray": True}
                 play.stories[visit["name"]] = play.story(visit)._replace(**changed)
-                return
+                return True
+    return False
