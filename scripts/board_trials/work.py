@@ -213,6 +213,28 @@ def report_asks(room):
     return words[:160]
 
 
+def report_away(room):
+    """A report that is sent while the server is away is asked for until it is there, and is one entry then."""
+    desk = room.desk()
+    now = room.now()
+    number = add(room, "AWAY", now + 1, now + 80)
+    put(room, number, free_stand(room, now - 30, now + 200))
+    chosen_bar(desk, room, number)
+    before = room.version()
+    desk.keys("o")
+    desk.one("#f-stand")
+    room.server.kill()
+    desk.click("#dialog button[type=submit]")
+    wait("it says that no reply came, or asks", lambda: desk.shown("#yes") or "asked" in desk.text("#dialog"))
+    if desk.shown("#yes"):
+        desk.click("#yes")
+    wait("it says that no reply came", lambda: "asked" in desk.text("#dialog"))
+    room.server.start()
+    wait("the visit is on block", lambda: room.visit(number)["state"] == "onblock")
+    wait("the dialogue ends", lambda: not desk.count("#dialog[open]"))
+    assert room.version() == before + 1, "it is not one entry"
+
+
 def propose(room):
     """Propose makes a first-fit draft of what waits in sight, which the server takes, and says why others are left."""
     desk = room.desk()
@@ -284,4 +306,4 @@ def one_stop(room):
     assert all(count <= 1 for _, count in stops), stops
 
 
-TRIALS = (times_by_drag, times_by_form, finds, waiting_list, several, frame_picks, card, report_asks, propose, caps, esc_asks, words, one_stop)
+TRIALS = (times_by_drag, times_by_form, finds, waiting_list, several, frame_picks, card, report_asks, report_away, propose, caps, esc_asks, words, one_stop)
