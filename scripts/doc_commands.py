@@ -44,6 +44,7 @@ def unpacked(package, room):
     subprocess.run(["dpkg-deb", "--extract", package, root], check=True, timeout=PATIENCE)
     folder = os.path.join(root, "usr", "share", "doc", "apron")
     os.symlink(os.path.join(root, "usr", "bin", "apron"), os.path.join(folder, "apron"))
+    os.symlink(os.path.join(root, "usr", "libexec", "apron"), os.path.join(folder, "scripts"))
     return folder
 
 
