@@ -12,10 +12,9 @@ use apron_run::{Status, is_plain_number};
 use apron_serve::{MAX_CONNECTIONS, MAX_LISTENERS, MAX_SCREENS, serve_all};
 use host_files::{FileDisk, FileShelf, report_meaning};
 use std::alloc::Global;
-use std::fs::File;
 use std::io;
 use std::net::{Net, TcpListener, TcpStream};
-use std::rt::{Clock, Env, Files};
+use std::rt::Env;
 use std::sync::Wait;
 use std::thread::Threads;
 use tcp_desks::{TcpDesks, TimeLimits};
@@ -30,19 +29,15 @@ pub(crate) fn are_asked(words: &[Word]) -> bool {
 /// day on screens at another address if the words ask for it. The journal's lock is taken first,
 /// and then all addresses: without one of them no listener accepts a connection, and without the
 /// lock no address is taken. A line about a fault goes to the sink. Standard error says where it
-/// listens once the journal is open, and how it ended.
-pub(crate) fn serve_words<
-    R: Wait
-        + Threads
-        + Sync
-        + AllocGlobal
-        + Eprint
-        + Env
-        + Clock
-        + Files<File = File>
-        + Net<Listener = TcpListener, Stream = TcpStream>,
-    W: Sink,
->(rt: &R, words: &[Word], watches: &Watches<Shown, Shown>, sink: &mut W) -> u8 {
+/// listens once the journal is open, and how it ended. `threads` is the runtime too, as the handle
+/// by which workers start and wait.
+pub(crate) fn serve_words<T: Wait + Threads + Sync, W: Sink>(
+    threads: &T,
+    rt: &HostRuntime,
+    words: &[Word],
+    watches: &Watches<Shown, Shown>,
+    sink: &mut W,
+) -> u8 {
     let Some(order) = order_in(words) else {
         return Status::Usage.code();
     };
@@ -58,7 +53,7 @@ pub(crate) fn serve_words<
     } = listeners;
     let mut shelf = FileShelf::new(rt);
     let (status, _disk) = serve_all(
-        rt,
+        threads,
         alloc,
         order.words,
         watches,
@@ -324,7 +319,10 @@ const FEW_DESCRIPTORS_TO_SERVE: &str =
 
 // Whether the process, or the system, has no descriptor left: EMFILE or ENFILE.
 fn is_want_of_descriptors(cause: &io::Error) -> bool {
-    matches!(cause.raw_os_error(), Some(23) | Some(24))
+    match cause.raw_os_error() {
+        Some(number) => number == 23 || number == 24,
+        None => false,
+    }
 }
 
 // As many listeners beside this one as the place has. The first of them has the opening, if one is

@@ -47,9 +47,10 @@ impl Front {
     fn with(self, piece: &[u8]) -> Front {
         let mut front = self;
         for byte in piece.iter().take(MOST_KEPT) {
-            if let Some(place) = front.bytes.get_mut(front.count) {
+            let count = front.count;
+            if let Some(place) = front.bytes.get_mut(count) {
                 *place = *byte;
-                front.count = front.count.saturating_add(1);
+                front.count = count.saturating_add(1);
             }
         }
         front
@@ -83,10 +84,13 @@ impl<'a, S: Write> Write for FrontStream<'a, S> {
 
     fn write(&mut self, piece: &[u8]) -> io::Result<usize> {
         let answer = self.inner.write(piece);
-        if answer.is_ok() {
-            let front = self.front.get();
-            self.front.set(front.with(piece));
-        }
+        let taken = match &answer {
+            Ok(count) => *count,
+            Err(_) => 0,
+        };
+        let front = self.front.get();
+        self.front
+            .set(front.with(piece.get(..taken).unwrap_or(piece)));
         answer
     }
 

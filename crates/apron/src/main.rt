@@ -46,6 +46,7 @@ fn main(rt: HostRuntime) -> ExitCode {
             let output = FrontStream::new(ToldStream::new(&rt, OUTPUT, rt.stdout()), &front);
             let status = desks::serve_words(
                 &rt,
+                &rt,
                 words.as_slice(),
                 &watches,
                 &mut WriterSink::new(output),
