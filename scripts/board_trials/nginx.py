@@ -25,7 +25,7 @@ class Nginx:
         os.mkdir(self.room)
         with open(os.path.join(served.EXAMPLES, "proxy", "nginx.conf")) as file:
             text = file.read()
-        changes = {"access_log off;": LOG, " server 127.0.0.1:8080;": f" server 127.0.0.1:{room.server.port};", "listen 8443 ": f"listen 127.0.0.1:{self.port} ",
+        changes = {" server 127.0.0.1:8080;": f" server 127.0.0.1:{room.server.port};", "listen 8443 ": f"listen 127.0.0.1:{self.port} ",
                    "root /usr/share/apron/board;": f"root {os.path.join(self.room, 'board')};"}
         for there, here in changes.items():
             assert text.count(there) == 1, f"the configuration has no line with {there}"
@@ -35,6 +35,8 @@ class Nginx:
             for path in [folder, *(os.path.join(folder, name) for name in names)]:
                 os.chmod(path, 0o755)
         self.write("nginx.conf", text)
+        with open(os.path.join(served.EXAMPLES, "proxy", "desks.conf")) as file:
+            self.write("desks.conf", file.read() + LOG + "\n")
         self.write("apron.users", f"{USER}:{self.call('passwd', '-apr1', PASSWORD)}")
         self.call("req", "-x509", "-newkey", "rsa:2048", "-nodes", "-days", "1", "-keyout", "apron.key", "-out", "apron.crt",
                   "-subj", "/CN=localhost", "-addext", "subjectAltName=DNS:localhost")
