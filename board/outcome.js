@@ -14,7 +14,8 @@ const NOTHING = "This page publishes nothing: it is for the wall, or for trainin
 
 // Sends a command until its reply is there, and gives null where it was taken, or why not. A visit and a cancel can be sent again, since the
 // server knows them by name and number. A message or a report would be another entry each time: so the entries since are looked through
-// for one of this desk, which is this tab's alone. `taken` is told what a 200 says.
+// for one of this desk, which is this tab's alone. A proxy may name the desk by its user instead: then no entry is known to be this tab's, and a
+// person decides. `taken` is told what a 200 says.
 export async function outcome(kind, send, tell, taken = () => {}) {
   if (!maySend()) return NOTHING;
   const since = seen();
@@ -24,7 +25,10 @@ export async function outcome(kind, send, tell, taken = () => {}) {
     if (was === null) return LOST;
     if (was === true) return accepted({}, taken);
     const reply = was === undefined ? { is: "trouble", words: "No reply came yet." } : await send();
-    if (reply.is === "ok") return accepted(reply.body, taken);
+    if (reply.is === "ok") {
+      if (isOnce) await learnName(reply.body.version);
+      return accepted(reply.body, taken);
+    }
     if (isAnswer(reply)) return turn > 1 && kind === "cancel" && reply.body.error === "gone" ? accepted({}, taken) : refusalWords(reply.body);
     if (reply.mayBeTaken === false && reply.cause !== "memory") return reply.words;
     if (!isOpen()) return LOST;
@@ -41,14 +45,26 @@ async function accepted(body, taken) {
   return (await taken(body)) ?? null;
 }
 
-// Whether this desk has an entry of this kind since a version; undefined while the server is away, and null where it does not tell entries.
+// By which name the server has this tab's messages and reports: that of its desk, or the one that a proxy gives; null before the first.
+let knownAs = null;
+
+async function learnName(version) {
+  if (knownAs !== null) return;
+  const entry = await ask("GET", `entries/${version}`);
+  if (entry.is === "ok") knownAs = entry.body.desk;
+}
+
+// Whether this desk has an entry of this kind since a version; undefined while the server is away, and null where the entries do not tell it.
 async function wasTaken(kind, since) {
   const reply = await ask("GET", "version");
   if (reply.is !== "ok") return undefined;
+  let others = 0;
   for (let number = since + 1; number <= reply.body.version; number++) {
     const entry = await ask("GET", `entries/${number}`);
     if (entry.is !== "ok") return isAnswer(entry) ? null : undefined;
-    if (entry.body.kind === kind && entry.body.desk === deskName()) return true;
+    if (entry.body.kind !== kind) continue;
+    if (entry.body.desk === deskName()) return true;
+    others += 1;
   }
-  return false;
+  return others > 0 && knownAs !== deskName() ? null : false;
 }
