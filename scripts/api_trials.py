@@ -1,6 +1,8 @@
 """Has the program answer requests, and compares each request and each reply with the API description: the example sessions, drawn requests to
 a desk and to a server, and replies that have to be made on purpose."""
 
+import importlib.machinery
+import importlib.util
 import os
 import re
 import resource
@@ -79,6 +81,27 @@ def made(program, files, journal):
 def words_of(step):
     with open(f"{step}.words") as file:
         return file.read().split()
+
+
+def sessions_of(name):
+    """The sessions of a text, as examples/check-texts reads them."""
+    loader = importlib.machinery.SourceFileLoader("check_texts", os.path.join(served.EXAMPLES, "check-texts"))
+    texts = importlib.util.module_from_spec(importlib.util.spec_from_loader("check_texts", loader))
+    loader.exec_module(texts)
+    return texts.sessions_of(name)
+
+
+def try_text(looks, program, name):
+    """The sessions of a text, each of which begins on an empty journal. Of bytes that are sent as they are the description says nothing."""
+    for session in sessions_of(name):
+        with tempfile.TemporaryDirectory(dir=served.IN_MEMORY) as folder:
+            words = [*(os.path.join(served.EXAMPLES, it) for it in session.files), os.path.join(folder, "journal")]
+            subprocess.run([program, "init", *words], capture_output=True, timeout=PATIENCE)
+            for desk in session.desks:
+                stream = b"".join(it.sent for it in desk.requests)
+                ran = subprocess.run([program, "desk", *words], input=stream, capture_output=True, timeout=PATIENCE)
+                if not any(it.line.startswith("!") for it in desk.requests):
+                    looks.look_at(f"{name}: {session.shows}", stream, ran.stdout, whole=False)
 
 
 def try_session(looks, program, name):
@@ -247,10 +270,14 @@ def try_lack_of_memory(looks, program, room):
 
 def try_all(looks, program, count, seed):
     """All of it. Tells on the way what was done."""
-    names = sorted(os.listdir(os.path.join(served.EXAMPLES, "sessions")))
+    sessions = os.path.join(served.EXAMPLES, "sessions")
+    names = [it for it in sorted(os.listdir(sessions)) if os.path.isdir(os.path.join(sessions, it))]
+    texts = [it.removesuffix(".session") for it in sorted(os.listdir(sessions)) if it.endswith(".session")]
     for name in names:
         try_session(looks, program, name)
-    print(f"{len(names)} example sessions: {looks.requests} requests, {looks.forbidden} of them faulty", flush=True)
+    for name in texts:
+        try_text(looks, program, name)
+    print(f"{len(names)} example sessions and {len(texts)} texts of them: {looks.requests} requests, {looks.forbidden} of them faulty", flush=True)
     before = looks.requests, looks.forbidden
     each = SESSIONS_OF_A_JOURNAL * REQUESTS_OF_A_SESSION
     for number in range(-(-count // each)):
