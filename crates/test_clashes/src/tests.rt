@@ -1,6 +1,5 @@
 // What is found at the stands of an index, and at plans that are drawn at the demo airport.
 mod boards;
-mod by_hand;
 mod clashes;
 mod demo;
 mod draws;
