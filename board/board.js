@@ -22,10 +22,12 @@ import { keysList, listenToKeys } from "./keys.js";
 import { listenToMenu, menuOf } from "./menu.js";
 import * as picture from "./model.js";
 import { dropAll, undo } from "./moves.js";
+import { chooseFile, forgetFile, listenToFile, openNext } from "./opening.js";
 import { pause } from "./net.js";
 import { listenToPrint } from "./paper.js";
 import { cursor, firstPicked, isPicking } from "./pick.js";
 import { partOfKey } from "./plan.js";
+import { loadPreferences } from "./preferred.js";
 import { applySettings, changeSettingsDialog } from "./prefs.js";
 import { publish, settle } from "./publish.js";
 import { drawnBy, redraw } from "./redraw.js";
@@ -66,6 +68,9 @@ const ACTS = {
   drop: dropAll,
   publish: () => publish(tellRefused),
   again: () => !drafting.isEmpty() && drafting.pendingDraft() === null && lookAgain(),
+  open: chooseFile,
+  opennext: openNext,
+  forgetfile: forgetFile,
   propose,
   events: showEvents,
   seen: seeFirst,
@@ -177,6 +182,7 @@ function listen() {
   listenToFind();
   listenToWaiting();
   listenToPrint();
+  listenToFile();
   listenForTouch();
 }
 
@@ -235,6 +241,7 @@ async function start() {
   tick();
   if (drafting.pendingDraft() !== null) settle(tellRefused);
   offerLost();
+  if (!address.isWall) loadPreferences();
 }
 
 start();

@@ -7,6 +7,7 @@ import { $, el, fillKeyed, setText } from "./dom.js";
 import * as picture from "./model.js";
 import { cursor, fits, isOnlyFits, isPicking } from "./pick.js";
 import { keyOf } from "./plan.js";
+import { isPreferred } from "./preferred.js";
 import { DAY } from "./rules.js";
 import { address, settings } from "./settings.js";
 import { clock, dateOf, dayLong, dayName, dayShort, isInPlan, isoOf, nowMinute, zoned } from "./times.js";
@@ -146,10 +147,10 @@ function standRow({ stand }, place) {
 
 function drawRow(row, stand, [from, to]) {
   const off = fits()?.[stand];
-  const fit = off === undefined ? "" : off === null ? "fits" : "off";
+  const fit = off === undefined ? "" : `${off === null ? "fits" : "off"}${isPreferred(stand) ? " preferred" : ""}`;
   if (fit !== row.fit) {
-    row.node.classList.remove("fits", "off");
-    if (fit !== "") row.node.classList.add(fit);
+    row.node.classList.remove("fits", "off", "preferred");
+    if (fit !== "") row.node.classList.add(...fit.split(" "));
     row.fit = fit;
   }
   const left = new Set(row.items.keys());

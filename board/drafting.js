@@ -150,6 +150,12 @@ export function lostDrafts(open) {
     .map((desk) => ({ desk, ...read(localStorage, `draft ${desk}`, {}) })).filter(isDraft).sort((one, other) => other.at - one.at);
 }
 
+// Takes up edits that a planner wrote over the plan of this version. The draft is empty before.
+export function openDraft(kept, base) {
+  restore({ kept, base });
+  refresh();
+}
+
 export const forgetLost = (desk) => keep(localStorage, `draft ${desk}`, null);
 
 // Takes up a draft that another desk left. What was on its way is asked for again by the same bytes, under that desk's name.

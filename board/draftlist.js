@@ -4,10 +4,13 @@ import * as drafting from "./drafting.js";
 import { deskName } from "./desk.js";
 import { $, el, fillKeyed } from "./dom.js";
 import * as picture from "./model.js";
+import { nextWords } from "./opening.js";
 import { visitName } from "./plan.js";
 import { refusedWords } from "./refusal.js";
 import { address } from "./settings.js";
 import { keptWords, refusalWords } from "./words.js";
+
+const NONE = "No changes. Drag a bar or an unallocated part to a stand, or pick it with Space.";
 
 // The draft is drawn as one item, which changes only where its words do.
 export function drawDraft() {
@@ -21,18 +24,16 @@ export function drawDraft() {
 
 function draftElement(lines, said, buttons) {
   const head = el("h2", {}, "Draft ", el("b", {}, String(lines.length)), el("small", {}, deskName()));
-  const none = "No changes. Drag a bar or an unallocated part to a stand, or pick it with Space.";
-  if (drafting.isEmpty()) return el("div", {}, head, el("p", { class: "dim" }, none), ...said.map(paragraph));
-  return el("div", {}, head, el("ol", {}, ...lines.map((line) => el("li", {}, line))), ...said.map(paragraph),
-    el("div", { class: "buttons" }, ...buttons.map(({ id, words, act, title, locked }) =>
-      el("button", { type: "button", id, "data-do": act, title, disabled: locked }, words))));
+  const list = drafting.isEmpty() ? [] : [el("ol", {}, ...lines.map((line) => el("li", {}, line)))];
+  return el("div", {}, head, ...list, ...said.map(paragraph), el("div", { class: "buttons" }, ...buttons.map(({ id, words, act, title, locked }) =>
+    el("button", { type: "button", id, "data-do": act, title, disabled: locked }, words))));
 }
 
 const paragraph = ([className, words]) => el("p", { class: className }, words);
 
 function draftWords() {
   const dropped = drafting.droppedEdits().map(({ kept, error }) => ["bad", `Dropped: ${keptWords(kept)}: ${refusalWords({ error })}`]);
-  if (drafting.isEmpty()) return dropped;
+  if (drafting.isEmpty()) return [["dim", nextWords() ?? NONE], ...dropped];
   if (drafting.pendingDraft() !== null) return [pendingWords()];
   if (drafting.refusedDraft() !== null) return [["bad", refusedWords()], ...dropped];
   const late = drafting.overtaken();
@@ -57,6 +58,7 @@ function verdictWords() {
 }
 
 function draftButtons() {
+  if (drafting.isEmpty()) return emptyButtons();
   const locked = drafting.pendingDraft() !== null;
   const isLate = drafting.overtaken() !== null || ["overtaken", "ahead"].includes(drafting.refusedDraft()?.error);
   return [
@@ -64,5 +66,14 @@ function draftButtons() {
     { id: "send", words: "Publish", act: "publish", title: "Ctrl+Enter", locked },
     { id: "undo", words: "Undo", act: "undo", title: "U", locked },
     { id: "drop", words: "Drop all", act: "drop", title: null, locked },
+  ];
+}
+
+function emptyButtons() {
+  const file = { id: "openfile", words: "Open a planner's file …", act: "open", title: null, locked: false };
+  if (nextWords() === null) return [file];
+  return [
+    { id: "opennext", words: "Open it", act: "opennext", title: null, locked: false },
+    { id: "forgetfile", words: "Forget the file", act: "forgetfile", title: null, locked: false },
   ];
 }

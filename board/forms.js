@@ -92,7 +92,18 @@ function namesFault({ frontages, pairs, stands }) {
 const chart = (value) =>
   (/^STAND CHART [A-Z]{3} \d{4}-\d\d-\d\d VERSION \d+\n/.test(value) && value.endsWith("\nEND\n") ? null : " is not a whole chart");
 
-/** The forms of bodies by the kind of what was asked. @type {Record<string, Form>} */
+const ON_PART = { part: whole, visit: whole };
+const EDITS = { put: record({ ...ON_PART, stand: NAME }), lift: record(ON_PART), cut: record({ ...ON_PART, at: whole }), join: record(ON_PART) };
+
+// An edit as a commit has it: one kind, and what it says.
+function edit(value) {
+  const [[kind, said] = [], ...more] = Object.entries(value ?? {});
+  if (more.length > 0 || !Object.hasOwn(EDITS, kind)) return ` is none of ${Object.keys(EDITS).join(", ")}`;
+  const fault = EDITS[kind](said);
+  return fault === null ? null : `.${kind}${fault}`;
+}
+
+/** The forms of bodies by the kind of what was asked, and of a planner's file. @type {Record<string, Form>} */
 export const FORMS = {
   airport: AIRPORT,
   chart,
@@ -111,6 +122,7 @@ export const FORMS = {
   message: record({ bumped: listOf(PART_ID), version: whole, visit: orNull(whole) }),
   report: record({ bumped: listOf(PART_ID), version: whole }),
   cancel: record({ version: whole }),
+  planfile: record({ base: whole, drafts: listOf(whole, 1), edits: listOf(edit, 1), first_day: date, station: words }),
 };
 
 const ROUTES = [

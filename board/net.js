@@ -76,6 +76,16 @@ async function fetched(target, { method, body, headers, patience }) {
   }
 }
 
+// The text of a file beside the page; null if there is none, and undefined while that is not known.
+export function fileBeside(name) {
+  const asked = state.reads.then(() => fetched(name, { method: "GET", headers: {}, patience: READ_PATIENCE }));
+  state.reads = asked.catch(() => null);
+  return asked.then(({ status, text }) => {
+    if (status === 404) return null;
+    return status === 200 && !/^\s*</.test(text) ? text : undefined;
+  });
+}
+
 function learn({ body }, { date, training, sent, got }) {
   state.isTraining = training;
   state.clock = heard(state.clock, { date, sent, got, training });

@@ -8,6 +8,7 @@ import { say } from "./dom.js";
 import { isAnswer } from "./forms.js";
 import { look } from "./follow.js";
 import * as picture from "./model.js";
+import { draftTaken } from "./opening.js";
 import { ask, maySend, pause } from "./net.js";
 import { settings } from "./settings.js";
 
@@ -51,6 +52,7 @@ async function settled(reply, refused) {
   const { version } = reply.body;
   const verdict = await comparedWith(sent, version);
   if (verdict.is === "other") return sendAsAnother(verdict.why, refused);
+  draftTaken(version);
   // The draft goes when the picture has it, so that no bar jumps back between.
   try {
     await look();

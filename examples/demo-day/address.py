@@ -11,7 +11,9 @@ import urllib.parse
 
 CONNECTIONS, PATIENCE = 8, 30
 MOST_BODY = 65536
-TYPES = {".html": "text/html; charset=utf-8", ".css": "text/css; charset=utf-8", ".js": "text/javascript; charset=utf-8"}
+TYPES = {".html": "text/html; charset=utf-8", ".css": "text/css; charset=utf-8", ".js": "text/javascript; charset=utf-8", ".csv": "text/csv; charset=utf-8"}
+# Where the page asks for the file of preferences.
+PREFERENCES = "/preferences.csv"
 HANDED_ON = ("X-Seen", "X-Desk")
 HANDED_BACK = ("Content-Type", "X-Version", "Allow")
 POLICY = "default-src 'self'; base-uri 'none'; form-action 'self'; frame-ancestors 'none'"
@@ -23,9 +25,9 @@ class Address(http.server.ThreadingHTTPServer):
     allow_reuse_address = True
     request_queue_size = 128
 
-    def __init__(self, port, board, clock, fields, exchange=None):
+    def __init__(self, port, board, preferences, clock, fields, exchange=None):
         super().__init__(("127.0.0.1", port), exchange or Exchange)
-        self.board, self.clock, self.fields, self.links = board, clock, fields, queue.LifoQueue()
+        self.board, self.preferences, self.clock, self.fields, self.links = board, preferences, clock, fields, queue.LifoQueue()
 
     @property
     def port(self):
@@ -37,7 +39,9 @@ class Address(http.server.ThreadingHTTPServer):
             self.links.put(http.client.HTTPConnection("127.0.0.1", port, timeout=PATIENCE))
 
     def file_of(self, path):
-        """The path of the board's file of this name, or None."""
+        """The path of the board's file of this name, or that of the preferences; or None."""
+        if path == PREFERENCES:
+            return self.preferences
         name = os.path.normpath(path.lstrip("/") or "index.html")
         whole = os.path.join(self.board, name)
         return whole if not name.startswith("..") and os.path.splitext(name)[1] in TYPES and os.path.isfile(whole) else None

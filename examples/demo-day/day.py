@@ -14,7 +14,7 @@ from opening import prepare
 from past import tell_past
 from play import Play
 from program import Link, Server, Unable
-from timetable import visits_of, write_airport, write_season
+from timetable import LARGE, visits_of, write_airport, write_season
 
 STATION = "LRG"
 # The field by which the board knows that nothing here is real.
@@ -36,7 +36,7 @@ class Demo:
     def __init__(self, program, board, port, speed, seed, at):
         self.clock, self.seed, self.stack, self.failed, self.why = Clock(speed, at), seed, contextlib.ExitStack(), threading.Event(), None
         try:
-            self.address = Address(port, board, self.clock, TRAINING)
+            self.address = Address(port, board, os.path.join(LARGE, "preferences.csv"), self.clock, TRAINING)
         except OSError as why:
             taken = why.errno == errno.EADDRINUSE
             words = f"port {port} of 127.0.0.1 is taken: end what uses it, or choose another port with --port" if taken else f"port {port}: {why.strerror}"

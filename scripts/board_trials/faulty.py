@@ -15,6 +15,7 @@ import served
 sys.path.insert(0, os.path.join(served.EXAMPLES, "demo-day"))
 from address import Address, Exchange
 
+PREFERENCES = os.path.join(served.EXAMPLES, "large", "preferences.csv")
 # Pages that a proxy, a gate or a portal may give, and a reply of apron's that is cut.
 PORTAL = b"<!DOCTYPE html><title>Sign in</title><p>Please sign in to the network.</p>"
 STATUSES = {"401": 401, "403": 403, "404": 404, "500": 500, "502": 502, "503": 503, "504": 504}
@@ -41,7 +42,7 @@ class Faulty(Address):
     """Begins to answer at once."""
 
     def __init__(self, board, server_port, ahead=0.0, training=False):
-        super().__init__(0, board, MovedClock(ahead), {"X-Training": "yes"} if training else {}, FaultyExchange)
+        super().__init__(0, board, PREFERENCES, MovedClock(ahead), {"X-Training": "yes"} if training else {}, FaultyExchange)
         self.faults, self.asked, self.slow, self.server_at = [], [], 0.0, server_port
         self.lead_to(server_port)
         threading.Thread(target=self.serve_forever, args=(0.05,), daemon=True).start()

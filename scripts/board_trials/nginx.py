@@ -11,6 +11,7 @@ import subprocess
 
 import served
 from board_trials.desk import wait
+from board_trials.faulty import PREFERENCES
 
 USER, PASSWORD = "north", "a password of north"
 PROGRAM = shutil.which("nginx", path=os.environ.get("PATH", "") + ":/usr/sbin")
@@ -31,6 +32,7 @@ class Nginx:
             assert text.count(there) == 1, f"the configuration has no line with {there}"
             text = text.replace(there, here)
         shutil.copytree(room.kit.board, os.path.join(self.room, "board"))
+        shutil.copy(PREFERENCES, self.room)
         for folder, _, names in os.walk(self.room):
             for path in [folder, *(os.path.join(folder, name) for name in names)]:
                 os.chmod(path, 0o755)
