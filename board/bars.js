@@ -19,6 +19,8 @@ import { offWords, shadowWords } from "./words.js";
 
 export const HOW = { expected: "expected", onblock: "on block", overdue: "overdue", gone: "gone" };
 const LEAST_ROOM = 10;
+// What the words of a picked part's place have around them, as in chart.css.
+const SPOT_EDGES = 14;
 // How large small letters are, as in chart.css.
 const SMALL = 0.8;
 const SIZES = { small: SMALL, tiny: 0.68 };
@@ -65,9 +67,10 @@ const stayTo = (slot, how) => (how === "overdue" ? Math.max(slot.to, nowMinute()
 export function itemsOf(stand, from, to) {
   const slots = index()[stand].map((slot) => ({ slot, visit: visitOf(slot.visit), how: howOf(visitOf(slot.visit), slot.part) }))
     .filter(({ slot, how }) => slot.from < to && Math.max(slot.end, stayTo(slot, how)) > from);
+  const spot = spotOf(stand);
   return [
-    ...shadows(stand, from, to, slots), ...olds(stand, from, to), ...laned(slots).map(bar),
-    ...slots.filter(({ how }) => how !== "gone").flatMap(scheduled), ...spots(stand),
+    ...shadows(stand, from, to, slots, spot), ...olds(stand, from, to), ...laned(slots).map((it) => bar(it, spot)),
+    ...slots.filter(({ how }) => how !== "gone").flatMap(scheduled), ...(spot === null ? [] : [spotItem(spot)]),
   ];
 }
 
@@ -96,14 +99,15 @@ function laned(slots) {
 
 // ---- A bar
 
-function bar({ slot, visit, how, lane, lanes }) {
+function bar({ slot, visit, how, lane, lanes }, spot) {
   const key = keyOf(slot.visit, slot.part);
   const times = timesFor(visit);
   const classes = classesOf(slot, visit, how, times, key);
-  const from = Math.max(slot.from, axis.start());
+  const [from, until] = freeOf(Math.max(slot.from, axis.start()), Math.min(slot.to, axis.end()), spot);
   const edges = 3 + (/ on-(late|verylate|early)/.test(classes) ? 3 : 0) + (/ off-(late|verylate)/.test(classes) ? 4 : 0);
-  const room = (Math.min(slot.to, axis.end()) - from) * axis.pixels() - edges;
-  const isCut = slot.from < axis.start();
+  const room = (until - from) * axis.pixels() - edges;
+  const isCut = slot.from < axis.start() && from === axis.start();
+  const margins = { "margin-left": px(isCut ? 0 : (from - slot.from) * axis.pixels()), "margin-right": px(Math.max(0, slot.to - until) * axis.pixels()) };
   const { pieces, size } = isClosure(visit) ? closurePieces(visit, room) : piecesOf(slot, visit, how, times, room, lanes);
   const label = `${flightOf(visit)}, ${visit.type}, ${HOW[how]}, ${standOf(slot.stand).name}, ${clock(slot.from)}–${clock(slot.to)}`
     + `${times.late?.part === slot.part ? ", late, not here yet" : ""}`;
@@ -112,7 +116,7 @@ function bar({ slot, visit, how, lane, lanes }) {
   const buffer = px(Math.max(0, tail) * axis.pixels());
   const share = { top: `${(100 * lane) / lanes}%`, height: `${100 / lanes}%` };
   const name = pieces.map(({ text, kind }) => kind + text).join("·");
-  const sign = [classes, left, width, buffer, share.top, share.height, label, size, name, isCut].join("|");
+  const sign = [classes, left, width, buffer, share.top, share.height, label, size, name, isCut, ...Object.values(margins)].join("|");
   return {
     key: `p${key}`, sign,
     paint: (old) => {
@@ -122,11 +126,17 @@ function bar({ slot, visit, how, lane, lanes }) {
       Object.assign(made.style, { left, width, ...share });
       made.setAttribute("aria-label", label);
       made.replaceChildren(
-        el("span", { class: `${isCut ? "stuck" : ""}${size}` }, ...pieces.map(({ kind, text }) => el(kind === "flight" ? "b" : "i", { class: kind }, text))),
+        el("span", { class: `${isCut ? "stuck" : ""}${size}`, style: margins }, ...pieces.map(({ kind, text }) => el(kind === "flight" ? "b" : "i", { class: kind }, text))),
         el("u", { style: { width: buffer } }));
       return made;
     },
   };
+}
+
+// The minutes in which a bar has room for words: of those that the words of the picked part's place leave free the longer piece.
+function freeOf(from, to, spot) {
+  if (spot === null || spot.until <= from || spot.from >= to) return [from, to];
+  return spot.from - from >= to - spot.until ? [from, spot.from] : [spot.until, to];
 }
 
 function classesOf(slot, visit, how, times, key) {
@@ -201,14 +211,15 @@ function scheduled({ slot, visit }) {
 }
 
 // What shuts the stand out though nobody is on it; it says so where neither a bar nor another shadow is in the way of the words.
-function shadows(stand, from, to, slots) {
+function shadows(stand, from, to, slots, spot) {
   if (settings.shadows === "off") return [];
   let written = -Infinity;
   const all = shadowsOf(picture.model(), index(), stand, from, to);
   return all.map((it, place) => {
     const words = shadowWords(it);
     const until = it.from + roomFor([{ text: words }]) / axis.pixels();
-    const isFree = it.from >= written && !(all[place + 1]?.from < until) && !slots.some(({ slot }) => slot.from < until && slot.end > it.from);
+    const isFree = it.from >= written && !(all[place + 1]?.from < until) && !slots.some(({ slot }) => slot.from < until && slot.end > it.from)
+      && !(spot !== null && spot.from < until && spot.until > it.from);
     if (isFree) written = until;
     const className = `shade ${it.rule === "split" ? "split" : "wide"}${it.whole ? " whole" : ""}`;
     return block(`h${it.visit}.${it.part}.${it.from}.${it.rule}`, it.from, it.end, className, isFree ? words : "");
@@ -227,18 +238,23 @@ function olds(stand, from, to) {
     }));
 }
 
-// Where the picked part would stand in a row, or what keeps it off.
-function spots(stand) {
+// Where the picked part would stand in a row, or what keeps it off, up to the minute at which the words end; or null.
+function spotOf(stand) {
   const off = offOf(stand);
-  if (off === undefined) return [];
+  if (off === undefined) return null;
   const [picked] = pickedParts();
   const it = partOf(picked);
   const { buffer, name } = standOf(stand);
-  if (it.stand === name) return [];
+  if (it.stand === name) return null;
   const words = off !== null ? `× ${offWords(off, stand)}` : isComplete() ? "✓ fits" : "✓ fits on the days that are read";
-  const { left, width } = place(it.from, it.to + buffer);
-  const className = `spot ${off === null ? "fits" : "off"}`;
-  return [{
+  const end = it.to + buffer;
+  return { from: it.from, end, until: Math.max(end, it.from + (roomFor([{ text: words }]) + SPOT_EDGES) / axis.pixels()), words, isFit: off === null };
+}
+
+function spotItem({ from, end, words, isFit }) {
+  const { left, width } = place(from, end);
+  const className = `spot ${isFit ? "fits" : "off"}`;
+  return {
     key: "spot", sign: `${left}|${width}|${className}|${words}`,
     paint: (old) => {
       const made = old ?? el("div", {}, el("span", {}));
@@ -247,5 +263,5 @@ function spots(stand) {
       made.firstChild.textContent = words;
       return made;
     },
-  }];
+  };
 }

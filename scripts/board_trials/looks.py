@@ -50,16 +50,16 @@ BEYOND = """
       .map((it) => `${bar.dataset.key} ${it.textContent.trim()}`);
   }).slice(0, 5);
 """
-# Words of one row of the chart that lie over others: of bars and of shadows.
+# Words of one row of the chart that lie over others: of bars, of shadows, and of what a row says of the picked part.
 OVERLAID = """
   const boxOf = (it) => {
     const range = document.createRange(); range.selectNodeContents(it);
-    const [box, outer] = [range.getBoundingClientRect(), it.closest(".bar, .shade").getBoundingClientRect()];
+    const [box, outer] = [range.getBoundingClientRect(), (it.closest(".bar, .shade") ?? it).getBoundingClientRect()];
     return { words: it.textContent.trim(), left: Math.max(box.left, outer.left), right: Math.min(box.right, outer.right), top: box.top, bottom: box.bottom };
   };
   const isOver = (a, b) => Math.min(a.right, b.right) - Math.max(a.left, b.left) > 3 && Math.min(a.bottom, b.bottom) - Math.max(a.top, b.top) > 4;
   return [...document.querySelectorAll(".row")].flatMap((row) => {
-    const boxes = [...row.querySelectorAll(".bar b, .shade span")].filter((it) => it.checkVisibility() && it.textContent.trim()).map(boxOf);
+    const boxes = [...row.querySelectorAll(".bar b, .bar i, .shade span, .spot span")].filter((it) => it.checkVisibility() && it.textContent.trim()).map(boxOf);
     return boxes.flatMap((a, at) => boxes.slice(at + 1).filter((b) => isOver(a, b)).map((b) => `${a.words} | ${b.words}`));
   }).slice(0, 5);
 """
@@ -95,6 +95,8 @@ CONTRAST = """
   }
   return [...worst.values()].slice(0, 8);
 """
+# How many of the waiting parts are passed over between the two that are picked.
+PICKED_STEP = 4
 
 
 def stir(room):
@@ -123,10 +125,13 @@ def pictures(room):
         wrong += [f"{name}: {it}" for script in (OVERLAPS, BEYOND, OVERLAID) for it in desk.run(script)]
         if name in ("day", "night"):
             wrong += [f"{name}: contrast {it}" for it in desk.run(CONTRAST)]
-            desk.click("#waitlist .wait")
-            time.sleep(0.5)
-            desk.picture(f"{name}-picked")
-            desk.keys("Escape")
+            # A long part and a short one.
+            for suffix, key in zip(("", "-short"), desk.run("return [...document.querySelectorAll('#waitlist .wait')].map((it) => it.dataset.key)")[::PICKED_STEP]):
+                desk.click(f'.wait[data-key="{key}"]')
+                time.sleep(0.5)
+                desk.picture(f"{name}-picked{suffix}")
+                wrong += [f"{name}, {key} picked: {it}" for it in desk.run(OVERLAID)]
+                desk.keys("Escape")
     assert not wrong, "; ".join(wrong)
     return f"{', '.join(made)} in {PICTURES}"
 
