@@ -210,11 +210,12 @@ function scheduled({ slot, visit }) {
   return [block(`s${keyOf(slot.visit, slot.part)}`, ghost.from, ghost.to, "sched", "")];
 }
 
-// What shuts the stand out though nobody is on it; it says so where neither a bar nor another shadow is in the way of the words.
+// What shuts the stand out from now on though nobody is on it; it says so where neither a bar nor another shadow is in the way of the words.
 function shadows(stand, from, to, slots, spot) {
   if (settings.shadows === "off") return [];
   let written = -Infinity;
-  const all = shadowsOf(picture.model(), index(), stand, from, to);
+  const now = nowMinute();
+  const all = shadowsOf(picture.model(), index(), stand, Math.max(from, now), to).map((it) => ({ ...it, from: Math.max(it.from, now) }));
   return all.map((it, place) => {
     const words = shadowWords(it);
     const until = it.from + roomFor([{ text: words }]) / axis.pixels();
@@ -222,7 +223,7 @@ function shadows(stand, from, to, slots, spot) {
       && !(spot !== null && spot.from < until && spot.until > it.from);
     if (isFree) written = until;
     const className = `shade ${it.rule === "split" ? "split" : "wide"}${it.whole ? " whole" : ""}`;
-    return block(`h${it.visit}.${it.part}.${it.from}.${it.rule}`, it.from, it.end, className, isFree ? words : "");
+    return block(`h${it.visit}.${it.part}.${it.end}.${it.rule}`, it.from, it.end, className, isFree ? words : "");
   });
 }
 

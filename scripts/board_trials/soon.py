@@ -234,7 +234,7 @@ def shadows(room):
     """A whole stand shows its halves' occupation and the reverse, and neighbours that a wide wing shuts out are hatched; both can be switched off."""
     desk = room.desk()
     halves = {it["name"]: it["half_of"] for it in room.airport.stands if it.get("half_of")}
-    visit = next(it for it in room.visits() if it["parts"][0]["stand"] in halves and it["state"] == "expected")
+    visit = next(it for it in room.visits() if it["parts"][0]["stand"] in halves and it["state"] == "expected" and it["parts"][0]["from"] > room.now())
     part = visit["parts"][0]
     to_minute(desk, part["from"])
     desk.row_of(halves[part["stand"]])

@@ -5,7 +5,7 @@ import time
 
 from board_trials.chromium import CONTROL, SHIFT
 from board_trials.desk import bar_of, wait, waiting_item
-from board_trials.plan import DAY, flight_of
+from board_trials.plan import DAY, departure_of, flight_of
 from board_trials.room import clock_of
 from board_trials.soon import add, free_stand, put, seen_bar
 
@@ -235,6 +235,36 @@ def report_away(room):
     assert room.version() == before + 1, "it is not one entry"
 
 
+def report_named(room):
+    """Behind a proxy that names desks by their user, a report and a message whose reply is lost: what the entries show not to be taken is sent again and is one entry; what may be taken is not, and a person is told to look."""
+    room.proxy.desk = "NORTH"
+    desk = room.desk()
+    now, told = room.now(), ""
+    for target, key, field in (("/reports", "o", "#f-stand"), ("/mvt", "t", "#f-text")):
+        for fault, is_taken in (("504", False), ("late", True)):
+            number = with_flights(room, now + 1, f"NAMED-{key}-{fault}".upper())
+            chosen_bar(desk, room, number)
+            before, asked = room.version(), len(room.proxy.asked)
+            room.proxy.fail(f"^POST {target}", fault, 1)
+            desk.keys(key)
+            desk.one(field)
+            if key == "t":
+                desk.fill(field, departure_of(room.visit(number), now + 90).decode())
+            desk.click("#dialog button[type=submit]")
+            wait("it asks, or goes out", lambda target=target, asked=asked: desk.shown("#yes") or any(it[1:3] == ("POST", target) for it in room.proxy.asked[asked:]))
+            if desk.shown("#yes"):
+                desk.click("#yes")
+            if is_taken:
+                told = wait("it is not known whether it was taken", lambda: "not known" in desk.text("#fault") and desk.text("#fault"))
+                time.sleep(3)
+                desk.leave()
+            else:
+                wait("the dialogue ends", lambda: not desk.count("#dialog[open]"))
+            assert room.version() == before + 1, f"{target} with {fault} is {room.version() - before} entries"
+            assert room.asked.read(f"/entries/{room.version()}")["desk"] == "NORTH"
+    return told
+
+
 def propose(room):
     """Propose makes a first-fit draft of what waits in sight, which the server takes, and says why others are left."""
     desk = room.desk()
@@ -306,4 +336,4 @@ def one_stop(room):
     assert all(count <= 1 for _, count in stops), stops
 
 
-TRIALS = (times_by_drag, times_by_form, finds, waiting_list, several, frame_picks, card, report_asks, report_away, propose, caps, esc_asks, words, one_stop)
+TRIALS = (times_by_drag, times_by_form, finds, waiting_list, several, frame_picks, card, report_asks, report_away, report_named, propose, caps, esc_asks, words, one_stop)
