@@ -156,8 +156,7 @@ class Planner:
             print(f"a draft was refused as {sent.refusal['error']}, since another desk was quicker: the plan is read again", file=sys.stderr)
             if refused == MOST_REFUSED:
                 raise desk.Fault("others edit all the time; what was sent so far is in the plan")
-        for line in words.left_lines(self.airport, allocation):
-            print(f"left: {line}")
+        self.tell_left(allocation)
         unsent = sum(map(len, planned)) - sent.edits
         print(f"{placed} edits are in the plan, in {drafts} drafts of the desk {self.desk.name}; {len(self.moved)} planned parts moved, "
               f"and {sum(allocation.left)} parts are left" + (f"; {unsent} edits were not sent" if unsent else ""))
@@ -166,8 +165,7 @@ class Planner:
         """Prints what would be done, what is left, and the score beside that of `propose`."""
         for line in words.changes(self.airport, allocation, cuts):
             print(line)
-        for line in words.left_lines(self.airport, allocation):
-            print(f"left: {line}")
+        self.tell_left(allocation)
         first, _ = self.planned(desk.Picture(picture.version, [it.again() for it in picture.parts], 0), window, "propose")
         print(words.HEADING)
         for name, it in (("propose (first fit)", first), (self.given.method, allocation)):
@@ -175,8 +173,13 @@ class Planner:
         if self.given.draft:
             self.write(picture, desk.drafts_of(self.airport, allocation, cuts))
 
+    def tell_left(self, allocation):
+        for line in words.left_table(self.airport, allocation):
+            print(line)
+
     def write(self, picture, drafts):
-        """Writes the file of a draft (docs/guide/planner.md)."""
+        """Writes the file of a draft, one line of JSON: the airport's station and first day, the version that was read, the base and the edits of a
+        commit, and how many of the edits each draft has, the first ones first, so that each applies whole (docs/guide/planner.md)."""
         value = {"station": self.airport.station, "first_day": self.airport.first_day, "version": picture.version, "base": picture.version,
                  "drafts": [len(it) for it in drafts], "edits": [edit for it in drafts for edit in it]}
         with open(self.given.draft, "w") as file:

@@ -1,7 +1,7 @@
 """Stays that are cut in two, so that parts that are left get stands: the part itself, if the beginning and the end of it find stands; or a
 long stay in its way, which is towed from its stand or to it."""
 
-from stand_planning.methods import waiting
+from stand_planning.methods import place, waiting
 from stand_planning.rules import MOST_PARTS
 
 # Cuts are planned at whole five minutes.
@@ -22,13 +22,14 @@ class Cut:
 
 
 def cut_those_left(allocation, airport, least):
-    """Cuts stays of at least so many minutes for the parts that are left, by rank. The cuts."""
+    """Cuts stays of at least so many minutes for the parts that are left, by rank. What then finds a free stand is put on it. The cuts."""
     made = []
     for part in waiting(allocation):
         cut = cut_in_two(allocation, airport, part, least) or cut_in_way(allocation, airport, part, least)
         allocation.trail.clear()
         if cut is not None:
             made.append(cut)
+    place(allocation, waiting(allocation))
     return made
 
 
@@ -59,6 +60,8 @@ def cut_in_two(allocation, airport, part, least):
         return None
     cut = Cut(part, pieces)
     allocation.remove(part)
+    for it in allocation.parts:
+        it.pieces += it.visit == part.visit
     for piece, stand in zip(pieces, stands):
         piece.cut = cut
         allocation.add(piece)

@@ -110,13 +110,13 @@ class Picture:
 
 
 def read(desk, airport, window, is_whole=False):
-    """The picture of a window of the plan, read on the days of the parts that wait there, or on all days. While desks work its parts may be of
+    """The picture of a window of the plan, read on the days that matter to what is planned, or on all days. While desks work its parts may be of
     several versions: then its version is the first, and the server refuses a draft over it that would undo what came later."""
     for _ in range(MOST_LOOKS):
         wait = desk.get("/unplaced")
         rows = [it for it in wait["parts"] if window.has(it["from"], it["to"])]
         chosen = [it for it in rows if it["to"] > window.now]
-        days = range(1, airport.days + 1) if is_whole else days_of(chosen, airport)
+        days = range(1, airport.days + 1) if is_whole else days_of(chosen, airport, window)
         replies = [desk.get(f"/day/{day}") for day in days]
         if all(it["version"] == wait["version"] for it in replies):
             break
@@ -126,11 +126,14 @@ def read(desk, airport, window, is_whole=False):
     return Picture(wait["version"], parts, len(rows) - len(chosen))
 
 
-def days_of(rows, airport):
-    """The days on which something may be in the way of these parts, wherever they stand."""
-    if not rows:
+def days_of(rows, airport, window):
+    """The days on which something may be in the way of these parts, wherever they stand; and the days of the window, if planned parts may move."""
+    spans, first = [(it["from"], it["to"]) for it in rows], max(window.begin, window.now + window.frozen)
+    if window.moves > 0 and first < window.end:
+        spans.append((first, window.end))
+    if not spans:
         return range(0)
-    first, last = min(it["from"] for it in rows) // DAY + 1, (max(it["to"] for it in rows) + MOST_BUFFER) // DAY + 1
+    first, last = min(begin for begin, _ in spans) // DAY + 1, (max(end for _, end in spans) + MOST_BUFFER) // DAY + 1
     return range(min(first, airport.days), min(last, airport.days) + 1)
 
 

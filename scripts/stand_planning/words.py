@@ -4,15 +4,21 @@ chart: 2/1050 is 10:50 UTC of the second day."""
 from stand_planning.methods import waiting
 from stand_planning.rules import DAY
 
+LEFT = ["left", "type", "class", "from", "to", "stands", "nearest", "why"]
+
 
 def time_of(minute):
     return f"{minute // DAY + 1}/{minute % DAY // 60:02}{minute % 60:02}"
 
 
+def label_of(part):
+    """The flight or the visit's name of a part, and its number if it is not the first."""
+    return f"{part.label} part {part.number}" if part.number > 1 else part.label
+
+
 def name_of(airport, part):
     """A part as a controller knows it."""
-    number = f" part {part.number}" if part.number > 1 else ""
-    return f"{part.label}{number} {airport.rules.types[part.type].name} class {part.of_class} {time_of(part.begin)}-{time_of(part.end)}"
+    return f"{label_of(part)} {airport.rules.types[part.type].name} class {part.of_class} {time_of(part.begin)}-{time_of(part.end)}"
 
 
 def changes(airport, allocation, cuts):
@@ -29,14 +35,22 @@ def changes(airport, allocation, cuts):
     return [line for _, line in sorted(lines)]
 
 
-def left_lines(airport, allocation):
-    """A line for each part that is left, by rank: why no stand takes it, and the stand that wants the least."""
-    return [f"{name_of(airport, it)}: {why_left(airport, allocation, it)}" for it in waiting(allocation)]
+def left_table(airport, allocation):
+    """The lines of a table of the parts that are left, by rank: how many stands fit, where the least is in the way, and what."""
+    rows = [LEFT, *(left_row(airport, allocation, it) for it in waiting(allocation))]
+    widths = [max(len(row[column]) for row in rows) for column in range(len(LEFT) - 1)] + [0]
+    return ["  ".join(word.ljust(width) for word, width in zip(row, widths)) for row in rows] if len(rows) > 1 else []
 
 
-def why_left(airport, allocation, part):
+def left_row(airport, allocation, part):
+    type = airport.rules.types[part.type].name
+    return [label_of(part), type, str(part.of_class), time_of(part.begin), time_of(part.end), str(len(part.options)), *nearest(airport, allocation, part)]
+
+
+def nearest(airport, allocation, part):
+    """Of the stands that the part fits, the one where the least is in its way, and what that is."""
     if not part.options:
-        return "no stand takes this type: code letter or an object of the frontage"
+        return "-", "no stand takes this type: code letter or an object of the frontage"
     chances = []
     for stand in part.options:
         common = [(min(part.end + allocation.buffer[stand], it.end + allocation.buffer[it.stand]) - max(part.begin, it.begin), it)
@@ -44,9 +58,8 @@ def why_left(airport, allocation, part):
         chances.append((len(common), sum(minutes for minutes, _ in common), stand, common[0][1]))
     count, minutes, stand, it = min(chances, key=lambda chance: chance[:3])
     where = f" on {airport.names[it.stand]}" if it.stand != stand else ""
-    more = f" and {count - 1} more" if count > 1 else ""
-    return (f"{len(chances)} stands fit and none is free; nearest {airport.names[stand]}: {minutes} minutes in common with {it.label}{where}, "
-            f"class {it.of_class}, {time_of(it.begin)}-{time_of(it.end)}{more}")
+    more = f", and {count - 1} more" if count > 1 else ""
+    return airport.names[stand], f"{minutes} minutes in common with {name_of(airport, it)}{where}{more}"
 
 
 class Score:
