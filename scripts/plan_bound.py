@@ -106,4 +106,4 @@ def bounds(seconds, airport, visits, seed):
         whole = sum(weight(of_class) for *_, of_class in parts)
         told = scipy.optimize.linprog(-worth, A_ub=matrix, b_ub=most, bounds=(0, 1), method="highs-ipm", options={"time_limit": seconds})
         result[name] = max(0, math.ceil(whole + told.fun - 1e-4)) if told.status == 0 else None
-    return [{**result, "columns": len(model.columns), "rows": len(rows), "seconds": round(time.process_time() - began, 1)}]
+    return {**result, "columns": len(model.columns), "rows": len(rows), "seconds": round(time.process_time() - began, 1)}
