@@ -150,26 +150,33 @@ class Play:
         return True
 
     def round(self, kind):
-        """One fault; the host that served before and the moment of the fault are compared with what came after."""
+        """One fault; the host that served before and the moment of the fault are compared with what came after. It gives whether the other host
+        took over, or did not where it may not: a killed server may be started again on its own host before the other has seen that it is gone."""
         begun = time.monotonic()
         assert self.wait(lambda: all(desk.taken and desk.taken[-1].sent > begun for desk in self.desks)), "nobody serves"
         time.sleep(self.draw.uniform(0.1, 0.9))
         old = self.last(begun).host
-        fault = self.break_(kind, old)
+        fault, ended = self.break_(kind, old), time.monotonic()
         other = SERVING[old == SERVING[0]]
-        is_over = self.wait(lambda: any(it.host == other and it.came > fault for desk in self.desks for it in desk.taken[-3:]), 5 if kind == "stop" else LIMIT)
+        latest = lambda: [it for desk in self.desks for it in desk.taken[-3:]]
+        is_again = lambda: kind in ("server", "brick") and any(it.host == old and it.sent > ended for it in latest())
+        is_over = lambda: any(it.host == other and it.came > fault for it in latest())
+        self.wait(lambda: is_over() or is_again(), 5 if kind == "stop" else LIMIT)
         first = min((it.came for desk in self.desks for it in desk.taken if it.host == other and it.came > fault), default=None)
         self.mend(kind, old)
         time.sleep(HOLD)
         if kind == "stop":
-            if is_over:
+            if first is not None:
                 self.faults.append("a stopped server lost its lock")
-        elif not is_over and not self.last(fault):
-            self.faults.append("nobody took over")
-        elif first is not None:
+            return True
+        if first is None:
+            if not self.last(fault):
+                self.faults.append("nobody took over")
+        else:
             self.times.append(first - fault)
             late = [it for desk in self.desks for it in desk.taken if it.host == old and first < it.sent and not self.is_back(it, other, first)]
             self.faults += [f"the old server answered {it.name} after the take-over" for it in late]
+        return first is not None
 
     def is_back(self, it, other, first):
         """Whether the new server had ended before this reply of the old host, which then serves again by right."""
