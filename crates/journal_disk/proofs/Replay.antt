@@ -1,11 +1,12 @@
 -- One more call.
-use Rattle.std.proofs.Common.{false, Result, Ok, Err, OnOk, ◌≡◌, ℕ, suc, ◌+◌, ◌≤◌, List, [], ◌∷◌, ◌++◌, length, take, drop, refl, sym, ap, subst, arith, length-drop}
-use Rattle.std.proofs.lemmas.List.{length-take-le, take-append-le, take_all, drop-append-le, length_push}
+use Rattle.std.proofs.Common.{false, Result, Ok, Err, OnOk, ◌≡◌, ℕ, suc, ◌+◌, ◌≤◌, List, [], ◌∷◌, ◌++◌, length, take, drop, refl, sym, ap, subst, arith, length-drop, append_assoc, ◌∙◌}
+use Rattle.std.proofs.lemmas.List.{append-nil, length-take-le, take-append-le, take_all, drop-append-le, length_push}
 use Rattle.std.specs.Prelude.{Some}
 use Rattle.journal_disk.specs.TornWrites.{some_same}
-use Rattle.journal_disk.specs.Disk.{DiskState, Goes, IfExposed, IsSafe}
-use Rattle.journal_disk.specs.Calls.{DeviceCall, Step, failed_call, images_at, after_call, left_after, after_calls, left_by_crash, with_pieces, with_piece, piece_length, pieces_length, size_of, sizes_of}
+use Rattle.journal_disk.specs.Disk.{DiskState, Goes, IfExposed, IsSafe, IsThere, Same, Torn, with_piece_at}
+use Rattle.journal_disk.specs.Calls.{CutShort, DeviceCall, Step, done_calls, done_of, failed_call, images_at, after_call, left_after, after_calls, left_by_crash, with_pieces, with_piece, piece_length, pieces_length, size_of, sizes_of}
 use Rattle.journal_disk.specs.Calls.DeviceCall.{Idle, Write, Sync}
+use Rattle.journal_disk.proofs.Moments.{goes_like}
 use Rattle.journal_disk.specs.declared.memory_disk.DiskCall.{DiskCall}
 use Rattle.journal_disk.specs.declared.memory_disk.DiskCall.TheVariants.{Passed, Wrote, Synced}
 
@@ -49,7 +50,7 @@ left-step Sync bytes Left image left = (image, left.0, refl)
 
 -- a disk of these bytes at first after these calls
 abbrev state_of : List ℕ → List DeviceCall → ℕ → DiskState
-state_of first calls faults = record { contents = Some (after_calls calls first); moment = length calls; images = images_at first calls; faults = faults }
+state_of first calls faults = record { contents = Some (after_calls calls first); moment = length calls; images = images_at first calls; done = done_calls calls; faults = faults }
 
 -- the clock goes on by a call
 pub goes-push : (first : List ℕ) (calls : List DeviceCall) (call : DeviceCall) (before after : ℕ)
@@ -107,3 +108,23 @@ pub size_of-with_piece : (call : DiskCall) (piece : List ℕ) → piece_length c
 size_of-with_piece Passed piece is = is
 size_of-with_piece (Wrote at size done) piece is = refl
 size_of-with_piece Synced piece is = is
+
+-- a call put last is done after the others
+pub done_calls-push : (calls : List DeviceCall) (call : DeviceCall) → done_calls (calls ++ call ∷ []) ≡ done_calls calls ++ done_of call
+done_calls-push [] call = append-nil (done_of call)
+done_calls-push (c ∷ calls) call = ap (λ ds. done_of c ++ ds) (done_calls-push calls call) ∙ sym (append_assoc (done_of c) (done_calls calls) (done_of call))
+
+-- a write that is cut short is torn
+pub goes-torn : (at : ℕ) (piece : List ℕ) (before now : DiskState) → Goes (CutShort at piece) before now → Goes (Torn at (length piece)) before now
+goes-torn at piece before now goes = goes_like (CutShort at piece) (Torn at (length piece)) (λ x y cut. cut.torn) before now goes
+
+-- and leaves the bytes that were there already
+pub goes-same : (at : ℕ) (piece bytes : List ℕ) (before now : DiskState) → before.contents ≡ Some bytes → Goes (CutShort at piece) before now → IsThere at piece before → Goes Same before now
+goes-same at piece bytes before now is goes there = record {
+  clock = goes.clock;
+  since = λ moment image late early left.
+      let from = goes.since moment image late early left in
+      let safe : from.0 ≡ bytes = (there bytes is).0 from.0 from.1 in
+      let same : with_piece_at at piece from.0 ≡ from.0 = subst (λ (b : List ℕ). with_piece_at at piece b ≡ b) (sym safe) (there bytes is).1 in
+      (from.0, from.1, from.2.same same);
+}

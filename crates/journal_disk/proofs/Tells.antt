@@ -1,10 +1,10 @@
 -- What is exposed before a call and after it.
-use Rattle.std.proofs.Common.{◌≡◌, ℕ, true, false, List, Result, Ok, Err, OnOk, OnErr, IfErr, subst, refl, sym, ap}
+use Rattle.std.proofs.Common.{◌≡◌, ◌∙◌, ℕ, true, false, List, ◌++◌, Result, Ok, Err, OnOk, OnErr, IfErr, subst, refl, sym, ap, append_assoc}
 use Rattle.std.specs.Prelude.{IfSome, Option, Some, None}
 use Rattle.std.specs.Result.{IsErrAnd}
 use Rattle.std.specs.Option.{option_map}
 use Rattle.apron_base.specs.Counts.{Counts}
-use Rattle.journal_disk.specs.Disk.{Between, Continues, DiskState}
+use Rattle.journal_disk.specs.Disk.{Between, Continues, DiskState, DoneCall, Does, TellsAlike}
 use Rattle.journal_disk.proofs.Moments.{passes_both}
 
 -- related in any way
@@ -46,6 +46,12 @@ continues_both a b c one two = record {
   tells = between_any a.contents b.contents c.contents one.tells two.tells;
   clock = passes_both a b c one.clock two.clock;
 }
+
+-- what some calls did, and then others
+pub does_both : (xs ys : List DoneCall) (a b c : DiskState) → Does xs a b → TellsAlike a b → Does ys b c → Does (xs ++ ys) a c
+does_both xs ys a b c one tells two bytes is =
+    let later = told_after Any a.contents b.contents bytes tells is in
+    two later.0 later.1 ∙ ap (λ (ds : List DoneCall). ds ++ ys) (one bytes is) ∙ append_assoc a.done xs ys
 
 -- what is made of the exposed bytes
 pub mapped : {B : Type 0} (f g : List ℕ → B) (old new : Option (List ℕ)) → Between Any old new → ((b after : List ℕ) → old ≡ Some b → new ≡ Some after → g after ≡ f b) → option_map g new ≡ option_map f old

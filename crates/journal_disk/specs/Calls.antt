@@ -1,7 +1,8 @@
 -- The calls that a disk in memory was given, what it reads as then, and what a crash may leave.
-use Rattle.std.specs.Prelude.{◌≡◌, ℕ, ◌+◌, ◌==◌, List, [], ◌∷◌, length, take, drop, max, Bool, false, Some, ◌&&◌, nat_le, nat_lt, if◌then◌else◌}
+use Rattle.std.specs.Prelude.{◌≡◌, ℕ, ◌+◌, ◌==◌, List, [], ◌∷◌, ◌++◌, length, take, drop, max, Bool, true, false, Some, ◌&&◌, nat_le, nat_lt, if◌then◌else◌}
 use Rattle.std.specs.List.{list_any}
-use Rattle.journal_disk.specs.Disk.{DiskState, with_piece_at, Torn, Same}
+use Rattle.journal_disk.specs.Disk.{DiskState, DoneCall, with_piece_at, Torn, Same}
+use Rattle.journal_disk.specs.Disk.DoneCall.{DoneWrite, DoneSync}
 use Rattle.journal_disk.specs.declared.memory_disk.Room.{Room}
 use Rattle.journal_disk.specs.declared.memory_disk.DiskCall.{DiskCall}
 use Rattle.journal_disk.specs.declared.memory_disk.DiskCall.TheVariants.{Passed, Wrote, Synced}
@@ -19,11 +20,16 @@ after_call (Write at piece done) bytes =
     if done && nat_le at (length bytes) then with_piece_at at piece bytes else bytes
 after_call _ bytes = bytes
 
+-- after a write of this piece that was cut short; bytes that were there already stay
+pub record CutShort (at : ℕ) (piece old new : List ℕ) : Type 0 where
+  pub torn : Torn at (length piece) old new
+  pub same : with_piece_at at piece old ≡ old → new ≡ old
+
 -- what a crash may leave after a call on a disk that reads as these bytes
 abbrev pub left_after : DeviceCall → List ℕ → (List ℕ → Type 0) → List ℕ → Type 0
 left_after Idle bytes Left image = Left image
 left_after (Write at piece done) bytes Left image =
-    (from : List ℕ) × Left from × Torn at (length piece) from image
+    (from : List ℕ) × Left from × CutShort at piece from image
 left_after Sync bytes Left image = Left image × (image ≡ bytes)
 
 -- what a disk of these bytes reads as after many calls
@@ -44,8 +50,19 @@ images_at first calls moment image =
 
 -- what a call may do to an image
 abbrev pub Step : DeviceCall → List ℕ → List ℕ → Type 0
-Step (Write at piece done) = Torn at (length piece)
+Step (Write at piece done) = CutShort at piece
 Step _ = Same
+
+-- the write or the sync that a call is, if it was done
+abbrev pub done_of : DeviceCall → List DoneCall
+done_of (Write at piece true) = DoneWrite at (length piece) ∷ []
+done_of Sync = DoneSync ∷ []
+done_of _ = []
+
+-- those of many calls
+abbrev pub done_calls : List DeviceCall → List DoneCall
+done_calls [] = []
+done_calls (call ∷ calls) = done_of call ++ done_calls calls
 
 -- a disk in memory as contracts see it: its bytes at the beginning, its calls since then, the
 -- numbers of the calls that are to fail, its room, and how many calls have failed
@@ -66,6 +83,7 @@ disk_of held = record {
   contents = Some (bytes_of held);
   moment = length held.calls;
   images = images_at held.first held.calls;
+  done = done_calls held.calls;
   faults = held.faults;
 }
 

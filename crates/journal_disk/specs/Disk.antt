@@ -1,12 +1,19 @@
 -- Disks: what they read as, what a crash may leave, and what their calls do to both.
-use Rattle.std.specs.Prelude.{◌≡◌, ℕ, ◌+◌, ◌≤◌, ◌<◌, List, ◌++◌, length, take, drop, Option, Some, None}
+use Rattle.std.specs.Prelude.{◌≡◌, ℕ, ◌+◌, ◌≤◌, ◌<◌, List, [], ◌∷◌, ◌++◌, length, take, drop, Option, Some, None}
+
+-- a call that was done: a write of this many bytes at a place, or a sync
+pub data DoneCall : Type 0 where
+  DoneWrite : (at size : ℕ) → DoneCall
+  DoneSync : DoneCall
 
 -- A disk at one time: what it reads as, if it exposes that; the moment, a number that does not
--- fall; the images that a crash at each moment up to now may leave; and how many calls have failed.
+-- fall; the images that a crash at each moment up to now may leave; the writes and syncs that were
+-- done, in order; and how many calls have failed.
 pub record DiskState : Type 1 where
   pub contents : Option (List ℕ)
   pub moment : ℕ
   pub images : ℕ → List ℕ → Type 0
+  pub done : List DoneCall
   pub faults : ℕ
 
 -- a disk that exposes nothing of what it reads as, of which a crash may leave anything, after this
@@ -16,6 +23,7 @@ untold_disk faults = record {
   contents = None;
   moment = 0;
   images = λ _ _. Unit {0};
+  done = [];
   faults = faults;
 }
 
@@ -65,6 +73,19 @@ IsSafe bytes disk = EachImage disk (λ image. image ≡ bytes)
 -- a crash now leaves what the disk read as before
 abbrev pub IsDurable : DiskState → DiskState → Type 0
 IsDurable before now = IfExposed before (λ bytes. IsSafe bytes now)
+
+-- the disk reads as having this piece at this place, and a crash leaves what it reads as
+abbrev pub IsThere : ℕ → List ℕ → DiskState → Type 0
+IsThere at piece disk =
+    IfExposed disk (λ bytes. IsSafe bytes disk × (with_piece_at at piece bytes ≡ bytes))
+
+-- these writes and syncs were done, and no others
+abbrev pub Does : List DoneCall → DiskState → DiskState → Type 0
+Does calls before now = IfExposed before (λ _. now.done ≡ before.done ++ calls)
+
+-- the calls that write this many bytes at a place, safely from a crash
+abbrev pub safe_write : ℕ → ℕ → List DoneCall
+safe_write at size = DoneWrite at size ∷ DoneSync ∷ []
 
 -- time goes on, and what a crash at an earlier moment may have left stays as it was
 pub record Passes (before now : DiskState) : Type 0 where

@@ -60,6 +60,10 @@ abbrev pub records : List (List ℕ) → List ℕ
 records [] = []
 records (entry ∷ entries) = open_gate ∷ (with_length entry ++ records entries)
 
+-- how long the record of the last of these entries is; 0 if there is none
+abbrev pub last_record : List (List ℕ) → ℕ
+last_record entries = length (records (drop (length entries - 1) entries))
+
 -- how long the records of a part are; none if one of them isn't whole
 abbrev pub part_length : Result (List (List ℕ)) ℕ → Option ℕ
 part_length (Ok entries) = Some (length (records entries))

@@ -1,7 +1,7 @@
 -- What is at a gate, after a front of whole records.
-use Rattle.std.specs.Prelude.{◌≡◌, ℕ, List, ◌∷◌, ◌++◌, length, Bool, true, false}
+use Rattle.std.specs.Prelude.{◌≡◌, ℕ, List, [], ◌∷◌, ◌++◌, length, Bool, true, false}
 use Rattle.std.proofs.Common.{◌≢◌}
-use Rattle.journal_disk.specs.Disk.{DiskState, EachImage}
+use Rattle.journal_disk.specs.Disk.{DiskState, DoneCall, EachImage, safe_write}
 use Rattle.journal_disk.specs.Entries.{open_gate, with_length}
 
 -- a gate that isn't open, and anything after it
@@ -26,6 +26,11 @@ IsWhole entry front bytes = (gate : ℕ) × IsRecord gate entry front bytes
 abbrev pub GateIs : Bool → List ℕ → List ℕ → List ℕ → Type 0
 GateIs false entry front bytes = IsClosed front bytes
 GateIs true entry front bytes = IsWhole entry front bytes
+
+-- the calls that close the gate at a place, if it may have been opened
+abbrev pub mending_calls : Bool → ℕ → List DoneCall
+mending_calls true place = safe_write place 1
+mending_calls false place = []
 
 -- what holds for each front of this length after which a crash leaves a closed gate
 abbrev pub FromClosed : ℕ → DiskState → (List ℕ → Type 0) → Type 0

@@ -1,15 +1,16 @@
 // The journal of a history's entries.
-ghost use Rattle.std.specs.Prelude.{◌≡◌, ◌≤◌, ◌<◌, Ok, false, length, OnOk, OnErr, IfOk, IfErr, MatchResult};
+ghost use Rattle.std.specs.Prelude.{◌≡◌, ◌≤◌, ◌<◌, ◌+◌, ◌*◌, Ok, false, length, OnOk, OnErr, IfOk, IfErr, MatchResult};
 ghost use Rattle.apron_base.specs.Counts.{Counts};
 ghost use Rattle.apron_base.specs.Keeper.{AddsEntry, FailsToAdd};
-ghost use Rattle.journal_disk.specs.Disk.{Continues, IfExposed, IsDurable, Stays};
-ghost use Rattle.journal_disk.specs.Extent.{AppendsSafely, HasOpened, IsCrashSafe, keeper_of};
+ghost use Rattle.journal_disk.specs.Disk.{Continues, Does, IfExposed, IsDurable, IsSafe, Stays};
+ghost use Rattle.journal_disk.specs.Extent.{AppendsSafely, HasOpened, IsCrashSafe, append_calls, keeper_of, opening_calls};
 ghost use Rattle.journal_disk.specs.Faults.{OpenFails};
 ghost use Rattle.journal_disk.specs.Header.{opening_of};
-ghost use Rattle.journal_disk.specs.Limits.{most_bytes};
+ghost use Rattle.journal_disk.specs.Limits.{most_bytes, most_entries, most_first, most_record};
+ghost use Rattle.journal_disk.specs.Opening.{IsNewPart};
 
 use crate::gates::{FRAME, OPEN, mend, set_gate, stage};
-use crate::opening::{NewPart, read_journal};
+use crate::opening::{NewPart, read_journal, reread_journal};
 use crate::records::Records;
 use crate::{Disk, JournalFault};
 use apron_base::{Failed, Keeper, Listed, MAX_ENTRIES, MAX_ENTRY, Memory};
@@ -69,21 +70,64 @@ impl<D: Disk> Journal<D> {
     {
         let mut disk = disk;
         match read_journal(alloc, &mut disk, digests) {
-            Ok(
-                NewPart {
-                    first,
-                    records: Records { entries, length },
-                },
-            ) => {
-                let journal = Journal {
-                    disk,
-                    first: first as u32,
-                    place: (first + length) as u32,
-                    number: entries.len() as u32,
-                    unclean: false,
-                };
-                Ok((journal, entries))
-            }
+            Ok(part) => Ok(Journal::of(disk, part)),
+            Err(fault) => Err((fault, disk)),
+        }
+    }
+
+    // The journal whose new part was read from the disk, and the entries of that part.
+    fn of(disk: D, part: NewPart) -> (Journal<D>, Vec<Listed<u8>>)
+        requires early { part.first ≤ most_first }
+        requires few { length part.records.entries.items ≤ most_entries }
+        requires within { part.records.length ≤ most_record * length part.records.entries.items }
+        requires whole { IfExposed (D.state disk) (λ bytes. IsSafe bytes (D.state disk)
+            × IsNewPart bytes part.first part.records.entries.items part.records.length) }
+        ensures disk { result.0.disk ≡ disk }
+        ensures entries { result.1.items ≡ part.records.entries.items }
+        ensures place { result.0.extent.place ≡ part.first + part.records.length }
+        ensures keeper { HasOpened (keeper_of result.0.extent (D.state result.0.disk)) result.1.items }
+    {
+        let NewPart {
+            first,
+            records: Records { entries, length },
+        } = part;
+        let journal = Journal {
+            disk,
+            first: first as u32,
+            place: (first + length) as u32,
+            number: entries.len() as u32,
+            unclean: false,
+        };
+        (journal, entries)
+    }
+
+    /// Opens the journal as `open` does, and then writes its last record and the gate after it
+    /// again as they are, and syncs. So a storage whose copies differ in these bytes, since whoever
+    /// wrote them died at it, agrees in them before anything is answered. The last of the records
+    /// is the only one that may be in doubt: each other one was written, or written again, and
+    /// synced before the one after it.
+    pub fn open_to_append(
+        alloc: Global,
+        disk: D,
+        digests: &[u8; 64],
+    ) -> Result<(Journal<D>, Vec<Listed<u8>>), (JournalFault, D)>
+        ensures opened { IfOk result (λ found. IfExposed (D.state disk)
+            (λ bytes. opening_of digests.now bytes ≡ Ok found.1.items)) }
+        ensures keeper { IfOk result (λ found.
+            HasOpened (keeper_of found.0.extent (D.state found.0.disk)) found.1.items) }
+        ensures again { IfOk result (λ found. Does (opening_calls found.0.extent.place found.1.items)
+            (D.state disk) (D.state found.0.disk)) }
+        ensures durable { IfOk result (λ found. IsDurable (D.state disk) (D.state found.0.disk)) }
+        ensures counts { IfOk result (λ found.
+            Counts false (D.state disk).faults (D.state found.0.disk).faults) }
+        ensures refused { IfErr result (λ refusal.
+            OpenFails digests.now (D.state disk) (D.state refusal.1) refusal.0) }
+        ensures stays { MatchResult result (λ found. Stays (D.state disk) (D.state found.0.disk))
+            (λ refusal. Stays (D.state disk) (D.state refusal.1)) }
+    {
+        let mut disk = disk;
+        match reread_journal(alloc, &mut disk, digests) {
+            Ok(part) => Ok(Journal::of(disk, part)),
             Err(fault) => Err((fault, disk)),
         }
     }
@@ -125,6 +169,10 @@ impl<D: Disk> Keeper for Journal<D> {
             (keeper_of self.new.extent (D.state self.new.disk)) entry.now) }
         ensures err { OnErr result (FailsToAdd (keeper_of self.old.extent (D.state self.old.disk))
             (keeper_of self.new.extent (D.state self.new.disk)) entry.now) }
+
+        // All that it wrote, it synced.
+        ensures done { OnOk result (Does (append_calls self.old.extent entry.now)
+            (D.state self.old.disk) (D.state self.new.disk)) }
 
         // The disk exposes what it reads as exactly if it did before, and time goes on.
         ensures continues { Continues (D.state self.old.disk) (D.state self.new.disk) }

@@ -3,7 +3,7 @@
 ghost use Rattle.std.specs.Prelude.{is_err, not, take, drop, ◌≡◌, ◌≤◌, ◌+◌, ◌||◌, ◌++◌, ◌∷◌, [], true, length, IfOk, OnOk, OnErr, vec_capacity};
 ghost use Rattle.apron_base.specs.Counts.{Counts};
 ghost use Rattle.journal_disk.specs.Disk.{with_piece_at, Goes};
-ghost use Rattle.journal_disk.specs.Calls.{Step, with_piece, failed_call, piece_length, is_call_to_fail, has_room, after_call, bytes_of, disk_of};
+ghost use Rattle.journal_disk.specs.Calls.{Step, with_piece, done_of, failed_call, piece_length, is_call_to_fail, has_room, after_call, bytes_of, disk_of};
 ghost use Rattle.journal_disk.specs.TornWrites.{reads_left};
 
 use crate::Disk;
@@ -43,7 +43,7 @@ pub enum Unsynced {
     Whole,
     /// They are done, but of the last one only the first half.
     LastHalf,
-    /// They are done, with 1 as each of their bytes.
+    /// They are done, with 1 as each of their bytes; but a piece that was there already stays.
     Ones,
 }
 
@@ -172,6 +172,8 @@ impl MemoryDisk {
             (self.new.calls ≡ self.old.calls ++ with_piece call piece.now ∷ []) }
         ensures reads { OnOk result
             (bytes_of self.new ≡ after_call (with_piece call piece.now) (bytes_of self.old)) }
+        ensures done { OnOk result ((disk_of self.new).done
+            ≡ (disk_of self.old).done ++ done_of (with_piece call piece.now)) }
         ensures same { OnErr result (bytes_of self.new ≡ bytes_of self.old) }
         ensures crash { Goes (Step (with_piece call piece.now))
             (disk_of self.old) (disk_of self.new) }
@@ -337,6 +339,7 @@ fn image_after(
                         &piece[..*size / 2],
                     )?,
                     Unsynced::Whole | Unsynced::LastHalf => put_over(&mut image, *at, piece)?,
+                    Unsynced::Ones if has_piece(&image, *at, piece) => {}
                     Unsynced::Ones => put_over(&mut image, *at, &vec![in alloc; 1; *size]?)?,
                 }
             }
@@ -347,6 +350,13 @@ fn image_after(
 
 fn is_write(call: &DiskCall) -> bool {
     matches!(call, DiskCall::Wrote { .. })
+}
+
+// The piece is there already.
+fn has_piece(bytes: &[u8], at: u32, piece: &[u8]) -> bool {
+    bytes
+        .get(at as usize..)
+        .is_some_and(|behind| behind.starts_with(piece))
 }
 
 // Writes over what is there, and past the end. Zeros fill the space between the old end and the

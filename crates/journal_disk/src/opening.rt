@@ -1,16 +1,22 @@
 // Opens a journal.
-ghost use Rattle.std.specs.Prelude.{◌≡◌, ◌≤◌, ◌*◌, Ok, false, length, OnOk, IfOk, IfErr, IfSome};
+ghost use Rattle.std.specs.Prelude.{◌≡◌, ◌≤◌, ◌+◌, ◌*◌, ◌∷◌, [], Ok, false, length, OnOk, IfOk, IfErr, IfSome};
 ghost use Rattle.std.specs.Option.{option_map};
 ghost use Rattle.apron_base.specs.Counts.{Counts};
-ghost use Rattle.journal_disk.specs.Disk.{IfExposed, IsDurable, Stays};
+ghost use Rattle.apron_base.specs.Histories.{Every};
+ghost use Rattle.journal_disk.specs.Disk.{Does, IfExposed, IsDurable, Stays};
+ghost use Rattle.journal_disk.specs.Disk.DoneCall.{DoneSync};
+ghost use Rattle.journal_disk.specs.Entries.{IsEntry, last_record};
+ghost use Rattle.journal_disk.specs.Extent.{opening_calls};
 ghost use Rattle.journal_disk.specs.Header.{old_opening_of, opening_of};
 ghost use Rattle.journal_disk.specs.Faults.{TextFails, OldTextFails, OpenFails, OldOpenFails, ReadFails};
 ghost use Rattle.journal_disk.specs.Limits.{most_entries, most_first, most_record};
 ghost use Rattle.journal_disk.specs.Opening.{IsNewPart, IsOldPart};
 
+use crate::gates::{FRAME, write_back};
 use crate::header::{FORMAT, HEADER, NEW, test_header};
 use crate::records::{Records, pass_records, read_records};
 use crate::{Disk, JournalFault};
+use apron_base::Listed;
 use std::alloc::Global;
 
 /// The new part of a journal: where its first gate is, and its records.
@@ -43,6 +49,49 @@ pub(crate) fn read_journal<D: Disk>(
     let text = read_all(alloc, disk)?;
     let part = read_text(alloc, &text, digests)?;
     Ok(part)
+}
+
+/// Reads the disk as `read_journal` does, then writes the last record and the gate after it again as
+/// they are, and syncs. If there is no record it writes the gate alone.
+pub(crate) fn reread_journal<D: Disk>(
+    alloc: Global,
+    disk: &mut D,
+    digests: &[u8; 64],
+) -> Result<NewPart, JournalFault>
+    ensures stays { Stays (D.state disk.old) (D.state disk.new) }
+    ensures durable { OnOk result (IsDurable (D.state disk.old) (D.state disk.new)) }
+    ensures opened { IfOk result (λ found. IfExposed (D.state disk.old)
+        (λ bytes. opening_of digests.now bytes ≡ Ok found.records.entries.items)) }
+    ensures whole { IfOk result (λ found. IfExposed (D.state disk.old)
+        (λ bytes. IsNewPart bytes found.first found.records.entries.items found.records.length)) }
+    ensures early { IfOk result (λ found. found.first ≤ most_first) }
+    ensures few { IfOk result (λ found. length found.records.entries.items ≤ most_entries) }
+    ensures within { IfOk result (λ found.
+        found.records.length ≤ most_record * length found.records.entries.items) }
+    ensures again { IfOk result (λ found.
+        Does (opening_calls (found.first + found.records.length) found.records.entries.items)
+        (D.state disk.old) (D.state disk.new)) }
+    ensures counts { OnOk result
+        (Counts false (D.state disk.old).faults (D.state disk.new).faults) }
+    ensures refused { IfErr result (OpenFails digests.now (D.state disk.old) (D.state disk.new)) }
+{
+    let text = read_all(alloc, disk)?;
+    let part = read_text(alloc, &text, digests)?;
+    let place = part.first + part.records.length;
+    let last = last_record(&part.records.entries);
+    write_back(disk, &text, place - last, last + 1)?;
+    Ok(part)
+}
+
+// How long the record of the last of these entries is; 0 if there is none.
+fn last_record(entries: &[Listed<u8>]) -> usize
+    requires sizes { Every IsEntry entries.now }
+    ensures length { result ≡ last_record entries.now }
+{
+    match entries.last() {
+        Some(entry) => FRAME + entry.len(),
+        None => 0,
+    }
 }
 
 /// Makes what the disk reads as safe from a crash, and reads it as a journal of format 1; `None` if
@@ -78,6 +127,8 @@ fn read_all<D: Disk>(alloc: Global, disk: &mut D) -> Result<Vec<u8>, JournalFaul
     ensures durable { OnOk result (IsDurable (D.state disk.old) (D.state disk.new)) }
     ensures bytes { IfOk result
         (λ read. IfExposed (D.state disk.old) (λ bytes. read.items ≡ bytes)) }
+    ensures done { OnOk result
+        (Does (DoneSync ∷ []) (D.state disk.old) (D.state disk.new)) }
     ensures stays { Stays (D.state disk.old) (D.state disk.new) }
     ensures counts { OnOk result
         (Counts false (D.state disk.old).faults (D.state disk.new).faults) }

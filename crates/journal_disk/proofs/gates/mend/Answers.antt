@@ -1,6 +1,6 @@
-use Rattle.std.proofs.Common.{◌≡◌, true, rules, sym, subst}
-use Rattle.journal_disk.specs.Disk.{EachImage, EachImageSince}
-use Rattle.journal_disk.specs.Gates.{GateIs}
+use Rattle.std.proofs.Common.{◌≡◌, OnOk, true, rules, sym, subst}
+use Rattle.journal_disk.specs.Disk.{Does, EachImage, EachImageSince}
+use Rattle.journal_disk.specs.Gates.{GateIs, mending_calls}
 use Rattle.journal_disk.proofs.Tells.{on_ok}
 use Rattle.journal_disk.proofs.RecordTexts.{is_shut}
 use Rattle.journal_disk.proofs.Settled.{shut_record}
@@ -19,3 +19,8 @@ returns-clause-closed g c =
     on_ok c.set_gate.result c.set_gate.ensures.set (λ closed entry front long at bytes told image left.
     let whole = subst (λ u. EachImage (g.D.Disk.state c.args.disk.now) (GateIs u entry front)) is at in
     shut_record front 0 entry image is_shut (closed entry front long whole bytes told image left))
+
+pub returns-clause-done : goal.returns-clause-done
+returns-clause-done g c =
+    let is : c.args.unclean ≡ true = search rules in
+    subst (λ u. OnOk c.set_gate.result (Does (mending_calls u c.args.place) (g.D.Disk.state c.args.disk.now) (g.D.Disk.state c.set_gate.new.disk))) (sym is) c.set_gate.ensures.done

@@ -1,11 +1,13 @@
-use Rattle.std.proofs.Common.{rules, ◌∙◌, ◌<◌, ap, arith, refl}
+use Rattle.std.proofs.Common.{rules, ◌∙◌, ◌<◌, ◌+◌, length, ap, arith, refl}
 use Rattle.std.specs.Prelude.{true, false}
 use Rattle.apron_base.specs.Keeper.{AddsEntry, FailsToAdd}
+use Rattle.journal_disk.specs.Disk.{Does, safe_write}
 use Rattle.journal_disk.specs.Entries.{IsEntry}
-use Rattle.journal_disk.specs.Extent.{extent_of, keeper_of}
-use Rattle.journal_disk.specs.Limits.{most_entries}
+use Rattle.journal_disk.specs.Extent.{append_calls, extent_of, keeper_of}
+use Rattle.journal_disk.specs.Gates.{mending_calls}
+use Rattle.journal_disk.specs.Limits.{most_entries, record_frame}
 use Rattle.journal_disk.proofs.Appending.{inside, mending_failed, stage_inside, staging_failed, set_inside, opening_failed, has_added, with_entry, with_gate}
-use Rattle.journal_disk.proofs.Tells.{continues_both, counts_then, on_err}
+use Rattle.journal_disk.proofs.Tells.{continues_both, counts_then, does_both, on_err}
 use Rattle.journal_disk.proofs.journal.JournalKeeper.append.Goals as goal
 
 pub mend-requires : goal.mend-requires
@@ -36,6 +38,7 @@ returns-in_err-mend g c =
     let failed : FailsToAdd (keeper_of extent before) (keeper_of extent (g.D.Disk.state c.mend.new.disk)) c.args.entry.now = record { entries = ended.entries; number = refl; at_risk = ended.at_risk; faults = c.in_err-mend.ensures.counts } in
     record {
       ok = search rules;
+      done = search rules;
       err = on_err c.from_residual.result (rw (← c.self.view_is) failed);
       continues = rw (← c.self.view_is) c.mend.ensures.continues;
       crash = rw (← c.self.view_is) ended.crash;
@@ -72,6 +75,7 @@ returns-in_err-stage g c =
     let failed : FailsToAdd (keeper_of extent before) (keeper_of (with_gate extent false) (g.D.Disk.state c.stage.new.disk)) c.args.entry.now = record { entries = ended.entries; number = refl; at_risk = ended.at_risk; faults = counts_then _ _ _ c.in_ok-mend.ensures.counts c.in_err-stage.ensures.counts } in
     record {
       ok = search rules;
+      done = search rules;
       err = on_err c.from_residual-in_err-stage.result (rw (← c.self.view_is) failed);
       continues = rw (← c.self.view_is)
           (continues_both before (g.D.Disk.state c.mend.new.disk) (g.D.Disk.state c.stage.new.disk) c.mend.ensures.continues c.stage.ensures.continues);
@@ -109,6 +113,7 @@ returns-in_err-set_gate g c =
     let failed : FailsToAdd (keeper_of extent before) (keeper_of (with_gate extent true) (g.D.Disk.state c.set_gate.new.disk)) c.args.entry.now = record { entries = ended.entries; number = refl; at_risk = ended.at_risk; faults = counts_then _ _ _ (c.in_ok-stage.ensures.counts ∙ c.in_ok-mend.ensures.counts) c.in_err-set_gate.ensures.counts } in
     record {
       ok = search rules;
+      done = search rules;
       err = on_err c.from_residual-in_err-set_gate.result (rw (← c.self.view_is) failed);
       continues = rw (← c.self.view_is)
           (continues_both before (g.D.Disk.state c.stage.new.disk) (g.D.Disk.state c.set_gate.new.disk)
@@ -142,8 +147,14 @@ returns g c =
       at_risk = refl;
       faults = c.in_ok-set_gate.ensures.counts ∙ c.in_ok-stage.ensures.counts ∙ c.in_ok-mend.ensures.counts;
     } in
+    let mended = g.D.Disk.state c.mend.new.disk in
+    let staged = g.D.Disk.state c.stage.new.disk in
+    let after = g.D.Disk.state c.set_gate.new.disk in
+    let stored = does_both (safe_write (extent.place + 1) (length c.args.entry.now + record_frame)) (safe_write extent.place 1) mended staged after c.in_ok-stage.ensures.done c.stage.ensures.continues.tells c.in_ok-set_gate.ensures.done in
+    let did : Does (append_calls extent c.args.entry.now) before after = does_both (mending_calls extent.unclean extent.place) _ before mended after c.in_ok-mend.ensures.done c.mend.ensures.continues.tells stored in
     record {
       ok = rw (← c.self.view_is) added;
+      done = rw (← c.self.view_is) did;
       err = tt;
       continues = rw (← c.self.view_is)
           (continues_both before (g.D.Disk.state c.stage.new.disk) (g.D.Disk.state c.set_gate.new.disk)

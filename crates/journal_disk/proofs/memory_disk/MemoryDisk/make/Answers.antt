@@ -1,5 +1,5 @@
 use Rattle.std.proofs.Common.{refl}
-use Rattle.journal_disk.proofs.Replay.{after_calls-push, failed-goes, failed-reads, goes-push}
+use Rattle.journal_disk.proofs.Replay.{after_calls-push, done_calls-push, failed-goes, failed-reads, goes-push}
 use Rattle.journal_disk.proofs.memory_disk.MemoryDisk.make.Goals as goal
 
 pub returns-then-is_to_fail-clause-same : goal.returns-then-is_to_fail-clause-same
@@ -17,3 +17,6 @@ returns-clause-reads c = rw (c.put-2.ensures.kept, after_calls-push) refl
 
 pub returns-clause-crash : goal.returns-clause-crash
 returns-clause-crash c = rw c.put-2.ensures.kept (goes-push c.args.self.now.first c.args.self.now.calls _ c.args.self.now.faults c.args.self.now.faults)
+
+pub returns-clause-done : goal.returns-clause-done
+returns-clause-done c = rw (c.put-2.ensures.kept, done_calls-push) refl
