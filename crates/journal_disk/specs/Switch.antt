@@ -13,11 +13,13 @@ pub record OldHeld (D : Type 0) : Type 0 where
   pub entries : List (List ℕ)
   pub size : ℕ
 
--- what it keeps in its type: its numbers are within their limits, and if the disk exposes what it
--- reads as, a crash leaves exactly that, and it is the journal of these entries
+-- what it keeps in its type: its numbers are within their limits, the size is that of the records
+-- of its entries, and if the disk exposes what it reads as, a crash leaves exactly that, and it is
+-- the journal of these entries
 pub record IsOldKept (entries : List (List ℕ)) (size : ℕ) (disk : DiskState) : Type 0 where
   pub few : length entries ≤ most_entries
   pub within : size ≤ most_record * length entries
+  pub size_is : size ≡ length (records entries)
   pub safe : IfExposed disk (λ bytes. IsSafe bytes disk)
   pub part : IfExposed disk (λ bytes. IsOldPart bytes entries size)
 

@@ -5,7 +5,7 @@ ghost use Rattle.apron_base.specs.Counts.{Counts};
 ghost use Rattle.apron_base.specs.Histories.{Every};
 ghost use Rattle.journal_disk.specs.Disk.{Does, IfExposed, IsDurable, Stays};
 ghost use Rattle.journal_disk.specs.Disk.DoneCall.{DoneSync};
-ghost use Rattle.journal_disk.specs.Entries.{IsEntry, last_record};
+ghost use Rattle.journal_disk.specs.Entries.{IsEntry, last_record, records};
 ghost use Rattle.journal_disk.specs.Extent.{opening_calls};
 ghost use Rattle.journal_disk.specs.Header.{old_opening_of, opening_of};
 ghost use Rattle.journal_disk.specs.Faults.{TextFails, OldTextFails, OpenFails, OldOpenFails, ReadFails};
@@ -112,6 +112,8 @@ pub(crate) fn read_old_journal<D: Disk>(
         IfSome found (λ records. length records.entries.items ≤ most_entries)) }
     ensures within { IfOk result (λ found. IfSome found (λ records.
         records.length ≤ most_record * length records.entries.items)) }
+    ensures size { IfOk result (λ found. IfSome found (λ part.
+        part.length ≡ length (records part.entries.items))) }
     ensures counts { OnOk result
         (Counts false (D.state disk.old).faults (D.state disk.new).faults) }
     ensures refused { IfErr result

@@ -3,7 +3,7 @@ ghost use Rattle.std.specs.Prelude.{◌≡◌, ◌≤◌, Ok, false, is_err, len
 ghost use Rattle.apron_base.specs.Counts.{Counts};
 ghost use Rattle.apron_base.specs.Histories.{Every};
 ghost use Rattle.journal_disk.specs.Disk.{Continues, IfExposed, IsDurable, Stays};
-ghost use Rattle.journal_disk.specs.Entries.{IsEntry};
+ghost use Rattle.journal_disk.specs.Entries.{IsEntry, records};
 ghost use Rattle.journal_disk.specs.Faults.{OldOpenFails};
 ghost use Rattle.journal_disk.specs.Found.{disk_found, old_found};
 ghost use Rattle.journal_disk.specs.Header.{old_opening_of};
@@ -100,6 +100,9 @@ impl<D: Disk> OldJournal<D> {
     pub fn switch(self, entries: &[Listed<u8>]) -> (Result<(), JournalFault>, D)
         requires sizes { Every IsEntry entries.now }
         requires few { length entries.now ≤ most_entries }
+
+        // Its size is that of the records of its entries.
+        ensures size { self.size ≡ length (records self.entries) }
 
         // The disk exposes what it reads as exactly if it did before, and time goes on.
         ensures continues { Continues (D.state self.disk) (D.state result.1) }

@@ -12,3 +12,6 @@ returns-clause-whole g c = if_some c.in_ok-found.found
 
 pub returns-clause-within : goal.returns-clause-within
 returns-clause-within g c = if_some c.in_ok-found.found (λ records part. part_bound _ records.entries.items records.length part) c.in_ok-found.ensures.whole
+
+pub returns-clause-size : goal.returns-clause-size
+returns-clause-size g c = if_some c.in_ok-found.found (λ records part. part.size_is) c.in_ok-found.ensures.whole

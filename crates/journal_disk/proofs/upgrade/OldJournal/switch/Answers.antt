@@ -40,3 +40,9 @@ returns-clause-crash g c =
     since_map before now (IsSwitching size new bytes) (IsEither size old new bytes) (c.switch_parts.ensures.crash bytes is (c.self.invariant.safe bytes is))
     (either_is size old bytes (c.self.invariant.part bytes is) new c.requires.sizes c.requires.few) in
     rw (← c.self.view_is) safely
+
+pub returns-in-Ok-clause-size : goal.returns-in-Ok-clause-size
+returns-in-Ok-clause-size g c = rw (← c.self.view_is) c.self.invariant.size_is
+
+pub returns-clause-size : goal.returns-clause-size
+returns-clause-size g c = rw (← c.self.view_is) c.self.invariant.size_is
