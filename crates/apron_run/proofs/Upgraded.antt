@@ -1,22 +1,24 @@
 -- A journal that was upgraded: what its disk reads as, and what a crash leaves of it.
-use Rattle.std.proofs.Common.{◌≡◌, ◌∙◌, inl, inr, ℕ, Bool, true, false, not, List, length, refl, sym, ap, subst, None, Some, Result, Ok}
+use Rattle.std.proofs.Common.{◌≡◌, ◌∙◌, inl, inr, ℕ, Bool, true, false, not, List, length, take, refl, sym, ap, subst, Option, None, Some, Result, Ok}
 use Rattle.std.specs.Prelude.{IfSome, cond, ◌||◌}
 use Rattle.std.specs.Str.{bytes_eq}
 use Rattle.std.proofs.lemmas.Slice.Eq.{bytes_eq-Decides}
 use Rattle.apron_base.specs.Counts.{Counts}
 use Rattle.history_core.specs.Board.{Spells, entry_texts}
-use Rattle.journal_disk.specs.Disk.{Continues, DiskState, IfExposed, Stays}
+use Rattle.std.specs.Option.{option_map}
+use Rattle.journal_disk.specs.Disk.{Between, Continues, DiskState, IfExposed, IsSafe, Stays}
+use Rattle.journal_disk.specs.Entries.{records}
 use Rattle.journal_disk.specs.Faults.{OldOpenFails, OldTextFails}
 use Rattle.journal_disk.specs.Found.{disk_found, old_found}
-use Rattle.journal_disk.specs.Header.{as_old, digests_in, has_magic, is_new, old_opening_of, opening_of, unless}
-use Rattle.journal_disk.specs.Switch.{HasSwitched, IsEither, SwitchesSafely, after_switch}
+use Rattle.journal_disk.specs.Header.{as_old, behind_part, digests_in, has_magic, is_new, old_opening_of, opening_of, unless}
+use Rattle.journal_disk.specs.Switch.{HasSwitched, IsEither, SwitchesSafely, after_switch, with_format}
 use Rattle.journal_disk.specs.declared.fault.JournalFault.{JournalFault}
 use Rattle.journal_disk.specs.declared.fault.JournalFault.TheVariants as journal
 use Rattle.journal_disk.specs.declared.upgrade.Found.{Found}
 use Rattle.apron_check.specs.declared.files.AirportFiles.{AirportFiles}
 use Rattle.apron_run.specs.Journal.{IsOf}
 use Rattle.apron_run.specs.Survival.{DiskStates}
-use Rattle.apron_run.specs.Upgrade.{HasLifted, HasUpgraded, NotUpgraded}
+use Rattle.apron_run.specs.Upgrade.{HasLifted, HasUpgraded, NotUpgraded, switched}
 use Rattle.apron_run.specs.UpgradeCrash.{IsOldOrNew, LeavesEither, LeavesFailed, LeavesUpgraded}
 use Rattle.apron_run.specs.World.{disk_seen}
 use Rattle.apron_run.specs.declared.unusable.Unusable.TheVariants.{Journal}
@@ -49,6 +51,14 @@ not_opened files before after journal.OldFormat fails stays = absurd fails
 not_opened files before after fault (counts, told) stays =
     (record { contents = stays.contents; counts = counts }, if_told before.contents (λ bytes. OldTextFails files.digests bytes fault) told)
 
+-- what is told after is made of what was told before
+told_as : (f : List ℕ → List ℕ) (before after : Option (List ℕ)) → Between (λ _ _. Unit {0}) before after → ((bytes now : List ℕ) → before ≡ Some bytes → after ≡ Some now → now ≡ f bytes)
+    → after ≡ option_map f before
+told_as f None None alike same = refl
+told_as f None (Some now) alike same = absurd alike
+told_as f (Some bytes) None alike same = absurd alike
+told_as f (Some bytes) (Some now) alike same = ap (λ b. Some b) (same bytes now refl refl)
+
 -- and a crash leaves what it could leave before
 pub leaves_unopened : (files : AirportFiles) (fault : JournalFault) (disk : DiskStates) → Stays disk.before disk.after → LeavesFailed files (Journal fault) disk
 leaves_unopened files journal.DiskFault disk stays = inl stays
@@ -61,7 +71,7 @@ IsFound state digests disk found =
     × Stays (state disk) (state (disk_found found)) × Counts false (state disk).faults (state (disk_found found)).faults
 
 -- a journal of format 1 that was opened and then switched
-module _ (files : AirportFiles) (before opened after : DiskState) (size : ℕ) (old new : List (List ℕ))
+module _ (files : AirportFiles) (before opened after : DiskState) (size : ℕ) (old new : List (List ℕ)) (sized : size ≡ length (records old))
     (was : IfExposed before (λ bytes. old_opening_of files.digests bytes ≡ Ok (Some old))) (stays : Stays before opened) (goes : Continues opened after)
     (safe : SwitchesSafely size old new opened after) where
   digests_are : (bytes : List ℕ) → before.contents ≡ Some bytes → digests_in bytes ≡ files.digests
@@ -76,7 +86,8 @@ module _ (files : AirportFiles) (before opened after : DiskState) (size : ℕ) (
     earlier = λ moment image low high left. stays_from before opened stays moment image low high (goes.clock.past moment image high left);
     later = λ bytes is moment image low high left.
         let either : IsEither size old new bytes image = safe bytes (stays.contents ∙ is) moment image low high left in
-        subst (λ (ds : List ℕ). IsOldOrNew ds old new image) (digests_are bytes is) either.opens;
+        subst (λ (ds : List ℕ). IsOldOrNew ds old new bytes image) (digests_are bytes is)
+        (subst (λ (n : ℕ). (format : ℕ) × (take (behind_part n) image ≡ with_format format (take (behind_part n) bytes))) sized either.keeps, either.opens);
   }
 
   -- the disk failed
@@ -95,6 +106,12 @@ module _ (files : AirportFiles) (before opened after : DiskState) (size : ℕ) (
         ap (opening_of files.digests) (has.safe image left)
         ∙ subst (λ (ds : List ℕ). opening_of ds (after_switch size new bytes) ≡ Ok new) (digests_are bytes is) has.opens
 
+    -- and what a crash leaves then is what was there with the new part
+    switched_safe : (bytes : List ℕ) → before.contents ≡ Some bytes → IsSafe (switched old new bytes) after
+    switched_safe bytes is image left =
+        let has : HasSwitched size new bytes after = done bytes (stays.contents ∙ is) in
+        has.safe image left ∙ ap (λ (n : ℕ). after_switch n new bytes) sized
+
     -- it has the lifted entries, in what its disk reads as and in what a crash leaves
     pub upgraded : (count : ℕ) → HasLifted files.airport old new → IfExposed after (after.images after.moment) → Counts false before.faults after.faults → count ≡ length new
         → (has : HasUpgraded files (disk_seen before) (disk_seen after) count)
@@ -111,6 +128,7 @@ module _ (files : AirportFiles) (before opened after : DiskState) (size : ℕ) (
             was = if_told before.contents (λ bytes. old_opening_of files.digests bytes ≡ Ok (Some old)) was;
             lifts = lifted.lifts;
             has = has;
+            keeps = told_as (switched old new) before.contents after.contents leaves_either.tells (λ bytes now was is. switched_safe bytes was now (reads now is));
             same = λ history reads_as.
                 let texts : new ≡ entry_texts history = texts_are files.airport old new history lifted.lifts reads_as.spells in
                 record {
@@ -121,5 +139,5 @@ module _ (files : AirportFiles) (before opened after : DiskState) (size : ℕ) (
             count_is = count_is ∙ lifted_count files.airport old new lifted.lifts;
             counts = counts;
           },
-          record { either = leaves_either; last = switched_opens },
+          record { either = leaves_either; last = switched_opens; safe = switched_safe },
         )

@@ -1,5 +1,6 @@
 -- What the word `upgrade` does: the journal of an airport goes from format 1 to format 2.
 use Rattle.std.specs.Prelude.{◌≡◌, ◌+◌, ℕ, true, false, List, [], ◌∷◌, ◌++◌, length, map, codes, decimal, Option, None, Some, IfSome, IsSome, Result, Ok, Err}
+use Rattle.std.specs.Option.{option_map}
 use Rattle.apron_base.specs.Counts.{Counts}
 use Rattle.apron_base.specs.Ends.{SinkState}
 use Rattle.apron_base.specs.Histories.{Every}
@@ -11,9 +12,10 @@ use Rattle.entry_bytes.specs.declared.faults.EntryFault.{EntryFault}
 use Rattle.history_core.specs.History.{IsLegal}
 use Rattle.history_core.specs.declared.opening.OpenFault.{OpenFault}
 use Rattle.history_core.specs.declared.opening.OpenFault.TheVariants as entries
-use Rattle.journal_disk.specs.Entries.{IsEntry}
+use Rattle.journal_disk.specs.Entries.{IsEntry, records}
 use Rattle.journal_disk.specs.Faults.{OldTextFails}
 use Rattle.journal_disk.specs.Header.{is_new, old_opening_of, opening_of}
+use Rattle.journal_disk.specs.Switch.{after_switch}
 use Rattle.journal_disk.specs.declared.fault.JournalFault.TheVariants as journal
 use Rattle.apron_check.specs.declared.files.AirportFiles.{AirportFiles}
 use Rattle.apron_run.specs.Journal.{OpensTo}
@@ -59,14 +61,21 @@ pub record WasHistory (airport : AirportParts) (old : List (List ℕ))
   pub legal : IsLegal airport history
   pub spells : map (decode_former_entry airport) old ≡ map Ok history
 
+-- the bytes of a journal of format 1 with these old entries, once it was switched to format 2 with
+-- these new ones: the new part is after the old part, and no byte before it is another one but the
+-- format byte
+abbrev pub switched : List (List ℕ) → List (List ℕ) → List ℕ → List ℕ
+switched old new = after_switch (length (records old)) new
+
 -- the disk reads as before, and no call of it has failed
 pub record ReadsAsBefore (before after : DiskSeen) : Type 0 where
   pub contents : after.contents ≡ before.contents
   pub counts : Counts false before.faults after.faults
 
 -- The disk had the journal of the files in format 1 with these many entries, and has it now in
--- format 2 with the lifted entries, in order. If the old entries are a legal history, the new ones
--- are the same history, so it has the same replay.
+-- format 2 with the lifted entries, in order, after the header and the old part as they were,
+-- except for the format byte. If the old entries are a legal history, the new ones are the same
+-- history, so it has the same replay.
 pub record HasUpgraded (files : AirportFiles) (before after : DiskSeen) (count : ℕ) : Type 0 where
   pub old : List (List ℕ)
   pub new : List (List ℕ)
@@ -74,6 +83,7 @@ pub record HasUpgraded (files : AirportFiles) (before after : DiskSeen) (count :
   pub was : IfSome before.contents (λ bytes. old_opening_of files.digests bytes ≡ Ok (Some old))
   pub lifts : Lifts files.airport old new
   pub has : IfSome after.contents (λ bytes. opening_of files.digests bytes ≡ Ok new)
+  pub keeps : after.contents ≡ option_map (switched old new) before.contents
   pub same : (history : List Entry)
       → WasHistory files.airport old history
       → OpensTo files after history

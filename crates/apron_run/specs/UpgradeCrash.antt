@@ -1,27 +1,37 @@
 -- What a crash may leave of a journal in an upgrade.
-use Rattle.std.specs.Prelude.{◌≡◌, ◌⊎◌, ◌≤◌, ℕ, List, Option, None, Some, Result, Ok, Err}
-use Rattle.journal_disk.specs.Disk.{EachImage, IfExposed, Stays, TellsAlike}
-use Rattle.journal_disk.specs.Header.{old_opening_of, opening_of}
+use Rattle.std.specs.Prelude.{◌≡◌, ◌⊎◌, ◌≤◌, ℕ, List, length, take, Option, None, Some, Result, Ok, Err}
+use Rattle.journal_disk.specs.Disk.{EachImage, IfExposed, IsSafe, Stays, TellsAlike}
+use Rattle.journal_disk.specs.Entries.{records}
+use Rattle.journal_disk.specs.Header.{behind_part, old_opening_of, opening_of}
+use Rattle.journal_disk.specs.Switch.{with_format}
 use Rattle.journal_disk.specs.declared.fault.JournalFault.TheVariants as journal
 use Rattle.apron_check.specs.declared.files.AirportFiles.{AirportFiles}
 use Rattle.apron_check.specs.declared.faults.FilesFault.{FilesFault}
 use Rattle.apron_run.specs.Survival.{DiskStates, EachImageFrom}
 use Rattle.apron_run.specs.TwoFiles.{DoesFound}
-use Rattle.apron_run.specs.Upgrade.{Lifts, MeetsUpgrade, UpgradesJournal}
+use Rattle.apron_run.specs.Upgrade.{Lifts, MeetsUpgrade, UpgradesJournal, switched}
 use Rattle.apron_run.specs.World.{DiskSeen, SinkAndDisk}
 use Rattle.apron_run.specs.declared.status.Status.{Status}
 use Rattle.apron_run.specs.declared.unusable.Unusable.{Unusable}
 use Rattle.apron_run.specs.declared.unusable.Unusable.TheVariants.{Journal}
 
--- the image is the journal of the files of these digests: of format 1 with the old entries, or of
--- format 2 with the new ones
-abbrev pub IsOldOrNew : List ℕ → List (List ℕ) → List (List ℕ) → List ℕ → Type 0
-IsOldOrNew digests old new image =
-    (old_opening_of digests image ≡ Ok (Some old)) ⊎ (opening_of digests image ≡ Ok new)
+-- the image has the header of these bytes and the old part with these entries, except for the
+-- format byte
+abbrev pub KeepsOldPart : List (List ℕ) → List ℕ → List ℕ → Type 0
+KeepsOldPart old bytes image =
+    let size = behind_part (length (records old)) in
+    (format : ℕ) × (take size image ≡ with_format format (take size bytes))
+
+-- the image has the header and the old part of these bytes, and is the journal of the files of
+-- these digests: of format 1 with the old entries, or of format 2 with the new ones
+abbrev pub IsOldOrNew : List ℕ → List (List ℕ) → List (List ℕ) → List ℕ → List ℕ → Type 0
+IsOldOrNew digests old new bytes image =
+    KeepsOldPart old bytes image
+    × ((old_opening_of digests image ≡ Ok (Some old)) ⊎ (opening_of digests image ≡ Ok new))
 
 -- What a crash may leave of a journal while it is upgraded. Up to the moment at which it was open:
 -- what it could leave when the call began. From then on: the old entries in format 1, or the new
--- ones in format 2.
+-- ones in format 2, after the header and the old part.
 pub record LeavesEither (digests : List ℕ) (old new : List (List ℕ))
     (disk : DiskStates) : Type 0 where
   pub tells : TellsAlike disk.before disk.after
@@ -30,14 +40,16 @@ pub record LeavesEither (digests : List ℕ) (old new : List (List ℕ))
   pub earlier : EachImageFrom disk.before.moment moment disk.after
       (disk.before.images disk.before.moment)
   pub later : IfExposed disk.before (λ bytes.
-      EachImageFrom moment disk.after.moment disk.after (IsOldOrNew digests old new))
+      EachImageFrom moment disk.after.moment disk.after (IsOldOrNew digests old new bytes))
 
--- the same, and once it was upgraded a crash leaves the new entries in format 2
+-- the same, and once it was upgraded a crash leaves what was there with the new part after it, which
+-- are the new entries in format 2
 pub record LeavesUpgraded (digests : List ℕ) (old new : List (List ℕ))
     (disk : DiskStates) : Type 0 where
   pub either : LeavesEither digests old new disk
   pub last : IfExposed disk.before
       (λ bytes. EachImage disk.after (λ image. opening_of digests image ≡ Ok new))
+  pub safe : IfExposed disk.before (λ bytes. IsSafe (switched old new bytes) disk.after)
 
 -- an upgrade that the disk stopped: before it wrote anything, or while it wrote the lifted entries
 abbrev pub LeavesStopped : AirportFiles → DiskStates → Type 0

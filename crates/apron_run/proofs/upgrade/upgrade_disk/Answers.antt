@@ -39,7 +39,7 @@ returns-in-Ok-switched g c =
     let counts : Counts false opened.faults after.faults =
     subst (λ (r : Result (Unit {0}) JournalFault). Counts (is_err r) opened.faults after.faults) c.in-Ok-switched.is switch.counts in
     record {
-      meets = upgraded files (g.D.Disk.state c.args.disk) opened after held.size held.entries new was stays switch.continues switch.crash done c.len.result lifted
+      meets = upgraded files (g.D.Disk.state c.args.disk) opened after held.size held.entries new switch.size was stays switch.continues switch.crash done c.len.result lifted
           (g.met.D.Disk.reads c.switch-switched.result.1) (counts ∙ still) (c.len.ensures.count ∙ ap (λ (es : List (List ℕ)). length es) (sym c.as_slice.ensures.items));
     }
 
@@ -61,6 +61,6 @@ returns g c =
     let counts : Counts true opened.faults after.faults =
     subst (λ (r : Result (Unit {0}) JournalFault). Counts (is_err r) opened.faults after.faults) c.in-Err-switched.is switch.counts in
     record {
-      meets = stopped files (g.D.Disk.state c.args.disk) opened after held.size held.entries new was stays switch.continues switch.crash c.in-Err-switched.fault is
+      meets = stopped files (g.D.Disk.state c.args.disk) opened after held.size held.entries new switch.size was stays switch.continues switch.crash c.in-Err-switched.fault is
           lifted still counts;
     }
