@@ -40,6 +40,12 @@ told_before (Some old) now bytes alike is = (old, refl)
 told_before None None bytes alike is = absurd cc
 told_before None (Some now) bytes alike is = absurd alike
 
+-- and one that told it tells it still
+pub told_after : (before now : Option (List ℕ)) (bytes : List ℕ) → Between (λ _ _. Unit {0}) before now → before ≡ Some bytes → (new : List ℕ) × (now ≡ Some new)
+told_after (Some old) (Some new) bytes alike is = (new, refl)
+told_after (Some old) None bytes alike is = absurd alike
+told_after None now bytes alike is = absurd cc
+
 -- an append leaves the header as it was
 pub still_of : (digests appended : List ℕ) (extent : Extent) (before now : DiskState) → IfSome before.contents (IsOf digests) → Continues before now
     → AppendsSafely extent before now appended → IfExposed now (now.images now.moment) → IfSome now.contents (IsOf digests)

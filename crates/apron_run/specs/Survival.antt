@@ -1,6 +1,6 @@
 -- What a crash may leave of a journal that a run opens and uses, over the moments of its disk.
-use Rattle.std.specs.Prelude.{◌≡◌, ◌⊎◌, ◌≤◌, ℕ, List, length, take, Option, Some, Ok}
-use Rattle.apron_base.specs.Keeper.{with_last}
+use Rattle.std.specs.Prelude.{◌≡◌, ◌⊎◌, ◌<◌, ◌≤◌, ◌+◌, ℕ, List, length, take, Option, Some, IfSome, Ok}
+use Rattle.apron_base.specs.Keeper.{KeeperState, with_last}
 use Rattle.desk_words.specs.declared.asks.Entry.{Entry}
 use Rattle.entry_bytes.specs.Entries.{entry_text}
 use Rattle.history_core.specs.Board.{entry_texts}
@@ -29,19 +29,21 @@ OpensWith digests entries IsMore image =
     (opening_of digests image ≡ Ok entries)
     ⊎ ((more : List ℕ) × IsMore more × (opening_of digests image ≡ Ok (with_last more entries)))
 
--- the image opens to the first of these entries, at least this number of them, or to these and one
--- more
-pub record OpensToFront (digests : List ℕ) (least : ℕ) (entries : List (List ℕ))
-    (image : List ℕ) : Type 0 where
-  pub count : ℕ
-  pub some : least ≤ count
-  pub few : count ≤ length entries
-  pub opens : OpensWith digests (take count entries) (λ more. Unit {0}) image
+-- the image opens to the first of these entries, this number of them or one more; or, if a call of
+-- the disk has failed, to this number of them and another entry
+abbrev pub OpensToFront : List ℕ → List (List ℕ) → Type 0 → ℕ → List ℕ → Type 0
+OpensToFront digests entries HasFailed sure image =
+    (opening_of digests image ≡ Ok (take sure entries))
+    ⊎ ((sure < length entries) × (opening_of digests image ≡ Ok (take (sure + 1) entries)))
+    ⊎ (HasFailed × (more : List ℕ)
+    × (opening_of digests image ≡ Ok (with_last more (take sure entries))))
 
 -- What a crash may leave of a journal that was opened in a call, up to now, if the bytes of its
 -- disk tell its entries. Up to the moment at which it was open: what it could leave when the call
--- began. From then on: the first of the entries, no fewer than it was opened with, or these and one
--- more.
+-- began. From then on some number of its entries is sure at each moment. It is at first no less
+-- than that of the entries that the journal was opened with, never falls, and is now that of all. A
+-- crash leaves the sure entries, or these and the next one; or, if a call of the disk has failed,
+-- the sure entries and another one.
 pub record LeavesFronts (digests : List ℕ) (entries : List ℕ → List (List ℕ))
     (begun now : DiskState) : Type 0 where
   pub opened : List (List ℕ)
@@ -50,9 +52,17 @@ pub record LeavesFronts (digests : List ℕ) (entries : List ℕ → List (List 
   pub moment : ℕ
   pub order : (begun.moment ≤ moment) × (moment ≤ now.moment)
   pub earlier : EachImageFrom begun.moment moment now (begun.images begun.moment)
-  pub least : IfExposed now (λ bytes. length opened ≤ length (entries bytes))
-  pub later : IfExposed now (λ bytes.
-      EachImageFrom moment now.moment now (OpensToFront digests (length opened) (entries bytes)))
+  pub sure : ℕ → ℕ
+  pub some : length opened ≤ sure moment
+  pub rises : (one other : ℕ) → one ≤ other → sure one ≤ sure other
+  pub all : IfExposed now (λ bytes. sure now.moment ≡ length (entries bytes))
+  pub later : IfExposed now (λ bytes. (at : ℕ) (image : List ℕ)
+      → moment ≤ at → at ≤ now.moment → now.images at image
+      → OpensToFront digests (entries bytes) (1 ≤ now.faults) (sure at) image)
+
+-- an entry is at risk only if a call of the disk has failed
+abbrev pub RisksIfFailed : KeeperState → Type 0
+RisksIfFailed keeper = IfSome keeper.at_risk (λ text. 1 ≤ keeper.faults)
 
 -- these are the bytes of the entry at risk
 abbrev pub IsTextOf : Option Entry → List ℕ → Type 0

@@ -4,9 +4,9 @@
 // crash leaves. So the digests of the files and the disk as it was are in the type: whatever a
 // board does with such a journal, it stays the journal of these files, and a crash leaves a front
 // of its entries.
-ghost use Rattle.std.specs.Prelude.{◌≡◌, ℕ, List, [], IfSome};
+ghost use Rattle.std.specs.Prelude.{◌≡◌, ℕ, List, [], None, IfSome};
 ghost use Rattle.journal_disk.specs.Disk.{DiskState, untold_disk};
-ghost use Rattle.journal_disk.specs.Extent.{IsCrashSafe, entries_within};
+ghost use Rattle.journal_disk.specs.Extent.{IsCrashSafe, entries_within, keeper_of};
 ghost use Rattle.apron_run.specs.Journal.{IsOf};
 ghost use Rattle.apron_run.specs.Survival.{LeavesFronts};
 
@@ -31,8 +31,8 @@ impl OfFiles for Brand {
 }
 
 /// A journal of these files: if its disk tells what it reads as, their digests are in its header. A
-/// crash at any moment leaves a front of its entries, or this and one more. Contracts see the
-/// journal.
+/// crash at any moment leaves a front of its entries, which never gets shorter; one more that is
+/// none of them only if a call of the disk has failed. Contracts see the journal.
 #[derive(Drop)]
 pub struct FilesJournal<N: OfFiles, D: Disk> {
     journal: Journal<D>,
@@ -41,9 +41,9 @@ pub struct FilesJournal<N: OfFiles, D: Disk> {
 
 impl<N: OfFiles, D: Disk> Model for FilesJournal<N, D> {
     ghost use Rattle.std.specs.Prelude.{IfSome};
-    ghost use Rattle.journal_disk.specs.Extent.{JournalHeld, entries_within};
+    ghost use Rattle.journal_disk.specs.Extent.{JournalHeld, entries_within, keeper_of};
     ghost use Rattle.apron_run.specs.Journal.{IsOf};
-    ghost use Rattle.apron_run.specs.Survival.{LeavesFronts};
+    ghost use Rattle.apron_run.specs.Survival.{LeavesFronts, RisksIfFailed};
 
     ghost Value = { JournalHeld D };
 
@@ -51,7 +51,8 @@ impl<N: OfFiles, D: Disk> Model for FilesJournal<N, D> {
 
     ghost invariant = { λ f. IfSome (D.state f.journal.disk).contents (IsOf N.digests)
         × LeavesFronts N.digests (entries_within f.journal.extent) N.begun
-        (D.state f.journal.disk) };
+        (D.state f.journal.disk)
+        × RisksIfFailed (keeper_of f.journal.extent (D.state f.journal.disk)) };
 }
 
 impl<N: OfFiles, D: Disk> FilesJournal<N, D> {
@@ -60,6 +61,7 @@ impl<N: OfFiles, D: Disk> FilesJournal<N, D> {
         requires digests { IfSome (D.state journal.disk).contents (IsOf N.digests) }
         requires fronts { LeavesFronts N.digests (entries_within journal.extent) N.begun
             (D.state journal.disk) }
+        requires at_risk { (keeper_of journal.extent (D.state journal.disk)).at_risk ≡ None }
         ensures journal { result ≡ journal }
     {
         FilesJournal {

@@ -17,4 +17,5 @@ new-requires g c = record {
   fronts = fronts_opened g.N.OfFiles.digests c.args.files.now.digests g.N.OfFiles.begun (g.D.Disk.state c.args.disk) (g.D.Disk.state c.in-Ok.journal.disk)
       c.in-Ok.journal.extent c.in-Ok.entries.items c.requires.digests c.requires.begun c.in-Ok.ensures.opened c.in-Ok.ensures.stays c.in-Ok.ensures.durable
       c.in-Ok.ensures.keeper;
+  at_risk = let keeper = c.in-Ok.ensures.keeper in keeper.at_risk;
 }
