@@ -16,7 +16,7 @@ use crate::Status;
 use crate::check::print_fault;
 use crate::files_journal::OfFiles;
 use crate::imported::{Imported, tell_imported};
-use crate::journal::{close_board, open_board};
+use crate::journal::{Access, close_board, open_board};
 use crate::same_disk::{Named, SameDisk};
 use crate::season::add_season;
 use crate::unusable::{Unusable, tell_unusable};
@@ -111,7 +111,7 @@ fn import_into<N: OfFiles, F: Shelf, D: Disk>(
         (stores_at (F.state shelf.old) (D.state disk))
         (stores_at (F.state shelf.new) (D.state result.1)) result.0 }
 {
-    let mut board = match open_board::<N, D>(alloc, files, disk) {
+    let mut board = match open_board::<N, D>(alloc, files, Access::Appends, disk) {
         Ok(board) => board,
         Err((why, disk)) => return (Err(why), disk),
     };

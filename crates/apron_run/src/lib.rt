@@ -28,7 +28,7 @@ mod words;
 
 pub use check::print_fault;
 pub use files_journal::{FilesJournal, OfFiles};
-pub use journal::{close_board, open_board, open_watched};
+pub use journal::{Access, close_board, open_board, open_watched};
 pub use laws::{ends_that_never_fail_tell_no_fault, second_imports_add_nothing};
 pub use print::print_usage;
 pub use program::{run, run_with};

@@ -15,7 +15,7 @@ ghost use Rattle.apron_run.specs.World.{disk_seen, sink_and_disk_at};
 use crate::Status;
 use crate::check::print_fault;
 use crate::files_journal::OfFiles;
-use crate::journal::{close_board, open_board};
+use crate::journal::{Access, close_board, open_board};
 use crate::print::print;
 use crate::same_disk::{Named, SameDisk};
 use crate::unusable::{Unusable, tell_unusable};
@@ -142,7 +142,7 @@ fn text_of_board<N: OfFiles, T: PlanText, D: Disk>(
         (disk_seen (D.state result.1)) result.0 }
     ensures crash { Stays (D.state disk) (D.state result.1) }
 {
-    let board = match open_board::<N, D>(alloc, files, disk) {
+    let board = match open_board::<N, D>(alloc, files, Access::Reads, disk) {
         Ok(board) => board,
         Err((why, disk)) => return (Err(why), disk),
     };

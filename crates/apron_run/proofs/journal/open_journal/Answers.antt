@@ -19,3 +19,24 @@ new-requires g c = record {
       c.in-Ok.ensures.keeper;
   at_risk = let keeper = c.in-Ok.ensures.keeper in keeper.at_risk;
 }
+
+pub returns-in-Err-open_to_append-clause-refused : goal.returns-in-Err-open_to_append-clause-refused
+returns-in-Err-open_to_append-clause-refused g c =
+    let met = c.in-Err-open_to_append in
+    record {
+      reads = let stays = met.ensures.stays in stays.contents;
+      cause = seen_fails c.args.files.now.digests (g.D.Disk.state c.args.disk) (g.D.Disk.state met.disk) met.fault met.ensures.refused;
+    }
+
+pub new-requires-in-Ok-open_to_append : goal.new-requires-in-Ok-open_to_append
+new-requires-in-Ok-open_to_append g c =
+    let met = c.in-Ok-open_to_append in
+    record {
+      digests = let stays = met.ensures.stays in
+          opened_of g.N.OfFiles.digests c.args.files.now.digests (g.D.Disk.state c.args.disk) (g.D.Disk.state met.journal.disk) met.entries.items c.requires.digests
+          met.ensures.opened stays.contents;
+      fronts = fronts_opened g.N.OfFiles.digests c.args.files.now.digests g.N.OfFiles.begun (g.D.Disk.state c.args.disk) (g.D.Disk.state met.journal.disk)
+          met.journal.extent met.entries.items c.requires.digests c.requires.begun met.ensures.opened met.ensures.stays met.ensures.durable
+          met.ensures.keeper;
+      at_risk = let keeper = met.ensures.keeper in keeper.at_risk;
+    }
