@@ -5,6 +5,7 @@ use mathlib.Core.Option.{some, none, some-injective, some-ne-none}
 use mathlib.Core.Option as maybe
 use native.Mathlib.Decide.{ℕ_discrete, dec_le}
 use lib.ListN.{get_elem?}
+use Rattle.std.specs.List.{sum_by}
 use Rattle.std.proofs.lemmas.Bool.Decides.{nat_tests}
 use Rattle.atomic_table.specs.Table.{opening, Final, Seen}
 use Rattle.apron_base.specs.Histories.{Every, Rises}
@@ -17,8 +18,8 @@ use Rattle.turn_board.specs.declared.view.Stage.TheVariants.{Idle}
 use Rattle.turn_board.specs.declared.view.View.{View}
 use Rattle.turn_board.specs.Board.{Closes, IsPutAtRisk, SeatState, TurnBoardState, seat_of}
 use Rattle.turn_board.specs.Rule.{AtHome, HoldsForSeat, IsAtRisk, IsNewAtRisk, IsOut, TurnRule}
-use Rattle.turn_board.specs.Totals.{below, times, total}
-use Rattle.turn_board.specs.Views.{all_shares, count_of_call, first_view, has_acted, has_turn, in_flight, is_flying, share_of, start_of, turn_of}
+use Rattle.turn_board.specs.Totals.{below, rise_of, times, total}
+use Rattle.turn_board.specs.Views.{all_shares, count_of_call, first_view, has_acted, has_turn, in_flight, is_flying, risen_of, share_of, start_of, turn_of}
 use Rattle.turn_board.proofs.Faults.{IsKnown}
 use Rattle.turn_board.proofs.Risks.{IsLeft, if_some}
 use Rattle.turn_board.proofs.Totals.{below_here, called, every_more, not_below, same_inside, total_only, total_two}
@@ -44,7 +45,7 @@ module _ {M E F : Type 0} (number : E → ℕ) (state : M → MachineState E F) 
       found = λ x. (state m).faults;
       left = λ x. (state m).faults;
       top = (state m).faults;
-      least = omega arith;
+      rose = omega arith;
       each = λ x h. (omega arith, omega arith, omega arith);
       order = λ x y h l. omega arith;
       calls = no_calls;
@@ -82,8 +83,8 @@ module _ {M E F : Type 0} (number : E → ℕ) (state : M → MachineState E F) 
       no_calls zero v e = subst (λ (z : View E F). Every (λ (c : Call E). (c.number < first) × (c.found ≡ (state m).faults) × (c.left ≡ (state m).faults)) z.calls) (some-injective (first_view (state m)) v e) tt
       no_calls (suc j) v e = absurd (some-ne-none v (sym e))
 
-      no_turn : (j : ℕ) (v : View E F) → get_elem? (first_view (state m) ∷ []) j ≡ some v → (0 < has_turn v.stage → (state m).faults ≤ v.found) × (0 < has_acted v.stage → v.found ≤ v.left)
-      no_turn zero v e = subst (λ (z : View E F). (0 < has_turn z.stage → (state m).faults ≤ z.found) × (0 < has_acted z.stage → z.found ≤ z.left)) (some-injective (first_view (state m)) v e) ((λ p. absurd (omega arith)), (λ p. absurd (omega arith)))
+      no_turn : (j : ℕ) (v : View E F) → get_elem? (first_view (state m) ∷ []) j ≡ some v → (0 < has_turn v.stage → v.found ≡ (state m).faults) × (0 < has_acted v.stage → v.found ≤ v.left)
+      no_turn zero v e = subst (λ (z : View E F). (0 < has_turn z.stage → z.found ≡ (state m).faults) × (0 < has_acted z.stage → z.found ≤ z.left)) (some-injective (first_view (state m)) v e) ((λ p. absurd (omega arith)), (λ p. absurd (omega arith)))
       no_turn (suc j) v e = absurd (some-ne-none v (sym e))
 
       mine : HoldsForSeat number (state m) first first (state m).history (first_view (state m))
@@ -156,8 +157,8 @@ module _ {M E F : Type 0} (number : E → ℕ) (state : M → MachineState E F) 
           history = hm.3.history ∙ sym mine_is_longest;
           fixed = hm.3.fixed;
           next = hm.3.next;
-          since = let a = q.least in let d = q.home hm.0 hm.1 in omega arith;
-          faults = every_more (IsKnown q.found q.left k) (λ (c : Call E). (origin.faults ≤ c.found) × (c.left ≤ (state hm.0).faults)) (λ c g. let a = q.each c.number g.0 in let d = q.home hm.0 hm.1 in let x = g.1 in let y = g.2 in (omega arith, omega arith)) v.calls (q.calls id v at);
+          rose = let a = q.rose in let d = q.home hm.0 hm.1 in let b = only risen_of (λ u i e. ap (sum_by rise_of) e) in omega arith;
+          faults = every_more (IsKnown q.found q.left k) (λ (c : Call E). (origin.faults ≤ c.found) × (c.found ≤ c.left) × (c.left ≤ (state hm.0).faults)) (λ c g. let a = q.each c.number g.0 in let d = q.home hm.0 hm.1 in let x = g.1 in let y = g.2 in (omega arith, omega arith, omega arith)) v.calls (q.calls id v at);
           at_risk = if_some (IsAtRisk number origin d.left k (state hm.0).history) (IsPutAtRisk number v.calls (state hm.0).history) (λ e known. record {
             by = called (number e) v.calls (let a = calls (number e) in let b = not_below (number e) origin.next known.from in let c = below_here (number e) k known.ended in omega arith);
             stays = every_more (IsLeft d.left k) (λ (c : Call E). number e ≤ c.number → c.at_risk ≡ Some e) (λ c left l. left.1 ∙ known.stays c.number l left.0) v.calls (d.calls id v at);

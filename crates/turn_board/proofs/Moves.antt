@@ -114,7 +114,7 @@ module _ {M E F : Type 0} (number : E → ℕ) (state : M → MachineState E F) 
   -- the counts stay if the slot and the seat's calls, stage and counts do
   faults_stay : (k : ℕ) (homes : Homes) (views : List V) (f : AreFaults state origin k homes views) (id : ℕ) (v w : V) → get_elem? views id ≡ some v → w.calls ≡ v.calls
       → has_turn w.stage ≡ has_turn v.stage → has_acted w.stage ≡ has_acted v.stage → w.found ≡ v.found → w.left ≡ v.left → AreFaults state origin k homes (set views id w)
-  faults_stay k homes views f id v w at ended_is past_is done_is found_is left_is = kept state origin k homes homes views f id v w at (subst (Every (IsKnown f.found f.left k)) (sym ended_is) (f.calls id v at))
+  faults_stay k homes views f id v w at ended_is past_is done_is found_is left_is = kept state origin k homes homes views f id v w at ended_is
       ((λ p. let a = (f.turn id v at).0 (omega arith) in omega arith), (λ p. let a = (f.turn id v at).1 (omega arith) in omega arith)) f.home
 
   not_true : (b : Bool) → (b ≡ true → ⊥) → b ≡ false
@@ -262,7 +262,7 @@ module _ {M E F : Type 0} (number : E → ℕ) (state : M → MachineState E F) 
                 spent = λ z. absurd (omega arith);
               })
               (λ j u _ _ f. f) (inl (sym home.history, live));
-          faults = kept state origin k homes (set homes 0 none) views q id v w at (q.calls id v at) ((λ _. q.home m h.1), (λ p. absurd (omega arith)))
+          faults = kept state origin k homes (set homes 0 none) views q id v w at refl ((λ _. q.home m h.1), (λ p. absurd (omega arith)))
               (λ m' e. absurd (some-ne-none (Some m') (head_is m' h.1 e)));
           risks = keeps_risks number state origin k homes (set homes 0 none) views d id w (d.calls id v at)
               (λ _. if_some (IsAtRisk number origin d.left k (state m).history) (λ a. IsNewAtRisk number w a ⊎ IsAtRisk number origin d.left k (state m).history a) (λ a known. inr known) (state m).at_risk (d.home m h.1))
@@ -277,7 +277,7 @@ module _ {M E F : Type 0} (number : E → ℕ) (state : M → MachineState E F) 
               extends = subst (λ (l : List E). Extends number l v.seen v.calls) (sym home.history) mine.seen;
               rises = subst (Rises number 1 k) (sym home.history) rises;
               next = home.next;
-              start = λ x is. subst (λ (y : Start F). ((state m).fixed ≡ y.fixed) × (y.faults ≤ (state m).faults)) (same_inside (start_of origin) x (mine.start live) is) (home.fixed, (let b = q.least in let c = q.home m h.1 in omega arith));
+              start = λ x is. subst (λ (y : Start F). ((state m).fixed ≡ y.fixed) × (y.faults ≤ (state m).faults)) (same_inside (start_of origin) x (mine.start live) is) (home.fixed, (let b = q.rose in let c = q.home m h.1 in omega arith));
               faults = every_more (IsKnown q.found q.left k) (λ (c : Call E). c.left ≤ (state m).faults) (λ c g. let a = (q.each c.number g.0).2 in let b = g.2 in let d = q.home m h.1 in omega arith) v.calls (q.calls id v at);
               at_risk = if_some (IsAtRisk number origin d.left k (state m).history) (λ a. number a < k) (λ a known. known.ended) (state m).at_risk (d.home m h.1);
             },
@@ -376,7 +376,7 @@ module _ {M E F : Type 0} (number : E → ℕ) (state : M → MachineState E F) 
                 spent = f.spent;
               })
               (inl (refl, live));
-          faults = kept state origin k homes homes views q id v w at (q.calls id v at) ((λ _. (q.turn id v at).0 (omega arith)), (λ _. rose)) q.home;
+          faults = kept state origin k homes homes views q id v w at refl ((λ _. (q.turn id v at).0 (omega arith)), (λ _. rose)) q.home;
           risks = keeps_risks number state origin k homes homes views d id w (d.calls id v at)
               (λ _. noted_risk number state origin v m me.1 d.left k left (subst (λ (z : ℕ). Rises number 1 z v.seen) (sym now.0) (subst (Rises number 1 k) (sym now.1) rises)) (d.turn id v at (omega arith))) d.home;
         },

@@ -22,7 +22,7 @@ use Rattle.turn_board.specs.Plays.{DoNotOverlap}
 use Rattle.turn_board.specs.Rule.{AtHome, Extends, HoldsForSeat, IsOut, TurnRule}
 use Rattle.turn_board.specs.Totals.{times, total}
 use Rattle.turn_board.specs.Views.{acted_count, after_look, both, count_of_call, has_acted, has_turn, in_flight, is_flying, less_one, longer, may_owe, owes_of, share_of, shorter, spent_view, split_off, turn_of}
-use Rattle.turn_board.proofs.Faults.{IsKnown, kept, with_new}
+use Rattle.turn_board.proofs.Faults.{joined, kept, with_new}
 use Rattle.turn_board.proofs.Risks.{IsLeft, keeps_risks, new_at_risk}
 use Rattle.turn_board.proofs.Totals.{times_append, total_set, total_snoc, set_at, every_append, every_more, every_rest, later_rest}
 
@@ -96,7 +96,7 @@ module _ {M E F : Type 0} (number : E → ℕ) (state : M → MachineState E F) 
               (id, w, at_longer (set views id w) (u ∷ []) id w (set_at views id v w at), ap (λ (y : V). y.seen) (sym is) ∙ l.3, omega arith))
               (λ (e : l.0 ≢ id). (l.0, l.1, at_longer (set views id w) (u ∷ []) l.0 l.1 (set_else views id l.0 w e ∙ l.2), l.3, l.4));
         };
-        faults = with_new state origin k s.homes (set views id w) (kept state origin k s.homes s.homes views q id v w at (q.calls id v at) (q.turn id v at) q.home)
+        faults = with_new state origin k s.homes (set views id w) (kept state origin k s.homes s.homes views q id v w at refl (q.turn id v at) q.home)
             u refl refl refl;
         risks = new_at_risk number state origin k s.homes (set views id w) (keeps_risks number state origin k s.homes s.homes views d id w (d.calls id v at) (d.turn id v at) d.home) u refl refl;
       }
@@ -209,9 +209,7 @@ module _ {M E F : Type 0} (number : E → ℕ) (state : M → MachineState E F) 
               (λ (ne' : l.0 ≢ other). (l.0, l.1, set_else (set views id w) other l.0 sp ne' ∙ (set_else views id l.0 w ne ∙ l.2), l.3, l.4)));
         };
         faults = (let no : has_turn v.stage ≡ 0 = ap has_turn idle in let undone : has_acted v.stage ≡ 0 = ap has_acted idle in
-            let joined = kept state origin k s.homes s.homes views q id v w at (every_append (IsKnown q.found q.left k) v.calls u.calls (q.calls id v at) (q.calls other u there))
-            ((λ p. absurd (omega arith)), (λ p. absurd (omega arith))) q.home in
-            kept state origin k s.homes s.homes (set views id w) joined other u sp there' tt ((λ p. absurd (omega arith)), (λ p. absurd (omega arith))) joined.home);
+            joined state origin k s.homes views q id other v u w sp apart at there refl refl (no, undone) (refl, refl));
         risks = (let no : has_turn v.stage ≡ 0 = ap has_turn idle in
             let joined = keeps_risks number state origin k s.homes s.homes views d id w (every_append (IsLeft d.left k) v.calls u.calls (d.calls id v at) (d.calls other u there)) (λ p. absurd (omega arith)) d.home in
             keeps_risks number state origin k s.homes s.homes (set views id w) joined other sp tt (λ p. absurd (omega arith)) joined.home);

@@ -1,6 +1,6 @@
 -- Boards and seats as callers see them.
 use Rattle.std.specs.Prelude.{◌≡◌, ◌⊎◌, ℕ, ◌+◌, ◌<◌, ◌≤◌, List, [], ◌∷◌, ◌++◌, Bool, true, false, ◌||◌, Option, Some, IfSome}
-use Rattle.std.specs.List.{Any}
+use Rattle.std.specs.List.{Any, sum_by}
 use Rattle.atomic_table.specs.Seated.{TableId}
 use Rattle.apron_base.specs.Histories.{Every, Rises}
 use Rattle.apron_base.specs.Machine.{Acts, ActsAtRisk, MachineState, history_at_risk_of, is_fault}
@@ -10,7 +10,7 @@ use Rattle.turn_board.specs.declared.view.Start.{Start}
 use Rattle.turn_board.specs.declared.view.View.{View}
 use Rattle.turn_board.specs.Plays.{DoNotOverlap}
 use Rattle.turn_board.specs.Rule.{Extends}
-use Rattle.turn_board.specs.Totals.{AreBelow, below, times}
+use Rattle.turn_board.specs.Totals.{AreBelow, below, rise_of, times}
 use Rattle.turn_board.specs.Views.{all_shares, call_end, start_of}
 
 -- a board: its table, which no other board has, and the machine's fixed part, first number and
@@ -126,7 +126,8 @@ pub record IsPutAtRisk {Entry : Type 0} (number : Entry → ℕ) (calls : List (
 
 -- the machine that a closed board leaves to the seat that took all others in: its history is what
 -- the seat has seen; the seat's calls use each number exactly once from the first one on, and all
--- numbers if they had run out; and an entry at risk was put there by one of the calls
+-- numbers if they had run out; its count of faults rose over the calls and at no other time; and an
+-- entry at risk was put there by one of the calls
 pub record Closes {Entry Fixed : Type 0} (number : Entry → ℕ) (board : TurnBoardState Fixed)
     (seat : SeatState Entry Fixed) (machine : MachineState Entry Fixed) : Type 0 where
   pub end : ℕ
@@ -136,8 +137,10 @@ pub record Closes {Entry Fixed : Type 0} (number : Entry → ℕ) (board : TurnB
   pub history : machine.history ≡ seat.seen
   pub fixed : machine.fixed ≡ board.start.fixed
   pub next : machine.next ≤ end
-  pub since : board.start.faults ≤ machine.faults
+  pub rose : machine.faults ≡ board.start.faults + sum_by rise_of seat.calls
   pub faults : Every
-      (λ (call : Call Entry). (board.start.faults ≤ call.found) × (call.left ≤ machine.faults))
+      (λ (call : Call Entry). (board.start.faults ≤ call.found)
+      × (call.found ≤ call.left)
+      × (call.left ≤ machine.faults))
       seat.calls
   pub at_risk : IfSome machine.at_risk (IsPutAtRisk number seat.calls machine.history)

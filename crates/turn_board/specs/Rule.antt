@@ -10,7 +10,7 @@ use Rattle.turn_board.specs.declared.view.Call.{Call}
 use Rattle.turn_board.specs.declared.view.Stage.TheVariants.{Idle}
 use Rattle.turn_board.specs.declared.view.View.{View}
 use Rattle.turn_board.specs.Totals.{AreBelow, below, total}
-use Rattle.turn_board.specs.Views.{acted_count, all_shares, call_end, count_of_call, has_acted, has_turn, in_flight, may_owe, owes_of, share_of, start_of, turn_of}
+use Rattle.turn_board.specs.Views.{acted_count, all_shares, call_end, count_of_call, has_acted, has_turn, in_flight, may_owe, owes_of, risen_of, share_of, start_of, turn_of}
 
 -- what the words say, and the longest history that a seat has seen: the next ticket, the ticket
 -- that is served, and how many entries are counted
@@ -62,14 +62,15 @@ module _ {M Entry Fixed : Type 0} (state : M → MachineState Entry Fixed)
       × (total turn_of views ≡ 0)
       × IsHome origin serving longest (state machine)
 
-  -- what the ended calls found and left: along their numbers no count falls, none is below the
-  -- first one, and none is above that of the machine at home
+  -- what the ended calls found and left: along their numbers no count falls, and none is below the
+  -- first one. That of the machine at home, which the next call finds, is the first one and what
+  -- the calls raised it by.
   pub record AreFaults (serving : ℕ) (homes : List (maybe.Option (Option M)))
       (views : List (View Entry Fixed)) : Type 0 where
     pub found : ℕ → ℕ
     pub left : ℕ → ℕ
     pub top : ℕ
-    pub least : origin.faults ≤ top
+    pub rose : top ≡ origin.faults + total risen_of views
     pub each : (call : ℕ)
         → call < serving
         → (origin.faults ≤ found call) × (found call ≤ left call) × (left call ≤ top)
@@ -79,9 +80,9 @@ module _ {M Entry Fixed : Type 0} (state : M → MachineState Entry Fixed)
         × (call.found ≡ found call.number)
         × (call.left ≡ left call.number)) view.calls
     pub turn : (seat : ℕ) (view : View Entry Fixed) → get_elem? views seat ≡ some view
-        → (0 < has_turn view.stage → top ≤ view.found)
+        → (0 < has_turn view.stage → view.found ≡ top)
         × (0 < has_acted view.stage → view.found ≤ view.left)
-    pub home : (machine : M) → homes ≡ some (Some machine) ∷ [] → top ≤ (state machine).faults
+    pub home : (machine : M) → homes ≡ some (Some machine) ∷ [] → (state machine).faults ≡ top
 
 module _ {Entry Fixed : Type 0} (number : Entry → ℕ) (origin : MachineState Entry Fixed) where
   -- an entry at risk after a history: it has the number of an ended call, which left it as the

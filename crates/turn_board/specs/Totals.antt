@@ -1,5 +1,5 @@
 -- Totals over seats, and how often a number was called.
-use Rattle.std.specs.Prelude.{ℕ, ◌+◌, ◌<◌, ◌==◌, nat_lt, cond, List, [], ◌∷◌}
+use Rattle.std.specs.Prelude.{ℕ, ◌+◌, ◌-◌, ◌<◌, ◌==◌, nat_lt, cond, List, [], ◌∷◌}
 use Rattle.apron_base.specs.Histories.{Every}
 use Rattle.turn_board.specs.declared.view.Call.{Call}
 
@@ -20,6 +20,10 @@ below number end = cond (nat_lt number end) 1 0
 abbrev pub times : {Entry : Type 0} → ℕ → List (Call Entry) → ℕ
 times number [] = 0
 times number (call ∷ calls) = same number call.number + times number calls
+
+-- by how much the machine's count of faults rose over a call
+abbrev pub rise_of : {Entry : Type 0} → Call Entry → ℕ
+rise_of call = call.left - call.found
 
 -- all calls have lower numbers
 abbrev pub AreBelow : {Entry : Type 0} → ℕ → List (Call Entry) → Type 0

@@ -1,11 +1,12 @@
 -- What a seat's view counts for, and how the steps of a call change it.
 use Rattle.std.specs.Prelude.{ℕ, ◌+◌, ◌-◌, ◌^◌, ◌==◌, nat_lt, cond, true, false, ◌||◌, List, [], ◌∷◌, ◌++◌, length, Some, None}
+use Rattle.std.specs.List.{sum_by}
 use Rattle.apron_base.specs.Machine.{MachineState}
 use Rattle.turn_board.specs.declared.view.Stage.{Stage}
 use Rattle.turn_board.specs.declared.view.Stage.TheVariants.{Idle, Waiting, Turn, Noted, Counted}
 use Rattle.turn_board.specs.declared.view.Start.{Start}
 use Rattle.turn_board.specs.declared.view.View.{View}
-use Rattle.turn_board.specs.Totals.{times}
+use Rattle.turn_board.specs.Totals.{rise_of, times}
 
 -- call numbers are below this one
 abbrev pub call_end : ℕ
@@ -53,6 +54,10 @@ module _ {Entry Fixed : Type 0} where
   -- how many of its ended calls have this number
   abbrev pub count_of_call : ℕ → View Entry Fixed → ℕ
   count_of_call number view = times number view.calls
+
+  -- by how much the count of faults rose over its ended calls
+  abbrev pub risen_of : View Entry Fixed → ℕ
+  risen_of view = sum_by rise_of view.calls
 
   -- 1 if it has its turn, and 0 otherwise
   abbrev pub turn_of : View Entry Fixed → ℕ
