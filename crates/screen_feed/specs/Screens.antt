@@ -1,5 +1,5 @@
 -- Writers and screens as contracts see them.
-use Rattle.std.specs.Prelude.{◌≡◌, ◌⊎◌, List, [], ◌∷◌, ◌++◌, if◌then◌else◌, nat_lt}
+use Rattle.std.specs.Prelude.{◌≡◌, ◌⊎◌, List, [], ◌∷◌, ◌++◌, Option, None, if◌then◌else◌, nat_lt}
 use Rattle.logbook.specs.Pages.{Book}
 use Rattle.screen_feed.specs.Sheets.{AreSheets, Begins, SheetState, ShownChart, last_version}
 
@@ -11,26 +11,28 @@ pub record WriterState : Type 0 where
   pub sheets : List SheetState
   pub tried : List SheetState
 
--- a screen: its pair, what it shows, the list that it has seen, and the longest list that it was
--- told
+-- a screen: its pair, what it shows, the list that it has seen, the longest list that it was told,
+-- and the sheet that its last look gave, if it gave one
 pub record ScreenState : Type 0 where
   pub pair : Book
   pub shown : ShownChart
   pub seen : List SheetState
   pub told : List SheetState
+  pub given : Option SheetState
 
 -- what a writer tells: its pair, and the list that it had
 pub record ToldState : Type 0 where
   pub pair : Book
   pub sheets : List SheetState
 
--- the screen of a new writer, which has seen and was told the writer's list
+-- the screen of a new writer, which has seen and was told the writer's list, and has not looked
 abbrev pub screen_of : WriterState → ScreenState
 screen_of writer = record {
   pair = writer.pair;
   shown = writer.shown;
   seen = writer.sheets;
   told = writer.sheets;
+  given = None;
 }
 
 abbrev pub told_of : WriterState → ToldState
@@ -64,6 +66,7 @@ pub record HasLearned (before : ScreenState) (list : List SheetState)
   pub pair : after.pair ≡ before.pair
   pub shown : after.shown ≡ before.shown
   pub seen : after.seen ≡ before.seen
+  pub given : after.given ≡ before.given
   pub one : (after.told ≡ before.told) ⊎ (after.told ≡ list)
   pub mine : Begins after.told before.told
   pub theirs : Begins after.told list

@@ -1,5 +1,6 @@
 // The writer, its screen, and what the writer tells its screen.
 ghost use Rattle.std.specs.Prelude.{◌≡◌, ◌≤◌, ◌⊎◌, [], ◌∷◌, IfOk, OnErr, OnOk};
+ghost use Rattle.std.specs.Result.{result_ok};
 ghost use Rattle.screen_feed.specs.Screens.{HasLearned, HasLooked, after_show, after_try, screen_of, told_of};
 ghost use Rattle.screen_feed.specs.Sheets.{AreAmong, AreSheets, Begins, IsLast, IsSheet, last_version, sheet_of};
 
@@ -49,8 +50,8 @@ impl Model for ScreenWriter {
 }
 
 /// What looks at the sheet that was shown last. Contracts see its pair, the airport and the day,
-/// the list of the sheets that it has seen, of which it takes the last, and the longest list that
-/// it was told.
+/// the list of the sheets that it has seen, of which it takes the last, the longest list that it was
+/// told, and the sheet that its last look gave.
 #[derive(Drop)]
 pub struct Screen {
     front: Front,
@@ -58,10 +59,12 @@ pub struct Screen {
     round: u64,
     airport: Snapshot<Airport>,
     day: u32,
+    given: Snapshot<Result<Sheet, Memory>>,
 }
 
 impl Model for Screen {
     ghost use Rattle.std.specs.Prelude.{◌≡◌, length};
+    ghost use Rattle.std.specs.Result.{result_ok};
     ghost use Rattle.left_right.specs.Sides.{view as view_of};
     ghost use Rattle.screen_feed.specs.Ends.{IsScreenAt};
     ghost use Rattle.screen_feed.specs.Logs.{shown_in};
@@ -75,6 +78,7 @@ impl Model for Screen {
       shown = record { airport = s.airport.value; day = s.day };
       seen = sheets_seen (view_of s.front.side.place);
       told = shown_in s.told.log;
+      given = result_ok s.given.value;
     } };
 
     ghost invariant = { λ s. IsScreenAt (view_of s.front.side.place)
@@ -132,6 +136,7 @@ impl ScreenWriter {
             round: appender.round(),
             airport: Snapshot::of(airport),
             day,
+            given: Snapshot::of(&Err(Memory)),
         };
         let writer = ScreenWriter {
             side: writer_side,
@@ -264,9 +269,12 @@ impl Screen {
         ensures looked { HasLooked self.old self.new }
         ensures last { IfOk result (IsLast self.new.seen) }
         ensures told { IfOk result (λ sheet. Begins self.new.seen self.old.told) }
+        ensures given { self.new.given ≡ result_ok result }
     {
         let told = &self.told;
         let round = self.round;
-        replace_with(&mut self.front, (), |front, ()| look_at(front, told, round))
+        let looked = replace_with(&mut self.front, (), |front, ()| look_at(front, told, round));
+        self.given = Snapshot::of(&looked);
+        looked
     }
 }
