@@ -1,10 +1,8 @@
 -- A call of a seat that got its turn, as its port tells it.
 use Rattle.std.proofs.Common.{◌≡◌, ◌≢◌, ◌∙◌, ◌<◌, ◌+◌, ℕ, Bool, true, false, cond, List, [], ◌∷◌, ◌++◌, map, IfSome, inl, inr, refl, sym, ap, subst, arith}
-use Rattle.std.specs.Prelude.{count_by}
+use Rattle.std.specs.List.{sum_by}
 use Rattle.std.proofs.lemmas.List.{map-append}
-use Rattle.std.proofs.lemmas.List.Sums.{sum_by-append}
-use Rattle.std.proofs.lemmas.Bool.Decides.{nat_tests}
-use Rattle.apron_base.specs.Counts.{Counts}
+use Rattle.std.proofs.lemmas.List.Sums.{sum_by_push}
 use Rattle.apron_base.specs.Histories.{Every}
 use Rattle.apron_base.specs.Machine.{ActsAtRisk, MachineState, Standing, is_fault}
 use Rattle.apron_base.proofs.Rising.{rises_length}
@@ -17,30 +15,16 @@ use Rattle.history_core.specs.Answer.{ActsLegally, Given, GivesAnswer, acted_fro
 use Rattle.history_core.specs.History.{IsLegal, call_of}
 use Rattle.turn_board.specs.Board.{GotTurn, SeatState, Sits, TurnBoardState}
 use Rattle.turn_board.specs.declared.view.Call.{Call}
-use Rattle.desk_http.specs.Ports.{CountsGiven, RisksGiven, ShowsAsk, Turn, is_unkept}
+use Rattle.desk_http.specs.Ports.{CountsGiven, RisksGiven, ShowsAsk, is_unkept}
 use Rattle.desk_turns.specs.Machines.{AddsAsked, AsksBoard}
-use Rattle.desk_turns.specs.Seats.{call_number, is_risen, latest_at_risk, port_of, put_by}
+use Rattle.desk_turns.specs.Seats.{SeatTurn, TellsFaults, call_number, faults_of, latest_at_risk, port_of, put_by}
 use Rattle.desk_turns.proofs.AtRisk.{latest_new, latest_still, put_older, put_own}
+use Rattle.desk_turns.proofs.Faults.{counts_call}
 use Rattle.desk_turns.proofs.Plain.{risks_wider}
 
 pub every_map : (P : ℕ → Type 0) (calls : List (Call Entry)) → Every (λ (call : Call Entry). P call.number) calls → Every P (map call_number calls)
 every_map P [] h = tt
 every_map P (call ∷ calls) h = (h.0, every_map P calls h.1)
-
-risen_push : (calls : List (Call Entry)) (last : Call Entry) → count_by is_risen (calls ++ last ∷ []) ≡ count_by is_risen calls + cond (is_risen last) 1 0
-risen_push calls last = let more = sum_by-append (λ (call : Call Entry). cond (is_risen call) 1 0) calls (last ∷ []) in omega (arith, more)
-
--- the count of a port rises if the answer is a failure, and never falls
-counts : (given : Given) (airport : AirportParts) (answer : Acted) (last : Call Entry) (before : ℕ)
-    → is_fault answer ≡ is_fault (acted_from airport given) → Counts (is_fault answer) last.found last.left
-    → CountsGiven given before (before + cond (is_risen last) 1 0)
-counts (replied reply) airport answer last before shows faults = omega arith
-counts no_memory airport answer last before shows faults = omega arith
-counts keeper_fault airport answer last before shows faults =
-    let rose : Counts true last.found last.left = subst (λ (failed : Bool). Counts failed last.found last.left) shows faults in
-    let risen : is_risen last ≡ true = let more = rose.1 in grind (arith, nat_tests) in
-    let one : cond {A = ℕ} (is_risen last) 1 0 ≡ 1 = ap (λ (b : Bool). cond {A = ℕ} b 1 0) risen in
-    (omega arith, omega (arith, one))
 
 unkept : (given : Given) (airport : AirportParts) → is_fault (acted_from airport given) ≡ true → is_unkept given ≡ true
 unkept (replied reply) airport failed = absurd cc
@@ -72,36 +56,40 @@ pub turn_of : {M Fixed Asks : Type 0} (state : M → MachineState Entry Fixed) (
     → (got : GotTurn state call_of adds answers before (record { ask = own; answer = answer }) after)
     → is_fault answer ≡ is_fault (acted_from airport given) → IsLegal airport (state got.found).history → IsLegal airport after.seen
     → GivesAnswer airport (state got.found).history got.ticket ask given after.seen
-    → (turn : Turn airport (port_of (record { board = board; seat = before })) ask given (port_of (record { board = board; seat = after })))
-    × (turn.history ≡ (state got.found).history)
+    → (turn : SeatTurn airport (port_of (record { board = board; seat = before })) ask given (port_of (record { board = board; seat = after })))
+    × (turn.0.history ≡ (state got.found).history)
 turn_of state airport board adds answers before after own ask answer given added still got shows found left gives =
     let last : Call Entry = record { number = got.ticket; found = (state got.found).faults; left = (state got.left).faults; at_risk = (state got.left).at_risk } in
-    let risen : count_by is_risen after.calls ≡ count_by is_risen before.calls + cond (is_risen last) 1 0 = ap (count_by is_risen) got.calls ∙ risen_push before.calls last in (
-      record {
-        history = (state got.found).history;
-        call = got.ticket;
-        from = let few = rises_length call_of 1 got.ticket (state got.found).history got.rises in omega arith;
-        later = record {
-          new = got.extends.rest;
-          is = got.extends.is;
-          above = every_map (λ (call : ℕ). Every (λ (entry : Entry). call < call_of entry) got.extends.rest) before.calls got.extends.later;
-        };
-        legal = found;
-        still = left;
-        numbers = got.rises;
-        above = every_map (λ (own : ℕ). own < got.ticket) before.calls got.new;
-        last = got.end;
-        gives = gives;
-        first = refl;
-        calls = ap (map call_number) got.calls ∙ map-append call_number before.calls (last ∷ []);
-        spent = got.note;
-        stays = λ spent. absurd (cc);
-        faults = subst (CountsGiven given (count_by is_risen before.calls)) (sym risen) (counts given airport answer last (count_by is_risen before.calls) shows got.acts.faults);
-        at_risk = subst (RisksGiven (latest_at_risk before.calls) got.ticket ask.what given) (ap latest_at_risk (sym got.calls))
-            (risks given airport ask answer before.calls last _ (state got.left).history shows got.new got.older
-            (risks_wider (λ entry. (call_of entry ≡ got.ticket) × adds own entry) (λ entry. (call_of entry ≡ got.ticket) × AddsAsked ask entry) _ _ _
-            (λ entry put. (put.0, added entry put.1)) got.at_risk));
-      },
+    let told : sum_by faults_of after.calls ≡ sum_by faults_of before.calls + faults_of last = ap (sum_by faults_of) got.calls ∙ sum_by_push faults_of before.calls last in
+    let counts = counts_call given airport answer last (sum_by faults_of before.calls) shows got.acts.faults in (
+      (
+        record {
+          history = (state got.found).history;
+          call = got.ticket;
+          from = let few = rises_length call_of 1 got.ticket (state got.found).history got.rises in omega arith;
+          later = record {
+            new = got.extends.rest;
+            is = got.extends.is;
+            above = every_map (λ (call : ℕ). Every (λ (entry : Entry). call < call_of entry) got.extends.rest) before.calls got.extends.later;
+          };
+          legal = found;
+          still = left;
+          numbers = got.rises;
+          above = every_map (λ (own : ℕ). own < got.ticket) before.calls got.new;
+          last = got.end;
+          gives = gives;
+          first = refl;
+          calls = ap (map call_number) got.calls ∙ map-append call_number before.calls (last ∷ []);
+          spent = got.note;
+          stays = λ spent. absurd (cc);
+          faults = subst (CountsGiven given (sum_by faults_of before.calls)) (sym told) counts.0;
+          at_risk = subst (RisksGiven (latest_at_risk before.calls) got.ticket ask.what given) (ap latest_at_risk (sym got.calls))
+              (risks given airport ask answer before.calls last _ (state got.left).history shows got.new got.older
+              (risks_wider (λ entry. (call_of entry ≡ got.ticket) × adds own entry) (λ entry. (call_of entry ≡ got.ticket) × AddsAsked ask entry) _ _ _
+              (λ entry put. (put.0, added entry put.1)) got.at_risk));
+        },
+        subst (TellsFaults given (sum_by faults_of before.calls)) (sym told) counts.1,
+      ),
       refl,
     )
 
@@ -109,7 +97,7 @@ turn_of state airport board adds answers before after own ask answer given added
 turn : {M Fixed : Type 0} (state : M → MachineState Entry Fixed) (airport : Fixed → AirportParts) (board : TurnBoardState Fixed) (before after : SeatState Entry Fixed) (ask : Ask) (answer : Acted)
     → Sits board before → after.exhausted ≡ false → GotTurn state call_of AddsAsked (λ fixed. ActsLegally (airport fixed)) before (record { ask = ask; answer = answer }) after
     → (given : Given) × (answer ≡ acted_from (airport board.start.fixed) given)
-    × Turn (airport board.start.fixed) (port_of (record { board = board; seat = before })) ask given (port_of (record { board = board; seat = after }))
+    × SeatTurn (airport board.start.fixed) (port_of (record { board = board; seat = before })) ask given (port_of (record { board = board; seat = after }))
 turn {Fixed} state airport board before after ask answer sits still got =
     let history : List Entry = (state got.found).history in
     let fixed : (state got.found).fixed ≡ board.start.fixed = (got.start board.start sits.start).0 in
@@ -132,14 +120,14 @@ module _ {M Fixed : Type 0} (state : M → MachineState Entry Fixed) (airport : 
   shows_turn : (board : TurnBoardState Fixed) (before after : SeatState Entry Fixed) (ask : Ask) (answer : Acted) → answer ≢ Spent → Sits board before
       → AsksBoard state airport before (record { ask = ask; answer = answer }) after
       → (given : Given) × (answer ≡ acted_from (airport board.start.fixed) given)
-      × Turn (airport board.start.fixed) (port_of (record { board = board; seat = before })) ask given (port_of (record { board = board; seat = after }))
+      × SeatTurn (airport board.start.fixed) (port_of (record { board = board; seat = before })) ask given (port_of (record { board = board; seat = after }))
   shows_turn board before after ask answer some sits asks =
       turn state airport board before after ask answer sits (not_true after.exhausted (λ spent. some (asks.spent.1 spent))) (asks.answered some)
 
   -- what a seat shows of an ask
   pub seat_shows : (board : TurnBoardState Fixed) (before after : SeatState Entry Fixed) (ask : Ask) (answer : Acted) → Sits board before
       → AsksBoard state airport before (record { ask = ask; answer = answer }) after
-      → ShowsAsk Turn (airport board.start.fixed) (port_of (record { board = board; seat = before })) ask answer (port_of (record { board = board; seat = after }))
+      → ShowsAsk SeatTurn (airport board.start.fixed) (port_of (record { board = board; seat = before })) ask answer (port_of (record { board = board; seat = after }))
   seat_shows board before after ask Spent sits asks = ap (λ (seat : SeatState Entry Fixed). port_of (record { board = board; seat = seat })) (asks.unasked refl)
   seat_shows board before after ask (Replied bytes) sits asks = shows_turn board before after ask (Replied bytes) (λ e. cc) sits asks
   seat_shows board before after ask NoMemory sits asks = shows_turn board before after ask NoMemory (λ e. cc) sits asks

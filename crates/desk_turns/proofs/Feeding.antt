@@ -9,11 +9,10 @@ use Rattle.history_core.specs.Answer.{no_memory}
 use Rattle.history_core.specs.History.{IsLegal, call_of}
 use Rattle.turn_board.specs.Board.{GotTurn, SeatState, Sits, TurnBoardState}
 use Rattle.desk_http.specs.FeedPorts.{ShowsFeed, version_ask}
-use Rattle.desk_http.specs.Ports.{Turn}
 use Rattle.desk_http.specs.declared.port.FeedAsk.{FeedAsk}
 use Rattle.desk_turns.specs.Feeds.{FeedTurns, IsLegalFeed}
 use Rattle.desk_turns.specs.Machines.{AsksAt}
-use Rattle.desk_turns.specs.Seats.{port_of}
+use Rattle.desk_turns.specs.Seats.{SeatTurn, port_of}
 use Rattle.desk_turns.proofs.Asking.{not_true, turn_of}
 
 module _ {M Fixed Asks : Type 0} (state : M → MachineState Entry Fixed) (airport : Fixed → AirportParts) (text : Fixed → FeedAsk → List Entry → List ℕ)
@@ -32,8 +31,8 @@ module _ {M Fixed Asks : Type 0} (state : M → MachineState Entry Fixed) (airpo
   -- the turn of a feed that did not fail, at the history that it found
   fed_turn : (answer : Acted) → is_fault answer ≡ false → answer ≢ Spent
       → AsksAt state call_of adds answers before (record { ask = own; answer = answer }) after
-      → (turn : Turn (airport board.start.fixed) (port_of (record { board = board; seat = before })) version_ask no_memory (port_of (record { board = board; seat = after })))
-      × ((bytes : List ℕ) → answer ≡ Replied bytes → bytes ≡ text board.start.fixed ask turn.history)
+      → (turn : SeatTurn (airport board.start.fixed) (port_of (record { board = board; seat = before })) version_ask no_memory (port_of (record { board = board; seat = after })))
+      × ((bytes : List ℕ) → answer ≡ Replied bytes → bytes ≡ text board.start.fixed ask turn.0.history)
   fed_turn answer fine some asks =
       let got = asks.answered some in
       let is = fed answer got in
@@ -46,8 +45,8 @@ module _ {M Fixed Asks : Type 0} (state : M → MachineState Entry Fixed) (airpo
   shows : (answer : Acted) → AsksAt state call_of adds answers before (record { ask = own; answer = answer }) after
       → ShowsFeed (FeedTurns (text board.start.fixed) (airport board.start.fixed)) (port_of (record { board = board; seat = before })) ask answer
       (port_of (record { board = board; seat = after }))
-  shows (Replied bytes) asks = let turn = fed_turn (Replied bytes) refl (λ e. cc) asks in record { turn = turn.0; gives = turn.1 bytes refl }
-  shows NoMemory asks = let turn = fed_turn NoMemory refl (λ e. cc) asks in record { turn = turn.0; gives = tt }
+  shows (Replied bytes) asks = let turn = fed_turn (Replied bytes) refl (λ e. cc) asks in (record { turn = turn.0.0; gives = turn.1 bytes refl }, turn.0.1)
+  shows NoMemory asks = let turn = fed_turn NoMemory refl (λ e. cc) asks in (record { turn = turn.0.0; gives = tt }, turn.0.1)
   shows Fault asks = absurd ((fed Fault (asks.answered (λ e. cc))).fine refl)
   shows Spent asks = ap (λ (seat : SeatState Entry Fixed). port_of (record { board = board; seat = seat })) (asks.unasked refl)
 

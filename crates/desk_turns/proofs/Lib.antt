@@ -2,6 +2,7 @@ mod Any
 mod AtRisk
 mod Asking
 pub mod Crosses
+mod Faults
 mod Feeding
 mod Lone
 mod Plain

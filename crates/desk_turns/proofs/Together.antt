@@ -1,11 +1,10 @@
 -- Workers whose seats were cut from one seat and met it again, one more at a time; and what the
 -- closed board then tells of them.
 use Rattle.std.proofs.Common.{◌≡◌, ◌⊎◌, ◌∙◌, ◌<◌, ◌≤◌, ◌+◌, ◌-◌, ◌==◌, ◌&&◌, ◌||◌, nat_le, nat_lt, ℕ, Bool, true, false, cond, List, [], ◌∷◌, ◌++◌, map, length, Option, Some, None, IfSome, refl, sym, ap, subst, inl, inr, ⊎_elim, arith, append_assoc}
-use Rattle.std.specs.List.{AllZip, Any, count_by}
+use Rattle.std.specs.List.{AllZip, Any, count_by, sum_by}
 use Rattle.std.proofs.lemmas.Bool.Decides.{nat_tests}
 use Rattle.std.proofs.lemmas.List.{append-nil, map-append}
-use Rattle.std.proofs.lemmas.List.Sums.{sum_by-append}
-use Rattle.apron_base.specs.Counts.{Rose}
+use Rattle.std.proofs.lemmas.List.Sums.{sum_by-append, sum_by-cons}
 use Rattle.apron_base.specs.Histories.{Every}
 use Rattle.apron_base.specs.Listener.{ListenerState}
 use Rattle.apron_base.specs.Machine.{MachineState}
@@ -19,13 +18,14 @@ use Rattle.desk_http.specs.Ports.{IsLater}
 use Rattle.desk_http.specs.Session.{SessionKind}
 use Rattle.desk_turns.specs.declared.worker.WorkEnd.{WorkEnd}
 use Rattle.desk_turns.specs.declared.worker.WorkEnd.TheVariants.{Done, ListenerFault}
-use Rattle.desk_turns.specs.Crew.{HasSeen, IsUnkeptOf, ServesBoard, TellsAtRisk, Worker, WorksAt, crew_calls, end_of}
-use Rattle.desk_turns.specs.Seats.{ServedState, call_number, is_risen, latest_at_risk, port_of}
+use Rattle.desk_turns.specs.Crew.{CountsTold, HasSeen, IsUnkeptOf, ServesBoard, TellsAtRisk, Worker, WorksAt, crew_calls, crew_faults, end_of}
+use Rattle.desk_turns.specs.Seats.{ServedState, call_number, faults_of, latest_at_risk, port_of}
 use Rattle.desk_turns.specs.Together.{AreLater, HasCallOf, StaysAtRisk, WorkTogether, WorksBeside}
 use Rattle.desk_turns.specs.Work.{EndStates, Works}
 use Rattle.desk_turns.proofs.Any.{any_append, any_here, any_none, any_there}
 use Rattle.desk_turns.proofs.Asking.{every_map}
 use Rattle.desk_turns.proofs.AtRisk.{latest_is}
+use Rattle.desk_turns.proofs.Faults.{counts_told}
 
 abbrev Held : Type 0 → Type 0
 Held Fixed = SeatState Entry Fixed
@@ -36,9 +36,6 @@ either_true false other h = h
 
 count_append : (test : ℕ → Bool) (xs ys : List ℕ) → count_by test (xs ++ ys) ≡ count_by test xs + count_by test ys
 count_append test xs ys = sum_by-append (λ (call : ℕ). cond (test call) 1 0) xs ys
-
-risen_append : (xs ys : List (Call Entry)) → count_by is_risen (xs ++ ys) ≡ count_by is_risen xs + count_by is_risen ys
-risen_append xs ys = sum_by-append (λ (call : Call Entry). cond (is_risen call) 1 0) xs ys
 
 -- how often a number was called, by the calls' numbers alone
 times_count : (number : ℕ) (calls : List (Call Entry)) → times number calls ≡ count_by (λ call. number == call) (map call_number calls)
@@ -63,7 +60,6 @@ module _ {In Out Fixed : Type 0} (states : EndStates In Out) (kind : SessionKind
       → WorksBeside states kind asked less mid worker → WorksBeside states kind asked before after worker
   beside before less mid other after same meets worker work =
       let numbers : map call_number after.calls ≡ map call_number mid.calls ++ map call_number other.calls = ap (map call_number) meets.calls ∙ map-append call_number mid.calls other.calls in
-      let risen : count_by is_risen after.calls ≡ count_by is_risen mid.calls + count_by is_risen other.calls = ap (count_by is_risen) meets.calls ∙ risen_append mid.calls other.calls in
       let more : List Entry = meets.mine.rest in record {
         fresh = record { seen = work.fresh.seen ∙ same; calls = work.fresh.calls; at_risk = work.fresh.at_risk; spent = work.fresh.spent; faults = work.fresh.faults };
         works = work.works;
@@ -77,7 +73,6 @@ module _ {In Out Fixed : Type 0} (states : EndStates In Out) (kind : SessionKind
         own = λ entries later. work.own entries (every_front (λ (call : ℕ). Every (λ (entry : Entry). call < call_of entry) entries) (map call_number mid.calls) (map call_number other.calls)
             (subst (λ (calls : List ℕ). AreLater calls entries) numbers later));
         exhausted = λ spent. meets.note ∙ ap (λ (note : Bool). note || other.exhausted) (work.exhausted spent);
-        faults = let few = work.faults in omega (arith, risen, few);
       }
 
   -- a worker whose seat met that of the others
@@ -88,14 +83,13 @@ module _ {In Out Fixed : Type 0} (states : EndStates In Out) (kind : SessionKind
       → WorksBeside states kind asked before after (record { before = record { listener = a; port = port_of started }; after = record { listener = b; port = port_of ended }; end = one })
   itself before mid after started ended a b one mine works meets =
       let own : List (Call Entry) = ended.seat.calls in
-      let numbers : map call_number after.calls ≡ map call_number mid.calls ++ map call_number own = ap (map call_number) meets.calls ∙ map-append call_number mid.calls own in
-      let risen : count_by is_risen after.calls ≡ count_by is_risen mid.calls + count_by is_risen own = ap (count_by is_risen) meets.calls ∙ risen_append mid.calls own in record {
+      let numbers : map call_number after.calls ≡ map call_number mid.calls ++ map call_number own = ap (map call_number) meets.calls ∙ map-append call_number mid.calls own in record {
         fresh = record {
           seen = ap (λ (seat : Held Fixed). seat.seen) mine;
           calls = ap (λ (seat : Held Fixed). map call_number seat.calls) mine;
           at_risk = ap (λ (seat : Held Fixed). latest_at_risk seat.calls) mine;
           spent = ap (λ (seat : Held Fixed). seat.exhausted) mine;
-          faults = ap (λ (seat : Held Fixed). count_by is_risen seat.calls) mine;
+          faults = ap (λ (seat : Held Fixed). sum_by faults_of seat.calls) mine;
         };
         works = works;
         seen = record {
@@ -106,7 +100,6 @@ module _ {In Out Fixed : Type 0} (states : EndStates In Out) (kind : SessionKind
         own = λ entries later. every_rest (λ (call : ℕ). Every (λ (entry : Entry). call < call_of entry) entries) (map call_number mid.calls) (map call_number own)
             (subst (λ (calls : List ℕ). AreLater calls entries) numbers later);
         exhausted = λ spent. meets.note ∙ either_true mid.exhausted ended.seat.exhausted spent;
-        faults = omega (arith, risen);
       }
 
   longest_of : (before less mid other after : Held Fixed) (worker : Worker In Out) (workers : List (Worker In Out)) → less.seen ≡ before.seen → Meets call_of mid other after
@@ -167,6 +160,12 @@ module _ {In Out Fixed : Type 0} (states : EndStates In Out) (kind : SessionKind
             let less_calls = ap (λ (seat : Held Fixed). times number seat.calls) less_is in
             let counts = count_append (λ (call : ℕ). number == call) (map call_number ended.seat.calls) (crew_calls rest.workers) in
             omega (arith, all, own, theirs, less_calls, counts);
+        told =
+            let all = ap (sum_by faults_of) meets.calls ∙ sum_by-append faults_of mid.calls ended.seat.calls in
+            let less_calls = ap (λ (seat : Held Fixed). sum_by faults_of seat.calls) less_is in
+            let crew = sum_by-cons (λ (w : Worker In Out). w.after.port.faults) worker rest.workers in
+            let theirs = rest.told in
+            omega (arith, all, theirs, less_calls, crew);
         at_risk = at_risk_of before less mid ended.seat after worker rest.workers (ap (λ (seat : Held Fixed). seat.calls) less_is) meets.calls refl rest.at_risk;
       }
 
@@ -181,6 +180,7 @@ module _ {In Out Fixed : Type 0} (states : EndStates In Out) (kind : SessionKind
     begins = record { new = []; is = sym (append-nil seat.seen); above = tt };
     longest = inl refl;
     calls = λ number. omega arith;
+    told = omega arith;
     at_risk = λ entry has stays. inl has;
   }
 
@@ -204,21 +204,6 @@ module _ {In Out Fixed : Type 0} (states : EndStates In Out) (kind : SessionKind
       (one_more before less mid after started ended (state x) (state y) (map state us) (map state bs) one others less_is mine works.0 rest meets)
   of_first state before less mid after started ended (x ∷ []) (y ∷ (z ∷ ys)) us bs one others end single works less_is mine rest meets end_is = absurd works.1
   of_first state before less mid after started ended (x ∷ (z ∷ xs)) (y ∷ ys) us bs one others end single works less_is mine rest meets end_is = absurd (omega arith)
-
--- one of these calls left a greater count than it found
-rose : (least now : ℕ) (calls : List (Call Entry)) → 0 < count_by is_risen calls → Every (λ (call : Call Entry). (least ≤ call.found) × (call.left ≤ now)) calls → Rose least now
-rose least now [] some within = absurd (omega arith)
-rose least now (call ∷ calls) some within = ⊎_elim
-    (λ (here : is_risen call ≡ true). let a = within.0.0 in let b = within.0.1 in grind (arith, nat_tests))
-    (λ (no : is_risen call ≡ false).
-    let more = risen_append (call ∷ []) calls in
-    let zero : cond {A = ℕ} (is_risen call) 1 0 ≡ 0 = ap (λ (b : Bool). cond {A = ℕ} b 1 0) no in
-    rose least now calls (omega (arith, more, zero)) within.1)
-    (true_or (is_risen call))
-  where
-    true_or : (b : Bool) → (b ≡ true) ⊎ (b ≡ false)
-    true_or true = inl refl
-    true_or false = inr refl
 
 -- the calls of a closed board are the numbers from the first one up to the end
 once : (first end number count : ℕ) → first ≤ end → count + below number first ≡ below number end → count ≡ cond (nat_le first number && nat_lt number end) 1 0
@@ -259,7 +244,6 @@ module _ {In Out Fixed : Type 0} (states : EndStates In Out) (kinds : Fixed → 
           fresh = record { seen = work.fresh.seen ∙ seen; calls = work.fresh.calls; at_risk = work.fresh.at_risk; spent = work.fresh.spent; faults = work.fresh.faults };
           works = subst (λ (at : Fixed). Works states (kinds at) asked worker.before worker.after worker.end) fixed work.works;
           seen = subst (λ (history : List Entry). IsLater worker.after.port.seen worker.after.port.calls history) (sym closes.history) work.seen;
-          faults = λ some. subst (λ (least : ℕ). Rose least left.faults) faults (rose board.start.faults left.faults last.calls (let few = work.faults in omega arith) closes.faults);
         }) together.workers together.work;
         fixed = closes.fixed ∙ fixed;
         legal = legal;
@@ -282,7 +266,10 @@ module _ {In Out Fixed : Type 0} (states : EndStates In Out) (kinds : Fixed → 
             (once board.start.first closes.end number (count_by (λ call. number == call) (crew_calls together.workers)) closes.order.0 (omega arith));
         exhausted = every_more (WorksBeside states (kinds board.start.fixed) asked first last) (λ (worker : Worker In Out). worker.after.port.spent ≡ true → closes.end ≡ _)
             (λ worker work spent. closes.exhausted (work.exhausted spent)) together.workers together.work;
-        faults = let least = closes.since in omega arith;
+        faults = let rose = closes.rose in omega arith;
+        told = subst (λ (least : ℕ). CountsTold (crew_faults together.workers) least left.faults) faults
+            (counts_told board.start.faults left.faults last.calls (crew_faults together.workers) closes.faults closes.rose
+            (let told = together.told in let start = ap (λ (seat : Held Fixed). sum_by faults_of seat.calls) opens.first in omega (arith, told, start)));
         at_risk = unkept together.workers last.calls left.history left.at_risk
             (subst (λ (calls : List (Call Entry)). (entry : Entry) → HasCallOf entry last.calls → StaysAtRisk entry last.calls → HasCallOf entry calls ⊎ Any (TellsAtRisk entry) together.workers)
             (ap (λ (seat : Held Fixed). seat.calls) opens.first) together.at_risk)

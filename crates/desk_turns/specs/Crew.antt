@@ -1,7 +1,7 @@
 -- What several workers at one board do, each with a listener and a port of its own.
-use Rattle.std.specs.Prelude.{◌≡◌, ◌⊎◌, ◌<◌, ◌≤◌, ◌==◌, ◌&&◌, nat_le, nat_lt, cond, ℕ, true, false, List, [], ◌∷◌, map, None, Some, IfSome}
-use Rattle.std.specs.List.{Any, count_by, flat_map}
-use Rattle.apron_base.specs.Counts.{Rose}
+use Rattle.std.specs.Prelude.{◌≡◌, ◌⊎◌, ◌≤◌, ◌==◌, ◌&&◌, nat_le, nat_lt, cond, ℕ, true, false, List, [], ◌∷◌, map, None, Some, IfSome}
+use Rattle.std.specs.List.{Any, count_by, flat_map, sum_by}
+use Rattle.apron_base.specs.Counts.{RoseBy}
 use Rattle.apron_base.specs.Histories.{Every, Rises}
 use Rattle.apron_base.specs.Listener.{ListenerState}
 use Rattle.apron_base.specs.Machine.{MachineState}
@@ -44,7 +44,17 @@ abbrev pub AreAllOnce : ℕ → ℕ → List ℕ → Type 0
 AreAllOnce first end calls = (number : ℕ)
     → count_by (λ call. number == call) calls ≡ cond (nat_le first number && nat_lt number end) 1 0
 
+-- a count of faults after calls that told this many: it rose by at least as many, or has its last
+-- value; and it stays if they told none
+pub record CountsTold (told before after : ℕ) : Type 0 where
+  pub none : told ≡ 0 → after ≡ before
+  pub some : RoseBy told before after
+
 module _ {In Out : Type 0} where
+  -- how many faults the ports of all workers count
+  abbrev pub crew_faults : List (Worker In Out) → ℕ
+  crew_faults workers = sum_by (λ (worker : Worker In Out). worker.after.port.faults) workers
+
   -- the calls of all workers
   abbrev pub crew_calls : List (Worker In Out) → List ℕ
   crew_calls workers = flat_map (λ (worker : Worker In Out). worker.after.port.calls) workers
@@ -70,20 +80,19 @@ module _ {In Out Fixed : Type 0} (states : EndStates In Out) (kinds : Fixed → 
     (asked : ℕ) (before after : MachineState Entry Fixed) where
   -- A worker at the board: its port had seen the board's history, and it served the connections of
   -- its listener over it. What it has seen at its end begins the history at the end, and all other
-  -- entries have greater numbers than its calls. Its port counts a fault only if the board's count
-  -- rose.
+  -- entries have greater numbers than its calls.
   pub record WorksAt (worker : Worker In Out) : Type 0 where
     pub fresh : IsFresh before.history worker.before.port
     pub works : Works states (kinds before.fixed) asked worker.before worker.after worker.end
     pub seen : IsLater worker.after.port.seen worker.after.port.calls after.history
-    pub faults : 0 < worker.after.port.faults → Rose before.faults after.faults
 
 -- Workers that were asked for this many connections each, one for each listener: how they ended
 -- together, and what they left of the board. Its history is legal, begins with the history before,
 -- and is the longest that one of them has seen. Their calls together are, without a gap and each
 -- once, the numbers from the board's next one up to an end. This is the end of all numbers if a
--- port found none left. An entry at risk at the end is one that one of them could not keep, and
--- none was added since.
+-- port found none left. The board's count of faults rose by at least as many as their ports count,
+-- and stays if these count none. An entry at risk at the end is one that one of them could not
+-- keep, and none was added since.
 pub record ServesBoard {In Out Fixed : Type 0} (states : EndStates In Out)
     (kinds : Fixed → SessionKind) (asked : ℕ) (before after : CrewState In Out Fixed)
     (end : WorkEnd) : Type 0 where
@@ -103,4 +112,5 @@ pub record ServesBoard {In Out Fixed : Type 0} (states : EndStates In Out)
   pub exhausted : Every
       (λ (worker : Worker In Out). worker.after.port.spent ≡ true → last ≡ call_limit) workers
   pub faults : before.board.faults ≤ after.board.faults
+  pub told : CountsTold (crew_faults workers) before.board.faults after.board.faults
   pub at_risk : IfSome after.board.at_risk (IsUnkeptOf workers after.board.history)

@@ -4,10 +4,12 @@ use Rattle.apron_base.specs.declared.outside.Acted.{Acted}
 use Rattle.apron_base.specs.declared.outside.Acted.TheVariants.{Reply, Fault}
 use Rattle.apron_rules.specs.declared.parts.AirportParts.{AirportParts}
 use Rattle.desk_words.specs.declared.asks.Entry.{Entry}
+use Rattle.history_core.specs.Answer.{no_memory}
 use Rattle.history_core.specs.History.{IsLegal}
 use Rattle.desk_http.specs.FeedPorts.{FeedGiven, FeedTurn}
 use Rattle.desk_http.specs.Ports.{PortState}
 use Rattle.desk_http.specs.declared.port.FeedAsk.{FeedAsk}
+use Rattle.desk_turns.specs.Seats.{TellsFaults}
 
 -- A feed, if `text` says what its reply is at each history: it found a history that is legal at the
 -- airport, got no reply but its own there, did not fail, and left the history.
@@ -18,8 +20,10 @@ pub record IsLegalFeed (airport : AirportParts) (text : List Entry → List ℕ)
   pub fine : answer ≢ Fault
   pub left : after ≡ before
 
--- what a port gives for a feed and becomes, if `text` says what the reply to each feed is at each
--- history: the feed got its turn
+-- what the port of a seat gives for a feed and becomes, if `text` says what the reply to each feed
+-- is at each history: the feed got its turn, and no fault
 abbrev pub FeedTurns : (FeedAsk → List Entry → List ℕ) → AirportParts → PortState → FeedAsk
     → FeedGiven → PortState → Type 0
-FeedTurns text airport before ask given after = FeedTurn airport (text ask) before given after
+FeedTurns text airport before ask given after =
+    FeedTurn airport (text ask) before given after
+    × TellsFaults no_memory before.faults after.faults

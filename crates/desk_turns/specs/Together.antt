@@ -1,6 +1,6 @@
 -- What workers do whose seats are split from one seat and meet it again.
 use Rattle.std.specs.Prelude.{◌≡◌, ◌⊎◌, ◌+◌, ◌<◌, ◌≤◌, ◌==◌, ℕ, true, List, [], map, Some}
-use Rattle.std.specs.List.{Any, count_by}
+use Rattle.std.specs.List.{Any, count_by, sum_by}
 use Rattle.apron_base.specs.Histories.{Every}
 use Rattle.apron_base.specs.Listener.{ListenerState}
 use Rattle.desk_words.specs.declared.asks.Entry.{Entry}
@@ -11,8 +11,8 @@ use Rattle.turn_board.specs.declared.view.Call.{Call}
 use Rattle.desk_http.specs.Ports.{IsLater}
 use Rattle.desk_http.specs.Session.{SessionKind}
 use Rattle.desk_turns.specs.declared.worker.WorkEnd.{WorkEnd}
-use Rattle.desk_turns.specs.Crew.{HasSeen, IsFresh, TellsAtRisk, Worker, crew_calls, end_of}
-use Rattle.desk_turns.specs.Seats.{call_number, is_risen}
+use Rattle.desk_turns.specs.Crew.{HasSeen, IsFresh, TellsAtRisk, Worker, crew_calls, crew_faults, end_of}
+use Rattle.desk_turns.specs.Seats.{call_number, faults_of}
 use Rattle.desk_turns.specs.Work.{EndStates, Works}
 
 -- the listeners of the workers in order, and the seat that theirs are cut from
@@ -34,8 +34,8 @@ StaysAtRisk entry calls =
     Every (λ (call : Call Entry). call_of entry ≤ call.number → call.at_risk ≡ Some entry) calls
 
 -- A worker whose seat was cut from one seat and met it again: what its port has seen at its end
--- begins the history that is seen then, and its calls, its note of exhausted numbers and its faults
--- are with that seat.
+-- begins the history that is seen then, and its calls and its note of exhausted numbers are with
+-- that seat.
 pub record WorksBeside {In Out Fixed : Type 0} (states : EndStates In Out) (kind : SessionKind)
     (asked : ℕ) (before after : SeatState Entry Fixed) (worker : Worker In Out) : Type 0 where
   pub fresh : IsFresh before.seen worker.before.port
@@ -45,7 +45,6 @@ pub record WorksBeside {In Out Fixed : Type 0} (states : EndStates In Out) (kind
       → AreLater (map call_number after.calls) entries
       → AreLater worker.after.port.calls entries
   pub exhausted : worker.after.port.spent ≡ true → after.exhausted ≡ true
-  pub faults : worker.after.port.faults ≤ count_by is_risen after.calls
 
 -- workers that were asked for this many connections each, one for each listener: how they ended
 -- together, and the seat that has met all of theirs; an entry that one of its calls put at risk,
@@ -62,6 +61,8 @@ pub record WorkTogether {In Out Fixed : Type 0} (states : EndStates In Out) (kin
   pub calls : (number : ℕ)
       → times number after.seat.calls
       ≡ times number before.seat.calls + count_by (λ call. number == call) (crew_calls workers)
+  pub told : sum_by faults_of after.seat.calls
+      ≡ sum_by faults_of before.seat.calls + crew_faults workers
   pub at_risk : (entry : Entry)
       → HasCallOf entry after.seat.calls
       → StaysAtRisk entry after.seat.calls

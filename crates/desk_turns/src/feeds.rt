@@ -2,10 +2,9 @@
 ghost use Rattle.std.specs.Prelude.{◌≡◌};
 ghost use Rattle.desk_http.specs.Complete.{IsCompleteOfKind};
 ghost use Rattle.desk_http.specs.FedSession.{FedAnswers};
-ghost use Rattle.desk_http.specs.Ports.{Turn};
 ghost use Rattle.desk_http.specs.Session.{SessionOfKind};
 ghost use Rattle.desk_turns.specs.Feeds.{FeedTurns};
-ghost use Rattle.desk_turns.specs.Seats.{board_and_share, fixed_of, port_of};
+ghost use Rattle.desk_turns.specs.Seats.{SeatTurn, board_and_share, fixed_of, port_of};
 
 use crate::machine::DeskMachine;
 use crate::served::SeatPort;
@@ -68,7 +67,7 @@ where
 
     ghost feeds = { λ place. FeedTurns (M.feed_text place.0.start.fixed) };
 
-    ghost feeds_take_turns = { λ place airport before after ask given turn. turn };
+    ghost feeds_take_turns = { λ place airport before after ask given turn. turn.0 };
 
     fn feed(&mut self, alloc: Global, seen: u32, watch: &Name, after: u32) -> Acted {
         let ask = M::feed_ask(seen, watch, after);
@@ -88,7 +87,7 @@ where
     ensures of { SessionOfKind
         (record {
           airport = M.airport (fixed_of port.old);
-          comes = FedAnswers Turn (FeedTurns (M.feed_text (fixed_of port.old)))
+          comes = FedAnswers SeatTurn (FeedTurns (M.feed_text (fixed_of port.old)))
               (M.airport (fixed_of port.old));
         })
         (record { source = S.state source.old; sink = W.state sink.old; port = port_of port.old })
@@ -97,7 +96,7 @@ where
     ensures complete { IsCompleteOfKind
         (record {
           airport = M.airport (fixed_of port.old);
-          comes = FedAnswers Turn (FeedTurns (M.feed_text (fixed_of port.old)))
+          comes = FedAnswers SeatTurn (FeedTurns (M.feed_text (fixed_of port.old)))
               (M.airport (fixed_of port.old));
         })
         (record { source = S.state source.old; sink = W.state sink.old; port = port_of port.old })

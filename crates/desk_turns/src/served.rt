@@ -99,8 +99,7 @@ impl<'s, R: Wait, M: DeskMachine, B: Turns<M>> SeatPort<'s, R, M, B> {
 }
 
 impl<'s, R: Wait, M: DeskMachine, B: Turns<M>> DeskPort for SeatPort<'s, R, M, B> {
-    ghost use Rattle.desk_http.specs.Ports.{Turn};
-    ghost use Rattle.desk_turns.specs.Seats.{board_and_share, fixed_of, port_of};
+    ghost use Rattle.desk_turns.specs.Seats.{SeatTurn, board_and_share, fixed_of, port_of};
 
     type Place = (TurnBoard<M>, u64);
 
@@ -110,9 +109,9 @@ impl<'s, R: Wait, M: DeskMachine, B: Turns<M>> DeskPort for SeatPort<'s, R, M, B
 
     ghost port = { port_of };
 
-    ghost asks = { Turn };
+    ghost asks = { SeatTurn };
 
-    ghost takes_turns = { λ airport before after ask given turn. turn };
+    ghost takes_turns = { λ airport before after ask given turn. turn.0 };
 
     fn airport(&self) -> &Airport {
         self.airport

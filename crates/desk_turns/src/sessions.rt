@@ -65,9 +65,9 @@ pub trait SessionMachine: DeskMachine {
 
 impl<'a, K: Keeper> SessionMachine for Board<'a, K> {
     ghost use Rattle.desk_http.specs.Answers.{Answers};
-    ghost use Rattle.desk_http.specs.Ports.{Turn};
+    ghost use Rattle.desk_turns.specs.Seats.{SeatTurn};
 
-    ghost comes = { Answers Turn };
+    ghost comes = { Answers SeatTurn };
 
     fn serve_seat<'s, R: Wait, B: Turns<Board<'a, K>>, S: Source, W: Sink>(
         alloc: Global,

@@ -74,11 +74,12 @@ impl<'a, K: Keeper, R: Stated, T: NoteTest> FeedMachine for WatchBoard<'a, 'a, K
 impl<'a, K: Keeper, R: Stated + 'a, T: NoteTest + 'a> SessionMachine
     for WatchBoard<'a, 'a, K, R, T> {
     ghost use Rattle.desk_http.specs.FedSession.{FedAnswers};
-    ghost use Rattle.desk_http.specs.Ports.{Turn};
     ghost use Rattle.desk_turns.specs.Feeds.{FeedTurns};
+    ghost use Rattle.desk_turns.specs.Seats.{SeatTurn};
     ghost use Rattle.desk_turns.specs.Watched.{watch_text};
 
-    ghost comes = { λ fixed. FedAnswers Turn (FeedTurns (watch_text R.tells fixed)) fixed.airport };
+    ghost comes = { λ fixed.
+        FedAnswers SeatTurn (FeedTurns (watch_text R.tells fixed)) fixed.airport };
 
     fn serve_seat<'s, Rt: Wait, B: Turns<WatchBoard<'a, 'a, K, R, T>>, S: Source, W: Sink>(
         alloc: Global,
