@@ -5,3 +5,5 @@
 mod counting;
 #[cfg(test)]
 mod tests;
+#[cfg(test)]
+mod waking;
