@@ -1,5 +1,5 @@
 -- A board whose plan is shown on screens, as contracts see it and as a machine.
-use Rattle.std.specs.Prelude.{◌≡◌, ◌≤◌, ◌⊎◌, ◌↔◌, ℕ, Bool, false, List, [], ◌∷◌, ◌++◌, length, map}
+use Rattle.std.specs.Prelude.{◌≡◌, ◌≤◌, ◌⊎◌, ◌↔◌, ℕ, Bool, false, List, [], ◌∷◌, ◌++◌, length, map, Option}
 use Rattle.logbook.specs.Pages.{Book}
 use Rattle.apron_base.specs.Histories.{Every}
 use Rattle.apron_base.specs.Keeper.{KeeperState}
@@ -68,11 +68,13 @@ pub record HallFixedState (R : Type 0) : Type 0 where
   pub watched : WatchFixed R
   pub pairs : List Book
 
--- a board, its writers, and whether the last act missed to show a writer the plan
+-- a board, its writers, whether the last act missed to show a writer the plan, and the number of
+-- the call after whose act this was noted, if there was one
 pub record HallHeld (K R : Type 0) : Type 0 where
   pub board : WatchHeld K R
   pub writers : List WriterState
   pub missed : Bool
+  pub noted : Option ℕ
 
 module _ {K R : Type 0} where
   -- the plan of the board

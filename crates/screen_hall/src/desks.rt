@@ -70,12 +70,12 @@ impl<'a, W: Wait, K: Keeper, R: Stated, T: NoteTest> FeedMachine for Hall<'a, 'a
 impl<'a, W: Wait + 'a, K: Keeper, R: Stated + 'a, T: NoteTest + 'a> SessionMachine
     for Hall<'a, 'a, 'a, W, K, R, T> {
     ghost use Rattle.desk_http.specs.FedSession.{FedAnswers};
-    ghost use Rattle.desk_http.specs.Ports.{Turn};
     ghost use Rattle.desk_turns.specs.Feeds.{FeedTurns};
+    ghost use Rattle.desk_turns.specs.Seats.{SeatTurn};
     ghost use Rattle.desk_turns.specs.Watched.{watch_text};
 
     ghost comes = { λ fixed.
-        FedAnswers Turn (FeedTurns (watch_text R.tells fixed.watched)) fixed.watched.airport };
+        FedAnswers SeatTurn (FeedTurns (watch_text R.tells fixed.watched)) fixed.watched.airport };
 
     fn serve_seat<'s, Rt: Wait, B: Turns<Hall<'a, 'a, 'a, W, K, R, T>>, S: Source, Out: Sink>(
         alloc: Global,

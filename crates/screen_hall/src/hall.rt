@@ -1,5 +1,5 @@
 // A board whose plan is shown on screens, as a machine.
-ghost use Rattle.std.specs.Prelude.{◌≡◌, ◌≤◌, ◌<◌, false, map};
+ghost use Rattle.std.specs.Prelude.{◌≡◌, ◌≤◌, ◌<◌, false, map, Some};
 ghost use Rattle.std.specs.List.{AllZip};
 ghost use Rattle.apron_base.specs.Histories.{Every, Rises};
 ghost use Rattle.apron_base.specs.Machine.{Acts, ActsAtRisk, history_at_risk_of, is_fault};
@@ -8,7 +8,7 @@ ghost use Rattle.watch_list.specs.WatchBoards.{CanAdd, IsWatchAskOf, WatchAnswer
 ghost use Rattle.screen_hall.specs.Halls.{IsHall, IsNewWriter, IsShown, SeesFronts, hall_plan, hall_state, pairs_of};
 
 use crate::charts::Charts;
-use crate::show::{close_all, know_all, show_on_all};
+use crate::show::{ShownAfter, close_all, know_all, show_after};
 use apron_base::{Acted, Keeper, Machine};
 use desk_words::asks::Entry;
 use screen_feed::{Screen, ScreenWriter};
@@ -19,7 +19,8 @@ use watch_list::{NoteTest, Stated, WatchAsk, WatchBoard, WatchFixed};
 
 /// A board with watches, and the writers of screens, on which its plan is shown after each act.
 ///
-/// Contracts see the board, what each writer has shown, and whether the last act missed a show.
+/// Contracts see the board, what each writer has shown, whether the last act missed a show, and the
+/// call of that act.
 /// Each sheet of a writer is the chart of the plan that a front of the board's history makes, with
 /// as many entries as the sheet's version says. It is not `Drop`: end it by `into_board`.
 pub struct Hall<'s, 'w, 'a, W, K: Keeper, R: Stated, T: NoteTest> {
@@ -27,6 +28,7 @@ pub struct Hall<'s, 'w, 'a, W, K: Keeper, R: Stated, T: NoteTest> {
     board: WatchBoard<'w, 'a, K, R, T>,
     writers: Vec<ScreenWriter>,
     missed: bool,
+    shown: Option<ShownAfter>,
 }
 
 /// What no act changes of a hall: the airport and the watches of its board, and the pairs of its
@@ -45,14 +47,24 @@ impl<R> Model for HallFixed<R> {
 }
 
 impl<'s, 'w, 'a, W, K: Keeper, R: Stated, T: NoteTest> Model for Hall<'s, 'w, 'a, W, K, R, T> {
+    ghost use Rattle.std.specs.Option.{option_map};
     ghost use Rattle.screen_hall.specs.Halls.{HallHeld, IsHall};
 
     ghost Value = { HallHeld K R };
 
-    ghost view = { λ h. record { board = h.board; writers = h.writers.items; missed = h.missed } };
+    ghost view = { λ h. record {
+      board = h.board;
+      writers = h.writers.items;
+      missed = h.missed;
+      noted = option_map (λ shown. shown.call.value) h.shown;
+    } };
 
-    ghost invariant = { λ h. IsHall
-        (record { board = h.board; writers = h.writers.items; missed = h.missed }) };
+    ghost invariant = { λ h. IsHall (record {
+      board = h.board;
+      writers = h.writers.items;
+      missed = h.missed;
+      noted = option_map (λ shown. shown.call.value) h.shown;
+    }) };
 }
 
 impl<'s, 'w, 'a, W: Wait, K: Keeper, R: Stated, T: NoteTest> Hall<'s, 'w, 'a, W, K, R, T> {
@@ -76,6 +88,7 @@ impl<'s, 'w, 'a, W: Wait, K: Keeper, R: Stated, T: NoteTest> Hall<'s, 'w, 'a, W,
             board,
             writers,
             missed: false,
+            shown: None,
         }
     }
 
@@ -109,6 +122,7 @@ impl<'s, 'w, 'a, W: Wait, K: Keeper, R: Stated, T: NoteTest> Hall<'s, 'w, 'a, W,
             board,
             writers,
             missed: _,
+            shown: _shown,
         } = self;
         close_all(rt, writers);
         board
@@ -125,8 +139,8 @@ impl<'s, 'w, 'a, W: Wait, K: Keeper, R: Stated, T: NoteTest> Hall<'s, 'w, 'a, W,
     }
 
     /// What the board answers. Then each writer shows the board's plan, where that has another
-    /// version. The answer is the same if memory runs out for that. It may wait for screens that
-    /// are looking.
+    /// version, and it is noted anew whether one does not. The answer is the same if memory runs
+    /// out for that. It may wait for screens that are looking.
     pub fn ask(&mut self, alloc: Global, call: u64, ask: &WatchAsk) -> Acted
         requires valid { IsWatchAskOf (watch_fixed self.old.board) ask.now }
         requires next { self.old.board.next ≤ call }
@@ -139,13 +153,22 @@ impl<'s, 'w, 'a, W: Wait, K: Keeper, R: Stated, T: NoteTest> Hall<'s, 'w, 'a, W,
         ensures answers { WatchAnswers R.tells (watch_fixed self.old.board)
             self.old.board.board.history call ask.now result self.new.board.board.history }
         ensures shown { AllZip (IsShown (hall_plan self.new)) self.old.writers self.new.writers }
+        ensures noted { self.new.noted ≡ Some call }
     {
         let acted = self.board.act(alloc, call, ask);
         let board = self.board.board();
         // It is legal, so that it has as many entries as its plan's version says.
         let _history = board.history();
         let mut charts = Charts::of(board.airport(), board.plan());
-        self.missed = show_on_all(self.rt, alloc, &mut charts, self.writers.as_mut_slice());
+        let (missed, shown) = show_after(
+            self.rt,
+            alloc,
+            &mut charts,
+            self.writers.as_mut_slice(),
+            call,
+        );
+        self.missed = missed;
+        self.shown = Some(shown);
         acted
     }
 }
