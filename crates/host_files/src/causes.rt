@@ -1,5 +1,9 @@
 // Why calls of the system failed, as standard error says it.
 
+ghost use Rattle.std.specs.Prelude.{◌≡◌, Some, not};
+ghost use Rattle.std.specs.IoError.{error_kind};
+ghost use Rattle.host_files.specs.Causes.{is_said, is_signal, news, number_of, said_after};
+
 use std::io;
 
 /// Says why a call failed, in a line of its own: `apron: NAME: CAUSE`, the cause in the system's
@@ -50,13 +54,16 @@ impl LastCause {
     }
 
     // The cause of a failed call, if it was not reported yet.
-    fn news_of<T>(&mut self, answer: &io::Result<T>) -> Option<io::Error> {
+    fn news_of<T>(&mut self, answer: &io::Result<T>) -> Option<io::Error>
+        ensures news { result ≡ news self.old.said answer.now }
+        ensures said { self.new.said ≡ said_after self.old.said answer.now }
+    {
         match answer {
             Ok(_) => {
                 self.said = None;
                 None
             }
-            Err(cause) if cause.kind() == io::ErrorKind::Interrupted => None,
+            Err(cause) if is_signal(cause.kind()) => None,
             Err(cause) => {
                 if self.is_news(os_error_number(cause)) {
                     Some(*cause)
@@ -69,11 +76,21 @@ impl LastCause {
 
     // Whether this cause differs from the one that was reported last; if so, it is the last one
     // from now on.
-    fn is_news(&mut self, cause: i32) -> bool {
+    fn is_news(&mut self, cause: i32) -> bool
+        ensures news { result ≡ not (is_said self.old.said cause) }
+        ensures said { self.new.said ≡ Some cause }
+    {
         let is_news = self.said != Some(cause);
         self.said = Some(cause);
         is_news
     }
+}
+
+// Whether a signal came meanwhile.
+fn is_signal(kind: io::ErrorKind) -> bool
+    ensures { result ≡ is_signal kind }
+{
+    matches!(kind, io::ErrorKind::Interrupted)
 }
 
 // Whether room is wanting: on the disk, in the user's share of it, or below a limit on files.
@@ -84,6 +101,8 @@ fn wants_room(cause: &io::Error) -> bool {
 }
 
 // The system's number of a cause; 0 if it is not the system's.
-fn os_error_number(cause: &io::Error) -> i32 {
+fn os_error_number(cause: &io::Error) -> i32
+    ensures { result ≡ number_of cause.now }
+{
     cause.raw_os_error().unwrap_or(0)
 }

@@ -1,45 +1,36 @@
-// A disk over a file. It exposes nothing of its bytes, and a crash may leave anything.
-ghost use Rattle.std.specs.Prelude.{◌≡◌, is_err};
+// A disk over a file.
+ghost use Rattle.std.specs.Prelude.{◌≡◌, ◌+◌, ◌≤◌, IfOk, IfSome, IsErr, MatchResult, Ok, OnErr, OnOk, drop, is_err, is_some, length, take};
+ghost use Rattle.std.specs.Option.{option_map};
+ghost use Rattle.std.specs.Result.{result_ok};
 ghost use Rattle.apron_base.specs.Counts.{Counts};
+ghost use Rattle.journal_disk.specs.Disk.{Between, Goes, IfExposed, IsDurable, Stays, Torn, with_piece_at};
+ghost use Rattle.host_files.specs.Disks.{EndsBy, HasOpened, IsAlone, IsAmongReaders, disk_of};
+ghost use Rattle.host_files.specs.Files.{IsNotOurs, IsThere, IsTooLong, NoOther};
 
 use crate::causes::LastCause;
+use crate::locked_file::LockedFile;
+use crate::{RawFile, SystemFile};
 use apron_base::Failed;
 use journal_disk::Disk;
-use std::fs::{File, Metadata, OpenOptions, TryLockError};
-use std::io::ErrorKind;
+use std::fs::File;
+use std::io;
 use std::marker::Model;
-use std::os::unix::fs::{FileExt, MetadataExt};
-use std::path::Path;
 use std::rt::Files;
-use std::{fs, io};
-
-/// What is said if the file's lock can't be had.
-const TAKEN: &str =
-    "another process has this journal; chart, export and propose can be given a copy";
-
-/// What is said if the path is that of a pipe, a socket or a device.
-const UNFIT: &str = "not a file on a disk, as a journal has to be";
-
-/// What is said if the path has become that of another file.
-const REPLACED: &str = "another file is at this path now";
 
 /// What it means that a write or a sync failed for another cause than room.
 const LOST: &str = "the journal is lost to this process, which has to be ended and started again";
 
-/// A disk over a file. It holds the system's lock of the file until it is dropped. If the file
-/// couldn't be opened, is not a regular file, or another process has its lock, each call fails. A
-/// write fails too if another file, or none, has come to the path. A call that the system
-/// interrupted is tried again, and is no fault. Standard error says why a call failed: each cause
-/// once until a call of that kind succeeds. Contracts see how many calls have failed.
+/// A disk over a file. It holds the file's lock until it is dropped. If the file couldn't be
+/// opened or locked, each call fails. A write fails too if another file, or none, has come to the
+/// path. A call that the system interrupted is tried again, and is no fault. Standard error says
+/// why a call failed: each cause once until a call of that kind succeeds. Contracts see the file,
+/// and how many calls have failed.
 #[derive(Drop)]
-pub struct FileDisk<'a, R> {
+pub struct FileDisk<'a, R, F: RawFile> {
     rt: &'a R,
     path: &'a str,
-    // why not, if it couldn't be opened
-    file: io::Result<File>,
-    // the same file whatever its path; `None` if it couldn't be opened
-    identity: Option<Identity>,
-    access: Access,
+    // why not, if it couldn't be opened or locked
+    file: io::Result<LockedFile<F>>,
     lengths: LastCause,
     reads: LastCause,
     writes: LastCause,
@@ -47,81 +38,81 @@ pub struct FileDisk<'a, R> {
     faults: u64,
 }
 
-// What a file was opened for.
-#[derive(Clone, Copy, PartialEq, Eq)]
-enum Access {
-    Reads,
-    ReadsAndWrites,
+impl<'a, R, F: RawFile> Model for FileDisk<'a, R, F> {
+    ghost use Rattle.std.specs.Result.{result_ok};
+    ghost use Rattle.host_files.specs.Disks.{FileHeld};
+
+    ghost Value = { FileHeld F };
+
+    ghost view = { λ d. record { file = result_ok d.file; faults = d.faults } };
 }
 
-// The number of a file's device, and that of the file there.
-#[derive(Clone, Copy, PartialEq, Eq)]
-struct Identity {
-    device: u64,
-    number: u64,
-}
-
-impl Identity {
-    fn of(found: &Metadata) -> Identity {
-        Identity {
-            device: found.dev(),
-            number: found.ino(),
-        }
-    }
-}
-
-impl<'a, R> Model for FileDisk<'a, R> {
-    ghost use Rattle.std.specs.Prelude.{ℕ};
-
-    ghost Value = { ℕ };
-
-    ghost view = { λ d. d.faults };
-}
-
-impl<'a, R: Files<File = File> + Eprint> FileDisk<'a, R> {
-    /// The file at this path, with a lock that excludes all other processes. No call of it has
-    /// failed yet.
+impl<'a, R: Files<File = File> + Eprint> FileDisk<'a, R, SystemFile<'a, R>> {
+    /// The file at this path, with a lock that excludes all other processes.
     pub fn open(rt: &'a R, path: &'a str) -> Self
-        ensures none { result ≡ 0 }
+        ensures none { result.faults ≡ 0 }
     {
-        let file = open_to_write(rt, path, false);
-        FileDisk::over(rt, path, file, Access::ReadsAndWrites)
+        FileDisk::to_write(rt, path, SystemFile::open_to_write(rt, path))
     }
 
-    /// The same, but the file is made if there is none. The file and its folder are synced, so that
-    /// a crash leaves a file at this path.
+    /// The same, but the file is made if there is none. A crash leaves a file at this path.
     pub fn make(rt: &'a R, path: &'a str) -> Self
-        ensures none { result ≡ 0 }
+        ensures none { result.faults ≡ 0 }
     {
-        let file = make_file(rt, path);
-        FileDisk::over(rt, path, file, Access::ReadsAndWrites)
+        FileDisk::to_make(rt, path, SystemFile::make(rt, path))
     }
 
-    /// The file at this path, for reading only, with a lock that other readers may hold too. No
-    /// call of it has failed yet. Each write fails.
+    /// The file at this path, for reading only, with a lock that other readers may hold too. Each
+    /// write fails.
     pub fn open_to_read(rt: &'a R, path: &'a str) -> Self
-        ensures none { result ≡ 0 }
+        ensures none { result.faults ≡ 0 }
     {
-        let file = open_to_read(rt, path);
-        FileDisk::over(rt, path, file, Access::Reads)
+        FileDisk::to_read(rt, path, SystemFile::open_to_read(rt, path))
+    }
+}
+
+impl<'a, R: Eprint, F: RawFile + Drop> FileDisk<'a, R, F> {
+    /// Over a file that was opened to be read and written, or why it wasn't: with a lock that
+    /// excludes all other processes. No call of it has failed yet.
+    pub fn to_write(rt: &'a R, path: &'a str, opened: io::Result<F>) -> Self
+        ensures none { result.faults ≡ 0 }
+        ensures alone { IfSome result.file (λ file. IsAlone (F.state file)) }
+        ensures opened { HasOpened F.state opened result.file }
+    {
+        FileDisk::over(rt, path, LockedFile::to_write(opened))
+    }
+
+    /// The same of a file that may just have been made: it and its folder are synced, so that a
+    /// crash leaves it at its path.
+    pub fn to_make(rt: &'a R, path: &'a str, opened: io::Result<F>) -> Self
+        ensures none { result.faults ≡ 0 }
+        ensures alone { IfSome result.file (λ file. IsAlone (F.state file)) }
+        ensures opened { HasOpened F.state opened result.file }
+        ensures there { IfSome result.file (λ file. IsThere (F.state file)) }
+    {
+        FileDisk::over(rt, path, LockedFile::to_make(opened))
+    }
+
+    /// Over a file that was opened to be read, or why it wasn't: with a lock that other readers may
+    /// hold too. No call of it has failed yet. Each write fails.
+    pub fn to_read(rt: &'a R, path: &'a str, opened: io::Result<F>) -> Self
+        ensures none { result.faults ≡ 0 }
+        ensures among { IfSome result.file (λ file. IsAmongReaders (F.state file)) }
+        ensures opened { HasOpened F.state opened result.file }
+    {
+        FileDisk::over(rt, path, LockedFile::to_read(opened))
     }
 
     // A later call on a file that is not there fails for the same cause, which is said here.
-    fn over(rt: &'a R, path: &'a str, opened: io::Result<Opened>, access: Access) -> Self
-        ensures none { result ≡ 0 }
+    fn over(rt: &'a R, path: &'a str, file: io::Result<LockedFile<F>>) -> Self
+        ensures is { result ≡ record { file = result_ok file; faults = 0 } }
     {
         let mut opening = LastCause::NONE;
-        opening.hear(rt, path, &opened);
-        let (file, identity) = match opened {
-            Ok(Opened { file, identity }) => (Ok(file), Some(identity)),
-            Err(cause) => (Err(cause), None),
-        };
+        opening.hear(rt, path, &file);
         FileDisk {
             rt,
             path,
             file,
-            identity,
-            access,
             lengths: opening,
             reads: opening,
             writes: opening,
@@ -131,56 +122,19 @@ impl<'a, R: Files<File = File> + Eprint> FileDisk<'a, R> {
     }
 }
 
-impl<'a, R: Files + Eprint> FileDisk<'a, R> {
-    /// Whether the file is open, with its lock.
-    pub fn is_open(&self) -> bool {
+impl<'a, R, F: RawFile> FileDisk<'a, R, F> {
+    /// Whether it has a file, with its lock.
+    pub fn is_open(&self) -> bool
+        ensures open { result ≡ is_some self.now.file }
+    {
         self.file.is_ok()
-    }
-
-    fn open_file(&self) -> io::Result<&File> {
-        match &self.file {
-            Ok(file) => Ok(file),
-            Err(cause) => Err(*cause),
-        }
-    }
-
-    fn length_now(&self) -> io::Result<u32> {
-        let length = self.open_file()?.metadata()?.len();
-        u32::try_from(length).map_err(|_| io::Error::from(ErrorKind::FileTooLarge))
-    }
-
-    fn read_now(&self, at: u32, into: &mut [u8]) -> io::Result<()> {
-        self.open_file()?.read_exact_at(into, u64::from(at))
-    }
-
-    fn write_now(&self, at: u32, piece: &[u8]) -> io::Result<()> {
-        let file = self.open_file()?;
-        self.stay_at_path()?;
-        file.write_all_at(piece, u64::from(at))
-    }
-
-    // `Err` if another file, or none, has come to the path: whoever opens it then would not see
-    // what is written here.
-    fn stay_at_path(&self) -> io::Result<()> {
-        let found = Identity::of(&fs::metadata(self.rt, self.path)?);
-        if self.identity == Some(found) {
-            Ok(())
-        } else {
-            Err(io::Error::new(ErrorKind::StaleNetworkFileHandle, REPLACED))
-        }
-    }
-
-    // If nothing can be written there is nothing to sync, and such file systems may have no syncs.
-    fn sync_now(&self) -> io::Result<()> {
-        match self.open_file()?.sync_data() {
-            Err(cause) if self.access == Access::Reads && has_no_syncs(&cause) => Ok(()),
-            synced => synced,
-        }
     }
 
     // Counts an error.
     fn count_error<T>(&mut self, answer: io::Result<T>) -> Result<T, Failed>
-        ensures counts { Counts (is_err result) self.old self.new }
+        ensures answer { MatchResult answer (λ value. result ≡ Ok value) (λ _. IsErr result) }
+        ensures file { self.new.file ≡ self.old.file }
+        ensures counts { Counts (is_err result) self.old.faults self.new.faults }
     {
         match answer {
             Ok(value) => Ok(value),
@@ -192,121 +146,80 @@ impl<'a, R: Files + Eprint> FileDisk<'a, R> {
     }
 }
 
-fn has_no_syncs(cause: &io::Error) -> bool {
-    cause.kind() == ErrorKind::ReadOnlyFilesystem || cause.kind() == ErrorKind::InvalidInput
-}
+impl<'a, R: Eprint, F: RawFile> Disk for FileDisk<'a, R, F> {
+    ghost use Rattle.host_files.specs.Disks.{reads_over};
 
-// A file that was opened, and which one it is.
-#[derive(Drop)]
-struct Opened {
-    file: File,
-    identity: Identity,
-}
+    ghost state = { disk_of F.state };
 
-// The file, with a lock that excludes all other processes.
-fn open_to_write<R: Files<File = File>>(rt: &R, path: &str, makes: bool) -> io::Result<Opened> {
-    refuse_pipes(rt, path)?;
-    let file = OpenOptions::new()
-        .read(true)
-        .write(true)
-        .create(makes)
-        .open(rt, path)?;
-    match file.try_lock() {
-        Ok(()) => identified(file),
-        Err(TryLockError::WouldBlock) => Err(already_locked()),
-        Err(TryLockError::Error(cause)) => Err(cause),
-    }
-}
+    ghost reads = { λ d. reads_over F.state F.reads d.file d.faults };
 
-// The file, with a lock that other readers may hold too.
-fn open_to_read<R: Files<File = File>>(rt: &R, path: &str) -> io::Result<Opened> {
-    refuse_pipes(rt, path)?;
-    let file = File::open(rt, path)?;
-    match file.try_lock_shared() {
-        Err(TryLockError::WouldBlock) => Err(already_locked()),
-        // If the file system has no locks, no writer has one either.
-        Ok(()) | Err(TryLockError::Error(_)) => identified(file),
-    }
-}
-
-fn already_locked() -> io::Error {
-    io::Error::new(ErrorKind::WouldBlock, TAKEN)
-}
-
-// `Err` if the path is that of a pipe, a socket or a device, since opening a pipe would wait for
-// another process. A path at which there is nothing is left to the open.
-fn refuse_pipes<R: Files<File = File>>(rt: &R, path: &str) -> io::Result<()> {
-    match fs::metadata(rt, path) {
-        Ok(found) if !found.is_file() && !found.is_dir() => Err(unfit()),
-        _ => Ok(()),
-    }
-}
-
-fn unfit() -> io::Error {
-    io::Error::new(ErrorKind::InvalidInput, UNFIT)
-}
-
-// The file, if it is a regular one.
-fn identified(file: File) -> io::Result<Opened> {
-    let found = file.metadata()?;
-    if found.is_file() {
-        Ok(Opened {
-            file,
-            identity: Identity::of(&found),
-        })
-    } else if found.is_dir() {
-        Err(io::Error::from_raw_os_error(IS_A_FOLDER))
-    } else {
-        Err(unfit())
-    }
-}
-
-// The system's number for a folder where a file is wanted, EISDIR.
-const IS_A_FOLDER: i32 = 21;
-
-// Makes the file if there is none, and syncs it and its folder.
-fn make_file<R: Files<File = File>>(rt: &R, path: &str) -> io::Result<Opened> {
-    let made = open_to_write(rt, path, true)?;
-    made.file.sync_all()?;
-    File::open(rt, folder_of(path))?.sync_all()?;
-    Ok(made)
-}
-
-fn folder_of(path: &str) -> &str {
-    match Path::new(path).parent() {
-        Some(folder) if !folder.as_str().is_empty() => folder.as_str(),
-        _ => ".",
-    }
-}
-
-impl<'a, R: Files + Eprint> Disk for FileDisk<'a, R> {
-    ghost use Rattle.journal_disk.specs.Disk.{untold_disk};
-
-    ghost state = { untold_disk };
-
-    ghost reads = { λ _ _ _. tt };
-
-    fn length(&mut self) -> Result<u32, Failed> {
-        let answer = self.length_now();
+    fn length(&mut self) -> Result<u32, Failed>
+        ensures length { IfOk result
+            (λ size. IfExposed (disk_of F.state self.old) (λ bytes. size ≡ length bytes)) }
+        ensures stays { Stays (disk_of F.state self.old) (disk_of F.state self.new) }
+        ensures counts { Counts (is_err result)
+            (disk_of F.state self.old).faults (disk_of F.state self.new).faults }
+        ensures cause { EndsBy F.state IsTooLong self.old self.new result }
+    {
+        let answer = match &mut self.file {
+            Ok(file) => file.length(),
+            Err(cause) => Err(*cause),
+        };
         self.lengths.hear(self.rt, self.path, &answer);
         self.count_error(answer)
     }
 
-    fn read(&mut self, at: u32, into: &mut [u8]) -> Result<(), Failed> {
-        let answer = self.read_now(at, into);
+    fn read(&mut self, at: u32, into: &mut [u8]) -> Result<(), Failed>
+        requires inside { IfExposed (disk_of F.state self.old)
+            (λ bytes. at + length into.old ≤ length bytes) }
+        ensures read { OnOk result (IfExposed (disk_of F.state self.old)
+            (λ bytes. into.new ≡ take (length into.old) (drop at bytes))) }
+        ensures stays { Stays (disk_of F.state self.old) (disk_of F.state self.new) }
+        ensures counts { Counts (is_err result)
+            (disk_of F.state self.old).faults (disk_of F.state self.new).faults }
+        ensures cause { EndsBy F.state NoOther self.old self.new result }
+    {
+        let answer = match &mut self.file {
+            Ok(file) => file.read(at, into),
+            Err(cause) => Err(*cause),
+        };
         self.reads.hear(self.rt, self.path, &answer);
         self.count_error(answer)
     }
 
-    fn write_at(&mut self, at: u32, piece: &[u8]) -> Result<(), Failed> {
-        let answer = self.write_now(at, piece);
+    fn write_at(&mut self, at: u32, piece: &[u8]) -> Result<(), Failed>
+        requires inside { IfExposed (disk_of F.state self.old) (λ bytes. at ≤ length bytes) }
+        ensures written { OnOk result ((disk_of F.state self.new).contents
+            ≡ option_map (with_piece_at at piece.now) (disk_of F.state self.old).contents) }
+        ensures torn { OnErr result (Between (Torn at (length piece.now))
+            (disk_of F.state self.old).contents (disk_of F.state self.new).contents) }
+        ensures crash { Goes (Torn at (length piece.now))
+            (disk_of F.state self.old) (disk_of F.state self.new) }
+        ensures counts { Counts (is_err result)
+            (disk_of F.state self.old).faults (disk_of F.state self.new).faults }
+        ensures cause { EndsBy F.state IsNotOurs self.old self.new result }
+    {
+        let answer = match &mut self.file {
+            Ok(file) => file.write(at, piece),
+            Err(cause) => Err(*cause),
+        };
         self.writes.hear_change(self.rt, self.path, &answer, LOST);
         self.count_error(answer)
     }
 
     /// Syncs the bytes and the length.
-    fn sync(&mut self) -> Result<(), Failed> {
-        let answer = self.sync_now();
+    fn sync(&mut self) -> Result<(), Failed>
+        ensures durable { OnOk result
+            (IsDurable (disk_of F.state self.old) (disk_of F.state self.new)) }
+        ensures stays { Stays (disk_of F.state self.old) (disk_of F.state self.new) }
+        ensures counts { Counts (is_err result)
+            (disk_of F.state self.old).faults (disk_of F.state self.new).faults }
+        ensures cause { EndsBy F.state NoOther self.old self.new result }
+    {
+        let answer = match &mut self.file {
+            Ok(file) => file.sync(),
+            Err(cause) => Err(*cause),
+        };
         self.syncs.hear_change(self.rt, self.path, &answer, LOST);
         self.count_error(answer)
     }

@@ -1,5 +1,5 @@
 // The files of the system as a shelf.
-ghost use Rattle.std.specs.Prelude.{◌≡◌, ◌+◌, IfOk, IfSome, None, take};
+ghost use Rattle.std.specs.Prelude.{◌≡◌, ◌+◌, IfOk, IfSome, take};
 
 use crate::causes::report_cause;
 use apron_base::{Shelf, ShelfFault};
@@ -9,41 +9,84 @@ use std::marker::Model;
 use std::rt::Files;
 use std::{fs, io};
 
-/// The files of the system, by their paths as they are written. It exposes nothing of what is in
-/// them, counts each error, and says its cause on standard error. Contracts see its two counts.
+/// Where files are opened by name, to be read: the system, or a folder that a test makes.
+pub trait Folder {
+    ghost use Rattle.std.specs.Prelude.{◌≡◌, ℕ, IfOk, IfSome, List, Option, Some};
+
+    /// An open file.
+    type File: Read + Drop;
+
+    /// The bytes of the file of a name, if it exposes them.
+    ghost file: { Self → List ℕ → Option (List ℕ) };
+
+    /// Opens the file of this name. It is read from its beginning.
+    fn open(&self, name: &str) -> io::Result<Self::File>
+        ensures opened { IfOk result (λ opened. IfSome (file self.now name.now)
+            (λ bytes. Self.File.remaining opened ≡ Some bytes)) };
+}
+
+/// The files of the system, by their paths as they are written.
+impl<R: Files> Folder for &R {
+    ghost use Rattle.std.specs.Prelude.{None};
+
+    type File = R::File;
+
+    ghost file = { λ _ _. None };
+
+    fn open(&self, name: &str) -> io::Result<R::File> {
+        fs::open(*self, name)
+    }
+}
+
+/// The files of a folder as a shelf. It counts each error, and says its cause on standard error.
+/// Contracts see the folder and the two counts.
 #[derive(Drop)]
-pub struct FileShelf<'a, R> {
+pub struct FileShelf<'a, R, F> {
     rt: &'a R,
+    folder: F,
     faults: u64,
     read: u64,
 }
 
-impl<'a, R> Model for FileShelf<'a, R> {
-    ghost use Rattle.host_files.specs.Counts.{ShelfCounts};
+impl<'a, R, F> Model for FileShelf<'a, R, F> {
+    ghost use Rattle.host_files.specs.Shelves.{ShelfHeld};
 
-    ghost Value = { ShelfCounts };
+    ghost Value = { ShelfHeld F };
 
-    ghost view = { λ s. record { faults = s.faults; read = s.read } };
+    ghost view = { λ s. record { folder = s.folder; faults = s.faults; read = s.read } };
 }
 
-impl<'a, R: Files> FileShelf<'a, R> {
+impl<'a, R: Files> FileShelf<'a, R, &'a R> {
     /// The files that this runtime opens. None has been asked for yet.
     pub fn new(rt: &'a R) -> Self
-        ensures is { result ≡ record { faults = 0; read = 0 } }
+        ensures none { result.faults ≡ 0 }
+        ensures unread { result.read ≡ 0 }
+    {
+        FileShelf::over(rt, rt)
+    }
+}
+
+impl<'a, R, F: Folder> FileShelf<'a, R, F> {
+    /// The files of this folder. None has been asked for yet.
+    pub fn over(rt: &'a R, folder: F) -> Self
+        ensures is { result ≡ record { folder = folder; faults = 0; read = 0 } }
     {
         FileShelf {
             rt,
+            folder,
             faults: 0,
             read: 0,
         }
     }
 }
 
-impl<'a, R: Files + Eprint> Shelf for FileShelf<'a, R> {
-    ghost state = { λ s. record { file = λ _. None; faults = s.faults; read = s.read } };
+impl<'a, R: Eprint, F: Folder> Shelf for FileShelf<'a, R, F> {
+    ghost use Rattle.host_files.specs.Shelves.{shelf_of};
+
+    ghost state = { shelf_of F.file };
 
     fn read_file(&mut self, alloc: Global, name: &str, limit: u32) -> Result<Vec<u8>, ShelfFault> {
-        match read_up_to(self.rt, alloc, name, limit) {
+        match read_up_to(&self.folder, alloc, name, limit) {
             Ok(bytes) => {
                 self.read = self.read.saturating_add(bytes.len() as u64);
                 if bytes.len() > limit as usize {
@@ -63,8 +106,11 @@ impl<'a, R: Files + Eprint> Shelf for FileShelf<'a, R> {
 }
 
 // The bytes of the file of this name, up to one more than the limit.
-fn read_up_to<R: Files>(rt: &R, alloc: Global, name: &str, limit: u32) -> io::Result<Vec<u8>> {
-    let file = fs::open(rt, name)?;
+fn read_up_to<F: Folder>(folder: &F, alloc: Global, name: &str, limit: u32) -> io::Result<Vec<u8>>
+    ensures bytes { IfOk result (λ v. IfSome (F.file folder.now name.now)
+        (λ bytes. v.items ≡ take (limit + 1) bytes)) }
+{
+    let file = folder.open(name)?;
     read_front(file, alloc, limit)
 }
 

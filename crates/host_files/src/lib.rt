@@ -1,14 +1,20 @@
 //! The files and standard streams of the system: whole files as a shelf, a file as a journal's
 //! disk, and streams. It says on standard error why a call failed. It knows nothing of what is in a
-//! file, and its contracts tell nothing of that.
+//! file. Its disk and its shelf are proved over traits of raw files; of the system's own files
+//! contracts tell nothing.
 #![tactic(auto)]
 
 mod causes;
 mod file_disk;
 mod file_shelf;
+mod locked_file;
+mod raw_file;
+mod system_file;
 mod told_stream;
 
 pub use causes::{report_cause, report_meaning};
 pub use file_disk::FileDisk;
-pub use file_shelf::FileShelf;
+pub use file_shelf::{FileShelf, Folder};
+pub use raw_file::RawFile;
+pub use system_file::SystemFile;
 pub use told_stream::ToldStream;

@@ -1,5 +1,6 @@
 // What comes from outside and goes there.
 mod adapters;
+mod files;
 mod formats;
 mod journals;
 mod keepers;

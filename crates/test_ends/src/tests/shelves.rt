@@ -1,9 +1,10 @@
 // Files in memory, and those of the system.
 use apron_base::{Listed, MapShelf, Memory, Shelf, ShelfFault, ShelfFile, SteadyShelf, Word};
-use host_files::FileShelf;
+use host_files::{FileShelf, Folder};
 use std::alloc::Global;
-use std::fs;
+use std::io::ErrorKind;
 use std::test::Fail;
+use std::{fs, io};
 
 // One file, of three bytes.
 fn one_file(alloc: Global) -> Result<Vec<ShelfFile>, Memory> {
@@ -73,13 +74,43 @@ const SYSTEM: [ShelfRead; 5] = [
     ("five", 6, Ok(5)),
 ];
 
+// A folder with one file, whose bytes it tells.
+#[derive(Clone, Copy)]
+struct OneFile<'a> {
+    name: &'a str,
+    bytes: &'a [u8],
+}
+
+impl<'a> Folder for OneFile<'a> {
+    ghost use Rattle.test_ends.specs.Files.{bytes_if};
+
+    type File = &'a [u8];
+
+    ghost file = { λ f. bytes_if f.name.now f.bytes.now };
+
+    fn open(&self, name: &str) -> io::Result<&'a [u8]> {
+        if name == self.name {
+            Ok(self.bytes)
+        } else {
+            Err(io::Error::from(ErrorKind::NotFound))
+        }
+    }
+}
+
+const FIVE: OneFile<'static> = OneFile {
+    name: "five",
+    bytes: b"abcde",
+};
+
 #[test]
 fn files_are_read_up_to_their_limit(rt: HostRuntime) -> Result<(), Fail> {
-    fs::write(&rt, "five", b"abcde")?;
-    let mut shelf = FileShelf::new(&rt);
+    fs::write(&rt, FIVE.name, FIVE.bytes)?;
+    let mut system = FileShelf::new(&rt);
+    let mut memory = FileShelf::over(&rt, FIVE);
     for (name, limit, want) in SYSTEM {
-        assert_eq!(rt; length(rt.alloc(), &mut shelf, name, limit), want);
+        assert_eq!(rt; length(rt.alloc(), &mut system, name, limit), want);
+        assert_eq!(rt; length(rt.alloc(), &mut memory, name, limit), want);
     }
-    fs::remove_file(&rt, "five")?;
+    fs::remove_file(&rt, FIVE.name)?;
     Ok(())
 }

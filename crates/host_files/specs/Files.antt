@@ -1,0 +1,78 @@
+-- Open files: what is known of them, and what their calls change.
+use Rattle.std.specs.Prelude.{◌≡◌, ◌⊎◌, ◌≤◌, ◌^◌, Bool, true, false, length, Result, Ok, Err}
+use Rattle.std.proofs.Common.{◌≢◌}
+use Rattle.std.specs.declared.fs.TryLockError.{TryLockError}
+use Rattle.std.specs.declared.fs.TryLockError.TheVariants.{Error as Refused, WouldBlock}
+use Rattle.std.specs.declared.io.ErrorKind.{ErrorKind}
+use Rattle.std.specs.declared.io.ErrorKind.TheVariants.{ReadOnlyFilesystem, InvalidInput}
+use Rattle.apron_base.specs.Counts.{Counts, Rose}
+use Rattle.journal_disk.specs.Disk.{DiskState, IfExposed, IsSafe, Stays, untold_disk}
+
+-- the lock of an open file: none yet; one that others may have too; one that excludes all others;
+-- or none can be had, as on a file system without locks
+pub data Lock : Type 0 where
+  Unlocked : Lock
+  Shared : Lock
+  Exclusive : Lock
+  Unavailable : Lock
+
+-- An open file at one time: as a disk, whose count is of the file's own calls that failed; its
+-- lock; whether the call before this found it at its path; and whether a crash leaves it there.
+pub record FileState : Type 1 where
+  pub disk : DiskState
+  pub lock : Lock
+  pub found : Bool
+  pub lasting : Bool
+
+-- an open file of which nothing is known
+abbrev pub untold_file : FileState
+untold_file = record { disk = untold_disk 0; lock = Unlocked; found = false; lasting = false }
+
+-- the fact, if the file exposes what it reads as
+abbrev pub IfTold : FileState → Type 0 → Type 0
+IfTold file P = IfExposed file.disk (λ _. P)
+
+-- the lock after this one was tried for
+abbrev pub lock_after : {A : Type 0} → Lock → Result A TryLockError → Lock
+lock_after lock (Ok _) = lock
+lock_after lock (Err WouldBlock) = Unlocked
+lock_after lock (Err (Refused _)) = Unavailable
+
+-- a call that writes nothing, and leaves the lock; if it fails, that is counted
+pub record OnlyReads (fails : Bool) (before after : FileState) : Type 0 where
+  pub disk : Stays before.disk after.disk
+  pub lock : after.lock ≡ before.lock
+  pub counts : IfTold before (Counts fails before.disk.faults after.disk.faults)
+
+-- nobody else may have the file, and the call before this found it at its path
+pub record MayBeWritten (file : FileState) : Type 0 where
+  pub alone : file.lock ≡ Exclusive
+  pub found : file.found ≡ true
+
+-- kinds of failures of syncs where there may be none: on a file system that can only be read, and
+-- at a file that has no syncs
+abbrev pub is_without_syncs : ErrorKind → Bool
+is_without_syncs ReadOnlyFilesystem = true
+is_without_syncs InvalidInput = true
+is_without_syncs _ = false
+
+-- a crash leaves the file at its path, with what it reads as
+abbrev pub IsThere : FileState → Type 0
+IsThere file = IfExposed file.disk (λ bytes. IsSafe bytes file.disk × (file.lasting ≡ true))
+
+-- a call failed only since a call of the system did, or for this cause
+abbrev pub FailsFor : (FileState → FileState → Type 0) → FileState → FileState → Type 0
+FailsFor Cause before after =
+    IfTold before (Cause before after ⊎ Rose before.disk.faults after.disk.faults)
+
+-- there is no other cause
+abbrev pub NoOther : FileState → FileState → Type 0
+NoOther before after = ⊥
+
+-- a `u32` has no room for the number of bytes
+abbrev pub IsTooLong : FileState → FileState → Type 0
+IsTooLong before after = IfExposed before.disk (λ bytes. 2 ^ 32 ≤ length bytes)
+
+-- others may have the file, or it was not found at its path
+abbrev pub IsNotOurs : FileState → FileState → Type 0
+IsNotOurs before after = (before.lock ≢ Exclusive) ⊎ (after.found ≡ false)

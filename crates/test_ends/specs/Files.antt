@@ -1,0 +1,29 @@
+-- What an open file in memory tells.
+use Rattle.std.specs.Prelude.{ℕ, Bool, List, Option, Some, None, if◌then◌else◌}
+use Rattle.std.specs.Str.{bytes_eq}
+use Rattle.journal_disk.specs.Calls.{MemoryHeld, disk_of}
+use Rattle.host_files.specs.Files.{FileState, Lock}
+use Rattle.host_files.specs.Files.Lock.{Unlocked, Shared, Exclusive, Unavailable}
+use Rattle.test_ends.specs.declared.tests.files.Held.{Held}
+use Rattle.test_ends.specs.declared.tests.files.Held.TheVariants.{Nothing, AmongReaders, Alone, NoLocks}
+
+-- the lock that it has
+abbrev pub lock_of : Held → Lock
+lock_of Nothing = Unlocked
+lock_of AmongReaders = Shared
+lock_of Alone = Exclusive
+lock_of NoLocks = Unavailable
+
+-- its state: its disk after so many faults, its lock, and whether it was found at its path and
+-- lasts there
+abbrev pub told_by : MemoryHeld → ℕ → Held → Bool → Bool → FileState
+told_by disk faults held found lasting = record {
+  disk = record (disk_of disk) { faults = faults };
+  lock = lock_of held;
+  found = found;
+  lasting = lasting;
+}
+
+-- the bytes of the one file of a folder
+abbrev pub bytes_if : List ℕ → List ℕ → List ℕ → Option (List ℕ)
+bytes_if kept bytes name = if bytes_eq name kept then Some bytes else None
