@@ -259,8 +259,13 @@ module _ (digests : List ℕ) (extent longer : Extent) (begun before now : DiskS
       rises = sure_rises;
       all = λ bytes is.
           let (old, was) = told_before before.contents now.contents bytes goes.tells is in
-          omega (arith, fronts.all old was, ap length (grown old bytes was is), length-append (entries_within extent old) added,
-          until_from meanwhile now.moment (fronts.sure before.moment + length added) now.moment (omega arith));
+          omega (
+            arith,
+            fronts.all old was,
+            ap length (grown old bytes was is),
+            length-append (entries_within extent old) added,
+            until_from meanwhile now.moment (fronts.sure before.moment + length added) now.moment (omega arith),
+          );
       later = λ bytes is at image low high left.
           let (old, was) = told_before before.contents now.contents bytes goes.tells is in
           subst (λ (es : List (List ℕ)). OpensToFront digests es (1 ≤ now.faults) (sure_now at) image) (sym (grown old bytes was is)) (front_at old was at image low high left);
@@ -339,8 +344,8 @@ module _ (digests appended : List ℕ) (extent longer : Extent) (begun before no
       let grown = grown_ok extent longer before now appended adds in
       fronts_grown digests extent longer begun before now fronts goes added grown still
       (opens_during added still (λ es image opens.
-          let long = length-append es added in
-          inr (inl (omega (arith, long), opens ∙ ap Ok (sym (take_all (length es + 1) (es ++ added) (omega (arith, long))))))))
+      let long = length-append es added in
+      inr (inl (omega (arith, long), opens ∙ ap Ok (sym (take_all (length es + 1) (es ++ added) (omega (arith, long))))))))
       (opens_last added grown)
 
   fronts_err : FailsToAdd (keeper_of extent before) (keeper_of longer now) appended → LeavesFronts digests (entries_within longer) begun now
@@ -349,7 +354,7 @@ module _ (digests appended : List ℕ) (extent longer : Extent) (begun before no
       let grown = grown_err extent longer before now appended fails in
       fronts_grown digests extent longer begun before now fronts goes [] grown still
       (opens_during [] still (λ es image opens.
-          inr (inr (failed_once before.faults now.faults fails.faults, appended, opens ∙ ap (λ (l : List (List ℕ)). Ok (with_last appended l)) (sym (take_at es [] (length es) refl))))))
+      inr (inr (failed_once before.faults now.faults fails.faults, appended, opens ∙ ap (λ (l : List (List ℕ)). Ok (with_last appended l)) (sym (take_at es [] (length es) refl))))))
       (opens_last [] grown)
 
   pub fronts_on : {T E : Type 0} (result : Result T E) → OnOk result (AddsEntry (keeper_of extent before) (keeper_of longer now) appended)

@@ -21,7 +21,7 @@ use Rattle.apron_run.specs.declared.imported.Imported.{Imported}
 use Rattle.apron_run.specs.declared.status.Status.{Status}
 use Rattle.apron_run.specs.declared.unusable.Unusable.{Unusable}
 
--- nothing is written: a crash leaves what it could leave before
+-- nothing changes: the disk reads as before, and a crash leaves what it could leave before
 abbrev pub LeavesAll : DiskStates → Type 0
 LeavesAll disk = Stays disk.before disk.after
 
@@ -34,8 +34,8 @@ LeavesMade digests (Some fault) disk =
     IfExposed disk.before (λ bytes. length bytes ≢ 0 → LeavesAll disk)
 
 module _ (disk : DiskStates) where
-  -- an import: its history at the end survives; if there was no journal to work on, nothing is
-  -- written
+  -- an import: its history at the end survives; if there was no journal to work on, nothing
+  -- changes
   abbrev pub LeavesImported : (files : AirportFiles) (season : List ℕ) (before after : Stores)
       (met : Result Imported Unusable) → MeetsImport files season before after met → Type 0
   LeavesImported files season before after (Ok imported) imports =
@@ -91,7 +91,7 @@ module _ (disk : DiskStates) where
 
 -- `feeds` says what the reply to each feed is, by the airport and the history
 module _ (feeds : FeedTexts) (disk : DiskStates) where
-  -- a session: its history survives; if there was no journal to work on, nothing is written
+  -- a session: its history survives; if there was no journal to work on, nothing changes
   abbrev pub LeavesOfSession : (files : AirportFiles) (before after : DeskEnds)
       (met : Result Outcome Unusable)
       → MeetsDesk feeds files before after met → Type 0

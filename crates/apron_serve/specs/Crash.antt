@@ -17,7 +17,7 @@ use Rattle.apron_serve.specs.World.{ServeEnds, ServeOuts, ServeWorld, serve_ends
 
 module _ {In Out : Type 0} (service : Service In Out) (disk : DiskStates) where
   -- desks that were served: the board's history at the end survives; if there was no journal to
-  -- work on, nothing is written
+  -- work on, nothing changes
   abbrev pub LeavesOfService : (files : AirportFiles) (task : Task)
       (before after : ServeEnds In Out) (met : Result ServeEnd Unusable)
       → MeetsDesks service files task before after met → Type 0

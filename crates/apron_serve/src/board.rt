@@ -35,7 +35,7 @@ pub(crate) enum ServeEnd {
 /// Opens the journal of these files on the disk, and serves the connections of the listeners of
 /// desks at its board, and those of the listeners of screens beside them. `Err` says why there is
 /// no journal to work on, or that there is no memory for the screens or the turns at it; then no
-/// listener was called, and nothing was written on the disk.
+/// listener was called, and the disk reads as before.
 pub(crate) fn serve_desks<
     'a,
     N: OfFiles + Send,

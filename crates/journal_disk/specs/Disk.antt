@@ -52,7 +52,7 @@ pub record Torn (at size : ℕ) (old new : List ℕ) : Type 0 where
   pub after : drop (at + size) (take (length old) new) ≡ drop (at + size) old
   pub no_shorter : length old ≤ length new
 
--- nothing was written
+-- nothing changed
 abbrev pub Same : List ℕ → List ℕ → Type 0
 Same old new = new ≡ old
 
@@ -74,12 +74,12 @@ IsSafe bytes disk = EachImage disk (λ image. image ≡ bytes)
 abbrev pub IsDurable : DiskState → DiskState → Type 0
 IsDurable before now = IfExposed before (λ bytes. IsSafe bytes now)
 
--- the disk reads as having this piece at this place, and a crash leaves what it reads as
+-- if the disk exposes what it reads as, this piece is at this place, and a crash leaves just that
 abbrev pub IsThere : ℕ → List ℕ → DiskState → Type 0
 IsThere at piece disk =
     IfExposed disk (λ bytes. IsSafe bytes disk × (with_piece_at at piece bytes ≡ bytes))
 
--- these writes and syncs were done, and no others
+-- if the disk exposes what it reads as, these writes and syncs were done, and no others
 abbrev pub Does : List DoneCall → DiskState → DiskState → Type 0
 Does calls before now = IfExposed before (λ _. now.done ≡ before.done ++ calls)
 
@@ -113,7 +113,7 @@ pub record Continues (before now : DiskState) : Type 0 where
   pub tells : TellsAlike before now
   pub clock : Passes before now
 
--- nothing is written: the disk reads as before, and a crash leaves what it could leave before
+-- nothing changes: the disk reads as before, and a crash leaves what it could leave before
 pub record Stays (before now : DiskState) : Type 0 where
   pub contents : now.contents ≡ before.contents
   pub crash : Goes Same before now
