@@ -1,4 +1,4 @@
-use Rattle.std.proofs.Common.{◌≡◌, ◌∙◌, ◌+◌, ◌-◌, ◌≤◌, ◌∷◌, [], List, Option, ℕ, length, ap, arith, subst, sym}
+use Rattle.std.proofs.Common.{◌≡◌, ◌∙◌, ◌+◌, ◌-◌, ◌∷◌, [], List, Option, ℕ, length, ap, arith, subst, sym}
 use Rattle.journal_disk.specs.Disk.DoneCall.{DoneSync}
 use Rattle.journal_disk.specs.Disk.{Between, Does, safe_write}
 use Rattle.journal_disk.specs.Entries.{last_record}
