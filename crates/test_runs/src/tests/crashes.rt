@@ -13,9 +13,11 @@ const THREE: &[u8] =
 const VERSION: &[u8] = b"GET /version HTTP/1.1\r\n\r\n";
 
 // How many entries a desk begins with, at least and at most, if it stopped after a number of calls
-// of the disk, one row for each number. Three calls open the journal, and then each entry has four:
+// of the disk, one row for each number. Five calls open the journal, and then each entry has four:
 // the third opens its gate and the fourth makes that safe.
-const EACH_DONE: [(u32, u32); 16] = [
+const EACH_DONE: [(u32, u32); 18] = [
+    (0, 0),
+    (0, 0),
     (0, 0),
     (0, 0),
     (0, 0),
@@ -35,7 +37,9 @@ const EACH_DONE: [(u32, u32); 16] = [
 ];
 
 // The same for two entries.
-const TWO_DONE: [(u32, u32); 12] = [
+const TWO_DONE: [(u32, u32); 14] = [
+    (0, 0),
+    (0, 0),
     (0, 0),
     (0, 0),
     (0, 0),
@@ -52,7 +56,9 @@ const TWO_DONE: [(u32, u32); 12] = [
 
 // The same for three entries if the call failed that opens the first gate: the next two calls close
 // the gate again and make that safe.
-const GATE_FAILED: [(u32, u32); 17] = [
+const GATE_FAILED: [(u32, u32); 19] = [
+    (0, 0),
+    (0, 0),
     (0, 0),
     (0, 0),
     (0, 0),
@@ -73,7 +79,9 @@ const GATE_FAILED: [(u32, u32); 17] = [
 ];
 
 // The same if the call failed that makes it safe.
-const SYNC_FAILED: [(u32, u32); 18] = [
+const SYNC_FAILED: [(u32, u32); 20] = [
+    (0, 0),
+    (0, 0),
     (0, 0),
     (0, 0),
     (0, 0),
@@ -139,8 +147,8 @@ type Stops = (
 const EACH_STOPS: [Stops; 4] = [
     ("two entries", FIRST, &[], &TWO_DONE),
     ("three entries", THREE, &[], &EACH_DONE),
-    ("a gate that fails", THREE, &[5], &GATE_FAILED),
-    ("a gate that is not made safe", THREE, &[6], &SYNC_FAILED),
+    ("a gate that fails", THREE, &[7], &GATE_FAILED),
+    ("a gate that is not made safe", THREE, &[8], &SYNC_FAILED),
 ];
 
 // `Err` if a desk does not begin as it has to after one of these stops, if there are other stops,
