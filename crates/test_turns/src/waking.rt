@@ -25,8 +25,8 @@ const ENOUGH: u32 = 2;
 const AT_ONCE: u128 = 40;
 
 /// When the seats ask, in milliseconds: the first at once, for a turn of this length; the second and
-/// the others after these pauses, for turns without length. And what is wanted of the seats that
-/// sleep when the first ends its turn.
+/// the others after these pauses, for turns without length. All sleep when the first ends its turn.
+/// And what is wanted then.
 #[derive(Clone, Copy)]
 struct Scene {
     first: u64,
@@ -37,9 +37,9 @@ struct Scene {
 
 #[derive(Clone, Copy)]
 enum Want {
-    /// All have their turns at once.
-    All,
-    /// The second has the next turn, at once.
+    /// Two of the others have their turns at once.
+    Two,
+    /// The second seat has the next turn, at once.
     Second,
 }
 
@@ -48,7 +48,7 @@ const ALL_SLEEP: Scene = Scene {
     first: 90,
     second: 10,
     others: 10,
-    want: Want::All,
+    want: Want::Two,
 };
 
 /// While the first has its turn, the second sleeps ten times, draws a number, and comes to its
@@ -119,7 +119,7 @@ impl<'r, R: Clock> Watch<'r, R> {
     // The turn that is to come at once after the first one, if it is there.
     fn wanted(&self, want: Want) -> Option<&Turn> {
         match (want, self.turns.get(1)) {
-            (Want::All, _) if self.turns.len() == SEATS as usize => self.turns.last(),
+            (Want::Two, _) => self.turns.get(2),
             (Want::Second, Some(next)) if next.seat == 2 => Some(next),
             _ => None,
         }
