@@ -1,6 +1,8 @@
 -- Desks that are served at a journal: what they begin with, and what they leave on the disk.
-use Rattle.std.proofs.Common.{◌≡◌, ◌<◌, ◌∙◌, ℕ, true, List, [], ◌∷◌, length, None, Result, Ok, Err, refl, subst}
+use Rattle.std.proofs.Common.{◌≡◌, ◌<◌, ◌∙◌, ℕ, zero, suc, Bool, true, List, [], ◌∷◌, length, None, Result, Ok, Err, refl, subst, sym, arith}
 use Rattle.std.specs.Prelude.{IfErr, IfOk}
+use Rattle.std.proofs.lemmas.Bool.{false≢true}
+use Rattle.apron_base.specs.Histories.{Every}
 use Rattle.apron_base.specs.Keeper.{KeeperState}
 use Rattle.apron_base.specs.Machine.{MachineState}
 use Rattle.apron_rules.specs.declared.parts.AirportParts.{AirportParts}
@@ -14,6 +16,8 @@ use Rattle.history_core.proofs.Drafts.{drafts_made}
 use Rattle.history_core.proofs.Legal.{front_legal, legal_sound}
 use Rattle.desk_turns.specs.Crew.{ServesBoard, end_of}
 use Rattle.desk_turns.specs.Watched.{fed_sessions}
+use Rattle.screen_feed.specs.Screens.{WriterState}
+use Rattle.screen_hall.specs.Halls.{HallHeld, IsHall, ShowsVersion}
 use Rattle.screen_looks.specs.Shown.{ShowsFrom}
 use Rattle.screen_looks.specs.declared.shown.ShownEnd.{ShownEnd}
 use Rattle.screen_looks.specs.declared.shown.Task.{Task}
@@ -45,19 +49,32 @@ opened_begun tells airport faults next board airport_is next_is count safe = rw 
 pub of_err : {A E P : Type 0} (met : Result A E) (why : E) → met ≡ Err why → IfErr met (λ _. P) → P
 of_err {A} {E} {P} met why is holds = subst (λ (r : Result A E). IfErr r (λ _. P)) is holds
 
+-- the same of an answer without one
+pub of_ok : {A E P : Type 0} (met : Result A E) (answer : A) → met ≡ Ok answer → IfOk met (λ _. P) → P
+of_ok {A} {E} {P} met answer is holds = subst (λ (r : Result A E). IfOk r (λ _. P)) is holds
+
+none_misses : (version : ℕ) (writers : List WriterState) → length writers ≡ 0 → Every (ShowsVersion version) writers
+none_misses version [] none = tt
+none_misses version (writer ∷ writers) none = absurd (omega arith)
+
+-- a hall missed a version only if it has writers, as many as there are screens
+pub missed_of : {K R : Type 0} (hall : HallHeld K R) (count : ℕ) → length hall.writers ≡ count → IsHall hall → hall.missed ≡ true → 0 < count
+missed_of hall zero none is missed = absurd (false≢true (sym (is.missed.1 (none_misses _ hall.writers none)) ∙ missed))
+missed_of hall (suc count) some is missed = omega arith
+
 -- desks and screens that were served at a board that was opened, with the disk that was closed
 -- after them
 abbrev pub desks_serve : {In Out K R : Type 0} (service : Service In Out) (tells : K → KeeperState) (files : AirportFiles) (task : Task) (before after : ServeEnds In Out) (board left : BoardHeld K)
-    (met : Result ShownEnd R) (ends : ShownEnd) (served : ServeEnd)
+    (met : Result ShownEnd R) (ends : ShownEnd) (missed : Bool) (served : ServeEnd)
     → IsOpened tells files before.disk board
     → met ≡ Ok ends
     → IfOk met (λ ended. ServesBoard service.states (fed_sessions service.feeds) task.connections (record { listeners = before.listeners; board = machine_state tells board }) (record { listeners = after.listeners; board = machine_state tells left }) ended.desks)
     → IfOk met (λ ended. ShowsFrom service.states (record { airport = files.airport; history = board.history }) task before.screens (record { listeners = after.screens; history = left.history; end = ended.screens }))
-    → IfOk met (λ ended. ended.missed ≡ true → 0 < length before.screens)
-    → served ≡ served_end (end_of (ends.desks ∷ ends.screens ∷ [])) ends.missed
+    → (missed ≡ true → 0 < length before.screens)
+    → served ≡ served_end (end_of (ends.desks ∷ ends.screens ∷ [])) missed
     → after.disk.faults ≡ (tells left.keeper).faults → KeepsHistory (record { airport = left.airport; digests = files.digests }) left.history (read_entry_at_risk left.airport (tells left.keeper)) after.disk
     → ServesDesks service files task before after served
-desks_serve {R = R} service tells files task before after board left met ends served opened is serve show missed end_is counted keeps =
+desks_serve {R = R} service tells files task before after board left met ends missed served opened is serve show some end_is counted keeps =
     let serves : ServesBoard service.states (fed_sessions service.feeds) task.connections (record { listeners = before.listeners; board = machine_state tells board }) (record { listeners = after.listeners; board = machine_state tells left }) ends.desks =
     subst (λ (r : Result ShownEnd R).
     IfOk r (λ ended. ServesBoard service.states (fed_sessions service.feeds) task.connections (record { listeners = before.listeners; board = machine_state tells board }) (record { listeners = after.listeners; board = machine_state tells left }) ended.desks)) is serve in
@@ -75,8 +92,8 @@ desks_serve {R = R} service tells files task before after board left met ends se
       looks = ends.screens;
       shows = subst (λ (r : Result ShownEnd R).
           IfOk r (λ ended. ShowsFrom service.states (record { airport = files.airport; history = board.history }) task before.screens (record { listeners = after.screens; history = left.history; end = ended.screens }))) is show;
-      missed = ends.missed;
-      screens = subst (λ (r : Result ShownEnd R). IfOk r (λ ended. ended.missed ≡ true → 0 < length before.screens)) is missed;
+      missed = missed;
+      screens = some;
       end_is = end_is;
       faults = counted;
       keeps = subst (λ (a : AirportParts).

@@ -68,7 +68,7 @@ module _ {In Out : Type 0} (service : Service In Out) (files : AirportFiles) (ta
   -- opened plan, and its sheets are charts of the day of plans that fronts of the history make,
   -- whose versions never fall. Serving ended as the first worker in order that stopped early, those
   -- of the desks before those of the screens. If none did, and there are screens, it may say that a
-  -- version was missed. Whether one was is said of the hall, in `serve_hall`.
+  -- version was missed. Whether one was is said of the hall at the end, in `served_end`.
   pub record ServesDesks (before after : ServeEnds In Out) (end : ServeEnd) : Type 0 where
     pub opened : List Entry
     pub opens : OpensTo files before.disk opened

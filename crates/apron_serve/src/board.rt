@@ -3,18 +3,20 @@ ghost use Rattle.std.specs.Prelude.{◌≡◌, ◌<◌, ◌≤◌, [], ◌∷◌
 ghost use Rattle.desk_turns.specs.Crew.{end_of};
 ghost use Rattle.desk_turns.specs.Watched.{feed_texts};
 ghost use Rattle.journal_disk.specs.Disk.{Stays};
+ghost use Rattle.screen_hall.specs.Halls.{IsHall};
 ghost use Rattle.apron_run.specs.World.{disk_seen};
 ghost use Rattle.apron_serve.specs.Board.{MeetsDesks, served_end};
 ghost use Rattle.apron_serve.specs.Crash.{LeavesOfService};
 ghost use Rattle.apron_serve.specs.Orders.{most_listeners};
 ghost use Rattle.apron_serve.specs.World.{serve_ends_at};
 
-use apron_base::Memory;
+use apron_base::{Keeper, Memory};
 use apron_check::AirportFiles;
 use apron_run::{OfFiles, Unusable, close_board, open_watched};
 use desk_turns::{WorkEnd, first_end};
 use history_core::OpenFault;
 use journal_disk::Disk;
+use screen_hall::Hall;
 use screen_looks::{ShownEnd, Task, Wall, serve_watched};
 use std::alloc::Global;
 use std::sync::Wait;
@@ -86,22 +88,33 @@ pub(crate) fn serve_desks<
         Ok(board) => board,
         Err((why, disk)) => return (Err(why), disk),
     };
-    let (served, board) = serve_watched(rt, alloc, &files.airport, board, listeners, screens, task);
-    let disk = close_board(board);
+    let (served, hall) = serve_watched(rt, alloc, &files.airport, board, listeners, screens, task);
     match served {
-        Ok(ends) => (Ok(served_end(&ends)), disk),
-        Err(Memory) => (Err(Unusable::Entries(OpenFault::Memory)), disk),
+        Ok(ends) => {
+            let end = served_end(&ends, &hall);
+            (Ok(end), close_board(hall.into_board().into_board()))
+        }
+        Err(Memory) => (
+            Err(Unusable::Entries(OpenFault::Memory)),
+            close_board(hall.into_board().into_board()),
+        ),
     }
 }
 
-// How serving ended, by how its workers did: those of desks come before those of screens.
-fn served_end(ends: &ShownEnd) -> ServeEnd
+// How serving ended, by how its workers did, and by the note of the hall: the workers of desks come
+// before those of screens.
+fn served_end<W: Wait, K: Keeper, R: Stated, T: NoteTest>(
+    ends: &ShownEnd,
+    hall: &Hall<'_, '_, '_, W, K, R, T>,
+) -> ServeEnd
     ensures is { result
-        ≡ served_end (end_of (ends.now.desks ∷ ends.now.screens ∷ [])) ends.now.missed }
+        ≡ served_end (end_of (ends.now.desks ∷ ends.now.screens ∷ [])) hall.now.missed }
+    ensures note { IsHall hall.now }
 {
+    let missed = hall.missed();
     match first_end(ends.desks, ends.screens) {
         WorkEnd::ListenerFault => ServeEnd::ListenerFault,
-        WorkEnd::Done if ends.missed => ServeEnd::Missed,
+        WorkEnd::Done if missed => ServeEnd::Missed,
         WorkEnd::Done => ServeEnd::Done,
     }
 }

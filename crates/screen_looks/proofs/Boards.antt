@@ -61,16 +61,14 @@ module _ {In Out K R : Type 0} (states : EndStates In Out) (asked : ℕ) (keeper
 
 -- desks that were served at a hall over a board which was opened, and had these watches
 pub board_served : {In Out K R E : Type 0} (states : EndStates In Out) (asked : ℕ) (keeper : K → KeeperState) (tells : R → Note → Bool)
-    (opened left : BoardHeld K) (watches : List (Watched R)) (before after : HallHeld K R) (olds news : List (ListenerState In Out)) (ended : Result ShownEnd E)
-    → before.board ≡ record { board = opened; watches = watches; next = opened.next } → left ≡ after.board.board
+    (opened : BoardHeld K) (watches : List (Watched R)) (before after : HallHeld K R) (olds news : List (ListenerState In Out)) (ended : Result ShownEnd E)
+    → before.board ≡ record { board = opened; watches = watches; next = opened.next }
     → IfOk ended (λ ends. ServesBoard states (hall_sessions tells) asked (record { listeners = olds; board = hall_state keeper before })
     (record { listeners = news; board = hall_state keeper after }) ends.desks)
     → IfOk ended (λ ends. ServesBoard states (fed_sessions (feed_texts tells watches)) asked (record { listeners = olds; board = machine_state keeper opened })
-    (record { listeners = news; board = machine_state keeper left }) ends.desks)
-board_served {K = K} {R = R} states asked keeper tells opened left watches before after olds news ended is same serves =
+    (record { listeners = news; board = machine_state keeper after.board.board }) ends.desks)
+board_served {K = K} {R = R} states asked keeper tells opened watches before after olds news ended is serves =
     IfOk-weaker ended _ _ (λ ends each.
-    subst (λ (board : BoardHeld K). ServesBoard states (fed_sessions (feed_texts tells watches)) asked (record { listeners = olds; board = machine_state keeper opened })
-    (record { listeners = news; board = machine_state keeper board }) ends.desks) (sym same)
     (served_plainly states asked keeper tells (record before { board = record { board = opened; watches = watches; next = opened.next } }) after olds news ends.desks
     (subst (λ (held : WatchHeld K R). ServesBoard states (hall_sessions tells) asked (record { listeners = olds; board = hall_state keeper (record before { board = held }) })
     (record { listeners = news; board = hall_state keeper after }) ends.desks) is each))) serves

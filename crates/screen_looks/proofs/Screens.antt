@@ -1,12 +1,11 @@
 -- The screens of a hall, as they were left.
-use Rattle.std.proofs.Common.{◌≡◌, ◌∙◌, Bool, List, Result, Ok, Err, IfOk, ap, subst, sym}
+use Rattle.std.proofs.Common.{◌≡◌, ◌∙◌, Bool, List, Result, Ok, Err, IfOk, ap, subst}
 use Rattle.apron_base.specs.Histories.{Every}
 use Rattle.apron_base.specs.Keeper.{KeeperState}
 use Rattle.apron_base.specs.Listener.{ListenerState}
 use Rattle.apron_rules.specs.declared.parts.AirportParts.{AirportParts}
 use Rattle.desk_turns.specs.Crew.{ServesBoard}
 use Rattle.desk_turns.specs.Work.{EndStates}
-use Rattle.history_core.specs.Board.{BoardHeld}
 use Rattle.screen_feed.specs.Screens.{ScreenState}
 use Rattle.screen_hall.specs.Halls.{HallFixedState, HallHeld, SeesFronts, hall_state}
 use Rattle.watch_list.specs.declared.note.Note.{Note}
@@ -20,21 +19,20 @@ use Rattle.screen_looks.proofs.Boards.{hall_sessions}
 module _ {In Out K R : Type 0} (states : EndStates In Out) (opened : Opened) (task : Task) (before after : List (ListenerState In Out)) (screens seen : List ScreenState)
     (begun hall : HallHeld K R) (new : Every (IsNewScreen opened.airport opened.history task.day) screens) (airport : begun.board.board.airport ≡ opened.airport) where
   -- screens that were served at a hall
-  pub screens_left : {E : Type 0} (keeper : K → KeeperState) (tells : R → Note → Bool) (left : BoardHeld K) (olds news : List (ListenerState In Out)) (ended : Result ShownEnd E)
-      → left ≡ hall.board.board
+  pub screens_left : {E : Type 0} (keeper : K → KeeperState) (tells : R → Note → Bool) (olds news : List (ListenerState In Out)) (ended : Result ShownEnd E)
       → IfOk ended (λ ends. ServesBoard states (hall_sessions tells) task.connections (record { listeners = olds; board = hall_state keeper begun })
       (record { listeners = news; board = hall_state keeper hall }) ends.desks)
       → IfOk ended (λ ends. ShowsAll states task.connections (record { listeners = before; screens = screens }) (record { listeners = after; screens = seen }) ends.screens)
       → IfOk ended (λ ends. Every (SeesFronts hall.board.board.airport hall.board.board.history) seen)
-      → IfOk ended (λ ends. ShowsFrom states opened task before (record { listeners = after; history = left.history; end = ends.screens }))
-  screens_left keeper tells left olds news (Err none) same serves shows see = tt
-  screens_left keeper tells left olds news (Ok ends) same serves shows see =
+      → IfOk ended (λ ends. ShowsFrom states opened task before (record { listeners = after; history = hall.board.board.history; end = ends.screens }))
+  screens_left keeper tells olds news (Err none) serves shows see = tt
+  screens_left keeper tells olds news (Ok ends) serves shows see =
       let history = hall.board.board.history in
       let is : hall.board.board.airport ≡ opened.airport = ap (λ (fixed : HallFixedState R). fixed.watched.airport) serves.fixed ∙ airport in
-      subst (λ (board : BoardHeld K). ShowsFrom states opened task before (record { listeners = after; history = board.history; end = ends.screens })) (sym same) (record {
+      record {
         screens = screens;
         new = new;
         seen = seen;
         shows = shows;
         see = subst (λ (a : AirportParts). Every (SeesFronts a history) seen) is see;
-      })
+      }

@@ -1,5 +1,5 @@
 // Desks at a board that is shown on screens, and these screens beside them.
-ghost use Rattle.std.specs.Prelude.{◌≡◌, ◌<◌, ◌≤◌, true, IfErr, IfOk, None, length, map};
+ghost use Rattle.std.specs.Prelude.{◌≡◌, ◌<◌, ◌≤◌, IfErr, IfOk, None, length, map};
 ghost use Rattle.std.specs.Thread.{IsSync};
 ghost use Rattle.apron_base.specs.Histories.{Every};
 ghost use Rattle.desk_http.specs.FedSession.{FedAnswers};
@@ -8,7 +8,7 @@ ghost use Rattle.desk_turns.specs.Crew.{ServesBoard};
 ghost use Rattle.desk_turns.specs.Feeds.{FeedTurns};
 ghost use Rattle.desk_turns.specs.Watched.{fed_sessions, feed_texts, watch_text};
 ghost use Rattle.history_core.specs.Board.{machine_state};
-ghost use Rattle.screen_hall.specs.Halls.{IsHall, SeesFronts, hall_state, pairs_of};
+ghost use Rattle.screen_hall.specs.Halls.{SeesFronts, hall_state, pairs_of};
 ghost use Rattle.turn_board.specs.Views.{all_shares};
 ghost use Rattle.screen_looks.specs.Looks.{IsNewScreen};
 ghost use Rattle.screen_looks.specs.Shown.{Opened, ShowsFrom};
@@ -20,7 +20,6 @@ use crate::writers::writers_of;
 use apron_base::{Keeper, Memory};
 use apron_rules::Airport;
 use desk_turns::{WorkEnd, serve_board};
-use history_core::Board;
 use screen_feed::Screen;
 use screen_hall::Hall;
 use std::alloc::Global;
@@ -35,18 +34,17 @@ pub struct Task {
     pub day: u32,
 }
 
-/// How the workers of the desks and those of the screens ended, and whether a screen's writer does
-/// not show the last version.
+/// How the workers of the desks and those of the screens ended.
 #[derive(Clone, Copy)]
 pub struct ShownEnd {
     pub desks: WorkEnd,
     pub screens: WorkEnd,
-    pub missed: bool,
 }
 
 /// Serves the connections of desks at a board with watches that was just opened, and beside them
 /// those of screens, which show a day of its plan; each listener by a worker in a thread of its
-/// own. At `Err` there is no memory, and no listener was called.
+/// own. It gives back the hall in which the board is, with a writer for each screen. At `Err` there
+/// is no memory, and no listener was called.
 pub fn serve_watched<
     'a,
     Rt: Threads + Wait + Sync,
@@ -62,7 +60,7 @@ pub fn serve_watched<
     listeners: &mut [W],
     walls: &mut [W],
     task: Task,
-) -> (Result<ShownEnd, Memory>, Board<'a, K>)
+) -> (Result<ShownEnd, Memory>, Hall<'a, 'a, 'a, Rt, K, R, T>)
     requires airport { airport.now ≡ board.board.airport }
     requires next { board.next ≡ board.board.next }
     requires at_risk { (machine_state K.state board.board).at_risk ≡ None }
@@ -76,18 +74,18 @@ pub fn serve_watched<
         })
         (record {
           listeners = map W.state listeners.new;
-          board = machine_state K.state result.1;
+          board = machine_state K.state result.1.board.board;
         }) ends.desks) }
     ensures shows { let history = board.entry.board.history in
         let opened : Opened = record { airport = airport.now; history = history } in
         IfOk result.0 (λ ends. ShowsFrom W.states opened task (map W.state walls.old) (record {
           listeners = map W.state walls.new;
-          history = result.1.history;
+          history = result.1.board.board.history;
           end = ends.screens;
         })) }
-    ensures missed { IfOk result.0 (λ ends. ends.missed ≡ true → 0 < length walls.old) }
+    ensures writers { IfOk result.0 (λ _. length result.1.writers ≡ length walls.old) }
     ensures refused { IfErr result.0 (λ _. (listeners.new ≡ listeners.old)
-        × (walls.new ≡ walls.old) × (result.1 ≡ board.entry.board)) }
+        × (walls.new ≡ walls.old) × (result.1.board.board ≡ board.entry.board)) }
 {
     let mut screens = Vec::new(alloc);
     let writers = writers_of(
@@ -100,7 +98,7 @@ pub fn serve_watched<
         &mut screens,
     );
     let hall = Hall::new(rt, board, writers);
-    let (ended, hall) = serve_hall(
+    serve_hall(
         rt,
         alloc,
         airport,
@@ -109,13 +107,12 @@ pub fn serve_watched<
         screens.as_mut_slice(),
         walls,
         task.connections,
-    );
-    (ended, hall.into_board().into_board())
+    )
 }
 
 /// Serves desks at the hall, and beside them each of the screens of its writers on the listener of
-/// the same place. Then it says whether a writer does not show the last version. `Err` if there is
-/// no memory for this, or there are not as many listeners as screens; then nothing was served.
+/// the same place, and gives the hall back with those writers. `Err` if there is no memory for this,
+/// or there are not as many listeners as screens; then nothing was served.
 pub fn serve_hall<
     'a,
     Rt: Threads + Wait + Sync,
@@ -157,9 +154,9 @@ pub fn serve_hall<
         ends.screens) }
     ensures fronts { let board = result.1.board.board in
         IfOk result.0 (λ _. Every (SeesFronts board.airport board.history) screens.new) }
-    ensures missed { IfOk result.0 (λ ends. ends.missed ≡ true → 0 < length walls.old) }
-    ensures note { IfOk result.0 (λ ends. ends.missed ≡ result.1.missed) }
-    ensures hall { IfOk result.0 (λ ends. IsHall result.1) }
+    ensures pairs { IfOk result.0
+        (λ _. pairs_of result.1.writers ≡ map (λ screen. screen.pair) screens.new) }
+    ensures writers { IfOk result.0 (λ _. length result.1.writers ≡ length walls.old) }
     ensures refused { IfErr result.0 (λ _. (listeners.new ≡ listeners.old)
         × (walls.new ≡ walls.old) × (result.1 ≡ hall.entry)) }
 {
@@ -179,7 +176,6 @@ pub fn serve_hall<
             let ends = ShownEnd {
                 desks,
                 screens: looks,
-                missed: hall.missed(),
             };
             (Ok(ends), hall)
         }

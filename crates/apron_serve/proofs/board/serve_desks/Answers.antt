@@ -1,7 +1,6 @@
 use denote.Param.Send.{param_send}
-use Rattle.std.proofs.Common.{◌∙◌, ◌<◌, ℕ, List, IfOk, ap, map, subst, sym}
+use Rattle.std.proofs.Common.{◌≡◌, ◌∙◌, ℕ, List, IfOk, ap, length, map, subst, sym}
 use Rattle.std.proofs.lemmas.List.{length-map}
-use Rattle.std.proofs.lemmas.Result.{IfOk-weaker}
 use Rattle.history_core.specs.AtRisk.{read_entry_at_risk}
 use Rattle.history_core.specs.Board.{machine_state}
 use Rattle.watch_list.specs.declared.watch.Watched.{Watched}
@@ -13,7 +12,7 @@ use Rattle.apron_run.specs.Survival.{Survives}
 use Rattle.apron_run.specs.World.{disk_seen}
 use Rattle.apron_run.proofs.Fronts.{stays_both}
 use Rattle.apron_serve.proofs.Crosses.{files_send}
-use Rattle.apron_serve.proofs.Desks.{desks_serve, of_err, opened_safe, turns_want_memory}
+use Rattle.apron_serve.proofs.Desks.{desks_serve, missed_of, of_err, of_ok, opened_safe, turns_want_memory}
 use Rattle.apron_serve.proofs.board.serve_desks.Goals as goal
 
 pub serve_watched-served-requires-send-K : goal.serve_watched-served-requires-send-K
@@ -26,25 +25,33 @@ serve_watched-served-requires-clause-at_risk g c κs within = opened_safe (journ
 
 pub returns-in-Ok-served-clause-crash : goal.returns-in-Ok-served-clause-crash
 returns-in-Ok-served-clause-crash g c =
-    let left = c.serve_watched-served.result.1 in (
-      desks_serve (record { states = g.L.Workplace.states; feeds = feed_texts g.R.Stated.tells c.args.watches.now }) (journal_tells g.D.Disk.state) c.args.files.now c.args.task
+    let tells = journal_tells g.D.Disk.state in
+    let hall = c.serve_watched-served.result.1 in
+    let left = hall.board.board in
+    let same : c.into_board-2.result ≡ left = c.into_board-2.ensures.value ∙ ap (λ w. w.board) c.into_board.ensures.board in
+    let writers : length hall.writers ≡ length (map g.L.Workplace.state c.args.screens.now) =
+    of_ok c.serve_watched-served.result.0 c.in-Ok-served.ends c.in-Ok-served.is c.serve_watched-served.ensures.writers ∙ sym (length-map c.args.screens.now g.L.Workplace.state) in (
+      desks_serve (record { states = g.L.Workplace.states; feeds = feed_texts g.R.Stated.tells c.args.watches.now }) tells c.args.files.now c.args.task
           (record { listeners = map g.L.Workplace.state c.args.listeners.now; screens = map g.L.Workplace.state c.args.screens.now; disk = disk_seen (g.D.Disk.state c.args.disk) })
-          (record { listeners = map g.L.Workplace.state c.serve_watched-served.new.listeners; screens = map g.L.Workplace.state c.serve_watched-served.new.walls; disk = disk_seen (g.D.Disk.state c.close_board-disk.result) })
-          c.in-Ok.board.board c.serve_watched-served.result.1 c.serve_watched-served.result.0 c.in-Ok-served.ends c.served_end.result c.in-Ok.ensures.opened c.in-Ok-served.is
+          (record { listeners = map g.L.Workplace.state c.serve_watched-served.new.listeners; screens = map g.L.Workplace.state c.serve_watched-served.new.walls; disk = disk_seen (g.D.Disk.state c.close_board.result) })
+          c.in-Ok.board.board left c.serve_watched-served.result.0 c.in-Ok-served.ends hall.missed c.served_end-end.result c.in-Ok.ensures.opened c.in-Ok-served.is
           (subst (λ (watches : List (Watched g.row.R.Denot)). IfOk c.serve_watched-served.result.0 (λ ends. ServesBoard g.L.Workplace.states
           (fed_sessions (feed_texts g.R.Stated.tells watches)) c.args.task.connections
-          (record { listeners = map g.L.Workplace.state c.args.listeners.now; board = machine_state (journal_tells g.D.Disk.state) c.in-Ok.board.board })
-          (record { listeners = map g.L.Workplace.state c.serve_watched-served.new.listeners; board = machine_state (journal_tells g.D.Disk.state) left }) ends.desks))
+          (record { listeners = map g.L.Workplace.state c.args.listeners.now; board = machine_state tells c.in-Ok.board.board })
+          (record { listeners = map g.L.Workplace.state c.serve_watched-served.new.listeners; board = machine_state tells left }) ends.desks))
           c.in-Ok.ensures.watches c.serve_watched-served.ensures.serves) c.serve_watched-served.ensures.shows
-          (IfOk-weaker c.serve_watched-served.result.0 _ _ (λ ended missed is.
-          subst (λ (n : ℕ). 0 < n) (sym (length-map c.args.screens.now g.L.Workplace.state)) (missed is)) c.serve_watched-served.ensures.missed)
-          c.served_end.ensures.is
-          (ap (λ d. (disk_seen (g.D.Disk.state d)).faults) c.close_board-disk.ensures.disk)
+          (missed_of hall (length (map g.L.Workplace.state c.args.screens.now)) writers c.served_end-end.ensures.note)
+          c.served_end-end.ensures.is
+          (ap (λ d. (disk_seen (g.D.Disk.state d)).faults) (c.close_board.ensures.disk ∙ ap (λ b. b.keeper.disk) same))
           (subst (λ (digests : List ℕ). KeepsHistory (record { airport = left.airport; digests = digests }) left.history
-          (read_entry_at_risk left.airport (journal_tells g.D.Disk.state left.keeper)) (disk_seen (g.D.Disk.state c.close_board-disk.result)))
-          (sym c.requires.digests) c.close_board-disk.ensures.keeps),
-      subst (λ (digests : List ℕ). Survives digests left.history (read_entry_at_risk left.airport (journal_tells g.D.Disk.state left.keeper))
-          (record { before = g.N.OfFiles.begun; after = g.D.Disk.state c.close_board-disk.result })) (sym c.requires.digests) c.close_board-disk.ensures.survives,
+          (read_entry_at_risk left.airport (tells left.keeper)) (disk_seen (g.D.Disk.state c.close_board.result)))
+          (sym c.requires.digests)
+          (subst (λ b. KeepsHistory (record { airport = b.airport; digests = g.N.OfFiles.digests }) b.history
+          (read_entry_at_risk b.airport (tells b.keeper)) (disk_seen (g.D.Disk.state c.close_board.result))) same c.close_board.ensures.keeps)),
+      subst (λ (digests : List ℕ). Survives digests left.history (read_entry_at_risk left.airport (tells left.keeper))
+          (record { before = g.N.OfFiles.begun; after = g.D.Disk.state c.close_board.result })) (sym c.requires.digests)
+          (subst (λ b. Survives g.N.OfFiles.digests b.history (read_entry_at_risk b.airport (tells b.keeper))
+          (record { before = g.N.OfFiles.begun; after = g.D.Disk.state c.close_board.result })) same c.close_board.ensures.survives),
     )
 
 pub returns-in-Ok-served-clause-meets : goal.returns-in-Ok-served-clause-meets
@@ -53,14 +60,15 @@ returns-in-Ok-served-clause-meets g c = (returns-in-Ok-served-clause-crash g c).
 pub returns-in-Err-served-clause-crash : goal.returns-in-Err-served-clause-crash
 returns-in-Err-served-clause-crash g c =
     let refused = of_err c.serve_watched-served.result.0 c.in-Err-served.field-0 c.in-Err-served.is c.serve_watched-served.ensures.refused in
-    let same = c.close_board-disk.ensures.disk ∙ ap (λ b. b.keeper.disk) refused.2 in (
+    let closed = c.into_board-2.ensures.value ∙ ap (λ w. w.board) c.into_board.ensures.board in
+    let same = c.close_board.ensures.disk ∙ ap (λ b. b.keeper.disk) (closed ∙ refused.2) in (
       turns_want_memory (journal_tells g.D.Disk.state) c.args.files.now
           (record { listeners = map g.L.Workplace.state c.args.listeners.now; screens = map g.L.Workplace.state c.args.screens.now; disk = disk_seen (g.D.Disk.state c.args.disk) })
-          (record { listeners = map g.L.Workplace.state c.serve_watched-served.new.listeners; screens = map g.L.Workplace.state c.serve_watched-served.new.walls; disk = disk_seen (g.D.Disk.state c.close_board-disk.result) })
+          (record { listeners = map g.L.Workplace.state c.serve_watched-served.new.listeners; screens = map g.L.Workplace.state c.serve_watched-served.new.walls; disk = disk_seen (g.D.Disk.state c.close_board.result) })
           c.in-Ok.board.board c.in-Ok.ensures.opened (ap (map g.L.Workplace.state) refused.0) (ap (map g.L.Workplace.state) refused.1)
           (ap (λ d. (g.D.Disk.state d).contents) same ∙ c.in-Ok.ensures.stays.contents)
           (ap (λ d. (disk_seen (g.D.Disk.state d)).faults) same),
-      stays_both g.N.OfFiles.begun (g.D.Disk.state c.args.disk) (g.D.Disk.state c.close_board-disk.result) c.requires.begun
+      stays_both g.N.OfFiles.begun (g.D.Disk.state c.args.disk) (g.D.Disk.state c.close_board.result) c.requires.begun
           (subst (λ d. Stays (g.D.Disk.state c.args.disk) (g.D.Disk.state d)) (sym same) c.in-Ok.ensures.stays),
     )
 

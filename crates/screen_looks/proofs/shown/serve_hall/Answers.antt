@@ -1,4 +1,4 @@
-use Rattle.std.proofs.Common.{◌∙◌, rules, map, subst, sym}
+use Rattle.std.proofs.Common.{rules, map, subst, sym}
 use denote.Param.Send.{param_send}
 use denote.Signature.{named_lft}
 use Rattle.desk_turns.specs.Crew.{ServesBoard}
@@ -6,7 +6,7 @@ use Rattle.screen_hall.specs.Halls.{HallHeld, hall_state}
 use Rattle.screen_hall.proofs.Crosses.{hall_send}
 use Rattle.screen_looks.specs.Walls.{ShowsAll, WallsState, walls_of}
 use Rattle.screen_looks.proofs.Boards.{hall_sessions}
-use Rattle.screen_looks.proofs.Kept.{if_ok, kept_pairs, missed_there}
+use Rattle.screen_looks.proofs.Kept.{if_ok, kept_pairs, writers_there}
 use Rattle.screen_looks.specs.contracts.shown.serve_hall as contract
 use Rattle.screen_looks.proofs.shown.serve_hall.Goals as goal
 
@@ -44,8 +44,14 @@ returns-in-Ok-clause-serves g c =
     (record { listeners = map state c.serve_board-ended.new.listeners; board = hall_state g.K.Keeper.state c.serve_board-ended.result.1 }) ends.0)
     c.in-Ok.is c.serve_board-ended.ensures.serves)
 
-pub returns-in-Ok-clause-missed : goal.returns-in-Ok-clause-missed
-returns-in-Ok-clause-missed g c missed =
-    let serves = returns-in-Ok-clause-serves g c in
-    missed_there c.args.hall c.knows.new.self serves.fixed c.args.screens.now c.args.walls.now (search rules) c.requires.pairs c.missed.ensures.shows
-    (sym c.missed.ensures.value ∙ missed)
+pub returns-in-Ok-clause-writers : goal.returns-in-Ok-clause-writers
+returns-in-Ok-clause-writers g c =
+    writers_there c.args.hall c.knows.new.self (returns-in-Ok-clause-serves g c).fixed c.args.screens.now c.args.walls.now (search rules) c.requires.pairs
+
+pub returns-in-Ok-clause-pairs : goal.returns-in-Ok-clause-pairs
+returns-in-Ok-clause-pairs g c =
+    let state = g.W.Workplace.state in
+    let before : WallsState g.row.W-In.Denot g.row.W-Out.Denot = walls_of state c.args.walls.now c.args.screens.now in
+    let after : WallsState g.row.W-In.Denot g.row.W-Out.Denot = walls_of state c.walls-1.given.0 c.screens-1.given.0 in
+    let shows : ShowsAll g.W.Workplace.states c.args.connections before after c.in-Ok.looks = search rules in
+    kept_pairs c.args.hall c.knows.new.self (returns-in-Ok-clause-serves g c).fixed g.W.Workplace.states c.args.connections before after c.in-Ok.looks c.requires.pairs shows
