@@ -50,7 +50,7 @@ const EXPECTED = ["plan-fill", "plan-fill + amber 26%"];
 const OVERDUE = ["late-fill", "late-stripe"];
 // Where the picked part would stand: on a free row, and over what keeps it off.
 const FITS = ROW.map((it) => `${it} + good 22%`);
-const OFF = [...ROW, "plan-fill", "there-fill", "late-fill"].map((it) => `${it} + bg 84%`);
+const OFF = [...ROW, "plan-fill", "there-fill", "late-fill"].map((it) => `${it} + bg 88%`);
 // How much of a time's colour is there, beside the name of a bar that is expected or on block.
 const TIME = "90%";
 

@@ -144,11 +144,12 @@ def changes(room):
     assert not desk.count("#changelist li"), f"nothing changed, and the list has {desk.texts('#changelist li')[:3]}"
     wanted = told_entries(room)
     wait("the last version is shown", lambda: version_in(desk.text("#link")) == room.version())
-    lines = desk.run("return [...document.querySelectorAll('#changelist li')].map((it) => [Number(it.dataset.version), it.textContent])")
-    for version, flight in wanted:
-        assert any(at == version and flight in text for at, text in lines), f"version {version} about {flight} is not among {lines}"
-    extra = [text for at, text in lines if not any(at == version and flight in text for version, flight in wanted)]
+    lines = desk.texts("#changelist li")
+    is_about = lambda text, version, flight: text.startswith(f"{version}{flight} ")
+    extra = [it for it in lines if not any(is_about(it, version, flight) for version, flight in wanted)]
     assert not extra, f"these lines are about nothing that happened: {extra}"
+    for version, flight in wanted:
+        assert any(is_about(it, version, flight) for it in lines), f"version {version} about {flight} is not among {lines}"
     return f"{len(lines)} lines"
 
 

@@ -95,8 +95,8 @@ CONTRAST = """
   }
   return [...worst.values()].slice(0, 8);
 """
-# How many of the waiting parts are passed over between the two that are picked.
-PICKED_STEP = 4
+# Which of the waiting parts is picked after the first: a short one.
+PICKED_NEXT = 4
 
 
 def stir(room):
@@ -112,28 +112,44 @@ def stir(room):
         room.asked.post("/mvt", message_of(visit, visit["on"] + 41))
 
 
+def looked_at(room, name, query="", **more):
+    """A board that is brought to its picture, and what is wrong with that."""
+    desk = room.desk(query, zone="Europe/Berlin", **more)
+    time.sleep(1.2)
+    desk.picture(name)
+    return desk, [f"{name}: {it}" for script in (OVERLAPS, BEYOND, OVERLAID) for it in desk.run(script)]
+
+
 def pictures(room):
-    """Day, night, wall, 24 hours, a phone, a tablet and the print: nothing is drawn over anything else, and each word has a contrast of 4.5."""
+    """By day and by night, also while a long part and a short one are picked: nothing is drawn over anything else, and each word has a contrast of 4.5."""
     stir(room)
-    wrong, made = [], []
-    for name, theme, size, query in (("day", "day", (1920, 1080), ""), ("night", "night", (1920, 1080), ""), ("wall", "night", (3840, 2160), "?wall"), ("hours-24", "day", (1920, 1080), "?hours=24"),
-                                     ("hours-4", "night", (1920, 1080), "?hours=4"), ("laptop", "day", (1366, 768), ""), ("tablet", "day", (1024, 768), "")):
-        desk = room.desk(query, theme=theme, size=size, zone="Europe/Berlin")
-        time.sleep(1.2)
-        desk.picture(name)
-        made.append(name)
-        wrong += [f"{name}: {it}" for script in (OVERLAPS, BEYOND, OVERLAID) for it in desk.run(script)]
-        if name in ("day", "night"):
-            wrong += [f"{name}: contrast {it}" for it in desk.run(CONTRAST)]
-            # A long part and a short one.
-            for suffix, key in zip(("", "-short"), desk.run("return [...document.querySelectorAll('#waitlist .wait')].map((it) => it.dataset.key)")[::PICKED_STEP]):
-                desk.click(f'.wait[data-key="{key}"]')
-                time.sleep(0.5)
-                desk.picture(f"{name}-picked{suffix}")
-                wrong += [f"{name}, {key} picked: {it}" for it in desk.run(OVERLAID)]
-                desk.keys("Escape")
+    wrong = []
+    for theme in ("day", "night"):
+        desk, found = looked_at(room, theme, theme=theme)
+        wrong += found + [f"{theme}: contrast {it}" for it in desk.run(CONTRAST)]
+        keys = desk.run("return [...document.querySelectorAll('#waitlist .wait')].map((it) => it.dataset.key)")
+        for suffix, key in (("picked", keys[0]), ("picked-short", keys[PICKED_NEXT])):
+            desk.click(f'.wait[data-key="{key}"]')
+            time.sleep(0.5)
+            desk.picture(f"{theme}-{suffix}")
+            wrong += [f"{theme}, {key} picked: {it}" for it in desk.run(OVERLAID)]
+            desk.keys("Escape")
     assert not wrong, "; ".join(wrong)
-    return f"{', '.join(made)} in {PICTURES}"
+    return f"in {PICTURES}"
+
+
+def sizes(room):
+    """On the wall, with 4 hours and 24, on a laptop and a tablet nothing is drawn over anything else."""
+    stir(room)
+    wrong = []
+    for name, theme, size, query in (("wall", "night", (3840, 2160), "?wall"), ("hours-24", "day", (1920, 1080), "?hours=24"),
+                                     ("hours-4", "night", (1920, 1080), "?hours=4"), ("laptop", "day", (1366, 768), ""), ("tablet", "day", (1024, 768), "")):
+        desk, found = looked_at(room, name, query, theme=theme, size=size)
+        wrong += found
+        room.desks.remove(desk)
+        desk.close()
+    assert not wrong, "; ".join(wrong)
+    return f"in {PICTURES}"
 
 
 def printed(room):
@@ -186,4 +202,4 @@ def phone(room):
         desk.keys("Escape")
 
 
-TRIALS = (pictures, printed, phone)
+TRIALS = (pictures, sizes, printed, phone)

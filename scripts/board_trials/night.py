@@ -1,11 +1,13 @@
 """Trials of a board that stays on the wall: midnight, following, the axis, the wall, and a whole shift."""
 
+import contextlib
+import re
 import time
 
 from board_trials.chromium import CONTROL, SHIFT
 from board_trials.desk import bar_of, wait
 from board_trials.plan import DAY, NOW
-from board_trials.room import version_in
+from board_trials.room import clock_of, version_in
 
 # Where the present minute is: its part of the chart's width, without the names of the stands.
 NOW_AT = """
@@ -24,9 +26,14 @@ def now_at(desk):
     return desk.run(NOW_AT)
 
 
-def is_third(desk):
+def is_at(desk, place):
+    """Whether the present minute is in sight, and at a place of the width."""
     at = now_at(desk)
-    return at is not None and abs(at - 1 / 3) < 0.04
+    return at is not None and abs(at - place) < 0.04
+
+
+def is_third(desk):
+    return is_at(desk, 1 / 3)
 
 
 def start_of(desk):
@@ -38,7 +45,7 @@ def hours_of(desk):
 
 
 def midnight(room):
-    """The clock goes from 23:40 to 00:20 without a hand: the new day's aircraft are there, the date is its, and the present minute stays at a third of the width."""
+    """The clock goes from 23:40 to 00:20 without a hand: the present minute stays where it is, at a third of the width, the date is the new day's, and its aircraft are there."""
     room.move(minutes=DAY * 1440 - 20 - NOW)
     desk = room.desk()
     assert "2 Jul" in desk.text("#date") or "2" in desk.text("#date")
@@ -46,9 +53,11 @@ def midnight(room):
     number = room.asked.post("/visits", {"name": "AFTER", "type": "A320", "class": 3, "on": DAY * 1440 + 30, "off": DAY * 1440 + 120})[1]["visit"]
     stand = next(it["name"] for it in room.airport.stands if room.verdict(room.visit(number), it["name"], room.visits(DAY, DAY + 1)) is None)
     room.asked.post("/commits", {"desk": "OTHER", "draft": 1, "base": room.version(), "edits": [{"put": {"visit": number, "part": 1, "stand": stand}}]})
+    place = wait("the present minute is in sight", lambda: now_at(desk))
     for _ in range(8):
         room.move(minutes=5)
-        wait("the present minute is at a third", lambda: is_third(desk), 8)
+        wait(f"at {clock_of(room.now())} the present minute is where it was", lambda: is_at(desk, place), 8)
+    assert is_third(desk), "the present minute is not at a third"
     wait("the clock is after midnight", lambda: desk.text("#utc").startswith("00:2"))
     assert "3" in desk.text("#date"), f"the date is {desk.text('#date')}"
     desk.row_of(stand)
@@ -59,10 +68,11 @@ def midnight(room):
 def following(room):
     """For hours the present minute stays at a third; a person who scrolls away is left alone, comes back by one key, and otherwise after a time."""
     desk = room.desk()
-    wait("the present minute is at a third", lambda: is_third(desk))
+    place = wait("the present minute is in sight", lambda: now_at(desk))
     for _ in range(6):
         room.move(minutes=37)
-        wait("the present minute is at a third", lambda: is_third(desk), 8)
+        wait(f"at {clock_of(room.now())} the present minute is where it was", lambda: is_at(desk, place), 8)
+    assert is_third(desk), "the present minute is not at a third"
     assert desk.attribute("#chart", "data-follow") == "true"
     desk.keys("}")
     wait("it follows no longer", lambda: desk.attribute("#chart", "data-follow") == "false")
@@ -110,10 +120,13 @@ def axis(room):
 def five_days(room):
     """Five presses of 'next day' are five days, with a server that takes three seconds."""
     desk = room.desk(f"?day={DAY}")
-    start = start_of(desk)
+    shown = lambda: int(re.search(r"\d+", desk.text("#date"))[0])
+    day = shown()
     room.proxy.slow = 3
     desk.keys("]", "]", "]", "]", "]")
-    wait("it is five days on", lambda: start_of(desk) - start == 5 * 1440, 6)
+    with contextlib.suppress(AssertionError):
+        wait("it is five days on", lambda: shown() == day + 5, 10)
+    assert shown() == day + 5, f"after five presses it is {shown() - day} days on"
 
 
 def wall(room):

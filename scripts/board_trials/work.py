@@ -310,7 +310,8 @@ def esc_asks(room):
     desk.keys("t")
     desk.fill("#f-text", "MVT HALF")
     desk.keys("Escape")
-    wait("it asks", lambda: desk.shown("#drop-typed"), 5)
+    wait("it asks, or drops the text", lambda: desk.shown("#drop-typed") or not desk.count("#dialog[open]"), 5)
+    assert desk.count("#dialog[open]"), "the typed text is dropped without a word"
     desk.click("#keep-typing")
     wait("the text is there", lambda: desk.run("return document.getElementById('f-text')?.value") == "MVT HALF", 5)
 
