@@ -3,8 +3,9 @@
 import time
 
 from board_trials.desk import bar_of, wait, waiting_item
-from board_trials.plan import departure_of, flight_of
+from board_trials.plan import DAY, departure_of, flight_of
 from board_trials.room import version_in
+from board_trials.soon import add
 
 OTHERS = ("other", "portal", "empty", "cut", "short", "wrong")
 # What each status and want is called.
@@ -132,8 +133,9 @@ def outside_plan(room):
 
 
 def changes(room):
-    """Changes has a line for each visit that an entry changed, with its version, and no other: also while a night stop is picked that needs the next day."""
+    """Changes has a line for each visit that an entry changed, with its version, and no other: also while a night stop is picked that needs the next day, which has a visit of its own, and after it."""
     room.move(minutes=8 * 60)
+    add(room, "NEXTDAY", DAY * 1440 + 600, DAY * 1440 + 690)
     desk = room.desk()
     night = next(it for it in room.visits() if it["state"] == "expected" and it["parts"][0]["stand"] and it["parts"][0]["to"] > 2 * 1440 + 120)
     desk.row_of(night["parts"][0]["stand"])
@@ -142,6 +144,7 @@ def changes(room):
     wait("it is picked", lambda: desk.count(".picked"))
     time.sleep(2)
     assert not desk.count("#changelist li"), f"nothing changed, and the list has {desk.texts('#changelist li')[:3]}"
+    desk.keys("Escape")
     wanted = told_entries(room)
     wait("the last version is shown", lambda: version_in(desk.text("#link")) == room.version())
     lines = desk.texts("#changelist li")
