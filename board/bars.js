@@ -19,6 +19,8 @@ import { offWords, shadowWords } from "./words.js";
 
 export const HOW = { expected: "expected", onblock: "on block", overdue: "overdue", gone: "gone" };
 const LEAST_ROOM = 10;
+// How wide the ends of a bar are that is late or early, as in chart.css.
+const EDGES = { late: 4, verylate: 7, early: 3 };
 // What the words of a picked part's place have around them, as in chart.css.
 const SPOT_EDGES = 14;
 // How large small letters are, as in chart.css.
@@ -104,7 +106,7 @@ function bar({ slot, visit, how, lane, lanes }, spot) {
   const times = timesFor(visit);
   const classes = classesOf(slot, visit, how, times, key);
   const [from, until] = freeOf(Math.max(slot.from, axis.start()), Math.min(slot.to, axis.end()), spot);
-  const edges = 3 + (/ on-(late|verylate|early)/.test(classes) ? 3 : 0) + (/ off-(late|verylate)/.test(classes) ? 4 : 0);
+  const edges = (EDGES[/ on-(\w+)/.exec(classes)?.[1]] ?? 2) + (EDGES[/ off-(late|verylate)/.exec(classes)?.[1]] ?? 1);
   const room = (until - from) * axis.pixels() - edges;
   const isCut = slot.from < axis.start() && from === axis.start();
   const margins = { "margin-left": px(isCut ? 0 : (from - slot.from) * axis.pixels()), "margin-right": px(Math.max(0, slot.to - until) * axis.pixels()) };
