@@ -35,6 +35,7 @@ class Demo:
 
     def __init__(self, program, board, port, speed, seed, at):
         self.clock, self.seed, self.stack, self.failed, self.why = Clock(speed, at), seed, contextlib.ExitStack(), threading.Event(), None
+        self.is_ending = False
         try:
             self.address = Address(port, board, os.path.join(LARGE, "preferences.csv"), self.clock, TRAINING)
         except OSError as why:
@@ -55,6 +56,7 @@ class Demo:
         return self
 
     def __exit__(self, *_):
+        self.is_ending = True
         self.stack.close()
 
     def prepare(self):
@@ -88,6 +90,8 @@ class Demo:
         try:
             task()
         except Exception as why:
+            if self.is_ending:
+                return
             self.why = f"the server has ended: {self.server.said().strip()}" if self.server.has_ended() else f"{task.__name__} failed: {why!r}"
             self.failed.set()
 

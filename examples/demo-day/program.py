@@ -31,11 +31,11 @@ class Server:
     def run(self, *words):
         """What the program prints with these words."""
         try:
-            ran = subprocess.run([self.program, *words], stdin=subprocess.DEVNULL, stdout=subprocess.PIPE, text=True, timeout=PATIENCE)
+            ran = subprocess.run([self.program, *words], stdin=subprocess.DEVNULL, stdout=subprocess.PIPE, stderr=subprocess.PIPE, text=True, timeout=PATIENCE)
         except OSError as why:
             raise Unable(f"the program does not start: {why}") from why
         if ran.returncode != 0:
-            raise Unable(f"apron {words[0]} ended with {ran.returncode}: {ran.stdout.strip()}")
+            raise Unable(f"apron {words[0]} ended with {ran.returncode}: {(ran.stdout + ran.stderr).strip()}")
         return ran.stdout
 
     def make_plan(self, season):

@@ -123,6 +123,8 @@ def demonstration(room):
         finally:
             demo.send_signal(signal.SIGINT)
         assert demo.wait(20) == 0
+        said = demo.stderr.read()
+        assert not said, f"at its end it says {said}"
     assert not served.listens_at(int(port)), "something still listens at its port"
     return f"the address after {spent:.1f} s"
 
