@@ -46,7 +46,7 @@ def foreign(room):
             code, _, _ = nginx.ask("GET", "/version", **fields)
             assert code == wanted, f"with {fields} the proxy answers {code}"
         assert nginx.ask("POST", "/cancels", {"visit": visit}, Origin="https://elsewhere.example")[0] == 403
-        for name in ("", *sorted(it for it in os.listdir(room.kit.board) if re.fullmatch(r"[a-z]+\.(js|css)", it))):
+        for name in ("", "preferences.csv", *sorted(it for it in os.listdir(room.kit.board) if re.fullmatch(r"[a-z]+\.(js|css)", it))):
             code, fields, _ = nginx.ask("GET", f"/{name}")
             assert code == 200 and fields["Date"] and all(it in fields["Content-Security-Policy"] for it in POLICY), f"/{name}: {code} {fields}"
         code, fields, text = nginx.ask("GET", f"/day/{DAY}", **{"Accept-Encoding": "gzip"})
