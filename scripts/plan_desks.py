@@ -99,7 +99,8 @@ class Busy(threading.Thread):
     def __init__(self, day, is_taking, begins):
         super().__init__()
         self.day, self.is_taking, self.begins, self.taken, self.is_over = day, is_taking, begins, 0, False
-        self.dice, self.desk, self.touched = random.Random(is_taking), day.another_desk("BUSY"), set()
+        # The version of its last edit of each part, and the stand that this gave, or None.
+        self.dice, self.desk, self.touched = random.Random(is_taking), day.another_desk("BUSY"), {}
 
     def run(self):
         while not self.is_over:
@@ -112,11 +113,11 @@ class Busy(threading.Thread):
     def edit(self, version, it):
         place = {"visit": it["visit"], "part": it["part"]}
         is_lift = not self.is_taking and self.dice.random() < 0.3
-        edit = {"lift": place} if is_lift else {"put": {**place, "stand": self.dice.choice(self.day.rules.stands)["name"]}}
-        status, _ = self.desk.commit(version, [edit])
+        stand = None if is_lift else self.dice.choice(self.day.rules.stands)["name"]
+        status, value = self.desk.commit(version, [{"lift": place} if is_lift else {"put": {**place, "stand": stand}}])
         if status == 200:
             self.taken += 1
-            self.touched.add((it["visit"], it["part"]))
+            self.touched[it["visit"], it["part"]] = value["version"], stand
 
 
 class TwoDesks:
@@ -139,5 +140,6 @@ class TwoDesks:
         return sum(it.taken for it in self.desks)
 
     def touched(self):
-        """The parts that they gave stands or took them from."""
-        return self.desks[0].touched | self.desks[1].touched
+        """The parts that they edited, each with the stand that it had then, or None."""
+        edits = sorted((version, key, stand) for it in self.desks for key, (version, stand) in it.touched.items())
+        return {key: stand for _, key, stand in edits}

@@ -101,7 +101,7 @@ class Planner:
         self.airport = desk.Airport(self.desk.get("/airport"))
         rules = self.airport.rules
         self.preferences = preferences.read(given.preferences, rules) if given.preferences else preferences.Preferences(rules)
-        # The stands of the last plan, by visit and part, and the planned parts that this run has moved.
+        # The stands before the last plan and in it, by visit and part, and the planned parts that this run has moved.
         self.wanted, self.moved = {}, set()
 
     def window(self):
@@ -142,8 +142,9 @@ class Planner:
             if self.given.dry_run:
                 self.tell(picture, window, allocation, cuts)
                 return
-            moves = {(it.visit, it.number) for it in allocation.parts if it.is_free and not it.waits and it.stand != it.was}
-            self.wanted = {(it.visit, it.number): it.stand for it in allocation.parts if it.is_free and it.stand is not None}
+            changed = [it for it in allocation.parts if it.is_free and it.stand not in (None, it.was)]
+            moves = {(it.visit, it.number) for it in changed if not it.waits}
+            self.wanted = {(it.visit, it.number): (it.was, it.stand) for it in changed}
             planned = desk.drafts_of(self.airport, allocation, cuts, most)
             sent = desk.send(self.desk, picture.version, planned, moves, self.stop)
             self.moved |= sent.moved

@@ -181,23 +181,34 @@ class Search:
 
 
 def take_over(allocation, wanted):
-    """After a refusal: gives parts the stands of this table, by visit and part, as far as these are still free, planned parts first. The rest is
-    placed anew; if `fit` alone does better, its plan is kept."""
+    """After a refusal: gives parts the stands of an earlier plan as far as these are still free, without its moves if not all parts find a
+    stand so. `wanted` has by visit and part the stand that a part had then, and the one that it was to have; a part that another desk has
+    put elsewhere stays there. The rest is placed anew; if `fit` alone does better, its plan is kept."""
     start = allocation.stands()
     fit(allocation)
     value, stands = allocation.value(), allocation.stands()
     allocation.settle(start)
-    goals = {part: wanted[part.visit, part.number] for part in start if wanted.get((part.visit, part.number), part.stand) != part.stand}
+    goals = {}
+    for part in start:
+        was, stand = wanted.get((part.visit, part.number), (None, None))
+        if stand is not None and part.was == was:
+            goals[part] = stand
+    settle_as_wanted(allocation, goals)
+    if not allocation.is_allowed():
+        allocation.settle(start)
+        settle_as_wanted(allocation, {part: stand for part, stand in goals.items() if part.waits})
+    place(allocation, waiting(allocation))
+    if value < allocation.value():
+        allocation.settle(stands)
+
+
+def settle_as_wanted(allocation, goals):
+    """Puts parts on the stands of this table that are free, or where they were, planned parts first."""
     for part in goals:
         allocation.put(part, None)
     for part in sorted(goals, key=lambda it: (it.waits, it.rank)):
         stand = next((it for it in (goals[part], part.was) if it is not None and not allocation.blockers(part, it, 0)), None)
         allocation.put(part, stand)
-    if not allocation.is_allowed():
-        allocation.settle(start)
-    place(allocation, waiting(allocation))
-    if value < allocation.value():
-        allocation.settle(stands)
 
 
 def plan(allocation, method, seconds, is_stopped=lambda: False, seed=1):
