@@ -33,13 +33,13 @@ def run(*words, **more):
 
 
 class Hosts:
-    """The hosts, in a folder."""
+    """The hosts, in a folder whose name their namespaces have."""
 
     def __init__(self, room):
         self.room = room
 
     def netns(self, host):
-        return f"apron-{host}"
+        return f"{os.path.basename(self.room)}-{host}"
 
     def place(self, host, *names):
         return os.path.join(self.room, host, *names)
@@ -51,10 +51,6 @@ class Hosts:
         """The words before a command that is run on a host."""
         with open(f"{self.place(host)}.holder") as file:
             return ["nsenter", "-t", file.read().strip(), "-m", "-n", "-u", "--"]
-
-    def are_there(self):
-        """Whether another trial has made hosts."""
-        return any(self.netns(host) in run("ip", "netns", "list").stdout.split() for host in (*HOSTS, "d"))
 
     def up(self):
         """Makes the hosts, their network, and the volume."""
