@@ -23,7 +23,7 @@ class Bridged:
         self.port, self.server.port, self.server.connections = self.server.port, served.free_port(), FEW
         words = [BRIDGE, "--requests", str(EACH), f"127.0.0.1:{self.port}", f"127.0.0.1:{self.server.port}"]
         self.bridge = subprocess.Popen(words, stderr=subprocess.DEVNULL)
-        self.waits, self.codes, self.lock = [0], {}, threading.Lock()
+        self.waits, self.codes, self.lock, self.starting = [0], {}, threading.Lock(), threading.Lock()
 
     def __enter__(self):
         while not served.listens_at(self.port):
@@ -45,7 +45,8 @@ class Bridged:
         while not self.over:
             if self.server.process.poll() is not None:
                 time.sleep(AWAY)
-                self.server.start()
+                with self.starting:
+                    self.server.start()
                 self.starts += 1
             time.sleep(0.02)
 
@@ -93,7 +94,8 @@ def bridge_kills(proxy, count):
     """While the server is killed again and again, no GET is refused, no POST is done twice, and none that got 200 is lost."""
     def kill(bridged):
         time.sleep(1.5)
-        bridged.server.process.kill()
+        with bridged.starting:
+            bridged.server.process.kill()
 
     with Bridged(proxy, count) as bridged:
         taken = bridged.run(kill)
