@@ -74,10 +74,14 @@ class Desk(threading.Thread):
     def __init__(self, number, host):
         super().__init__(daemon=True)
         self.number, self.host, self.over, self.count, self.taken, self.refused, self.link = number, host, False, 0, [], collections.Counter(), None
+        self.wanted = None
         self.start()
 
     def run(self):
         while not self.over:
+            if self.wanted:
+                self.host, self.wanted = self.wanted, None
+                self.leave()
             self.count += 1
             name = f"D{self.number}N{self.count}"
             while not self.over and not self.sent(name):
@@ -103,10 +107,14 @@ class Desk(threading.Thread):
             self.refused[code] += 1
         except OSError:
             pass
+        self.leave()
+        return False
+
+    def leave(self):
+        """Closes its connection, if it has one."""
         if self.link is not None:
             self.link.close()
         self.link = None
-        return False
 
 
 class Play:
@@ -205,6 +213,8 @@ class Play:
             self.hosts.mount(host)
         elif kind == "cut":
             self.hosts.link(host, True)
+            # A desk that asks the old host again, as one with another proxy would.
+            self.desks[0].wanted = host
             time.sleep(HOLD)
             self.hosts.start_bricks()
         elif kind == "brick":
