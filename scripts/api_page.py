@@ -1,5 +1,5 @@
 """Whether the page for authors of clients has what the API description has: a section for each operation, which names each of its refusals
-with its status, and a table of those that any operation may give."""
+with its status, and a table of those that any operation may give. And a table of all replies, made of the description."""
 
 import re
 
@@ -23,6 +23,16 @@ def refusals_of(description, operation):
     for status, response in operation.responses.items():
         for content in response["content"].values():
             yield from ((status, word) for word in description.words_of(content["schema"]) if word)
+
+
+def table_of_replies(description):
+    """The rows of a table of all replies, in the order of the description."""
+    yield from ("| Endpoint | Status | `error` | Meaning |", "|---|---|---|---|")
+    for operation in description.operations:
+        for status, response in sorted(operation.responses.items()):
+            words = sorted({f"`{word}`" for it in response["content"].values() for word in description.words_of(it["schema"]) if word})
+            meaning = " ".join(response["description"].split())
+            yield f"| {operation.method} {operation.path} | {status} | {', '.join(words)} | {meaning} |"
 
 
 def page_faults(description, path):

@@ -1,5 +1,5 @@
 """Has the program answer requests, and compares each request and each reply with the API description: the example sessions, drawn requests to
-a desk and to a server, and replies that have to be made on purpose."""
+`apron desk` and to a server, and replies that have to be made on purpose."""
 
 import importlib.machinery
 import importlib.util
@@ -19,7 +19,7 @@ from stand_plan import Airport, compact
 
 MOST_ENTRIES = 200_000
 SESSIONS_OF_A_JOURNAL, REQUESTS_OF_A_SESSION = 12, 25
-# Every so many journals is that of a server, and the others are those of desks.
+# Every so many journals is that of a server, and the others are those of `apron desk`.
 SERVED = 5
 # How many aircraft stand on one stand at one minute, so that a chart has an alarm for every two of them.
 CROWD = 800
@@ -65,7 +65,7 @@ def shown(asked):
 
 
 def desk(program, files, journal, stream):
-    """What a desk answers to a stream."""
+    """What `apron desk` answers to a stream."""
     words = [program, "desk", *files, journal]
     return subprocess.run(words, input=stream, stdout=subprocess.PIPE, stderr=subprocess.DEVNULL, timeout=PATIENCE).stdout
 
@@ -164,7 +164,7 @@ def drawn_session(draws, description, forbidden):
 
 
 def answered(program, files, journal, stream, server):
-    """What the program answers to a stream: a desk, or a server over one connection."""
+    """What the program answers to a stream: `apron desk`, or a server over one connection."""
     if server is None:
         return desk(program, files, journal, stream)
     with server.link() as link:
@@ -232,7 +232,7 @@ def try_full(looks, program, room):
 
 
 def limited(program, files, journal, kind, most):
-    """A desk that has answered one request, and has such a limit since. SIGXFSZ is ignored, so that a write that goes too far fails."""
+    """An `apron desk` that has answered one request, and has such a limit since. SIGXFSZ is ignored, so that a write that goes too far fails."""
     shell = ["/bin/sh", "-c", 'trap "" XFSZ && exec "$@"', "desk", program, "desk", *files, journal]
     process = subprocess.Popen(shell, stdin=subprocess.PIPE, stdout=subprocess.PIPE, stderr=subprocess.DEVNULL)
     process.stdin.write(request("GET", "/version"))

@@ -5,6 +5,7 @@ import os
 import shutil
 import signal
 import subprocess
+import tempfile
 import time
 
 PATIENCE = 300
@@ -39,13 +40,27 @@ def clone(top, room):
 
 
 def unpacked(package, room):
-    """What a Debian package has for a reader: a folder with its documents and examples, and with its program in the place of the launcher."""
+    """What a Debian package has for a reader: a folder with its documents and examples, and with its program in the place of the launcher. It is
+    committed to a repository of its own, so that it can be cleaned."""
     root = os.path.join(room, "root")
     subprocess.run(["dpkg-deb", "--extract", package, root], check=True, timeout=PATIENCE)
     folder = os.path.join(root, "usr", "share", "doc", "apron")
     os.symlink(os.path.join(root, "usr", "bin", "apron"), os.path.join(folder, "apron"))
     os.symlink(os.path.join(root, "usr", "libexec", "apron"), os.path.join(folder, "scripts"))
+    git(folder, "init", "--quiet")
+    git(folder, "add", "--all", "--force")
+    git(folder, "-c", "user.name=doc-holds", "-c", "user.email=", "commit", "--quiet", "--message", "unpacked")
     return folder
+
+
+def clean(folder):
+    """Makes a folder as it was when it was cloned or unpacked."""
+    git(folder, "reset", "--quiet", "--hard")
+    git(folder, "clean", "--quiet", "-xdff")
+
+
+def git(folder, *words):
+    subprocess.run(["git", "-C", folder, *words], check=True, capture_output=True, timeout=PATIENCE)
 
 
 def run_page(blocks, room, folder, environment):
@@ -73,13 +88,14 @@ def output_fault(number, block, room):
     return f"it printed\n{printed.rstrip()}\nand the page shows\n{block.shown.rstrip()}"
 
 
-def page_faults(page, blocks, room, folder, environment):
+def page_faults(page, blocks, folder, environment):
     """What does not hold of the blocks of a page that are run in a folder."""
-    errors = run_page(blocks, room, folder, environment)
-    for number, block in enumerate(blocks):
-        if not os.path.exists(os.path.join(room, f"{number}.ended")):
-            yield f"{page.path}:{block.line}: these commands failed, or did not end:\n{block.text}\n{errors[-2000:]}"
-            return
-        fault = output_fault(number, block, room)
-        if fault:
-            yield f"{page.path}:{block.line}: {fault}"
+    with tempfile.TemporaryDirectory() as room:
+        errors = run_page(blocks, room, folder, environment)
+        for number, block in enumerate(blocks):
+            if not os.path.exists(os.path.join(room, f"{number}.ended")):
+                yield f"{page.path}:{block.line}: these commands failed, or did not end:\n{block.text}\n{errors[-2000:]}"
+                return
+            fault = output_fault(number, block, room)
+            if fault:
+                yield f"{page.path}:{block.line}: {fault}"

@@ -1,0 +1,112 @@
+"""The parts of the manual pages that are made of other sources. The forms of the commands are those of `help_text`, the definition that
+`--help` is proved to print; the headings of docs/reference/cli.md have to be the same; and what the manual pages say of commands, statuses,
+messages and the journal's bytes is said in that page and in journal-format.md."""
+
+import os
+import re
+
+HELP = "crates/apron_run/specs/Print.antt"
+COMMANDS = "docs/reference/cli.md"
+MANUALS = ("packaging/man/apron.1", "packaging/man/apron-journal.5")
+FORM = re.compile(r"^apron ((?:--)?[a-z]+(?: (?:[A-Z]+|screen))*)(?= |$)", re.M)
+PART = re.compile(r'(\.\\" Made of (.+?)(?:, (.+?))? by scripts/doc-holds --write\.\n).*?(\.\\" End\.\n)', re.S)
+INLINE = re.compile(r"`(?P<code>[^`]+)`|\*\*(?P<bold>.+?)\*\*|\*(?P<term>[^*]+)\*|\[(?P<link>(?:[^\[\]]|`[^`]*`)+)\]\([^)]*\)")
+
+
+def read(top, path):
+    with open(os.path.join(top, path), encoding="utf-8") as file:
+        return file.read()
+
+
+def forms(top):
+    """Each command with its arguments, in the order of --help."""
+    text = re.search(r'^help_text =\n\s*codes "(.*)"$', read(top, HELP), re.M)[1]
+    return FORM.findall(text.replace("\\n", "\n"))
+
+
+def roff(text):
+    """A text as troff has it."""
+    return text.replace("\\", "\\e").replace("-", "\\-")
+
+
+def inline(text):
+    """A text with code, bold, terms and links in it."""
+    made, place = "", 0
+    for found in INLINE.finditer(text):
+        kind, inner = found.lastgroup, found[found.lastgroup]
+        inner = inline(inner) if kind in ("bold", "link") else roff(inner)
+        made += roff(text[place:found.start()]) + {"code": rf"\fB{inner}\fR", "bold": rf"\fB{inner}\fR",
+                                                   "term": rf"\fI{inner}\fR", "link": inner}[kind]
+        place = found.end()
+    return made + roff(text[place:])
+
+
+def line_of(text):
+    """A line that troff does not read as a request."""
+    return re.sub(r"^(?=[.'])", r"\\&", text)
+
+
+def row(cells, names):
+    """A row of a table as a tagged paragraph; what stands between its first cell and its last has its column's name before it."""
+    between = "".join(f"{name} {cell}. " for name, cell in zip(names[1:-1], cells[1:-1]))
+    return f".TP\n\\fB{inline(cells[0])}\\fR\n{line_of(inline(between + cells[-1]))}"
+
+
+def table(lines):
+    rows = [[cell.strip() for cell in re.split(r"(?<!\\)\|", line)[1:-1]] for line in lines]
+    return [row(cells, rows[0]) for cells in rows[2:]]
+
+
+def block(text):
+    """A block of a page, between empty lines."""
+    lines = text.split("\n")
+    if lines[0].startswith("```"):
+        return [".PP\n.nf", *(line_of(roff(line)) for line in lines[1:-1]), ".fi"]
+    if lines[0].startswith("|"):
+        return table(lines)
+    if lines[0].startswith("- "):
+        return [f".IP \\(bu 2\n{line_of(inline(line[2:]))}" for line in lines]
+    if heading := re.fullmatch(r"### `(\S+)(?: (.*))?`", text):
+        return [f".SS {roff(heading[1])} {heading[2] or ''}".rstrip()]
+    return [f".PP\n{line_of(inline(' '.join(lines)))}"]
+
+
+def section(page, title):
+    """The blocks of a section of a page."""
+    text = re.search(rf"^## {re.escape(title)}\n\n(.*?)(?=^## |\Z)", page, re.M | re.S)[1]
+    return re.findall(r"^```.*?^```$|^(?:(?!```)[^\n]+\n?)+", text, re.M | re.S)
+
+
+def synopsis(top):
+    """The forms of the commands, arguments in italics."""
+    made = (rf"\fBapron {word}\fR" + (rf" \fI{rest}\fR" if rest else "") for word, _, rest in map(lambda it: it.partition(" "), forms(top)))
+    return ["\n.br\n".join(made).replace(" screen ", r" \fBscreen\fI ")]
+
+
+def made(top, source, title):
+    """The lines of a part of a manual page."""
+    if source == "--help":
+        return synopsis(top)
+    return [line for text in section(read(top, source), title) for line in block(text.strip("\n"))]
+
+
+def manual(top, path):
+    """A manual page with its parts as they have to be."""
+    return PART.sub(lambda it: it[1] + "\n".join(made(top, it[2], it[3])) + "\n" + it[4], read(top, path))
+
+
+def manual_faults(top):
+    """The parts that are not what they are made of."""
+    headings = re.findall(r"^### `(.+?)`$", read(top, COMMANDS), re.M)
+    if headings != forms(top):
+        yield f"{COMMANDS}: its commands are {headings}, and those of --help {forms(top)}"
+    for path in MANUALS:
+        if manual(top, path) != read(top, path):
+            yield f"{path}: a part is not what it is made of; run scripts/doc-holds --write"
+
+
+def write_manuals(top):
+    for path in MANUALS:
+        text = manual(top, path)
+        with open(os.path.join(top, path), "w", encoding="utf-8") as file:
+            file.write(text)
