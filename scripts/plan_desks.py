@@ -37,7 +37,8 @@ def fill(server):
 def ended(process):
     """How a planner ends, and what it said. If that takes too long, it is killed."""
     try:
-        return Ran(None, *process.communicate(timeout=PATIENCE))._replace(code=process.returncode)
+        output, errors = process.communicate(timeout=PATIENCE)
+        return Ran(process.returncode, output, errors)
     finally:
         process.kill()
 
