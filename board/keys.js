@@ -43,7 +43,9 @@ export function listenToKeys(acts) {
 
 function onKey(event, acts) {
   if (event.key === "Escape") return escape(event);
-  const isTyping = /^(INPUT|TEXTAREA|SELECT)$/.test(event.target.tagName) || isOpen() || isMenuOpen();
+  // A field of a dialogue that was closed keeps the focus until the page is drawn again.
+  const isField = event.target.matches("input, textarea, select") && event.target.closest("dialog:not([open])") === null;
+  const isTyping = isField || isOpen() || isMenuOpen();
   if ((event.ctrlKey || event.metaKey) && event.key === "Enter" && !isOpen()) return acts.publish();
   if (isTyping || event.ctrlKey || event.metaKey || event.altKey || !picture.hasPicture()) return undefined;
   const key = event.key.length === 1 || event.key === "Delete" || event.key === "Home" ? event.key.toLowerCase() : event.key;
