@@ -1,7 +1,7 @@
 -- Disks over files: what contracts see of them.
-use Rattle.std.specs.Prelude.{◌≡◌, ◌⊎◌, ℕ, Option, Some, None, IfSome, IsSomeAnd, MatchOption, Result, IsErr, IsOkAnd, OnErr}
+use Rattle.std.specs.Prelude.{◌≡◌, ◌⊎◌, ℕ, List, Option, Some, None, IfSome, IsSomeAnd, MatchOption, Result, IsErr, IsOkAnd, OnErr}
 use Rattle.std.specs.declared.io.Error.{Error}
-use Rattle.journal_disk.specs.Disk.{DiskState, IfExposed, Stays, untold_disk}
+use Rattle.journal_disk.specs.Disk.{DiskState, DoneCall, Does, IfExposed, Stays, untold_disk}
 use Rattle.host_files.specs.Files.{FailsFor, FileState, IfTold}
 use Rattle.host_files.specs.Files.Lock.{Shared, Exclusive, Unavailable}
 use Rattle.host_files.specs.declared.locked_file.Access.{Access}
@@ -34,10 +34,13 @@ disk_over state (Some file) faults = record (state file).disk { faults = faults 
 abbrev pub disk_of : {F : Type 0} → (F → FileState) → FileHeld F → DiskState
 disk_of state held = disk_over state held.file held.faults
 
--- what a disk has is the file that was opened, and nothing was written to it
-abbrev pub HasOpened : {F : Type 0} → (F → FileState) → Result F Error → Option F → Type 0
-HasOpened state opened file =
-    IfSome file (λ now. IsOkAnd opened (λ first. Stays (state first).disk (state now).disk))
+-- what a disk has is the file that was opened: nothing was written to it, and these syncs were done
+abbrev pub HasOpened : {F : Type 0} → List DoneCall → (F → FileState) → Result F Error → Option F
+    → Type 0
+HasOpened syncs state opened file =
+    IfSome file (λ now. IsOkAnd opened (λ first.
+    Stays (state first).disk (state now).disk
+    × Does syncs (state first).disk (state now).disk))
 
 -- without a file a call of the disk fails; over one it fails only since a call of the system did,
 -- or for this cause

@@ -57,8 +57,8 @@ is_without_syncs InvalidInput = true
 is_without_syncs _ = false
 
 -- a crash leaves the file at its path, with what it reads as
-abbrev pub IsThere : FileState → Type 0
-IsThere file = IfExposed file.disk (λ bytes. IsSafe bytes file.disk × (file.lasting ≡ true))
+abbrev pub IsLasting : FileState → Type 0
+IsLasting file = IfExposed file.disk (λ bytes. IsSafe bytes file.disk × (file.lasting ≡ true))
 
 -- a call failed only since a call of the system did, or for this cause
 abbrev pub FailsFor : (FileState → FileState → Type 0) → FileState → FileState → Type 0

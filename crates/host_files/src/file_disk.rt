@@ -1,11 +1,12 @@
 // A disk over a file.
-ghost use Rattle.std.specs.Prelude.{◌≡◌, ◌+◌, ◌≤◌, IfOk, IfSome, IsErr, MatchResult, Ok, OnErr, OnOk, drop, is_err, is_some, length, take};
+ghost use Rattle.std.specs.Prelude.{◌≡◌, ◌+◌, ◌≤◌, ◌∷◌, [], IfOk, IfSome, IsErr, MatchResult, Ok, OnErr, OnOk, drop, is_err, is_some, length, take};
 ghost use Rattle.std.specs.Option.{option_map};
 ghost use Rattle.std.specs.Result.{result_ok};
 ghost use Rattle.apron_base.specs.Counts.{Counts};
-ghost use Rattle.journal_disk.specs.Disk.{Between, Goes, IfExposed, IsDurable, Stays, Torn, with_piece_at};
+ghost use Rattle.journal_disk.specs.Disk.{Between, Does, Goes, IfExposed, IsDurable, IsThere, Same, Stays, Torn, with_piece_at};
+ghost use Rattle.journal_disk.specs.Disk.DoneCall.{DoneWrite, DoneSync};
 ghost use Rattle.host_files.specs.Disks.{EndsBy, HasOpened, IsAlone, IsAmongReaders, disk_of};
-ghost use Rattle.host_files.specs.Files.{IsNotOurs, IsThere, IsTooLong, NoOther};
+ghost use Rattle.host_files.specs.Files.{IsLasting, IsNotOurs, IsTooLong, NoOther};
 
 use crate::causes::LastCause;
 use crate::locked_file::LockedFile;
@@ -77,7 +78,7 @@ impl<'a, R: Eprint, F: RawFile + Drop> FileDisk<'a, R, F> {
     pub fn to_write(rt: &'a R, path: &'a str, opened: io::Result<F>) -> Self
         ensures none { result.faults ≡ 0 }
         ensures alone { IfSome result.file (λ file. IsAlone (F.state file)) }
-        ensures opened { HasOpened F.state opened result.file }
+        ensures opened { HasOpened [] F.state opened result.file }
     {
         FileDisk::over(rt, path, LockedFile::to_write(opened))
     }
@@ -87,8 +88,8 @@ impl<'a, R: Eprint, F: RawFile + Drop> FileDisk<'a, R, F> {
     pub fn to_make(rt: &'a R, path: &'a str, opened: io::Result<F>) -> Self
         ensures none { result.faults ≡ 0 }
         ensures alone { IfSome result.file (λ file. IsAlone (F.state file)) }
-        ensures opened { HasOpened F.state opened result.file }
-        ensures there { IfSome result.file (λ file. IsThere (F.state file)) }
+        ensures opened { HasOpened (DoneSync ∷ []) F.state opened result.file }
+        ensures lasting { IfSome result.file (λ file. IsLasting (F.state file)) }
     {
         FileDisk::over(rt, path, LockedFile::to_make(opened))
     }
@@ -98,7 +99,7 @@ impl<'a, R: Eprint, F: RawFile + Drop> FileDisk<'a, R, F> {
     pub fn to_read(rt: &'a R, path: &'a str, opened: io::Result<F>) -> Self
         ensures none { result.faults ≡ 0 }
         ensures among { IfSome result.file (λ file. IsAmongReaders (F.state file)) }
-        ensures opened { HasOpened F.state opened result.file }
+        ensures opened { HasOpened [] F.state opened result.file }
     {
         FileDisk::over(rt, path, LockedFile::to_read(opened))
     }
@@ -156,6 +157,8 @@ impl<'a, R: Eprint, F: RawFile> Disk for FileDisk<'a, R, F> {
     fn length(&mut self) -> Result<u32, Failed>
         ensures length { IfOk result
             (λ size. IfExposed (disk_of F.state self.old) (λ bytes. size ≡ length bytes)) }
+        ensures done { OnOk result
+            ((disk_of F.state self.new).done ≡ (disk_of F.state self.old).done) }
         ensures stays { Stays (disk_of F.state self.old) (disk_of F.state self.new) }
         ensures counts { Counts (is_err result)
             (disk_of F.state self.old).faults (disk_of F.state self.new).faults }
@@ -174,6 +177,8 @@ impl<'a, R: Eprint, F: RawFile> Disk for FileDisk<'a, R, F> {
             (λ bytes. at + length into.old ≤ length bytes) }
         ensures read { OnOk result (IfExposed (disk_of F.state self.old)
             (λ bytes. into.new ≡ take (length into.old) (drop at bytes))) }
+        ensures done { OnOk result
+            ((disk_of F.state self.new).done ≡ (disk_of F.state self.old).done) }
         ensures stays { Stays (disk_of F.state self.old) (disk_of F.state self.new) }
         ensures counts { Counts (is_err result)
             (disk_of F.state self.old).faults (disk_of F.state self.new).faults }
@@ -195,6 +200,10 @@ impl<'a, R: Eprint, F: RawFile> Disk for FileDisk<'a, R, F> {
             (disk_of F.state self.old).contents (disk_of F.state self.new).contents) }
         ensures crash { Goes (Torn at (length piece.now))
             (disk_of F.state self.old) (disk_of F.state self.new) }
+        ensures again { IsThere at piece.now (disk_of F.state self.old)
+            → Goes Same (disk_of F.state self.old) (disk_of F.state self.new) }
+        ensures done { OnOk result (Does (DoneWrite at (length piece.now) ∷ [])
+            (disk_of F.state self.old) (disk_of F.state self.new)) }
         ensures counts { Counts (is_err result)
             (disk_of F.state self.old).faults (disk_of F.state self.new).faults }
         ensures cause { EndsBy F.state IsNotOurs self.old self.new result }
@@ -211,6 +220,8 @@ impl<'a, R: Eprint, F: RawFile> Disk for FileDisk<'a, R, F> {
     fn sync(&mut self) -> Result<(), Failed>
         ensures durable { OnOk result
             (IsDurable (disk_of F.state self.old) (disk_of F.state self.new)) }
+        ensures done { OnOk result
+            (Does (DoneSync ∷ []) (disk_of F.state self.old) (disk_of F.state self.new)) }
         ensures stays { Stays (disk_of F.state self.old) (disk_of F.state self.new) }
         ensures counts { Counts (is_err result)
             (disk_of F.state self.old).faults (disk_of F.state self.new).faults }

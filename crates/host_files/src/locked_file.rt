@@ -1,10 +1,11 @@
 // An open file with its lock, and what may be done with it.
-ghost use Rattle.std.specs.Prelude.{◌≡◌, ◌+◌, ◌≤◌, IfOk, OnOk, OnErr, length, take, drop};
+ghost use Rattle.std.specs.Prelude.{◌≡◌, ◌+◌, ◌≤◌, ◌∷◌, [], IfOk, OnOk, OnErr, length, take, drop};
 ghost use Rattle.std.specs.Option.{option_map};
 ghost use Rattle.std.specs.Result.{result_ok};
-ghost use Rattle.journal_disk.specs.Disk.{Between, Goes, IfExposed, IsDurable, Stays, Torn, with_piece_at};
+ghost use Rattle.journal_disk.specs.Disk.{Between, Does, Goes, IfExposed, IsDurable, IsThere, Same, Stays, Torn, with_piece_at};
+ghost use Rattle.journal_disk.specs.Disk.DoneCall.{DoneWrite, DoneSync};
 ghost use Rattle.host_files.specs.Disks.{HasOpened, IsAlone, IsAmongReaders};
-ghost use Rattle.host_files.specs.Files.{FailsFor, IsNotOurs, IsThere, IsTooLong, NoOther, is_without_syncs};
+ghost use Rattle.host_files.specs.Files.{FailsFor, IsLasting, IsNotOurs, IsTooLong, NoOther, is_without_syncs};
 
 use crate::RawFile;
 use std::fs::TryLockError;
@@ -47,7 +48,7 @@ impl<F: RawFile + Drop> LockedFile<F> {
     /// The opened file, to be read and written: no other process may have it.
     pub(crate) fn to_write(opened: io::Result<F>) -> io::Result<Self>
         ensures alone { IfOk result (λ file. IsAlone (F.state file)) }
-        ensures opened { HasOpened F.state opened (result_ok result) }
+        ensures opened { HasOpened [] F.state opened (result_ok result) }
     {
         let mut file = opened?;
         match file.try_lock() {
@@ -63,8 +64,8 @@ impl<F: RawFile + Drop> LockedFile<F> {
     /// The same, of a file that may just have been made: a crash leaves it.
     pub(crate) fn to_make(opened: io::Result<F>) -> io::Result<Self>
         ensures alone { IfOk result (λ file. IsAlone (F.state file)) }
-        ensures opened { HasOpened F.state opened (result_ok result) }
-        ensures there { IfOk result (λ file. IsThere (F.state file)) }
+        ensures opened { HasOpened (DoneSync ∷ []) F.state opened (result_ok result) }
+        ensures lasting { IfOk result (λ file. IsLasting (F.state file)) }
     {
         let mut made = LockedFile::to_write(opened)?;
         made.file.sync_all()?;
@@ -75,7 +76,7 @@ impl<F: RawFile + Drop> LockedFile<F> {
     /// The opened file, to be read: other processes may read it too.
     pub(crate) fn to_read(opened: io::Result<F>) -> io::Result<Self>
         ensures among { IfOk result (λ file. IsAmongReaders (F.state file)) }
-        ensures opened { HasOpened F.state opened (result_ok result) }
+        ensures opened { HasOpened [] F.state opened (result_ok result) }
     {
         let mut file = opened?;
         match file.try_lock_shared() {
@@ -98,6 +99,8 @@ impl<F: RawFile> LockedFile<F> {
     pub(crate) fn length(&mut self) -> io::Result<u32>
         ensures length { IfOk result
             (λ size. IfExposed (F.state self.old).disk (λ bytes. size ≡ length bytes)) }
+        ensures done { OnOk result
+            ((F.state self.new).disk.done ≡ (F.state self.old).disk.done) }
         ensures stays { Stays (F.state self.old).disk (F.state self.new).disk }
         ensures cause { OnErr result
             (FailsFor IsTooLong (F.state self.old) (F.state self.new)) }
@@ -115,6 +118,8 @@ impl<F: RawFile> LockedFile<F> {
             (λ bytes. at + length into.old ≤ length bytes) }
         ensures read { OnOk result (IfExposed (F.state self.old).disk
             (λ bytes. into.new ≡ take (length into.old) (drop at bytes))) }
+        ensures done { OnOk result
+            ((F.state self.new).disk.done ≡ (F.state self.old).disk.done) }
         ensures stays { Stays (F.state self.old).disk (F.state self.new).disk }
         ensures cause { OnErr result (FailsFor NoOther (F.state self.old) (F.state self.new)) }
     {
@@ -131,6 +136,10 @@ impl<F: RawFile> LockedFile<F> {
             (F.state self.old).disk.contents (F.state self.new).disk.contents) }
         ensures crash { Goes (Torn at (length piece.now))
             (F.state self.old).disk (F.state self.new).disk }
+        ensures again { IsThere at piece.now (F.state self.old).disk
+            → Goes Same (F.state self.old).disk (F.state self.new).disk }
+        ensures done { OnOk result (Does (DoneWrite at (length piece.now) ∷ [])
+            (F.state self.old).disk (F.state self.new).disk) }
         ensures cause { OnErr result
             (FailsFor IsNotOurs (F.state self.old) (F.state self.new)) }
     {
@@ -147,6 +156,8 @@ impl<F: RawFile> LockedFile<F> {
     /// file systems may have no syncs.
     pub(crate) fn sync(&mut self) -> io::Result<()>
         ensures durable { OnOk result (IsDurable (F.state self.old).disk (F.state self.new).disk) }
+        ensures done { OnOk result
+            (Does (DoneSync ∷ []) (F.state self.old).disk (F.state self.new).disk) }
         ensures stays { Stays (F.state self.old).disk (F.state self.new).disk }
         ensures cause { OnErr result (FailsFor NoOther (F.state self.old) (F.state self.new)) }
     {
