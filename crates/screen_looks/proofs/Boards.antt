@@ -4,10 +4,10 @@ use Rattle.std.proofs.lemmas.Result.{IfOk-weaker}
 use Rattle.apron_base.specs.Keeper.{KeeperState}
 use Rattle.apron_base.specs.Listener.{ListenerState}
 use Rattle.desk_http.specs.FedSession.{FedAnswers}
-use Rattle.desk_http.specs.Ports.{Turn}
 use Rattle.desk_http.specs.Session.{SessionKind}
 use Rattle.desk_turns.specs.Crew.{ServesBoard, Worker, WorksAt}
 use Rattle.desk_turns.specs.Feeds.{FeedTurns}
+use Rattle.desk_turns.specs.Seats.{SeatTurn}
 use Rattle.desk_turns.specs.Watched.{fed_sessions, feed_texts, watch_text}
 use Rattle.desk_turns.specs.Work.{EndStates}
 use Rattle.desk_turns.specs.declared.worker.WorkEnd.{WorkEnd}
@@ -23,7 +23,7 @@ use Rattle.watch_list.specs.declared.watch.Watched.{Watched}
 abbrev pub hall_sessions : {R : Type 0} → (R → Note → Bool) → HallFixedState R → SessionKind
 hall_sessions tells fixed = record {
   airport = fixed.watched.airport;
-  comes = FedAnswers Turn (FeedTurns (watch_text tells fixed.watched)) fixed.watched.airport;
+  comes = FedAnswers SeatTurn (FeedTurns (watch_text tells fixed.watched)) fixed.watched.airport;
 }
 
 module _ {In Out K R : Type 0} (states : EndStates In Out) (asked : ℕ) (keeper : K → KeeperState) (tells : R → Note → Bool) (before left : HallHeld K R) where
@@ -31,7 +31,7 @@ module _ {In Out K R : Type 0} (states : EndStates In Out) (asked : ℕ) (keeper
   works_plainly : (worker : Worker In Out) → WorksAt states (hall_sessions tells) asked (hall_state keeper before) (hall_state keeper left) worker
       → WorksAt states (fed_sessions (feed_texts tells before.board.watches)) asked (record (machine_state keeper before.board.board) { next = before.board.next })
       (machine_state keeper left.board.board) worker
-  works_plainly worker at = record { fresh = at.fresh; works = at.works; seen = at.seen; faults = at.faults }
+  works_plainly worker at = record { fresh = at.fresh; works = at.works; seen = at.seen }
 
   served_plainly : (olds news : List (ListenerState In Out)) (end : WorkEnd)
       → ServesBoard states (hall_sessions tells) asked (record { listeners = olds; board = hall_state keeper before })
@@ -56,6 +56,7 @@ module _ {In Out K R : Type 0} (states : EndStates In Out) (asked : ℕ) (keeper
     calls = serves.calls;
     exhausted = serves.exhausted;
     faults = serves.faults;
+    told = serves.told;
     at_risk = serves.at_risk;
   }
 

@@ -1,5 +1,5 @@
 -- The last sheet of a list, and that of a longer one.
-use Rattle.std.proofs.Common.{◌≤◌, ◌+◌, ℕ, List, [], ◌∷◌, ◌++◌, sym, subst, arith}
+use Rattle.std.proofs.Common.{◌≡◌, ◌≤◌, ◌+◌, ℕ, List, [], ◌∷◌, ◌++◌, Some, sym, subst, arith}
 use Rattle.apron_base.specs.Histories.{Every, Rises}
 use Rattle.screen_feed.specs.Screens.{HasLooked, ScreenState}
 use Rattle.screen_feed.specs.Sheets.{AreSheets, Begins, IsLast, IsSheet, SheetState, ShownChart, last_version, sheet_version, version_after}
@@ -32,8 +32,9 @@ no_older shown before after are (rest, is) =
     subst (λ (list : List SheetState). last_version before ≤ last_version list) (sym is) (goes_on_later 0 _ 0 before rest (omega arith) rises)
 
 -- the last sheet that a screen has seen after a look
-pub is_last : (before after : ScreenState) (sheet : SheetState) → HasLooked before after → IsLast after.seen sheet → IsLastSheet after sheet
-is_last before after sheet looked last = record {
+pub is_last : (before after : ScreenState) (sheet : SheetState) → HasLooked before after → after.given ≡ Some sheet → IsLast after.seen sheet → IsLastSheet after sheet
+is_last before after sheet looked given last = record {
+  given = given;
   last = last;
   chart = subst (λ (shown : ShownChart). IsSheet shown sheet) (sym looked.shown) (last_sheet before.shown after.seen sheet looked.sheets last);
 }

@@ -1,5 +1,5 @@
 -- What the worker of a screen does with the connections of its listener.
-use Rattle.std.specs.Prelude.{◌≡◌, ◌≤◌, ℕ, Bool, true, false, List, [], ◌∷◌, length, take, Result, MatchResult}
+use Rattle.std.specs.Prelude.{◌≡◌, ◌≤◌, ℕ, Bool, true, false, List, [], ◌∷◌, length, take, None, Some, Result, MatchResult}
 use Rattle.apron_base.specs.Ends.{SinkState, Wrote}
 use Rattle.apron_base.specs.Listener.{ListenerState}
 use Rattle.apron_base.specs.declared.outside.Outcome.{Outcome}
@@ -23,17 +23,19 @@ pub record ScreenAndSink : Type 0 where
   pub screen : ScreenState
   pub sink : SinkState
 
--- the last of the sheets that the screen has seen: the chart of its day of some plan of its airport
+-- the sheet that the screen's last look gave, which is the last that it has seen: the chart of its
+-- day of some plan of its airport
 pub record IsLastSheet (screen : ScreenState) (sheet : SheetState) : Type 0 where
+  pub given : screen.given ≡ Some sheet
   pub last : IsLast screen.seen sheet
   pub chart : IsSheet screen.shown sheet
 
--- how a connection ends, and what is put on it: the text of the last sheet; or, if there is no
--- memory, nothing; or, if the sink fails, a front of the text
+-- how a connection ends, and what is put on it: the text of the sheet that the look gave; or, if it
+-- gave none, nothing; or, if the sink fails, a front of the text
 abbrev pub EndsAs : ScreenAndSink → ScreenAndSink → Outcome → Type 0
 EndsAs before after Ended = (sheet : SheetState) × IsLastSheet after.screen sheet
     × Wrote false before.sink after.sink sheet.text
-EndsAs before after Memory = after.sink ≡ before.sink
+EndsAs before after Memory = (after.screen.given ≡ None) × (after.sink ≡ before.sink)
 EndsAs before after WriteFault = (sheet : SheetState) × IsLastSheet after.screen sheet
     × ((count : ℕ) × Wrote true before.sink after.sink (take count sheet.text))
 EndsAs before after outcome = ⊥

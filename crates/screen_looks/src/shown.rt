@@ -3,9 +3,9 @@ ghost use Rattle.std.specs.Prelude.{◌≡◌, ◌<◌, ◌≤◌, IfErr, IfOk, 
 ghost use Rattle.std.specs.Thread.{IsSync};
 ghost use Rattle.apron_base.specs.Histories.{Every};
 ghost use Rattle.desk_http.specs.FedSession.{FedAnswers};
-ghost use Rattle.desk_http.specs.Ports.{Turn};
 ghost use Rattle.desk_turns.specs.Crew.{ServesBoard};
 ghost use Rattle.desk_turns.specs.Feeds.{FeedTurns};
+ghost use Rattle.desk_turns.specs.Seats.{SeatTurn};
 ghost use Rattle.desk_turns.specs.Watched.{fed_sessions, feed_texts, watch_text};
 ghost use Rattle.history_core.specs.Board.{machine_state};
 ghost use Rattle.screen_hall.specs.Halls.{SeesFronts, hall_state, pairs_of};
@@ -137,7 +137,7 @@ pub fn serve_hall<
     ensures serves { IfOk result.0 (λ ends. ServesBoard W.states
         (λ fixed. record {
           airport = fixed.watched.airport;
-          comes = FedAnswers Turn (FeedTurns (watch_text R.tells fixed.watched))
+          comes = FedAnswers SeatTurn (FeedTurns (watch_text R.tells fixed.watched))
               fixed.watched.airport;
         })
         connections
