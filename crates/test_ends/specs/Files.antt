@@ -4,8 +4,8 @@ use Rattle.std.specs.Str.{bytes_eq}
 use Rattle.journal_disk.specs.Calls.{MemoryHeld, disk_of}
 use Rattle.host_files.specs.Files.{FileState, Lock}
 use Rattle.host_files.specs.Files.Lock.{Unlocked, Shared, Exclusive, Unavailable}
-use Rattle.test_ends.specs.declared.tests.files.Held.{Held}
-use Rattle.test_ends.specs.declared.tests.files.Held.TheVariants.{Nothing, AmongReaders, Alone, NoLocks}
+use Rattle.test_ends.specs.declared.memory_file.Held.{Held}
+use Rattle.test_ends.specs.declared.memory_file.Held.TheVariants.{Nothing, AmongReaders, Alone, NoLocks}
 
 -- the lock that it has
 abbrev pub lock_of : Held → Lock

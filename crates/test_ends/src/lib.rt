@@ -2,5 +2,8 @@
 //! keepers, listeners and journals, in memory and over the system.
 #![tactic(auto)]
 
+mod memory_file;
 #[cfg(test)]
 mod tests;
+
+pub use memory_file::{Held, MemoryFile};

@@ -1,0 +1,145 @@
+// An open file in memory, which tells what it reads as.
+ghost use Rattle.std.specs.Prelude.{◌≡◌, IsErrAnd, MatchResult, is_err};
+ghost use Rattle.std.specs.IoError.{error_kind};
+ghost use Rattle.apron_base.specs.Counts.{Counts};
+ghost use Rattle.host_files.specs.Files.{lock_after};
+ghost use Rattle.test_ends.specs.Files.{lock_of};
+
+use apron_base::Failed;
+use host_files::RawFile;
+use journal_disk::{Disk, MemoryDisk};
+use std::fs::TryLockError;
+use std::io;
+use std::io::ErrorKind;
+
+/// What a process has of a file.
+#[derive(Clone, Copy, PartialEq, Eq)]
+pub enum Held {
+    Nothing,
+    AmongReaders,
+    Alone,
+    /// Its file system has no locks.
+    NoLocks,
+}
+
+/// An open file in memory, at its path, whose file system may have no syncs.
+#[derive(Drop)]
+pub struct MemoryFile {
+    disk: MemoryDisk,
+    held: Held,
+    others: Held,
+    found: bool,
+    lasting: bool,
+    has_syncs: bool,
+    faults: u64,
+}
+
+impl MemoryFile {
+    /// The file of this disk, of which others have so much.
+    pub fn new(disk: MemoryDisk, others: Held, has_syncs: bool) -> MemoryFile {
+        MemoryFile {
+            disk,
+            held: Held::Nothing,
+            others,
+            found: false,
+            lasting: false,
+            has_syncs,
+            faults: 0,
+        }
+    }
+
+    // Has this lock, unless others have the file.
+    fn lock(&mut self, wanted: Held, is_free: bool) -> Result<(), TryLockError>
+        ensures kept { self.new ≡ record self.old { held = self.new.held } }
+        ensures held { lock_of self.new.held ≡ lock_after (lock_of wanted) result }
+    {
+        if is_free {
+            self.held = wanted;
+            Ok(())
+        } else if self.others == Held::NoLocks {
+            self.held = Held::NoLocks;
+            Err(TryLockError::Error(io::Error::from(ErrorKind::Unsupported)))
+        } else {
+            self.held = Held::Nothing;
+            Err(TryLockError::WouldBlock)
+        }
+    }
+
+    // The answer of its disk as that of a file. A failure is counted.
+    fn answer<T>(&mut self, answer: Result<T, Failed>, kind: ErrorKind) -> io::Result<T>
+        ensures kept { self.new ≡ record self.old { faults = self.new.faults } }
+        ensures counts { Counts (is_err result) self.old.faults self.new.faults }
+        ensures answer { MatchResult answer (λ value. result ≡ Ok value)
+            (λ _. IsErrAnd result (λ cause. error_kind cause ≡ kind)) }
+    {
+        match answer {
+            Ok(value) => Ok(value),
+            Err(Failed) => {
+                self.faults = self.faults.saturating_add(1);
+                Err(io::Error::from(kind))
+            }
+        }
+    }
+}
+
+impl RawFile for MemoryFile {
+    ghost use Rattle.test_ends.specs.Files.{told_by};
+    ghost use Rattle.journal_disk.specs.TornWrites.{reads_left};
+
+    ghost state = { λ f. told_by f.disk f.faults f.held f.found f.lasting };
+
+    ghost reads = { λ f. reads_left f.disk };
+
+    fn try_lock(&mut self) -> Result<(), TryLockError> {
+        let is_free = self.others == Held::Nothing;
+        self.lock(Held::Alone, is_free)
+    }
+
+    fn try_lock_shared(&mut self) -> Result<(), TryLockError> {
+        let is_free = self.others == Held::Nothing || self.others == Held::AmongReaders;
+        self.lock(Held::AmongReaders, is_free)
+    }
+
+    fn length(&mut self) -> io::Result<u64> {
+        let length = self.disk.length();
+        Ok(u64::from(self.answer(length, ErrorKind::Other)?))
+    }
+
+    fn read_exact_at(&mut self, into: &mut [u8], at: u64) -> io::Result<()> {
+        let read = match u32::try_from(at) {
+            Ok(at) => self.disk.read(at, into),
+            Err(_) => Err(Failed),
+        };
+        self.answer(read, ErrorKind::Other)
+    }
+
+    fn is_at_path(&mut self) -> io::Result<bool> {
+        self.found = true;
+        Ok(true)
+    }
+
+    fn write_all_at(&mut self, piece: &[u8], at: u64) -> io::Result<()> {
+        let written = match u32::try_from(at) {
+            Ok(at) => self.disk.write_at(at, piece),
+            Err(_) => Err(Failed),
+        };
+        self.answer(written, ErrorKind::Other)
+    }
+
+    fn sync_data(&mut self) -> io::Result<()> {
+        let synced = self.disk.sync();
+        self.answer(synced, ErrorKind::Other)?;
+        let synced = if self.has_syncs { Ok(()) } else { Err(Failed) };
+        self.answer(synced, ErrorKind::ReadOnlyFilesystem)
+    }
+
+    fn sync_all(&mut self) -> io::Result<()> {
+        let synced = self.disk.sync();
+        self.answer(synced, ErrorKind::Other)
+    }
+
+    fn sync_folder(&mut self) -> io::Result<()> {
+        self.lasting = true;
+        Ok(())
+    }
+}
