@@ -57,9 +57,15 @@ class Unit(threading.Thread):
                 time.sleep(0.2)
 
     def server(self):
-        """The process of the server: nsenter becomes the watchdog, or the server itself."""
+        """The process of the server: nsenter becomes the watchdog, or the server itself. A watchdog that begins has none yet."""
         started = self.process.pid
-        return int(subprocess.run(["pgrep", "-P", str(started)], stdout=subprocess.PIPE).stdout.split()[0]) if self.is_watched else started
+        while self.is_watched:
+            children = subprocess.run(["pgrep", "-P", str(started)], stdout=subprocess.PIPE).stdout.split()
+            if children:
+                return int(children[0])
+            time.sleep(0.05)
+            started = self.process.pid
+        return started
 
     def end(self):
         self.over = True
