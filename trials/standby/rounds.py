@@ -189,7 +189,8 @@ class Play:
         else:
             self.times.append(first - fault)
             late = [it for desk in self.desks for it in desk.taken if it.host == old and first < it.sent and not self.is_back(it, other, first)]
-            self.faults += [f"the old server answered {it.name} after the take-over" for it in late]
+            if late:
+                self.faults.append(f"the old server answered {len(late)} commands after the take-over, the first {late[0].name}")
         return first is not None
 
     def is_back(self, it, other, first):
