@@ -24,8 +24,6 @@ import journal_bytes
 DESKS, PORT, WORKERS = 8, 8080, 9
 # The seconds until a new server has to answer, and those for which desks go on after the old one is back.
 LIMIT, HOLD = 90, 2
-# The first line of an await-journal that writes nothing back.
-ONLY_WAIT = 'until flock --nonblock "$0" true; do sleep 0.2; done'
 KINDS = "server", "client", "brick", "cut", "stop"
 
 # A reply 200: the visit's name, the version, the host, and when it was sent and came.
@@ -33,24 +31,25 @@ Taken = collections.namedtuple("Taken", "name version host sent came")
 
 
 class Unit(threading.Thread):
-    """What apron-standby.service does on a host: it waits for the journal, runs the server under the watchdog, and begins again."""
+    """What apron-standby.service does on a host: it waits for the journal, writes its end back, runs the server under the watchdog, and begins
+    again. Without the write-back the server itself tries again and again to get the journal."""
 
     def __init__(self, hosts, host, program, journal, is_written_back, is_watched=True):
         super().__init__(daemon=True)
         self.hosts, self.host, self.over, self.ends, self.process = hosts, host, False, collections.Counter(), None
-        wait = [os.path.join(SCRIPTS, "await-journal"), journal] if is_written_back else ["bash", "-c", ONLY_WAIT, journal]
+        wait = [[os.path.join(SCRIPTS, "await-journal"), journal]] if is_written_back else []
         serve = [program, "serve", *FILES, "1000000", f"{NET[host]}:{PORT}", str(WORKERS), journal]
-        self.is_watched, self.steps = is_watched, (wait, [os.path.join(SCRIPTS, "watchdog"), journal, *serve] if is_watched else serve)
+        self.is_watched, self.steps = is_watched, [*wait, [os.path.join(SCRIPTS, "watchdog"), journal, *serve] if is_watched else serve]
         self.start()
 
     def run(self):
         with open(self.hosts.place(self.host, "errors"), "ab") as errors:
             while not self.over:
-                for name, step in zip(("wait", "serve"), self.steps):
+                for step in self.steps:
                     self.process = subprocess.Popen([*self.hosts.inside(self.host), *step], stdin=subprocess.DEVNULL, stdout=errors, stderr=errors,
                                                     start_new_session=True)
                     status = self.process.wait()
-                    if name == "serve":
+                    if step is self.steps[-1]:
                         self.ends[status] += 1
                     if status or self.over:
                         break
@@ -137,7 +136,7 @@ class Play:
 
     def __enter__(self):
         # What await-journal and the watchdog do would hide for what the setting is needed.
-        ways = self.without != "attribute-timeout", self.without != "strict-locks"
+        ways = self.without != "attribute-timeout", self.without not in ("attribute-timeout", "strict-locks")
         self.units = {host: Unit(self.hosts, host, self.program, self.journal(host), *ways) for host in SERVING}
         self.desks = [Desk(number, SERVING[0]) for number in range(DESKS)]
         return self
