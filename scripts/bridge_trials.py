@@ -11,7 +11,7 @@ import served
 
 BRIDGE = os.path.join(served.EXAMPLES, "proxy", "bridge")
 READER = os.path.join(served.EXAMPLES, "journal", "entries")
-# Of the server behind the bridge: the connections of a worker, the requests of each, the desks, and the seconds until it is started again.
+# Of the server behind the bridge: the connections of a worker, the requests of each, the clients, and the seconds until it is started again.
 FEW, EACH, SENDERS, AWAY = 50, 5, 8, 1
 
 

@@ -1,5 +1,5 @@
 """Names of drafts that are chosen against a hash table with a fixed seed, so that they come to few places of it: whoever knows the seed can
-choose such names, and a plan's cost must not grow by them. A draft's name is its desk's name and a number; the hash is that of the
+choose such names, and a plan's cost must not grow by them. A draft's name is its client's name and a number; the hash is that of the
 toolchain's `FoldHasher` and `HashMap`."""
 
 INITIAL, MULTIPLIER, LOW = 0x243F_6A88_85A3_08D3, 0x9E37_79B9_7F4A_7C15, 2 ** 64 - 1
@@ -14,7 +14,7 @@ def folded(state, word, length):
 
 
 def state_of(desk):
-    """The state of the hash after a desk's name: its length is written as 8 bytes, and then each of its bytes alone."""
+    """The state of the hash after a client's name: its length is written as 8 bytes, and then each of its bytes alone."""
     state = folded(INITIAL, len(desk), 8)
     for byte in desk.encode():
         state = folded(state, byte | byte << 8 | byte << 16, 1)
@@ -30,7 +30,7 @@ def places_for(count):
 
 
 def chosen(desk, count):
-    """This many numbers of a desk's drafts, in rising order, that all come to the first 64th of the places of a table for them, or to its first
+    """This many numbers of a client's drafts, in rising order, that all come to the first 64th of the places of a table for them, or to its first
     place."""
     state, multiplier, places = state_of(desk), MULTIPLIER ^ 8, places_for(count)
     mask, most = places - 1, max(1, places // SHARE)

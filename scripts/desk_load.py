@@ -1,4 +1,4 @@
-"""Desks that ask a server of `apron serve` at once, each in a process of its own, and a judge that looks whether all that they were told
+"""Clients that ask a server of `apron serve` at once, each in a process of its own, and a judge that looks whether all that they were told
 is of one history."""
 
 import bisect
@@ -21,7 +21,7 @@ Told = collections.namedtuple("Told", "ask sent got reply")
 
 
 class Desk:
-    """Draws what a desk asks. It knows of the plan what it was told."""
+    """Draws what a client asks. It knows of the plan what it was told."""
 
     def __init__(self, number, seed, airport):
         self.name, self.airport, self.draw = f"DESK-{number}", airport, random.Random(f"{seed} {number}")
@@ -37,7 +37,7 @@ class Desk:
             self.taken = self.taken[-50:] + [ask[1]]
 
     def next(self):
-        """The next ask: its kind, what it says, and what it says that the desk has seen."""
+        """The next ask: its kind, what it says, and what it says that the client has seen."""
         kind, said = self.kind_and_said()
         drawn = self.draw.random()
         return kind, said, self.seen if drawn < 0.5 else MOST if drawn > 0.995 else 0
@@ -51,7 +51,7 @@ class Desk:
             self.commits += 1
             return "commit", self.draft()
         if drawn < 0.82:
-            # Several desks add visits of these names, some of them with other data.
+            # Several clients add visits of these names, some of them with other data.
             return "add", self.shared_visit(self.draw.randint(1, SHARED_VISITS))
         if drawn < 0.825:
             return "cancel", {"visit": self.draw.randint(1, self.visits + 1)}
@@ -78,7 +78,7 @@ class Desk:
             return self.draw.choice(self.taken)
         base = self.seen if drawn < 0.8 else max(0, self.seen - self.draw.randint(1, 40)) if drawn < 0.97 else self.seen + self.draw.randint(1, 4)
         if self.draw.random() < 0.05:
-            # A draft of a desk that has several connections: each of them sends it.
+            # A draft of a client that has several connections: each of them sends it.
             self.shared += 1
             edit = {"put": {"visit": self.shared % max(1, self.visits) + 1, "part": 1, "stand": self.stand(5 * self.shared)}}
             return {"desk": "SHARED", "draft": self.shared, "base": base, "edits": [edit]}
@@ -109,8 +109,8 @@ def bytes_of(ask):
 
 
 def run_desk(desk, address, commits, first=None):
-    """Has a desk ask until it has sent so many commits, or until its connection ends: what it was told, the ask that it got no reply to,
-    and why; and the desk itself, which goes on later."""
+    """Has a client ask until it has sent so many commits, or until its connection ends: what it was told, the ask that it got no reply to,
+    and why; and the client itself, which goes on later."""
     told, begun = [], desk.commits
     ask = first or desk.next()
     try:
@@ -128,7 +128,7 @@ def run_desk(desk, address, commits, first=None):
 
 
 class Running:
-    """Desks at work on a server, each in a process of its own: they send so many commits each, from the asks on that are given for them."""
+    """Clients at work on a server, each in a process of its own: they send so many commits each, from the asks on that are given for them."""
 
     def __init__(self, server, desks, commits, firsts=()):
         self.ends = []
@@ -159,7 +159,7 @@ class Running:
 
 
 def keep_what_was_told(path, *words):
-    """Has a desk ask, in its own process, and writes what it was told to a file."""
+    """Has a client ask, in its own process, and writes what it was told to a file."""
     signal.signal(signal.SIGTERM, signal.SIG_DFL)
     with open(path, "wb") as file:
         pickle.dump(run_desk(*words), file)
@@ -171,7 +171,7 @@ def is_made(it):
 
 
 def judge(airport, entries, told, unanswered=()):
-    """What is wrong in all that desks were told, beside the history that a journal has; and the plan that this makes. Entries of which no
+    """What is wrong in all that clients were told, beside the history that a journal has; and the plan that this makes. Entries of which no
     reply tells have to be of asks that got none."""
     faults, plan, at = [], Plan(airport), collections.defaultdict(list)
     for it in told:
@@ -211,7 +211,7 @@ def judge(airport, entries, told, unanswered=()):
 
 
 def late(told):
-    """The replies that stand at an older version than one that some desk had been told before the request was sent."""
+    """The replies that stand at an older version than one that some client had been told before the request was sent."""
     faults, got, versions, latest = [], [], [], 0
     for it in sorted((it for it in told if it.reply.version is not None), key=lambda it: it.got):
         latest = max(latest, it.reply.version)

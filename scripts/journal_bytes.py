@@ -1,5 +1,5 @@
 """The bytes of a journal, written from docs/reference/journal-format.md. One half makes them: entries, a part that has them, and a whole journal of format 2;
-so a script makes a long history in seconds, and asks no desk for it. The other half reads them: the records of each part, and what an entry
+so a script makes a long history in seconds, and asks no client for it. The other half reads them: the records of each part, and what an entry
 says."""
 
 import collections
@@ -18,7 +18,7 @@ Record = collections.namedtuple("Record", "at entry")
 # The whole records of a part, the byte at which it ends, and why it does: "gate" if the gate there is closed, "cut" if the file ends
 # there or inside the record that follows, "length" if that record has a length that no entry has.
 Part = collections.namedtuple("Part", "records end why")
-# What an entry says: its call number, its kind in a word, its desk or None, and the fields of its kind.
+# What an entry says: its call number, its kind in a word, its client or None, and the fields of its kind.
 Command = collections.namedtuple("Command", "call kind desk fields")
 
 
@@ -53,12 +53,12 @@ def cancel_of(visit):
 
 
 def message_of(text, desk="-"):
-    """A message in its one form; without a desk it is an entry of format 1."""
+    """A message in its one form; without a client it is an entry of format 1."""
     return (b"\3" if desk is None else b"\6" + text_of(desk)) + text_of(text)
 
 
 def on_block_of(visit, part, stand, minute, desk="-"):
-    """A report; without a desk it is an entry of format 1."""
+    """A report; without a client it is an entry of format 1."""
     return (b"\4" if desk is None else b"\7" + text_of(desk)) + struct.pack("<IBBHI", visit, 1, part, stand, minute)
 
 
@@ -85,7 +85,7 @@ def journal_of(files, commands):
 
 
 def read_part(journal, gate):
-    """The part whose first gate is at this byte."""
+    """The part whose first flag is at this byte."""
     records = []
     while gate < len(journal) and journal[gate] == 1:
         size = int.from_bytes(journal[gate + 1:gate + 3], "little")
@@ -100,12 +100,12 @@ def read_part(journal, gate):
 
 
 def is_journal(journal):
-    """Whether the bytes begin as a journal does, and have the first gate."""
+    """Whether the bytes begin as a journal does, and have the first flag."""
     return len(journal) > HEADER and journal.startswith(MAGIC) and journal.startswith(LINE_END, FORMAT + 1)
 
 
 def parts_of(journal):
-    """The old part and the new one; the new one is None in format 1, and if the old part is not whole."""
+    """Section 1 and the new one; the new one is None in format 1, and if section 1 is not whole."""
     old = read_part(journal, HEADER)
     is_read = journal[FORMAT] == NEW and old.why == "gate"
     return old, read_part(journal, old.end + 1) if is_read else None

@@ -14,20 +14,20 @@ HERE = os.path.dirname(os.path.realpath(__file__))
 LAUNCHER = os.path.normpath(os.path.join(HERE, "..", "apron"))
 PROGRAM = LAUNCHER if os.path.isfile(LAUNCHER) else "/usr/bin/apron"
 NAMES = "airport.toml", "types.csv"
-# The status of a journal of format 2 whose new part can't be what an upgrade wrote.
+# The status of a journal of format 2 whose section 2 can't be what an upgrade wrote.
 EMPTIED = 20
 FAULT = re.compile(r"journal: (?:record|entry) (\d+)")
 COUNTS = "{path}: the old part has {old} whole records, and the new part {new}. An upgrade copies each entry."
 IS_EMPTIED = """\
 So this journal was written after its upgrade by a program that knows only format 1 and takes no lock.
-Nothing is lost: the entries of the old part are all there. The rescue:
+Nothing is lost: the entries of section 1 are all there. The rescue:
   1. End every program that has the journal open: fuser {path} shows them.
   2. cp -p {path} {path}.emptied
   3. printf 1 | dd of={path} bs=1 seek=5 conv=notrunc
   4. apron upgrade AIRPORT TYPES {path}
 It then prints: upgraded {old}"""
 IS_DAMAGED = """\
-The new part begins as the upgrade wrote it, and is damaged at byte {end}: a server would go on from there, and write over what stands
+Section 2 begins as the upgrade wrote it, and is damaged at byte {end}: a server would go on from there, and write over what stands
 behind. The rescue: salvage {path} NEW, and with --beyond if it says that whole records stand behind the damage."""
 
 # What the program says of a journal: its status, its line, and the record or the entry that the line names, or None.
@@ -59,7 +59,7 @@ def call_of(entry, is_new):
 
 
 def begins_as_upgraded(journal, old):
-    """Whether the first entry of the new part has the call number of the old part's, whatever the gate before it is."""
+    """Whether the first entry of section 2 has the call number of section 1's, whatever the gate before it is."""
     at = old.end + 2
     size = int.from_bytes(journal[at:at + 2], "little")
     call = call_of(journal[at + 2:at + 2 + size], True)
@@ -67,7 +67,7 @@ def begins_as_upgraded(journal, old):
 
 
 def refuse_emptied(path, journal, is_damage_refused=True):
-    """Refuses a journal of format 2 whose old part has more whole records than its new part."""
+    """Refuses a journal of format 2 whose section 1 has more whole records than section 2."""
     if not journal_bytes.is_journal(journal):
         return
     old, new = journal_bytes.parts_of(journal)

@@ -78,7 +78,7 @@ class Model:
 
 
 def day_of(airport, visits, seed):
-    """The rules of an airport, and the visits of a day as type, begin, end and class."""
+    """The rules of an airport, and the visits of a day as type, begin, end and priority."""
     folder = os.path.join(served.EXAMPLES, "large")
     with tempfile.TemporaryDirectory() as room:
         path = os.path.join(folder, "airport.toml")

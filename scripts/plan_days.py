@@ -4,8 +4,8 @@ examples/large. All are invented. The visits are of day 2 of a plan, with stays 
 import random
 
 DAY = 1440
-# Of the visits of a day: their share, class, airlines, types with weights, minutes on the ground beyond the type's least, and hours on block
-# with weights. In turn: the home carrier, its regional flights, long-haul of class 2 and 1, holiday flights of class 5 and 6, small
+# Of the visits of a day: their share, priority, airlines, types with weights, minutes on the ground beyond the type's least, and hours on block
+# with weights. In turn: the home carrier, its regional flights, long-haul of priority 2 and 1, holiday flights of priority 5 and 6, small
 # aircraft without flight numbers, and freight.
 GROUPS = [
     (0.34, 3, ("LH",), {"A320": 6, "A20N": 5, "A21N": 4, "A321": 4, "A319": 3}, (5, 40),
@@ -20,7 +20,7 @@ GROUPS = [
     (0.05, 6, ("DE", "X3"), {"A21N": 4, "B738": 4, "A332": 1, "B763": 1}, (10, 60), {6: 2, 8: 3, 10: 3, 12: 3, 14: 2, 16: 2, 18: 2}),
     (0.03, 7, (), {"B190": 3, "CRJ9": 1}, (10, 240), {8: 2, 10: 2, 12: 1, 14: 2, 16: 2}),
     (0.03, 8, ("FX", "5X", "CLX", "GEC"), {"B752": 3, "B763": 2, "B748": 2, "B772": 2, "A306": 2}, (60, 240), {2: 3, 3: 3, 4: 2, 11: 1, 20: 2, 21: 2, 22: 3})]
-# The share of the visits that stay over the first night, and the same share over the second; none of them is of class 1, 7 or 8.
+# The share of the visits that stay over the first night, and the same share over the second; none of them is of priority 1, 7 or 8.
 NIGHT = 0.10
 DAY_ONLY = {1, 7, 8}
 

@@ -9,7 +9,7 @@ HEAD = ("| Airport, visits | Method | Seeds | Left | Left by class, all seeds to
 
 
 def weight_of(left):
-    """The weight of the parts left: a class weighs as much as two of the next one."""
+    """The weight of the parts left: a priority weighs as much as two of the next one."""
     return sum(count * 2 ** (len(left) - 1 - of_class) for of_class, count in enumerate(left))
 
 

@@ -65,7 +65,7 @@ class RunningPlan:
         return body
 
     def flight_is_of(self, key, flight):
-        """The number of the live visit that a message about this flight means."""
+        """The number of the visit that is neither gone nor cancelled that a message about this flight means."""
         wanted = {"flight": flight[0], "day": flight[1]}
         live = [it["visit"] for it in self.visits.values() if it[key] == wanted and it["state"] in ("expected", "onblock")]
         return min(live, default=None)

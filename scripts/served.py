@@ -32,7 +32,7 @@ Reply = collections.namedtuple("Reply", "code body version closes")
 
 
 class Cut(Exception):
-    """A connection ended, or a reply did not come, where one was owed."""
+    """A connection ended, or a reply did not come, where one was specified."""
 
 
 def program_of(word):

@@ -1,6 +1,6 @@
-"""The answers of a plan, worked out anew and apart from the program: visits, commits, cancels and reads of an airport, as docs/reference/http.md
+"""The answers of a plan, worked out again and apart from the program: visits, commits, cancels and reads of an airport, as docs/reference/http.md
 tells them, and the history in a journal's bytes of format 2, as docs/reference/journal-format.md tells them. There are no messages and reports here, so that
-no part is ever on block or bumped. Only a wall chart, which docs/reference/chart.md tells, is of any visits as replies tell them, with facts and bumps."""
+no part is ever on block or displaced. Only a chart, which docs/reference/chart.md tells, is of any visits as replies tell them, with facts and displacements."""
 
 import csv
 import datetime
@@ -31,7 +31,7 @@ class Airport(Rules):
         self.minutes = self.days * DAY
 
     def told(self):
-        """The airport as a desk reads it."""
+        """The airport as a client reads it."""
         stands = [{key: it.get(key) for key in ("buffer", "centre", "frontage", "half_of", "letter", "name")} for it in self.stands]
         types = [
             {"fold": it.fold, "least": it.least, "letter": letter_of(it.span)[0], "name": it.name, "parked": it.parked, "span": it.span}
@@ -264,7 +264,7 @@ class Plan:
         return self.told(visits=[self.visit(visit) for visit in sorted(seen)])
 
     def chart(self, day):
-        """The bytes of the wall chart of a day."""
+        """The bytes of the chart of a day."""
         visits = [self.visit(number) for number in range(1, len(self.visits) + 1)]
         return Chart(self.airport, day, visits).text(self.version)
 
@@ -309,7 +309,7 @@ class Held(NamedTuple):
 
 
 class Chart:
-    """The wall chart of a day, of all visits of a plan as replies tell them: facts and bumps too."""
+    """The chart of a day, of all visits of a plan as replies tell them: facts and displacements too."""
 
     def __init__(self, airport, day, visits):
         self.airport, self.day = airport, day
@@ -343,7 +343,7 @@ class Chart:
         return f" bumped by {blocker} in entry {bump['entry']} at {time_of(bump['minute'])} {bump['rule']}"
 
     def cells(self, stand):
-        """A quarter of an hour each: what is there in fact goes before what is planned."""
+        """A quarter of an hour each: what is there goes before what is planned."""
         cells = ["."] * QUARTERS
         for it in sorted((it for it in self.held if it.stand == stand), key=lambda it: it.actual):
             for quarter in range(QUARTERS):
@@ -353,7 +353,7 @@ class Chart:
         return "".join(cells)
 
     def alarms(self):
-        """The first minute of the day at which two parts that are there in fact clash."""
+        """The first minute of the day at which two parts that are there clash."""
         facts, found = [it for it in self.held if it.actual], []
         for place, it in enumerate(facts):
             for other in facts[:place]:
@@ -422,7 +422,7 @@ def entries_of(airport, journal):
 
 
 def records_of(journal, at):
-    """The records of the part whose first gate stands here, and the place after the gate that ends it."""
+    """The records of the part whose first flag stands here, and the place after the gate that ends it."""
     records = []
     while journal[at] == 1:
         length, = struct.unpack_from("<H", journal, at + 1)

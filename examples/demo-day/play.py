@@ -4,9 +4,9 @@ What a person changes meanwhile counts: a visit stands where the plan has it, an
 from clock import MINUTES_OF_DAY
 from stories import story_of
 
-# How many minutes an aircraft waits for a stand that is not yet clear, or until it is given one, and then goes elsewhere.
+# How many minutes an aircraft is unallocated that is not yet clear, or until it is given one, and then goes elsewhere.
 CLEAR, GIVEN, DIVERTED = 25, 12, 90
-# After so many minutes a report on a stand beside the right one is mended; and something that was refused is tried again.
+# After so many minutes a report on a stand beside the right one is fixed; and something that was refused is tried again.
 MENDED, AGAIN = 12, 10
 OPS, RAMP, TOWER = "OPS", "RAMP", "TOWER"
 

@@ -69,7 +69,7 @@ class Server:
             self.process.wait(PATIENCE)
 
     def place(self, link, wanted):
-        """Puts waiting parts of visits where the program proposes, one round of at most 64 parts; how many it proposes. If a desk was quicker, and the
+        """Puts unallocated parts of visits where the program proposes, one round of at most 64 parts; how many it proposes. If a client was quicker, and the
         commit is refused, they are proposed again in the next round."""
         with self.placing:
             self.drafts += 1

@@ -1,4 +1,4 @@
-"""Trials of what a board shows and changes: the chart, a drag, a refusal, and what other desks and messages do meanwhile."""
+"""Trials of what a board shows and changes: the chart, a drag, a refusal, and what other clients and messages do meanwhile."""
 
 import re
 import time
@@ -63,7 +63,7 @@ def chart(room):
 
 
 def taken(room):
-    """A waiting part is dragged to a stand where the page shows that it fits, the draft is published, and the server has it."""
+    """An unallocated part is dragged to a stand where the page shows that it fits, the draft is published, and the server has it."""
     visit, stand = room.placeable()
     desk = room.desk()
     desk.drag(waiting_item(visit["visit"]), stand)
@@ -99,7 +99,7 @@ def refused(room):
 
 
 def pressed(room):
-    """A press of the mouse during which another desk changes the plan is a click as any: the part is picked, and the new picture comes after it."""
+    """A press of the mouse during which another client changes the plan is a click as any: the part is picked, and the new picture comes after it."""
     desk = room.desk()
     for number, selector in enumerate((".bar.expected", ".wait"), 1):
         key, version = desk.key_of(selector), room.version()
@@ -152,7 +152,7 @@ def both_see(room):
 
 
 def overtaken(room):
-    """A draft of a visit that another desk edits meanwhile is refused as overtaken; after a look again it is taken."""
+    """A draft of a visit that another client edits meanwhile is refused as overtaken; after a look again it is taken."""
     one, other = room.desk(name="ANNA"), room.desk(name="BERT")
     visit, stand = room.placeable()
     one.drag(waiting_item(visit["visit"]), stand)
@@ -206,7 +206,7 @@ def bumping(room):
 
 
 def overlaps(room):
-    """Three aircraft that are on one stand in fact are three lines, of which none covers another."""
+    """Three aircraft that are on one stand are three lines, of which none covers another."""
     now = room.now()
     stand = room.airport.stands[2]["name"]
     numbers = []

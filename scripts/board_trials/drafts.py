@@ -19,7 +19,7 @@ LATE_LOCKS = """
 
 
 def chosen(desk):
-    """The key of the part that the list of waiting parts has chosen."""
+    """The key of the part that the list of unallocated parts has chosen."""
     return desk.run("""
       const it = document.activeElement; const led = document.getElementById(it.getAttribute("aria-activedescendant") ?? "");
       return (led ?? it).dataset.key ?? null;""")
@@ -36,7 +36,7 @@ def choose(desk, visit):
 
 
 def drafted(desk, room, beside=()):
-    """Has a waiting part dragged to a stand on which it fits; the visit and the stand."""
+    """Has an unallocated part dragged to a stand on which it fits; the visit and the stand."""
     visit, stand = room.placeable(beside)
     desk.drag(waiting_item(visit["visit"]), stand)
     wait("the draft has it", lambda: any(flight_of(visit) in it for it in desk.texts("#draft li")), 8)
@@ -49,7 +49,7 @@ def taken_by(desk, room, visit, stand):
 
 
 def by_keys(room):
-    """By the keyboard alone: a waiting part is picked, put on the first stand that fits, undone, put again, and published."""
+    """By the keyboard alone: an unallocated part is picked, put on the first stand that fits, undone, put again, and published."""
     desk = room.desk()
     version, visit = room.version(), room.waiting()[0]
     choose(desk, visit["visit"])
@@ -74,7 +74,7 @@ def by_keys(room):
 
 
 def tabs(room):
-    """Two tabs of one name, one copied from the other with all that it keeps, and a reload: each has its own desk, and no edit is lost."""
+    """Two tabs of one name, one copied from the other with all that it keeps, and a reload: each has its own client, and no edit is lost."""
     desk = room.desk()
     taken_by(desk, room, *published(desk, room))
     name = desk.text("#draft h2 small")
@@ -82,7 +82,7 @@ def tabs(room):
     assert twin.text("#draft h2 small") not in ("", name), f"the second tab is {name} too"
     for it in (twin, desk):
         taken_by(it, room, *published(it, room))
-    # A reload keeps the desk, its count and the draft that is not published.
+    # A reload keeps the client, its count and the draft that is not published.
     visit, stand = drafted(desk, room)
     desk.reload()
     wait("the draft is there again", lambda: desk.count("#draft li"))
@@ -203,7 +203,7 @@ def asks_at_closing(room):
 
 
 def crashed(room):
-    """After the browser has crashed, the next start offers the draft of the desk, and takes it up."""
+    """After the browser has crashed, the next start offers the draft of the client, and takes it up."""
     profile = os.path.join(room.folder, "profile")
     own = chromium.Chromium(chromium.found(), profile)
     room.browser = own

@@ -17,7 +17,7 @@ def is_green(desk):
 
 
 def follows(desk, room, patience=30.0):
-    """Another desk's entry comes to the board."""
+    """Another client's entry comes to the board."""
     room.entry()
     version = room.version()
     wait(f"version {version} is shown", lambda: version_in(desk.text("#link")) == version and is_green(desk), patience)

@@ -103,7 +103,7 @@ def is_third(browser):
 
 
 def firefox(room):
-    """In Firefox: the board loads, follows the server and the present minute, a waiting part is dragged and its draft published, and midnight passes without a hand."""
+    """In Firefox: the board loads, follows the server and the present minute, an unallocated part is dragged and its draft published, and midnight passes without a hand."""
     browser = Firefox(os.path.join(room.folder, "firefox"))
     try:
         with open(CLOCK) as file:

@@ -15,7 +15,7 @@ NOW_AT = """
   const box = chart.getBoundingClientRect(); const left = document.querySelector(".stand").getBoundingClientRect().right;
   return document.getElementById("nowline").checkVisibility() ? (line.left + line.width / 2 - left) / (box.left + chart.clientWidth - left) : null;
 """
-# What scrolls of the list of waiting parts: the list or what it is in.
+# What scrolls of the list of unallocated parts: the list or what it is in.
 SCROLLED = "let it = document.getElementById('waitlist'); while (it.scrollHeight < it.clientHeight + 60 || getComputedStyle(it).overflowY === 'visible') it = it.parentElement; "
 SHIFT_HOURS, STEP = 8, 5
 # How much more a page may hold after a shift than after its first half hour.

@@ -32,7 +32,7 @@ def flight_of(visit):
 
 
 class Asked:
-    """Requests to a server, past the proxy of the pages, over a connection that is opened anew after the server was away."""
+    """Requests to a server, past the proxy of the pages, over a connection that is opened again after the server was away."""
 
     def __init__(self, server):
         self.server, self.link = server, None

@@ -97,7 +97,7 @@ def finds(room):
 
 
 def waiting_list(room):
-    """Waiting can be sorted by time or by class, searched, and says how many minutes are left."""
+    """Waiting can be sorted by time or by priority, searched, and says how many minutes are left."""
     desk = room.desk()
     listed = lambda: [int(it.split(".")[0]) for it in desk.run("return [...document.querySelectorAll('#waitlist .wait')].map((it) => it.dataset.key)")]
     for word, key in (("time", lambda it: it["parts"][0]["from"]), ("class", lambda it: it["class"])):
@@ -128,7 +128,7 @@ def pick_both(desk, bars):
 
 
 def several(room):
-    """Several parts are picked with Ctrl, lifted at once, swapped by the menu, and moved to a row of stands by one drag."""
+    """Several parts are picked with Ctrl, deallocated at once, swapped by the menu, and moved to a row of stands by one drag."""
     desk = room.desk()
     bars, stands = pair_of(room, desk)
     pick_both(desk, bars)
@@ -168,7 +168,7 @@ def frame_picks(room):
 
 
 def card(room):
-    """Hover and a key give a card with all that is known of the visit: flights, times, class, and the kind and the desk of the entry that edited it last."""
+    """Hover and a key give a card with all that is known of the visit: flights, times, priority, and the kind and the client of the entry that edited it last."""
     desk = room.desk()
     number = with_flights(room, room.now() + 60)
     bar = seen_bar(desk, room, number)

@@ -1,5 +1,5 @@
 """An allocation: which part is on which stand, with what it costs and which parts are left. It can be changed part by part, and taken back
-to a mark. Of two allocations the better one leaves fewer parts of class 0, then of class 1, and so on, and then costs less."""
+to a mark. Of two allocations the better one leaves fewer parts of priority 0, then of priority 1, and so on, and then costs less."""
 
 import copy
 from bisect import bisect_left
@@ -22,7 +22,7 @@ class Part:
     def __init__(self, visit, number, type, of_class, begin, end, was, is_free):
         self.visit, self.number, self.type, self.of_class = visit, number, type, of_class
         self.begin, self.end, self.was, self.stand = begin, end, was, None
-        # Whether it waits for a stand in the server's plan.
+        # Whether it is unallocated in the server's plan.
         self.waits = was is None
         # Whether a method may give it another stand; one that waits in the plan is planned here, another one has moved.
         self.is_free = is_free
@@ -44,7 +44,7 @@ class Part:
 
 
 class Allocation:
-    """Parts on stands. What is counted of it: parts left by class, the cost of those on stands, and moves of planned parts."""
+    """Parts on stands. What is counted of it: parts left by priority, the cost of those on stands, and moves of planned parts."""
 
     def __init__(self, rules, parts, most_moves=0):
         self.rules, self.most_moves, self.parts = rules, most_moves, []
@@ -52,7 +52,7 @@ class Allocation:
         # The longest stay on each stand so far, with its buffer: what begins earlier than this before a minute is gone at it.
         self.longest = [0] * len(rules.stands)
         self.buffer = [it["buffer"] for it in rules.stands]
-        # Whether parts overlap on a stand, as aircraft may that are there in fact.
+        # Whether parts overlap on a stand, as aircraft may that are there.
         self.is_tangled = [False] * len(rules.stands)
         # For each stand itself and then those near it, each with what is known of the types that exclude each other there.
         self.near = [[(other, {}) for other in sorted(near, key=lambda it: it != stand)] for stand, near in enumerate(rules.near)]

@@ -82,7 +82,7 @@ def asked(about):
     it.add_argument("--tow", type=number_in(1, 100000), metavar="MINUTES", help="stays of at least so many minutes may be cut, with a tow between the pieces")
     it.add_argument("--dry-run", action="store_true", help="tells what would be done, and sends nothing")
     it.add_argument("--draft", metavar="FILE", help="with --dry-run: writes the edits to a file, which the board opens")
-    it.add_argument("--desk", default="PLAN", metavar="NAME", help="the beginning of the desk's name, up to 5 capitals and digits, PLAN if it is left out")
+    it.add_argument("--desk", default="PLAN", metavar="NAME", help="the beginning of the client's name, up to 5 capitals and digits, PLAN if it is left out")
     given = it.parse_args()
     if given.begin is not None and given.end is not None and given.end <= given.begin:
         it.error("--to is not after --from")
@@ -133,7 +133,7 @@ class Planner:
 
     def run(self):
         """Plans and sends until all is in the plan, or Ctrl+C is pressed. After a refusal the next draft has half as many edits, so that it is less
-        likely to meet an edit of another desk."""
+        likely to meet an edit of another client."""
         placed = drafts = refused = 0
         most = desk.MOST_EDITS
         while True:

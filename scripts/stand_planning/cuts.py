@@ -1,4 +1,4 @@
-"""Stays that are cut in two, so that parts that are left get stands: the part itself, if the beginning and the end of it find stands; or a
+"""Stays that are split, so that parts that are left get stands: the part itself, if the beginning and the end of it find stands; or a
 long stay in its way, which is towed from its stand or to it."""
 
 from stand_planning.methods import place, waiting
@@ -48,7 +48,7 @@ def cut_in_way(allocation, airport, part, least):
 
 
 def cut_in_two(allocation, airport, part, least):
-    """Cuts a part that has no stand, so that its pieces have one each; None if that can't be."""
+    """Splits a part that has no stand, so that its pieces have one each; None if that can't be."""
     if part.end - part.begin < least or part.pieces >= MOST_PARTS or part.cut is not None or not part.options:
         return None
     at = minute_of_cut(allocation, airport, part)

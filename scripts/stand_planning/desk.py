@@ -1,4 +1,4 @@
-"""The desk of a planner: it reads a plan from a server, and sends drafts. Edits are grouped so that each draft applies whole: a part comes
+"""The client of a planner: it reads a plan from a server, and sends drafts. Edits are grouped so that each draft applies whole: a part comes
 after those that have to leave its stand, or in the same draft."""
 
 import http.client
@@ -30,7 +30,7 @@ class Fault(Exception):
 
 
 class Desk:
-    """A desk at a server, with a name of its own for each run, so that its drafts are counted from 1."""
+    """A client at a server, with a name of its own for each run, so that its drafts are counted from 1."""
 
     def __init__(self, server, name):
         self.server, self.link, self.seen, self.draft = server, server.connection(), 0, 0

@@ -7,7 +7,7 @@ import time
 
 # How many parts may be in the way on a stand for a chain to move them, how many stands are tried so, and how deep a chain goes.
 MOST_IN_WAY, MOST_CHANCES, DEPTH = 3, 12, 2
-# What a part of class 9 without a stand weighs for a search, which may for a while take what is worse; each class before it twice as much.
+# What a part of priority 9 without a stand weighs for a search, which may for a while take what is worse; each priority before it twice as much.
 WEIGHT = 1000
 # The temperatures of a search at its begin and its end, in costs.
 HOT, COLD = 4000, 8
@@ -53,7 +53,7 @@ def place(allocation, parts, is_tightest_first=False):
 
 
 def fit(allocation):
-    """Each part that waits gets the best free stand, class by class. Of four orders, which are two of the parts of a class and two of stands,
+    """Each part that waits gets the best free stand, priority by priority. Of four orders, which are two of the parts of a priority and two of stands,
     and of first fit, the one that does best is kept."""
     parts, start, found = waiting(allocation), allocation.stands(), []
     orders = parts, sorted(parts, key=lambda it: (it.of_class, len(it.options), it.rank))
@@ -67,7 +67,7 @@ def fit(allocation):
 
 def seat(allocation, part, depth, kept, dice):
     """Puts the part on a free stand, or on one where all that are in its way find others: so far down as the depth says. Parts in `kept` stay.
-    A part of a lower class that waited itself may lose the stand that it just got."""
+    A part of a lower priority that waited itself may lose the stand that it just got."""
     chances = []
     for stand in part.options:
         found = allocation.blockers(part, stand, MOST_IN_WAY if depth else 0)
@@ -130,7 +130,7 @@ def chain(allocation, dice):
 
 
 def worse_by(before, after):
-    """By how much a value is worse than the one before, for a search: by the first class that has more parts left, or by cost."""
+    """By how much a value is worse than the one before, for a search: by the first priority that has more parts left, or by cost."""
     for of_class, (old, new) in enumerate(zip(before[0], after[0])):
         if old != new:
             return (new - old) * WEIGHT * 2 ** (len(before[0]) - 1 - of_class)

@@ -63,7 +63,7 @@ def nearest(airport, allocation, part):
 
 
 class Score:
-    """What is compared of plans: the parts left by class, passengers on remote or cargo stands, the cost of preferences, moves, and gaps
+    """What is compared of plans: the parts left by priority, passengers on remote or cargo stands, the cost of preferences, moves, and gaps
     that are closer than the slack."""
 
     def __init__(self, airport, allocation, preferences):

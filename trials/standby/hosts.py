@@ -1,5 +1,5 @@
 """Three hosts of one machine with GlusterFS: network, mount and UTS namespaces a, b and c, each with a glusterd and a brick of its own, and a
-fourth namespace d for desks. Nothing leaves the machine. It needs root, /dev/fuse, iproute2, util-linux and Debian's glusterfs-server."""
+fourth namespace d for clients. Nothing leaves the machine. It needs root, /dev/fuse, iproute2, util-linux and Debian's glusterfs-server."""
 
 import glob
 import os
@@ -117,7 +117,7 @@ class Hosts:
         assert said.returncode == 0, f"{option}: {said.stdout}"
 
     def mount(self, host, options=MOUNT):
-        """Mounts the volume on a host, anew if it was mounted."""
+        """Mounts the volume on a host, again if it was mounted."""
         where = self.mount_of(host)
         run(*self.inside(host), "umount", "-l", where)
         words = [*self.inside(host), "glusterfs", "--process-name", "fuse", "--volfile-server=127.0.0.1", f"--volfile-id={VOLUME}", *options, where]
@@ -149,7 +149,7 @@ class Hosts:
             return int(file.read())
 
     def start_bricks(self):
-        """Starts bricks that are away, and waits until all are there. They heal while desks go on, and heal info then always has an entry."""
+        """Starts bricks that are away, and waits until all are there. They heal while clients go on, and heal info then always has an entry."""
         def are_there():
             # glusterd may not yet have seen that a brick has ended, or be busy.
             self.gluster("volume", "start", VOLUME, "force")

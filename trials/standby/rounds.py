@@ -22,7 +22,7 @@ sys.path.insert(0, SCRIPTS)
 import journal_bytes
 
 DESKS, PORT, WORKERS = 8, 8080, 9
-# The seconds until a new server has to answer, and those for which desks go on after the old one is back.
+# The seconds until a new server has to answer, and those for which clients go on after the old one is back.
 LIMIT, HOLD = 90, 2
 KINDS = "server", "client", "brick", "cut", "stop"
 
