@@ -1,4 +1,4 @@
-// The card of a part: all that is known of its visit, the desks of the entries that edited it last and that took its stand, and the changes
+// The card of a part: all that is known of its visit, the clients of the entries that edited it last and that took its stand, and the changes
 // that this page saw. It comes with the mouse and with a key.
 
 import { HOW, timesFor } from "./bars.js";
@@ -43,7 +43,7 @@ export function showCard(part) {
   return undefined;
 }
 
-// Draws the card that is shown anew.
+// Draws the card that is shown again.
 export function drawCard() {
   if (state.shown === null) return;
   const visit = visitOf(state.shown.visit);

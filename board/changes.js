@@ -61,7 +61,7 @@ function changesBetween(old, visit) {
   return found;
 }
 
-// The old part of each part. Where their number differs it is the one that began at the same minute, if there is one.
+// The part that each part was before. Where their number differs it is the one that began at the same minute, if there is one.
 function pairsOf(were, parts) {
   if (were.length === parts.length) return parts.map((now, place) => [were[place], now]);
   return parts.map((now) => [were.find(({ from }) => from === now.from), now]);

@@ -1,4 +1,4 @@
-// A stand that is closed: a visit of class 0, named CLOSED- and a number, is put on it for the minutes. The server knows no closures; a name
+// A stand that is closed: a visit of priority 0, named CLOSED- and a number, is put on it for the minutes. The server knows no closures; a name
 // is never free again, so each has a number of its own.
 
 import { DAY, clashesOf, indexOf, slotOn, unfitOf } from "./rules.js";

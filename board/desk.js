@@ -1,8 +1,8 @@
-// The desk that a tab is: its name, the lock of that name, and the count of its drafts.
+// The client that a tab is: its name, the lock of that name, and the count of its drafts.
 
 import { HERE, keep, read } from "./store.js";
 
-// A tab is a desk of its own, by the user's name and random letters. What a tab keeps is copied when the tab is duplicated: so a desk is
+// A tab is a client of its own, by the user's name and random letters. What a tab keeps is copied when the tab is duplicated: so a client is
 // the one of the page that has the lock of its name, and any other page takes new letters. A name is used only once its lock is held.
 const state = { name: "", drafts: 0, isHeld: false };
 const LOCK_PATIENCE = 1500;
@@ -10,7 +10,7 @@ const LOCK_PATIENCE = 1500;
 export const deskName = () => state.name;
 export const isHeld = () => state.isHeld;
 
-// The next number of this desk's drafts. It is kept before it is used, so that it is never used twice.
+// The next number of this client's drafts. It is kept before it is used, so that it is never used twice.
 export function nextDraft() {
   state.drafts += 1;
   keep(sessionStorage, "desk", { name: state.name, drafts: state.drafts });
@@ -41,7 +41,7 @@ function held(name, options = {}) {
   });
 }
 
-// Takes up the desk that this tab had before a reload, or makes a new one of the user's name. Gives the name of the desk that the tab kept,
+// Takes up the client that this tab had before a reload, or makes a new one of the user's name. Gives the name of the client that the tab kept,
 // and whether it is this page's: the draft of a tab that this one was copied from will be sent there.
 export async function takeDesk(user) {
   const kept = read(sessionStorage, "desk", null);
@@ -51,7 +51,7 @@ export async function takeDesk(user) {
   return { before: kept?.name ?? null, isOurs: isOurs || navigator.locks === undefined };
 }
 
-// The desks of other pages of this browser that are open now.
+// The clients of other pages of this browser that are open now.
 export async function openDesks() {
   if (navigator.locks === undefined) return [];
   const { held: all } = await navigator.locks.query();

@@ -20,7 +20,7 @@ function setAttribute(made, name, value) {
 
 export const button = (words, click, attributes = {}) => el("button", { type: "button", on: { click }, ...attributes }, words);
 
-// Changes a text only where it differs: a screen reader is told nothing twice, and nothing is laid out anew.
+// Changes a text only where it differs: a screen reader is told nothing twice, and nothing is laid out again.
 export function setText(node, words) {
   if (node.textContent !== words) node.textContent = words;
 }

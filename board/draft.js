@@ -38,7 +38,7 @@ export function keptOf(model, visits, edit) {
 }
 
 /**
- * The edits of a draft without those that a later one makes vain: a part that is put or lifted again, with no cut or join of its visit between.
+ * The edits of a draft without those that a later one makes vain: a part that is put or deallocated again, with no cut or join of its visit between.
  * @param {Kept[]} kept
  * @returns {Kept[]}
  */
@@ -158,7 +158,7 @@ export function sentOf(model, visits, desk, draft, base, edits) {
 }
 
 /**
- * Whether a reply 200 is about the edits that were sent. The server answers a draft by its desk and number alone, so that of another with the
+ * Whether a reply 200 is about the edits that were sent. The server answers a draft by its client and number alone, so that of another with the
  * same ones has a version of its own. A visit that was edited at that version has the parts that were asked for; one that was edited later shows
  * nothing. `entry` is what GET /entries/{version} says, or null where it was not read.
  * @param {Sent} sent @param {number} version @param {Visits} visits @param {{desk: string | null, kind: string} | null} entry

@@ -1,4 +1,4 @@
-// The draft of this desk: its edits, the version that they were made over, what is thought of them, and what the browser keeps of them.
+// The draft of this client: its edits, the version that they were made over, what is thought of them, and what the browser keeps of them.
 
 import { MOST_EDITS, baseOf, editOf, judgeDraft, keptOf, lookAgain as stillPossible, overtakenOf } from "./draft.js";
 import { deskName, isHeld } from "./desk.js";
@@ -144,7 +144,7 @@ export function forgetDraft() {
   keepDraft();
 }
 
-// The drafts that were kept of desks which are open nowhere, {desk, kept, base, pending, at}, the latest first.
+// The drafts that were kept of clients which are open nowhere, {desk, kept, base, pending, at}, the latest first.
 export function lostDrafts(open) {
   return keysWith(localStorage, "draft ").filter((desk) => desk !== deskName() && !open.includes(desk))
     .map((desk) => ({ desk, ...read(localStorage, `draft ${desk}`, {}) })).filter(isDraft).sort((one, other) => other.at - one.at);
@@ -158,14 +158,14 @@ export function openDraft(kept, base) {
 
 export const forgetLost = (desk) => keep(localStorage, `draft ${desk}`, null);
 
-// Takes up a draft that another desk left. What was on its way is asked for again by the same bytes, under that desk's name.
+// Takes up a draft that another client left. What was on its way is asked for again by the same bytes, under that client's name.
 export function takeLost(lost) {
   forgetLost(lost.desk);
   restore(lost);
   refresh();
 }
 
-// A desk that changes its name takes its draft along.
+// A client that changes its name takes its draft along.
 export function movedFrom(desk) {
   keep(localStorage, `draft ${desk}`, null);
   keepDraft();

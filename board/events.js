@@ -1,4 +1,4 @@
-// Events that somebody has to deal with: stands that were lost, closures that were broken, and alarms, which are two aircraft on stands in fact
+// Events that somebody has to deal with: stands that were lost, closures that were broken, and alarms, which are two aircraft on block
 // that exclude each other. Each stays in the banner until somebody of this browser has seen it, or it is dealt with.
 
 import { isClosure } from "./closures.js";
@@ -22,7 +22,7 @@ const seen = read(localStorage, "events", {});
 export const isAlarmed = (key) => state.alarmed.has(key);
 export const unseen = () => state.events.filter(({ id }) => seen[id] === undefined);
 
-// Works the events out anew, from the picture and the present minute.
+// Works the events out again, from the picture and the present minute.
 export function findEvents() {
   if (!picture.hasPicture()) return;
   const now = nowMinute();

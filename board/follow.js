@@ -39,7 +39,7 @@ export function startFollowing() {
   loop(state.run);
 }
 
-// Starts anew where a turn has not come to its end.
+// Starts again where a turn has not come to its end.
 export function watchOver() {
   if (performance.now() - state.began > LONGEST_TURN) startFollowing();
 }

@@ -7,7 +7,7 @@
  * @typedef {"login" | "forbidden" | "missing" | "gateway" | "slow" | "nobody" | "cut" | "redirect" | "foreign" | "status" | "disk" | "memory"} Cause
  * @typedef {{is: "ok", body: any} | {is: "refused", status: number, body: any} |
  *   {is: "trouble", cause: Cause, words: string, mayBeTaken: boolean}} Outcome
- *   `mayBeTaken`: whether a command that was sent may be in the plan all the same
+ *   `mayBeTaken`: whether a command that was sent may be in the plan anyway
  * @typedef {(value: any) => string | null} Form  what is wrong with a value, to be read after its name; or null
  */
 

@@ -1,4 +1,4 @@
-// What a person does to the plan by a draft: parts are put on stands, lifted, swapped, cut and joined, one or several at once.
+// What a person does to the plan by a draft: parts are put on stands, deallocated, swapped, cut and joined, one or several at once.
 
 import * as drafting from "./drafting.js";
 import { askYes, converse } from "./dialogs.js";

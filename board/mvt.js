@@ -145,7 +145,7 @@ function saidBy(model, { station, AD, AA, EA, ED, to }) {
 const isArrival = (says) => says !== "AD" && says !== "ED";
 
 /**
- * The live visit that a message of this flight and day is about: the lowest numbered; or null.
+ * The visit that is neither gone nor cancelled that a message of this flight and day is about: the lowest numbered; or null.
  * @param {Map<number, Visit>} visits @param {boolean} arrives @param {string} flight @param {number} day
  * @returns {Visit | null}
  */

@@ -14,7 +14,7 @@ const NOTHING = "This page publishes nothing: it is for the wall, or for trainin
 
 // Sends a command until its reply is there, and gives null where it was taken, or why not. A visit and a cancel can be sent again, since the
 // server knows them by name and number. A message or a report would be another entry each time: so the entries since are looked through
-// for one of this desk, which is this tab's alone. A proxy may name the desk by its user instead: then no entry is known to be this tab's, and a
+// for one of this client, which is this tab's alone. A proxy may name the client by its user instead: then no entry is known to be this tab's, and a
 // person decides. `taken` is told what a 200 says.
 export async function outcome(kind, send, tell, taken = () => {}) {
   if (!maySend()) return NOTHING;
@@ -45,7 +45,7 @@ async function accepted(body, taken) {
   return (await taken(body)) ?? null;
 }
 
-// By which name the server has this tab's messages and reports: that of its desk, or the one that a proxy gives; null before the first.
+// By which name the server has this tab's messages and reports: that of its client, or the one that a proxy gives; null before the first.
 let knownAs = null;
 
 async function learnName(version) {
@@ -54,7 +54,7 @@ async function learnName(version) {
   if (entry.is === "ok") knownAs = entry.body.desk;
 }
 
-// Whether this desk has an entry of this kind since a version; undefined while the server is away, and null where the entries do not tell it.
+// Whether this client has an entry of this kind since a version; undefined while the server is away, and null where the entries do not tell it.
 async function wasTaken(kind, since) {
   const reply = await ask("GET", "version");
   if (reply.is !== "ok") return undefined;

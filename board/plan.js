@@ -1,4 +1,4 @@
-// The plan as this desk would leave it: the picture with the draft over it, and what follows from that for stands.
+// The plan as this client would leave it: the picture with the draft over it, and what follows from that for stands.
 
 import * as picture from "./model.js";
 import { indexOf } from "./rules.js";
@@ -10,7 +10,7 @@ const state = { visits: new Map(), index: [], places: null };
 export const visits = () => state.visits;
 export const index = () => state.index;
 
-// Makes the plan anew, from the picture and these edits.
+// Makes the plan again, from the picture and these edits.
 export function remake(edits) {
   const seen = picture.visits();
   const { changed } = visitsAfter(picture.model(), seen, edits);

@@ -14,7 +14,7 @@ import { settings } from "./settings.js";
 
 const AGAIN = 1000;
 
-// The desk that an entry is of, in words.
+// The client that an entry is of, in words.
 async function deskOf(entry) {
   const reply = await ask("GET", `entries/${entry}`);
   return reply.is === "ok" && reply.body.desk !== null ? `desk ${reply.body.desk}` : "another desk";
@@ -75,7 +75,7 @@ async function comparedWith(sent, version) {
   return takenOf({ parts: {}, ...sent }, version, visits, entry.is === "ok" ? entry.body : null);
 }
 
-// The version is that of another draft with this desk's name and number: these edits are not in the plan, and go out again from a desk of a
+// The version is that of another draft with this client's name and number: these edits are not in the plan, and go out again from a client of a
 // new name.
 async function sendAsAnother(why, refused) {
   const before = deskName();

@@ -200,7 +200,7 @@ function isSooner(clash, other) {
 }
 
 /**
- * Every clash of a slot with slots of other visits, by minute. Two aircraft that are both there in fact are none.
+ * Every clash of a slot with slots of other visits, by minute. Two aircraft that are both on block are none.
  * @param {Model} model @param {Index} index @param {Slot} slot
  * @returns {{other: Slot, minute: number, rule: Rule}[]}
  */
@@ -218,7 +218,7 @@ export function clashesOf(model, index, slot) {
 }
 
 /**
- * The first clash of these slots with slots of other visits; or null. Two that are both there in fact refuse nothing.
+ * The first clash of these slots with slots of other visits; or null. Two that are both on block refuse nothing.
  * @param {Model} model @param {Index} index @param {Slot[]} slots
  * @returns {Clash | null}
  */
@@ -250,7 +250,7 @@ export function fitsOf(model, index, visit, part) {
 }
 
 /**
- * The clashes of aircraft that are both there in fact, each from its first minute of those from `begin` up to `end`.
+ * The clashes of aircraft that are both on block, each from its first minute of those from `begin` up to `end`.
  * @param {Model} model @param {Index} index @param {number} begin @param {number} end
  * @returns {(Clash & {stands: [number, number]})[]}
  */

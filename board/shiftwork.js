@@ -124,5 +124,5 @@ function seeAll() {
   redraw();
 }
 
-// Puts the part of a warning on a stand that would mend it, in the draft.
+// Puts the part of a warning on a stand that would fix it, in the draft.
 export const mend = (part, stand) => addEdits([{ put: { ...part, stand } }]);

@@ -12,7 +12,7 @@ import { isLive, stateOf } from "./visits.js";
  *   how many minutes it should have been gone
  * @typedef {{key: string, kind: "occupied" | "needed" | "nostand", level: "watch" | "amber" | "red", minute: number, left: number, visit: number,
  *   part: number, how: "comes" | "here" | "tow", stand: number | null, by: Standing | null, fits: number[]}} Warning  `left` minutes from now,
- *   `minute` is when the two would meet or the part begins; `stand` is the part's place, or the one that it lost; `fits` are the stands that would mend it, best first
+ *   `minute` is when the two would meet or the part begins; `stand` is the part's place, or the one that it lost; `fits` are the stands that would fix it, best first
  */
 
 // While an aircraft is expected to leave in time, there is nothing to be done.

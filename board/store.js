@@ -13,7 +13,7 @@ export function read(store, key, otherwise) {
   }
 }
 
-// Where a browser keeps nothing, the page does without: a reload then makes a new desk.
+// Where a browser keeps nothing, the page does without: a reload then makes a new client.
 export function keep(store, key, value) {
   try {
     if (value === null) store.removeItem(nameOf(key));

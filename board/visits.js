@@ -70,7 +70,7 @@ export function byRank(one, other) {
 }
 
 /**
- * The parts of live visits that have no stand and last for one of these minutes at least, by rank.
+ * The parts of visits that are neither gone nor cancelled that have no stand and last for one of these minutes at least, by rank.
  * @param {Iterable<Visit>} visits @param {number} begin @param {number} end
  * @returns {Waiting[]}
  */

@@ -1,4 +1,4 @@
-// The lists of parts without a stand: those that wait, by time or by class, searched and counted down, and those whose time has passed.
+// The lists of parts without a stand: those that wait, by time or by priority, searched and counted down, and those whose time has passed.
 
 import * as axis from "./axis.js";
 import { $, el, fillKeyed, setText } from "./dom.js";

@@ -1,4 +1,4 @@
-// The warnings before an alarm: the list "Soon", by minute, with the stands that would mend each.
+// The warnings before an alarm: the list "Soon", by minute, with the stands that would fix each.
 
 import { $, el, fillKeyed, setText } from "./dom.js";
 import * as picture from "./model.js";
@@ -15,7 +15,7 @@ const state = { warnings: [] };
 
 export const warnings = () => state.warnings;
 
-// Works the warnings out anew, from the picture and the present minute.
+// Works the warnings out again, from the picture and the present minute.
 export function findWarnings() {
   const now = nowMinute();
   if (!picture.hasPicture() || !isInPlan(now)) state.warnings = [];
@@ -42,7 +42,7 @@ export function drawWarnings() {
   }));
 }
 
-// The stands that would mend it; a press of one puts the part there, in the draft.
+// The stands that would fix it; a press of one puts the part there, in the draft.
 function fitsOf(it, fits) {
   if (address.isWall) return fits.length === 0 ? null : el("small", {}, `fits ${fits.map(stand).join(", ")}`);
   const part = keyOf(it.visit, it.part);
