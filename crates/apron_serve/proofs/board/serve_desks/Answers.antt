@@ -28,7 +28,7 @@ returns-in-Ok-served-clause-crash g c =
     let tells = journal_tells g.D.Disk.state in
     let hall = c.serve_watched-served.result.1 in
     let left = hall.board.board in
-    let same : c.into_board-2.result ≡ left = c.into_board-2.ensures.value ∙ ap (λ w. w.board) c.into_board.ensures.board in
+    let same : c.into_board-in-Ok-served.result ≡ left = c.into_board-in-Ok-served.ensures.value ∙ ap (λ w. w.board) c.into_board.ensures.board in
     let writers : length hall.writers ≡ length (map g.L.Workplace.state c.args.screens.now) =
     of_ok c.serve_watched-served.result.0 c.in-Ok-served.ends c.in-Ok-served.is c.serve_watched-served.ensures.writers ∙ sym (length-map c.args.screens.now g.L.Workplace.state) in (
       desks_serve (record { states = g.L.Workplace.states; feeds = feed_texts g.R.Stated.tells c.args.watches.now }) tells c.args.files.now c.args.task
@@ -60,15 +60,15 @@ returns-in-Ok-served-clause-meets g c = (returns-in-Ok-served-clause-crash g c).
 pub returns-in-Err-served-clause-crash : goal.returns-in-Err-served-clause-crash
 returns-in-Err-served-clause-crash g c =
     let refused = of_err c.serve_watched-served.result.0 c.in-Err-served.field-0 c.in-Err-served.is c.serve_watched-served.ensures.refused in
-    let closed = c.into_board-2.ensures.value ∙ ap (λ w. w.board) c.into_board.ensures.board in
-    let same = c.close_board.ensures.disk ∙ ap (λ b. b.keeper.disk) (closed ∙ refused.2) in (
+    let closed = c.into_board-in-Err-served-2.ensures.value ∙ ap (λ w. w.board) c.into_board-in-Err-served.ensures.board in
+    let same = c.close_board-in-Err-served.ensures.disk ∙ ap (λ b. b.keeper.disk) (closed ∙ refused.2) in (
       turns_want_memory (journal_tells g.D.Disk.state) c.args.files.now
           (record { listeners = map g.L.Workplace.state c.args.listeners.now; screens = map g.L.Workplace.state c.args.screens.now; disk = disk_seen (g.D.Disk.state c.args.disk) })
-          (record { listeners = map g.L.Workplace.state c.serve_watched-served.new.listeners; screens = map g.L.Workplace.state c.serve_watched-served.new.walls; disk = disk_seen (g.D.Disk.state c.close_board.result) })
+          (record { listeners = map g.L.Workplace.state c.serve_watched-served.new.listeners; screens = map g.L.Workplace.state c.serve_watched-served.new.walls; disk = disk_seen (g.D.Disk.state c.close_board-in-Err-served.result) })
           c.in-Ok.board.board c.in-Ok.ensures.opened (ap (map g.L.Workplace.state) refused.0) (ap (map g.L.Workplace.state) refused.1)
           (ap (λ d. (g.D.Disk.state d).contents) same ∙ c.in-Ok.ensures.stays.contents)
           (ap (λ d. (disk_seen (g.D.Disk.state d)).faults) same),
-      stays_both g.N.OfFiles.begun (g.D.Disk.state c.args.disk) (g.D.Disk.state c.close_board.result) c.requires.begun
+      stays_both g.N.OfFiles.begun (g.D.Disk.state c.args.disk) (g.D.Disk.state c.close_board-in-Err-served.result) c.requires.begun
           (subst (λ d. Stays (g.D.Disk.state c.args.disk) (g.D.Disk.state d)) (sym same) c.in-Ok.ensures.stays),
     )
 
