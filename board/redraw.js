@@ -1,7 +1,10 @@
 // When the page is drawn: once before the next frame, however much has changed since the last.
 
+// A page that is hidden before its frame comes is drawn after so many milliseconds.
+const LATEST = 1000;
+
 const drawers = [];
-const state = { asked: false, waiting: [] };
+const state = { asked: false, frame: 0, timer: 0, waiting: [] };
 
 // Adds a function that brings its piece of the page up to date. They are called in the order in which they were added.
 export const drawnBy = (drawer) => drawers.push(drawer);
@@ -10,8 +13,8 @@ export const drawnBy = (drawer) => drawers.push(drawer);
 export function redraw() {
   if (state.asked) return;
   state.asked = true;
-  if (document.hidden) setTimeout(draw, 0);
-  else requestAnimationFrame(draw);
+  if (!document.hidden) state.frame = requestAnimationFrame(draw);
+  state.timer = setTimeout(draw, document.hidden ? 0 : LATEST);
 }
 
 // Resolves after the page was drawn, and fails where that failed.
@@ -21,6 +24,8 @@ export function drawn() {
 }
 
 function draw() {
+  cancelAnimationFrame(state.frame);
+  clearTimeout(state.timer);
   state.asked = false;
   const { waiting } = state;
   state.waiting = [];

@@ -156,7 +156,7 @@ def frame_of(desk):
 
 
 def cost(room):
-    """What a board costs the server, through nginx: nothing while it is hidden, and one small request a second when nothing happens."""
+    """What a board costs the server, through nginx: one small request in four seconds while it is hidden, so that the tab's title still counts, and one a second in sight, when nothing happens."""
     with contextlib.closing(Nginx(room)) as nginx:
         desk = room.desk(None, proxy=nginx, live=False)
         nginx.sign_in(desk)
@@ -167,10 +167,11 @@ def cost(room):
         assert desk.run("return document.hidden"), "the browser does not hide the page"
         before = len(nginx.costs())
         time.sleep(8)
-        assert len(nginx.costs()) == before, "a hidden board asks the server"
+        hidden = len(nginx.costs()) - before
+        assert 1 <= hidden <= 3, f"{hidden} requests in 8 s while it is hidden"
         room.browser.call("Browser.setWindowBounds", windowId=window, bounds={"windowState": "normal"})
         wait("the page is in sight", lambda: not desk.run("return document.hidden"))
-        words = []
+        words = [f"hidden for 8 s: {hidden} requests"]
         for entries in (0, 5):
             time.sleep(2)
             before, until = len(nginx.costs()), time.monotonic() + 20
@@ -180,8 +181,8 @@ def cost(room):
             time.sleep(max(0.0, until - time.monotonic()))
             costs = nginx.costs()[before:]
             assert len(costs) <= 22 + 3 * entries, f"{len(costs)} requests in 20 s with {entries} entries"
-            words.append(f"{entries} entries: {len(costs)} requests, {sum(it[1] for it in costs):,} bytes to the server, {sum(it[2] for it in costs):,} from it")
-        return "20 seconds with " + "; with ".join(words)
+            words.append(f"20 s with {entries} entries: {len(costs)} requests, {sum(it[1] for it in costs):,} bytes to the server, {sum(it[2] for it in costs):,} from it")
+        return "; ".join(words)
 
 
 TRIALS = (pick, pick_in_crowd, version_change, drag_frames, crowd, cost)

@@ -172,7 +172,7 @@ def events(room):
     desk.keys("Escape")
     pressed = desk.attribute("#sound", "aria-pressed")
     desk.click("#sound")
-    assert desk.attribute("#sound", "aria-pressed") != pressed, "the sound can't be switched"
+    wait("the sound is switched", lambda: desk.attribute("#sound", "aria-pressed") != pressed)
     room.asked.post("/reports", {"visit": pair[0], "off": {"minute": now}})
     room.move(minutes=80)
     wait("the alarm is past", lambda: desk.shown("#past"))
