@@ -31,13 +31,13 @@ Taken = collections.namedtuple("Taken", "name version host sent came")
 
 
 class Unit(threading.Thread):
-    """What apron-standby.service does on a host: it waits for the journal, writes its end back, runs the server under the watchdog, and begins
-    again. Without the write-back the server itself tries again and again to get the journal."""
+    """What apron-standby.service does on a host: it waits for the journal, runs the server under the watchdog, and begins again. If it does not
+    wait, the server itself tries again and again to get the journal."""
 
-    def __init__(self, hosts, host, program, journal, is_written_back, is_watched=True):
+    def __init__(self, hosts, host, program, journal, waits=True, is_watched=True):
         super().__init__(daemon=True)
         self.hosts, self.host, self.over, self.ends, self.process = hosts, host, False, collections.Counter(), None
-        wait = [[os.path.join(SCRIPTS, "await-journal"), journal]] if is_written_back else []
+        wait = [[os.path.join(SCRIPTS, "await-journal"), journal]] if waits else []
         serve = [program, "serve", *FILES, "1000000", f"{NET[host]}:{PORT}", str(WORKERS), journal]
         self.is_watched, self.steps = is_watched, [*wait, [os.path.join(SCRIPTS, "watchdog"), journal, *serve] if is_watched else serve]
         self.start()
