@@ -1,7 +1,7 @@
 -- How a run of device calls goes on.
-use Rattle.std.proofs.Common.{◌≡◌, ℕ, List, ◌∙◌, subst, sym, arith, inl, inr}
+use Rattle.std.proofs.Common.{◌≡◌, ℕ, List, subst, sym, arith, inl, inr}
 use Rattle.std.proofs.lemmas.Bool.{cases_lt}
-use Rattle.journal_disk.specs.Disk.{DiskState, EachImage, EachImageSince, Goes, Passes, Same, Stays, Torn}
+use Rattle.journal_disk.specs.Disk.{DiskState, EachImage, EachImageSince, Goes, Passes, Same, Torn}
 use Rattle.journal_disk.specs.TornWrites.{torn_same}
 
 -- before the first call
@@ -83,13 +83,6 @@ pub goes_like : (Step Other : List ℕ → List ℕ → Type 0) → ((x y : List
 goes_like Step Other same a b goes = record {
   clock = goes.clock;
   since = λ moment image before now left. let from = goes.since moment image before now left in (from.0, from.1, same from.0 image from.2);
-}
-
--- calls that write nothing
-pub stays_both : (a b c : DiskState) → Stays a b → Stays b c → Stays a c
-stays_both a b c one two = record {
-  contents = two.contents ∙ one.contents;
-  crash = goes_both Same (λ x y z first second. second ∙ first) a b c one.crash two.crash;
 }
 
 -- no call

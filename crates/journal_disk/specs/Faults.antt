@@ -1,5 +1,5 @@
 -- Why a journal isn't made or opened, and how faults are counted.
-use Rattle.std.specs.Prelude.{◌≡◌, ℕ, List, length, true, false, Result, Err}
+use Rattle.std.specs.Prelude.{◌≡◌, ◌⊎◌, ℕ, List, length, true, false, Result, Ok, Err}
 use Rattle.std.proofs.Common.{◌≢◌}
 use Rattle.apron_base.specs.Counts.{Counts}
 use Rattle.journal_disk.specs.Disk.{DiskState, IfExposed, Stays}
@@ -40,6 +40,22 @@ TextFails digests text fault = FailsAs (opening_of digests text) fault
 -- the same for the text of a journal of format 1
 abbrev pub OldTextFails : List ℕ → List ℕ → JournalFault → Type 0
 OldTextFails digests text fault = FailsAs (old_opening_of digests text) fault
+
+-- a text of which something is read has no bad record
+pub not_bad : {A : Type 0} {read : Result A JournalFault} {value : A} {number : ℕ}
+    → read ≡ Ok value
+    → read ≡ Err (BadRecord number)
+    → ⊥
+not_bad is bad = cc
+
+-- why nothing is read of a journal's text: the bytes of its disk aren't read, or they are a text
+-- that fails so
+abbrev pub PartFails : (List ℕ → JournalFault → Type 0) → DiskState → DiskState → JournalFault
+    → Type 0
+PartFails Fails before now fault =
+    ReadFails before.faults now.faults fault
+    ⊎ (Counts false before.faults now.faults
+    × ((text : List ℕ) × IfExposed before (λ bytes. text ≡ bytes) × Fails text fault))
 
 -- why a journal isn't opened: the disk has failed, memory has run out, or what the disk reads as is
 -- refused

@@ -1,5 +1,5 @@
 // The journal of a history's entries.
-ghost use Rattle.std.specs.Prelude.{◌≡◌, ◌≤◌, ◌<◌, ◌+◌, ◌*◌, Ok, false, length, OnOk, OnErr, IfOk, IfErr, MatchResult};
+ghost use Rattle.std.specs.Prelude.{◌≡◌, ◌≤◌, ◌<◌, ◌+◌, ◌*◌, Ok, false, length, OnOk, OnErr, IfOk, IfErr, MatchResult, IsOk};
 ghost use Rattle.apron_base.specs.Counts.{Counts};
 ghost use Rattle.apron_base.specs.Keeper.{AddsEntry, FailsToAdd};
 ghost use Rattle.journal_disk.specs.Disk.{Continues, Does, IfExposed, IsDurable, IsSafe, Stays};
@@ -48,9 +48,11 @@ impl<D: Disk> Model for Journal<D> {
 impl<D: Disk> Journal<D> {
     /// Opens the journal of format 2 of the files of these two digests (32 bytes each), and gives
     /// the entries of its new part, in order. It syncs before it reads, so a later crash leaves
-    /// what it gives. A refusal hands the disk back, which reads as before. It is `DiskFault` if
-    /// the disk failed; `NotAJournal`, `OtherAirport`, `OldFormat` or `BadRecord` by what the disk
-    /// reads as, tested in this order; or `Memory`.
+    /// what it gives. If a record isn't whole it does both once more, since a replicated file
+    /// system may have told an old size of the file, at which the journal seems cut. A refusal
+    /// hands the disk back, which reads as before. It is `DiskFault` if the disk failed;
+    /// `NotAJournal`, `OtherAirport`, `OldFormat` or `BadRecord` by what the disk reads as, tested
+    /// in this order; or `Memory`.
     pub fn open(
         alloc: Global,
         disk: D,
@@ -101,11 +103,12 @@ impl<D: Disk> Journal<D> {
         (journal, entries)
     }
 
-    /// Opens the journal as `open` does, and then writes its last record and the gate after it
-    /// again as they are, and syncs. So a storage whose copies differ in these bytes, since whoever
-    /// wrote them died at it, agrees in them before anything is answered. The last of the records
-    /// is the only one that may be in doubt: each other one was written, or written again, and
-    /// synced before the one after it.
+    /// Opens the journal as `open` does: it reads once more if a record isn't whole, since the size
+    /// may have been told late. Then it writes its last record and the gate after it again as they
+    /// are, and syncs. So a storage whose copies differ in these bytes, since whoever wrote them
+    /// died at it, agrees in them before anything is answered. The last of the records is the only
+    /// one that may be in doubt: each other one was written, or written again, and synced before
+    /// the one after it.
     pub fn open_to_append(
         alloc: Global,
         disk: D,
@@ -154,6 +157,7 @@ impl<D: Disk> Keeper for Journal<D> {
         ensures kept { keeper_of self.new.extent (D.state self.new.disk)
             ≡ record (keeper_of self.old.extent (D.state self.old.disk)) { room = most_bytes } }
         ensures same { self.new ≡ self.old }
+        ensures never_fails { IsOk result }
     {
         Ok(())
     }

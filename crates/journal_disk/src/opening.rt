@@ -1,5 +1,5 @@
 // Opens a journal.
-ghost use Rattle.std.specs.Prelude.{◌≡◌, ◌≤◌, ◌+◌, ◌*◌, ◌∷◌, [], Ok, false, length, OnOk, IfOk, IfErr, IfSome};
+ghost use Rattle.std.specs.Prelude.{◌≡◌, ◌≤◌, ◌+◌, ◌*◌, ◌∷◌, [], ℕ, List, Ok, false, length, OnOk, IfOk, IfErr, IfSome};
 ghost use Rattle.std.specs.Option.{option_map};
 ghost use Rattle.apron_base.specs.Counts.{Counts};
 ghost use Rattle.apron_base.specs.Histories.{Every};
@@ -8,9 +8,11 @@ ghost use Rattle.journal_disk.specs.Disk.DoneCall.{DoneSync};
 ghost use Rattle.journal_disk.specs.Entries.{IsEntry, last_record, records};
 ghost use Rattle.journal_disk.specs.Extent.{opening_calls};
 ghost use Rattle.journal_disk.specs.Header.{old_opening_of, opening_of};
-ghost use Rattle.journal_disk.specs.Faults.{TextFails, OldTextFails, OpenFails, OldOpenFails, ReadFails};
+ghost use Rattle.journal_disk.specs.Faults.{TextFails, OldTextFails, OpenFails, OldOpenFails, PartFails, ReadFails, not_bad};
 ghost use Rattle.journal_disk.specs.Limits.{most_entries, most_first, most_record};
 ghost use Rattle.journal_disk.specs.Opening.{IsNewPart, IsOldPart};
+ghost use Rattle.journal_disk.specs.declared.fault.JournalFault.{JournalFault};
+ghost use Rattle.journal_disk.specs.declared.fault.JournalFault.TheVariants.{BadRecord};
 
 use crate::gates::{FRAME, write_back};
 use crate::header::{FORMAT, HEADER, NEW, test_header};
@@ -46,8 +48,7 @@ pub(crate) fn read_journal<D: Disk>(
         (Counts false (D.state disk.old).faults (D.state disk.new).faults) }
     ensures refused { IfErr result (OpenFails digests.now (D.state disk.old) (D.state disk.new)) }
 {
-    let text = read_all(alloc, disk)?;
-    let part = read_text(alloc, &text, digests)?;
+    let (_, part) = read_part(alloc, disk, digests)?;
     Ok(part)
 }
 
@@ -75,8 +76,7 @@ pub(crate) fn reread_journal<D: Disk>(
         (Counts false (D.state disk.old).faults (D.state disk.new).faults) }
     ensures refused { IfErr result (OpenFails digests.now (D.state disk.old) (D.state disk.new)) }
 {
-    let text = read_all(alloc, disk)?;
-    let part = read_text(alloc, &text, digests)?;
+    let (text, part) = read_part::<D, NewPart>(alloc, disk, digests)?;
     let place = part.first + part.records.length;
     let last = last_record(&part.records.entries);
     write_back(disk, &text, place - last, last + 1)?;
@@ -119,9 +119,105 @@ pub(crate) fn read_old_journal<D: Disk>(
     ensures refused { IfErr result
         (OldOpenFails digests.now (D.state disk.old) (D.state disk.new)) }
 {
-    let text = read_all(alloc, disk)?;
-    let found = read_old_text(alloc, &text, digests)?;
+    let (_, found) = read_part(alloc, disk, digests)?;
     Ok(found)
+}
+
+// What is read of a journal's text.
+trait Part: Drop + Sized {
+    // With these digests it is what is read of this text.
+    ghost is_read: { List ℕ → List ℕ → Self → Type 0 };
+
+    // Why nothing is read of the text.
+    ghost fails: { List ℕ → List ℕ → JournalFault → Type 0 };
+
+    fn read(alloc: Global, text: &[u8], digests: &[u8; 64]) -> Result<Self, JournalFault>
+        ensures read { IfOk result (is_read digests.now text.now) }
+        ensures refused { IfErr result (fails digests.now text.now) };
+
+    // A text of which it is read has no bad record.
+    ghost whole: { (digests text : List ℕ) (part : Self) (number : ℕ)
+        → is_read digests text part → fails digests text (BadRecord number) → ⊥ };
+}
+
+impl Part for NewPart {
+    ghost is_read = { λ digests text part. (opening_of digests text ≡ Ok part.records.entries.items)
+        × IsNewPart text part.first part.records.entries.items part.records.length };
+
+    ghost fails = { TextFails };
+
+    fn read(alloc: Global, text: &[u8], digests: &[u8; 64]) -> Result<NewPart, JournalFault> {
+        read_text(alloc, text, digests)
+    }
+
+    ghost whole = { λ digests text part number is. not_bad is.0 };
+}
+
+impl Part for Option<Records> {
+    ghost is_read = { λ digests text found.
+        (old_opening_of digests text ≡ Ok (option_map (λ records. records.entries.items) found))
+        × IfSome found (λ records. IsOldPart text records.entries.items records.length) };
+
+    ghost fails = { OldTextFails };
+
+    fn read(
+        alloc: Global,
+        text: &[u8],
+        digests: &[u8; 64],
+    ) -> Result<Option<Records>, JournalFault> {
+        read_old_text(alloc, text, digests)
+    }
+
+    ghost whole = { λ digests text found number is. not_bad is.0 };
+}
+
+// Makes what the disk reads as safe from a crash, and reads a part of it. If a record isn't whole it
+// does all that once more, and the second answer counts: a replicated file system may have told an
+// old size of the file, at which the text was cut.
+fn read_part<D: Disk, P: Part>(
+    alloc: Global,
+    disk: &mut D,
+    digests: &[u8; 64],
+) -> Result<(Vec<u8>, P), JournalFault>
+    ensures durable { OnOk result (IsDurable (D.state disk.old) (D.state disk.new)) }
+    ensures bytes { IfOk result
+        (λ found. IfExposed (D.state disk.old) (λ bytes. found.0.items ≡ bytes)) }
+    ensures read { IfOk result (λ found. P.is_read digests.now found.0.items found.1) }
+    ensures done { OnOk result
+        (Does (DoneSync ∷ []) (D.state disk.old) (D.state disk.new)) }
+    ensures stays { Stays (D.state disk.old) (D.state disk.new) }
+    ensures counts { OnOk result
+        (Counts false (D.state disk.old).faults (D.state disk.new).faults) }
+    ensures refused { IfErr result
+        (PartFails (P.fails digests.now) (D.state disk.old) (D.state disk.new)) }
+{
+    match read_once(alloc, disk, digests) {
+        Err(JournalFault::BadRecord(_)) => read_once(alloc, disk, digests),
+        answer => answer,
+    }
+}
+
+// The same, but only once.
+fn read_once<D: Disk, P: Part>(
+    alloc: Global,
+    disk: &mut D,
+    digests: &[u8; 64],
+) -> Result<(Vec<u8>, P), JournalFault>
+    ensures durable { OnOk result (IsDurable (D.state disk.old) (D.state disk.new)) }
+    ensures bytes { IfOk result
+        (λ found. IfExposed (D.state disk.old) (λ bytes. found.0.items ≡ bytes)) }
+    ensures read { IfOk result (λ found. P.is_read digests.now found.0.items found.1) }
+    ensures done { OnOk result
+        (Does (DoneSync ∷ []) (D.state disk.old) (D.state disk.new)) }
+    ensures stays { Stays (D.state disk.old) (D.state disk.new) }
+    ensures counts { OnOk result
+        (Counts false (D.state disk.old).faults (D.state disk.new).faults) }
+    ensures refused { IfErr result
+        (PartFails (P.fails digests.now) (D.state disk.old) (D.state disk.new)) }
+{
+    let text = read_all(alloc, disk)?;
+    let part = P::read(alloc, &text, digests)?;
+    Ok((text, part))
 }
 
 // Makes what the disk reads as safe from a crash, and gives all its bytes.

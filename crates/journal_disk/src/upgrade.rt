@@ -48,7 +48,8 @@ impl<D: Disk> Model for OldJournal<D> {
 }
 
 /// Opens the journal of format 1 of the files of these two digests (32 bytes each). It syncs before
-/// it reads, and writes nothing. If the header passes its tests, the result is `New` exactly if the
+/// it reads, and writes nothing. If a record isn't whole it syncs and reads once more, as
+/// `Journal::open` does. If the header passes its tests, the result is `New` exactly if the
 /// format byte is that of format 2, whatever the records are. `New` and a refusal hand the disk
 /// back, which reads as before. A refusal is `DiskFault` if the disk failed; `NotAJournal`,
 /// `OtherAirport` or `BadRecord` by what the disk reads as, tested in this order; or `Memory`.

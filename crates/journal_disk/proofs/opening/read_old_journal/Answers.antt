@@ -1,4 +1,4 @@
-use Rattle.std.proofs.Common.{◌∙◌, ℕ, List, subst}
+use Rattle.std.proofs.Common.{ℕ, List, subst}
 use Rattle.journal_disk.specs.Opening.{IsOldPart}
 use Rattle.journal_disk.proofs.OpenedTexts.{part_bound}
 use Rattle.journal_disk.proofs.Tells.{if_some}
@@ -6,12 +6,8 @@ use Rattle.journal_disk.proofs.opening.read_old_journal.Goals as goal
 
 pub returns-clause-whole : goal.returns-clause-whole
 returns-clause-whole g c = if_some c.in_ok-found.found
-    (λ records part bytes told. subst (λ (text : List ℕ). IsOldPart text records.entries.items records.length)
-    (c.deref.ensures.value ∙ c.in_ok-text.ensures.bytes bytes told) part)
-    c.in_ok-found.ensures.whole
+    (λ records part bytes told. subst (λ (text : List ℕ). IsOldPart text records.entries.items records.length) (c.in_ok-found.ensures.bytes bytes told) part)
+    c.in_ok-found.ensures.read.1
 
 pub returns-clause-within : goal.returns-clause-within
-returns-clause-within g c = if_some c.in_ok-found.found (λ records part. part_bound _ records.entries.items records.length part) c.in_ok-found.ensures.whole
-
-pub returns-clause-size : goal.returns-clause-size
-returns-clause-size g c = if_some c.in_ok-found.found (λ records part. part.size_is) c.in_ok-found.ensures.whole
+returns-clause-within g c = if_some c.in_ok-found.found (λ records part. part_bound _ records.entries.items records.length part) c.in_ok-found.ensures.read.1
