@@ -1,5 +1,5 @@
 -- Disks over files: what contracts see of them.
-use Rattle.std.specs.Prelude.{◌≡◌, ◌⊎◌, ℕ, List, Option, Some, None, IfSome, IsSomeAnd, MatchOption, Result, IsErr, IsOkAnd, OnErr}
+use Rattle.std.specs.Prelude.{◌≡◌, ◌⊎◌, ℕ, List, Option, Some, None, IfSome, IsSome, IsSomeAnd, MatchOption, Result, IfOk, IsErr, IsOkAnd, OnErr}
 use Rattle.std.specs.declared.io.Error.{Error}
 use Rattle.journal_disk.specs.Disk.{DiskState, DoneCall, Does, IfExposed, Stays, untold_disk}
 use Rattle.host_files.specs.Files.{FailsFor, FileState, IfTold}
@@ -41,6 +41,12 @@ HasOpened syncs state opened file =
     IfSome file (λ now. IsOkAnd opened (λ first.
     Stays (state first).disk (state now).disk
     × Does syncs (state first).disk (state now).disk))
+
+-- a file that was opened, and is free so, is had
+abbrev pub IsHadIf : {F : Type 0} → (FileState → Type 0) → (F → FileState) → Result F Error
+    → Option F → Type 0
+IsHadIf Free state opened file =
+    IfOk opened (λ first. IfTold (state first) (Free (state first) → IsSome file))
 
 -- without a file a call of the disk fails; over one it fails only since a call of the system did,
 -- or for this cause

@@ -4,7 +4,7 @@ use Rattle.std.proofs.Common.{◌≢◌}
 use Rattle.std.specs.declared.fs.TryLockError.{TryLockError}
 use Rattle.std.specs.declared.fs.TryLockError.TheVariants.{Error as Refused, WouldBlock}
 use Rattle.std.specs.declared.io.ErrorKind.{ErrorKind}
-use Rattle.std.specs.declared.io.ErrorKind.TheVariants.{ReadOnlyFilesystem, InvalidInput}
+use Rattle.std.specs.declared.io.ErrorKind.TheVariants.{ReadOnlyFilesystem, InvalidInput, UnexpectedEof}
 use Rattle.apron_base.specs.Counts.{Counts, Rose}
 use Rattle.journal_disk.specs.Disk.{DiskState, IfExposed, IsSafe, Stays, untold_disk}
 
@@ -17,16 +17,24 @@ pub data Lock : Type 0 where
   Unavailable : Lock
 
 -- An open file at one time: as a disk, whose count is of the file's own calls that failed; its
--- lock; whether the call before this found it at its path; and whether a crash leaves it there.
+-- lock; the lock that others have; whether the call before this found it at its path; and whether a
+-- crash leaves it there.
 pub record FileState : Type 1 where
   pub disk : DiskState
   pub lock : Lock
+  pub others : Lock
   pub found : Bool
   pub lasting : Bool
 
 -- an open file of which nothing is known
 abbrev pub untold_file : FileState
-untold_file = record { disk = untold_disk 0; lock = Unlocked; found = false; lasting = false }
+untold_file = record {
+  disk = untold_disk 0;
+  lock = Unlocked;
+  others = Unlocked;
+  found = false;
+  lasting = false;
+}
 
 -- the fact, if the file exposes what it reads as
 abbrev pub IfTold : FileState → Type 0 → Type 0
@@ -37,6 +45,21 @@ abbrev pub lock_after : {A : Type 0} → Lock → Result A TryLockError → Lock
 lock_after lock (Ok _) = lock
 lock_after lock (Err WouldBlock) = Unlocked
 lock_after lock (Err (Refused _)) = Unavailable
+
+-- the lock after this one was tried for, where others have that one
+abbrev pub lock_beside : Lock → Lock → Lock
+lock_beside wanted Unlocked = wanted
+lock_beside wanted Unavailable = Unavailable
+lock_beside Shared Shared = Shared
+lock_beside _ _ = Unlocked
+
+-- nobody else has the file
+abbrev pub IsFree : FileState → Type 0
+IsFree file = file.others ≡ Unlocked
+
+-- nobody else may write the file
+abbrev pub IsFreeToRead : FileState → Type 0
+IsFreeToRead file = file.others ≢ Exclusive
 
 -- a call that writes nothing, and leaves the lock; if it fails, that is counted
 pub record OnlyReads (fails : Bool) (before after : FileState) : Type 0 where
@@ -55,6 +78,11 @@ abbrev pub is_without_syncs : ErrorKind → Bool
 is_without_syncs ReadOnlyFilesystem = true
 is_without_syncs InvalidInput = true
 is_without_syncs _ = false
+
+-- a kind of failures of reads: the file ended early
+abbrev pub is_early_end : ErrorKind → Bool
+is_early_end UnexpectedEof = true
+is_early_end _ = false
 
 -- a crash leaves the file at its path, with what it reads as
 abbrev pub IsLasting : FileState → Type 0

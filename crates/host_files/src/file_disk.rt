@@ -5,8 +5,8 @@ ghost use Rattle.std.specs.Result.{result_ok};
 ghost use Rattle.apron_base.specs.Counts.{Counts};
 ghost use Rattle.journal_disk.specs.Disk.{Between, Does, Goes, IfExposed, IsDurable, IsThere, Same, Stays, Torn, with_piece_at};
 ghost use Rattle.journal_disk.specs.Disk.DoneCall.{DoneWrite, DoneSync};
-ghost use Rattle.host_files.specs.Disks.{EndsBy, HasOpened, IsAlone, IsAmongReaders, disk_of};
-ghost use Rattle.host_files.specs.Files.{IsLasting, IsNotOurs, IsTooLong, NoOther};
+ghost use Rattle.host_files.specs.Disks.{EndsBy, HasOpened, IsAlone, IsAmongReaders, IsHadIf, disk_of};
+ghost use Rattle.host_files.specs.Files.{IsFree, IsFreeToRead, IsLasting, IsNotOurs, IsTooLong, NoOther};
 
 use crate::causes::LastCause;
 use crate::locked_file::LockedFile;
@@ -79,6 +79,7 @@ impl<'a, R: Eprint, F: RawFile + Drop> FileDisk<'a, R, F> {
         ensures none { result.faults ≡ 0 }
         ensures alone { IfSome result.file (λ file. IsAlone (F.state file)) }
         ensures opened { HasOpened [] F.state opened result.file }
+        ensures free { IsHadIf IsFree F.state opened result.file }
     {
         FileDisk::over(rt, path, LockedFile::to_write(opened))
     }
@@ -100,6 +101,7 @@ impl<'a, R: Eprint, F: RawFile + Drop> FileDisk<'a, R, F> {
         ensures none { result.faults ≡ 0 }
         ensures among { IfSome result.file (λ file. IsAmongReaders (F.state file)) }
         ensures opened { HasOpened [] F.state opened result.file }
+        ensures free { IsHadIf IsFreeToRead F.state opened result.file }
     {
         FileDisk::over(rt, path, LockedFile::to_read(opened))
     }

@@ -4,8 +4,8 @@ ghost use Rattle.std.specs.Option.{option_map};
 ghost use Rattle.std.specs.Result.{result_ok};
 ghost use Rattle.journal_disk.specs.Disk.{Between, Does, Goes, IfExposed, IsDurable, IsThere, Same, Stays, Torn, with_piece_at};
 ghost use Rattle.journal_disk.specs.Disk.DoneCall.{DoneWrite, DoneSync};
-ghost use Rattle.host_files.specs.Disks.{HasOpened, IsAlone, IsAmongReaders};
-ghost use Rattle.host_files.specs.Files.{FailsFor, IsLasting, IsNotOurs, IsTooLong, NoOther, is_without_syncs};
+ghost use Rattle.host_files.specs.Disks.{HasOpened, IsAlone, IsAmongReaders, IsHadIf};
+ghost use Rattle.host_files.specs.Files.{FailsFor, IsFree, IsFreeToRead, IsLasting, IsNotOurs, IsTooLong, NoOther, is_early_end, is_without_syncs};
 
 use crate::RawFile;
 use std::fs::TryLockError;
@@ -49,6 +49,7 @@ impl<F: RawFile + Drop> LockedFile<F> {
     pub(crate) fn to_write(opened: io::Result<F>) -> io::Result<Self>
         ensures alone { IfOk result (λ file. IsAlone (F.state file)) }
         ensures opened { HasOpened [] F.state opened (result_ok result) }
+        ensures free { IsHadIf IsFree F.state opened (result_ok result) }
     {
         let mut file = opened?;
         match file.try_lock() {
@@ -77,6 +78,7 @@ impl<F: RawFile + Drop> LockedFile<F> {
     pub(crate) fn to_read(opened: io::Result<F>) -> io::Result<Self>
         ensures among { IfOk result (λ file. IsAmongReaders (F.state file)) }
         ensures opened { HasOpened [] F.state opened (result_ok result) }
+        ensures free { IsHadIf IsFreeToRead F.state opened (result_ok result) }
     {
         let mut file = opened?;
         match file.try_lock_shared() {
@@ -112,7 +114,8 @@ impl<F: RawFile> LockedFile<F> {
         }
     }
 
-    /// Fills `into` with the bytes from `at` on.
+    /// Fills `into` with the bytes from `at` on. If the file ends early it tries once more, since a
+    /// replicated file system may have given an old size of it to this call.
     pub(crate) fn read(&mut self, at: u32, into: &mut [u8]) -> io::Result<()>
         requires inside { IfExposed (F.state self.old).disk
             (λ bytes. at + length into.old ≤ length bytes) }
@@ -123,7 +126,11 @@ impl<F: RawFile> LockedFile<F> {
         ensures stays { Stays (F.state self.old).disk (F.state self.new).disk }
         ensures cause { OnErr result (FailsFor NoOther (F.state self.old) (F.state self.new)) }
     {
-        self.file.read_exact_at(into, u64::from(at))
+        let at = u64::from(at);
+        match self.file.read_exact_at(into, at) {
+            Err(cause) if is_early_end(cause.kind()) => self.file.read_exact_at(into, at),
+            read => read,
+        }
     }
 
     /// Writes the piece at `at`. `Err` too if it was opened to be read, and if another file, or
@@ -170,6 +177,13 @@ impl<F: RawFile> LockedFile<F> {
 
 // The system's number for a file that was not opened for writing, EBADF.
 const NOT_FOR_WRITING: i32 = 9;
+
+// Whether a read that failed in this way did so because the file ended.
+fn is_early_end(kind: ErrorKind) -> bool
+    ensures { result ≡ is_early_end kind }
+{
+    matches!(kind, ErrorKind::UnexpectedEof)
+}
 
 // Whether a sync that failed in this way did so because there are no syncs.
 fn is_without_syncs(kind: ErrorKind) -> bool

@@ -5,7 +5,7 @@ ghost use Rattle.std.specs.Option.{option_map};
 ghost use Rattle.apron_base.specs.Counts.{Counts};
 ghost use Rattle.journal_disk.specs.Disk.{Between, Does, Goes, IfExposed, IsDurable, IsThere, Same, Stays, Torn, with_piece_at};
 ghost use Rattle.journal_disk.specs.Disk.DoneCall.{DoneWrite, DoneSync};
-ghost use Rattle.host_files.specs.Files.{FileState, IfTold, Lock, MayBeWritten, OnlyReads, is_without_syncs, lock_after};
+ghost use Rattle.host_files.specs.Files.{FileState, IfTold, Lock, MayBeWritten, OnlyReads, is_early_end, is_without_syncs, lock_after, lock_beside};
 
 use std::fs::TryLockError;
 use std::io;
@@ -13,7 +13,7 @@ use std::io;
 /// An open file: the system's, or one that a test makes. Each method is one call of the system.
 pub trait RawFile {
     /// What it reads as, if it exposes that, and what a crash may leave; the writes and the syncs
-    /// that were done; how many calls have failed; and its lock.
+    /// that were done; how many calls have failed; its lock; and the lock that others have.
     ghost state: { Self → FileState };
 
     /// Takes a lock that excludes all other processes. It doesn't wait for it.
@@ -21,14 +21,18 @@ pub trait RawFile {
         ensures disk { Stays (state self.old).disk (state self.new).disk }
         ensures done { (state self.new).disk.done ≡ (state self.old).disk.done }
         ensures lock { IfTold (state self.new)
-            ((state self.new).lock ≡ lock_after Lock.Exclusive result) };
+            ((state self.new).lock ≡ lock_after Lock.Exclusive result) }
+        ensures beside { IfTold (state self.old) (lock_after Lock.Exclusive result
+            ≡ lock_beside Lock.Exclusive (state self.old).others) };
 
     /// Takes a lock that other readers may have too. It doesn't wait for it.
     fn try_lock_shared(&mut self) -> Result<(), TryLockError>
         ensures disk { Stays (state self.old).disk (state self.new).disk }
         ensures done { (state self.new).disk.done ≡ (state self.old).disk.done }
         ensures lock { IfTold (state self.new)
-            ((state self.new).lock ≡ lock_after Lock.Shared result) };
+            ((state self.new).lock ≡ lock_after Lock.Shared result) }
+        ensures beside { IfTold (state self.old) (lock_after Lock.Shared result
+            ≡ lock_beside Lock.Shared (state self.old).others) };
 
     /// How many bytes there are.
     fn length(&mut self) -> io::Result<u64>
@@ -38,7 +42,8 @@ pub trait RawFile {
             ((state self.new).disk.done ≡ (state self.old).disk.done) }
         ensures reads { OnlyReads (is_err result) (state self.old) (state self.new) };
 
-    /// Fills `into` with the bytes from `at` on. The range is inside the file.
+    /// Fills `into` with the bytes from `at` on. The range is inside the file. If the file ends
+    /// early, the call did nothing.
     fn read_exact_at(&mut self, into: &mut [u8], at: u64) -> io::Result<()>
         requires inside { IfExposed (state self.old).disk
             (λ bytes. at + length into.old ≤ length bytes) }
@@ -46,6 +51,8 @@ pub trait RawFile {
             (λ bytes. into.new ≡ take (length into.old) (drop at bytes))) }
         ensures done { OnOk result
             ((state self.new).disk.done ≡ (state self.old).disk.done) }
+        ensures early { IfErr result (λ cause. is_early_end (error_kind cause) ≡ true
+            → (state self.new).disk.done ≡ (state self.old).disk.done) }
         ensures reads { OnlyReads (is_err result) (state self.old) (state self.new) };
 
     /// Whether it is still the file at its path.
