@@ -11,6 +11,7 @@ use test_airports::{airport_of, empty_parts};
 
 mod dates;
 mod folding;
+mod looks;
 mod phases;
 mod stays;
 
