@@ -2,7 +2,7 @@
 ghost use Rattle.std.specs.Prelude.{◌≡◌, IsErrAnd, MatchResult, is_err};
 ghost use Rattle.std.specs.IoError.{error_kind};
 ghost use Rattle.apron_base.specs.Counts.{Counts};
-ghost use Rattle.host_files.specs.Files.{lock_after};
+ghost use Rattle.host_files.specs.Files.{lock_after, lock_beside};
 ghost use Rattle.test_ends.specs.Files.{lock_of};
 
 use apron_base::Failed;
@@ -31,6 +31,8 @@ pub struct MemoryFile {
     found: bool,
     lasting: bool,
     has_syncs: bool,
+    // how many of the next reads end early
+    early: u32,
     faults: u64,
 }
 
@@ -44,24 +46,36 @@ impl MemoryFile {
             found: false,
             lasting: false,
             has_syncs,
+            early: 0,
             faults: 0,
         }
     }
 
+    /// The same file, of which so many of the next reads end early.
+    pub fn ending_early(self, early: u32) -> MemoryFile {
+        MemoryFile { early, ..self }
+    }
+
     // Has this lock, unless others have the file.
-    fn lock(&mut self, wanted: Held, is_free: bool) -> Result<(), TryLockError>
+    fn lock(&mut self, wanted: Held) -> Result<(), TryLockError>
         ensures kept { self.new ≡ record self.old { held = self.new.held } }
         ensures held { lock_of self.new.held ≡ lock_after (lock_of wanted) result }
+        ensures beside { lock_after (lock_of wanted) result
+            ≡ lock_beside (lock_of wanted) (lock_of self.old.others) }
     {
-        if is_free {
-            self.held = wanted;
-            Ok(())
-        } else if self.others == Held::NoLocks {
-            self.held = Held::NoLocks;
-            Err(TryLockError::Error(io::Error::from(ErrorKind::Unsupported)))
-        } else {
-            self.held = Held::Nothing;
-            Err(TryLockError::WouldBlock)
+        match (self.others, wanted) {
+            (Held::Nothing, _) | (Held::AmongReaders, Held::AmongReaders) => {
+                self.held = wanted;
+                Ok(())
+            }
+            (Held::NoLocks, _) => {
+                self.held = Held::NoLocks;
+                Err(TryLockError::Error(io::Error::from(ErrorKind::Unsupported)))
+            }
+            _ => {
+                self.held = Held::Nothing;
+                Err(TryLockError::WouldBlock)
+            }
         }
     }
 
@@ -86,18 +100,16 @@ impl RawFile for MemoryFile {
     ghost use Rattle.test_ends.specs.Files.{told_by};
     ghost use Rattle.journal_disk.specs.TornWrites.{reads_left};
 
-    ghost state = { λ f. told_by f.disk f.faults f.held f.found f.lasting };
+    ghost state = { λ f. told_by f.disk f.faults f.held f.others f.found f.lasting };
 
     ghost reads = { λ f. reads_left f.disk };
 
     fn try_lock(&mut self) -> Result<(), TryLockError> {
-        let is_free = self.others == Held::Nothing;
-        self.lock(Held::Alone, is_free)
+        self.lock(Held::Alone)
     }
 
     fn try_lock_shared(&mut self) -> Result<(), TryLockError> {
-        let is_free = self.others == Held::Nothing || self.others == Held::AmongReaders;
-        self.lock(Held::AmongReaders, is_free)
+        self.lock(Held::AmongReaders)
     }
 
     fn length(&mut self) -> io::Result<u64> {
@@ -106,6 +118,10 @@ impl RawFile for MemoryFile {
     }
 
     fn read_exact_at(&mut self, into: &mut [u8], at: u64) -> io::Result<()> {
+        if self.early > 0 {
+            self.early -= 1;
+            return self.answer(Err(Failed), ErrorKind::UnexpectedEof);
+        }
         let read = match u32::try_from(at) {
             Ok(at) => self.disk.read(at, into),
             Err(_) => Err(Failed),

@@ -4,6 +4,7 @@ mod files;
 mod formats;
 mod journals;
 mod keepers;
+mod late_lengths;
 mod list_ends;
 mod listeners;
 mod shelves;

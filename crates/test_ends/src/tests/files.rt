@@ -41,6 +41,19 @@ fn without_locks_a_file_is_read_and_not_written(rt: HostRuntime) {
     }
 }
 
+// How many reads end early, and whether the disk reads.
+const EARLY: [(u32, bool); 3] = [(0, true), (1, true), (2, false)];
+
+#[test]
+fn a_read_that_ends_early_is_tried_once_more(rt: HostRuntime) -> Result<(), Fail> {
+    for (early, is_read) in EARLY {
+        let opened = file(rt.alloc(), Held::Nothing, true)?.ending_early(early);
+        let mut disk = FileDisk::to_read(&rt, "a file", Ok(opened));
+        assert!(rt; disk.read(0, &mut []).is_ok() == is_read, "{early}");
+    }
+    Ok(())
+}
+
 #[test]
 fn without_syncs_a_file_is_read_and_not_written(rt: HostRuntime) {
     let alloc = rt.alloc();
