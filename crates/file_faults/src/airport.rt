@@ -2,7 +2,7 @@
 
 use crate::complaint::{FileLine, Told, Wrong};
 use crate::documents::{row_of_objects, row_over, row_with, rows_of};
-use crate::places::{line_at, place_of};
+use crate::places::{Place, line_at, place_of};
 use crate::rules::{Rule, rule_named, rule_of};
 use airport_files::FileFault;
 use apron_base::{Memory, Name};
@@ -47,15 +47,17 @@ fn not_toml(alloc: Global, file: &str, text: &[u8]) -> Result<Told, Memory> {
 }
 
 fn missing(alloc: Global, file: &str, text: &[u8], rule: Rule) -> Result<Told, Memory> {
-    told(alloc, file, text, rule, Wrong::Missing(rule.wanted))
+    let line = place_of(text, &rule).line;
+    told(alloc, file, line, rule, Wrong::Missing(rule.wanted))
 }
 
 fn wrong(alloc: Global, file: &str, text: &[u8], rule: Rule) -> Result<Told, Memory> {
-    if place_of(text, &rule).value.is_none() {
-        return told(alloc, file, text, rule, Wrong::Unshown(rule.wanted));
-    }
-    let value = place_of(text, &rule).value.unwrap_or(b"");
-    told(alloc, file, text, rule, Wrong::Value(value, rule.wanted))
+    let Place { line, value } = place_of(text, &rule);
+    let wrong = match value {
+        Some(value) => Wrong::Value(value, rule.wanted),
+        None => Wrong::Unshown(rule.wanted),
+    };
+    told(alloc, file, line, rule, wrong)
 }
 
 // What is said of the value of a key, if the key was found.
@@ -69,18 +71,18 @@ fn says(
     let Some(rule) = found else {
         return Ok(None);
     };
-    let value = place_of(text, &rule).value.unwrap_or(b"");
-    told(alloc, file, text, rule, Wrong::Says(value, what))
+    let Place { line, value } = place_of(text, &rule);
+    let wrong = Wrong::Says(value.unwrap_or(b""), what);
+    told(alloc, file, line, rule, wrong)
 }
 
 fn told(
     alloc: Global,
     file: &str,
-    text: &[u8],
+    line: u64,
     rule: Rule,
     wrong: Wrong<'_>,
 ) -> Result<Told, Memory> {
-    let line = place_of(text, &rule).line;
     let at = FileLine { file, line };
     Ok(Some(format!(in alloc; "{at}: {rule}: {wrong}")?))
 }
@@ -152,22 +154,28 @@ fn repeated(document: &Table, name: &Name) -> Option<Rule> {
 
 // The key that has a name which no frontage, or no stand, has.
 fn unknown(document: &Table, name: &Name) -> Option<Rule> {
-    let keys = [
-        ("stand", "frontage", "frontage"),
-        ("stand", "half_of", "stand"),
-        ("pair", "a", "stand"),
-        ("pair", "b", "stand"),
-    ];
-    for (section, word, named) in keys {
-        let is_known = row_with(rows_of(document, named), "name", name.text(), 0).is_some();
-        let row = row_with(rows_of(document, section), word, name.text(), 0);
-        if let Some(row) = row
-            && !is_known
-        {
-            return Some(rule_of(section, row, word));
+    for key in NAMING {
+        if !is_name(document, key.2, name) {
+            let row = row_with(rows_of(document, key.0), key.1, name.text(), 0);
+            if let Some(row) = row {
+                return Some(rule_of(key.0, row, key.1));
+            }
         }
     }
     None
+}
+
+// The keys that name a frontage or a stand: the array, the key, and the array that is named.
+const NAMING: [(&str, &str, &str); 4] = [
+    ("stand", "frontage", "frontage"),
+    ("stand", "half_of", "stand"),
+    ("pair", "a", "stand"),
+    ("pair", "b", "stand"),
+];
+
+// Whether a frontage or a stand has this name.
+fn is_name(document: &Table, section: &str, name: &Name) -> bool {
+    row_with(rows_of(document, section), "name", name.text(), 0).is_some()
 }
 
 // The key by which the stand of this name is a half.

@@ -16,16 +16,21 @@ impl fmt::Display for Shown<'_> {
     fn fmt<W: fmt::Write>(&self, f: &mut fmt::Formatter<W>) -> fmt::Result {
         let bytes = self.0;
         for byte in bytes.iter().take(MOST_SHOWN) {
-            match byte {
-                b' '..=b'~' => f.write_char(char::from(*byte))?,
-                _ => write!(f, "\\x{byte:02x}")?,
-            }
+            show(f, *byte)?;
         }
         if bytes.len() > MOST_SHOWN {
             f.write_str("..")
         } else {
             Ok(())
         }
+    }
+}
+
+fn show<W: fmt::Write>(f: &mut fmt::Formatter<W>, byte: u8) -> fmt::Result {
+    if byte == b' ' || byte.is_ascii_graphic() {
+        f.write_char(char::from(byte))
+    } else {
+        write!(f, "\\x{byte:02x}")
     }
 }
 

@@ -100,5 +100,11 @@ const DAY: u32 = 1_440;
 
 // The minutes on block and off block of a record; none of the header.
 fn minutes_in(row: &ByteRecord) -> Option<(u32, u32)> {
-    Some((number(row.get(3)?)?, number(row.get(4)?)?))
+    let on = minute_in(row, 3)?;
+    let off = minute_in(row, 4)?;
+    Some((on, off))
+}
+
+fn minute_in(row: &ByteRecord, column: usize) -> Option<u32> {
+    number(row.get(column).unwrap_or(b""))
 }

@@ -32,34 +32,40 @@ pub(crate) fn row_with(rows: &[Value], word: &str, text: &str, skipped: u64) -> 
 /// The first row, from 1, whose number at the key is greater than this one.
 pub(crate) fn row_over(rows: &[Value], word: &str, most: i64) -> Option<u64> {
     for (i, row) in rows.iter().enumerate() {
-        if number_at(row, word).is_some_and(|number| number > most) {
+        if let Some(table) = row.as_table()
+            && let Some(number) = table.get(word)
+            && is_over(number, most)
+        {
             return Some(i as u64 + 1);
         }
     }
     None
 }
 
-fn number_at(row: &Value, word: &str) -> Option<i64> {
-    row.as_table()?.get(word)?.as_integer()
+fn is_over(number: &Value, most: i64) -> bool {
+    match number {
+        Value::Integer(number) => *number > most,
+        _ => false,
+    }
 }
 
 /// The first frontage, from 1, with more objects than may be, or one whose place is too far.
 pub(crate) fn row_of_objects(rows: &[Value], most: usize, farthest: i64) -> Option<u64> {
     for (i, row) in rows.iter().enumerate() {
-        if objects_of(row).is_some_and(|objects| are_over(objects, most, farthest)) {
+        if let Some(table) = row.as_table()
+            && are_over(rows_of(table, "objects"), most, farthest)
+        {
             return Some(i as u64 + 1);
         }
     }
     None
 }
 
-fn objects_of(row: &Value) -> Option<&[Value]> {
-    Some(row.as_table()?.get("objects")?.as_array()?.as_slice())
-}
-
 fn are_over(objects: &[Value], most: usize, farthest: i64) -> bool {
+    for object in objects {
+        if is_over(object, farthest) {
+            return true;
+        }
+    }
     objects.len() > most
-        || objects
-            .iter()
-            .any(|it| it.as_integer().is_some_and(|at| at > farthest))
 }

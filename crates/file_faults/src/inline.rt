@@ -7,7 +7,7 @@ use crate::rules::Rule;
 #[derive(Clone, Copy)]
 struct Walk<'a> {
     text: &'a [u8],
-    word: &'a [u8],
+    word: &'static [u8],
     row: u64,
     line: u64,
     // how many tables have begun, and whether the present byte is in the one that is sought
@@ -24,12 +24,7 @@ struct Walk<'a> {
 }
 
 /// Where the key of this rule is in the array that begins at this place of the text, on this line.
-pub(crate) fn inline_place<'a>(
-    text: &'a [u8],
-    begin: usize,
-    line: u64,
-    rule: &'a Rule,
-) -> Place<'a> {
+pub(crate) fn inline_place<'a>(text: &'a [u8], begin: usize, line: u64, rule: &Rule) -> Place<'a> {
     let mut walk = Walk {
         text,
         word: rule.word.as_bytes(),

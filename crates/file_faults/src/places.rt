@@ -22,7 +22,7 @@ struct Walk {
 }
 
 /// Where the key of this rule is.
-pub(crate) fn place_of<'a>(text: &'a [u8], rule: &'a Rule) -> Place<'a> {
+pub(crate) fn place_of<'a>(text: &'a [u8], rule: &Rule) -> Place<'a> {
     let mut walk = Walk {
         line: 0,
         header: 0,

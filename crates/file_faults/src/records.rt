@@ -32,8 +32,12 @@ pub(crate) fn record_at(
             return Ok(None);
         }
     }
+    Ok(Some(found(text, row)))
+}
+
+fn found(text: &[u8], row: ByteRecord) -> FoundRecord {
     let line = line_of(text, &row);
-    Ok(Some(FoundRecord { row, line }))
+    FoundRecord { row, line }
 }
 
 /// The first record after the header whose first field is this name; the one after it if `skipped`
@@ -46,22 +50,25 @@ pub(crate) fn record_named(
 ) -> Result<Option<FoundRecord>, Memory> {
     let mut reader = start(alloc, text);
     let mut row = ByteRecord::new(alloc);
-    let mut left = skipped;
+    let mut seen = 0u64;
     let mut is_header = true;
     for _ in 0..text.len() {
         if !read_row(&mut reader, &mut row)? {
             return Ok(None);
         }
-        if !is_header && row.get(0) == Some(name) {
-            if left == 0 {
-                let line = line_of(text, &row);
-                return Ok(Some(FoundRecord { row, line }));
-            }
-            left -= 1;
+        if !is_header && is_named(&row, name) {
+            seen = seen.saturating_add(1);
+        }
+        if seen > skipped {
+            return Ok(Some(found(text, row)));
         }
         is_header = false;
     }
     Ok(None)
+}
+
+fn is_named(row: &ByteRecord, name: &[u8]) -> bool {
+    row.get(0).unwrap_or(b"") == name
 }
 
 // The line on which the record begins, past empty lines before it.

@@ -35,7 +35,9 @@ impl fmt::Display for Rule {
 }
 
 // The table and the key, and what the value has to be. The key of a whole table is empty.
-const RULES: [(&str, &str, &str); 21] = [
+type Form = (&'static str, &'static str, &'static str);
+
+const RULES: [Form; 21] = [
     ("airport", "", "a table"),
     ("airport", "station", "three capitals in quotes"),
     (
@@ -73,15 +75,12 @@ const LETTER: &str = "a code letter from A to F in quotes";
 
 /// The rule of a key, by the words of the file; that of the table `airport` if there is no such key.
 pub(crate) fn rule_of(section: &str, row: u64, word: &str) -> Rule {
-    match RULES
-        .iter()
-        .find(|rule| rule.0 == section && rule.1 == word)
-    {
+    match form_of(&RULES, section, word) {
         Some((section, word, form)) => Rule {
-            section: *section,
+            section,
             row,
-            word: *word,
-            wanted: Wanted::Form(*form),
+            word,
+            wanted: Wanted::Form(form),
         },
         None => Rule {
             section: "airport",
@@ -90,6 +89,17 @@ pub(crate) fn rule_of(section: &str, row: u64, word: &str) -> Rule {
             wanted: Wanted::Form("a table"),
         },
     }
+}
+
+// What is there for a key.
+fn form_of(forms: &[Form], section: &str, word: &str) -> Option<Form> {
+    for form in forms {
+        let (table, key, _) = *form;
+        if table == section && key == word {
+            return Some(*form);
+        }
+    }
+    None
 }
 
 /// The rule of a key that is written as `airport.tow` or `stand 3.letter`.

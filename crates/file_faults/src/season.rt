@@ -151,15 +151,27 @@ pub fn season_row_there(
             "{at}: name: '{name}' is there, and cancelled; it was added with other data"
         )?));
     };
-    let kind = Shown(there.field(TYPE));
-    let class = Shown(there.field(2));
-    let on = Shown(there.field(ON));
-    let off = Shown(there.field(OFF));
-    let arr = FlightOf(&there, 5);
-    let dep = FlightOf(&there, 7);
-    Ok(Some(format!(in alloc;
-        "{at}: {name} is there with {kind}, class {class}, {on} to {off}, arrival {arr}, departure {dep}"
-    )?))
+    let data = DataOf(&there);
+    Ok(Some(format!(in alloc; "{at}: {name} is there with {data}")?))
+}
+
+// What a record has behind the name.
+#[derive(Clone, Copy)]
+struct DataOf<'a>(&'a FoundRecord);
+
+impl fmt::Display for DataOf<'_> {
+    fn fmt<W: fmt::Write>(&self, f: &mut fmt::Formatter<W>) -> fmt::Result {
+        let record = self.0;
+        let kind = Shown(record.field(TYPE));
+        let class = Shown(record.field(2));
+        write!(f, "{kind}, class {class}, ")?;
+        let on = Shown(record.field(ON));
+        let off = Shown(record.field(OFF));
+        write!(f, "{on} to {off}, ")?;
+        let arr = FlightOf(record, 5);
+        let dep = FlightOf(record, 7);
+        write!(f, "arrival {arr}, departure {dep}")
+    }
 }
 
 // The flight in this column of a record, with its day in the next one.

@@ -87,12 +87,12 @@ fn wrong_column(record: &FoundRecord) -> Option<Column> {
     if !is_short_name(record.field(0), 2, 4) {
         return Some(NAME);
     }
-    [SPAN, LEAST, PARKED, FOLD]
-        .iter()
-        .find(|column| {
-            column.place < record.row.len() && number(record.field(column.place)).is_none()
-        })
-        .copied()
+    for column in [SPAN, LEAST, PARKED, FOLD] {
+        if column.place < record.row.len() && number(record.field(column.place)).is_none() {
+            return Some(column);
+        }
+    }
+    None
 }
 
 // What is wrong with the types of an airport.
