@@ -7,19 +7,25 @@ use apron_rules::{
 };
 use std::alloc::Global;
 use std::test::Fail;
-use test_airports::{airport_of, empty_parts};
+use test_airports::{airport_of, empty_parts, on_one_frontage, stand_on_n};
 
 mod dates;
-mod folding;
 mod looks;
-mod phases;
-mod stays;
-
-use stays::stand;
 
 const NARROW: u16 = 0;
 
 const WIDE: u16 = 1;
+
+fn stand(name: Name, frontage: Name, centre: u32, letter: Letter) -> StandRow {
+    StandRow {
+        name,
+        frontage,
+        centre,
+        letter,
+        buffer: 10,
+        half_of: None,
+    }
+}
 
 fn half(name: Name, centre: u32) -> StandRow {
     let mut half = stand(name, Name::literal(b"F"), centre, Letter::C);
@@ -46,9 +52,10 @@ fn stands() -> [StandRow; 10] {
 }
 
 fn airport(alloc: Global) -> Result<Airport, Fail> {
+    let objects = Vec::from_array(alloc, [72_240, 82_239])?;
     let frontage = Frontage {
         name: Name::literal(b"F"),
-        objects: Listed::from_vec(Vec::from_array(alloc, [72_240, 82_239])?),
+        objects: Listed::from_vec(objects),
     };
     let pair = PairRow {
         a: Name::literal(b"P"),
@@ -58,17 +65,19 @@ fn airport(alloc: Global) -> Result<Airport, Fail> {
     };
     let narrow = TypeRow::without_folding(Name::literal(b"A320"), 3_580, 40);
     let wide = TypeRow::without_folding(Name::literal(b"B77W"), 6_480, 40);
-    airport_of(
-        alloc,
-        AirportParts {
-            days: 1,
-            frontages: Listed::from_vec(Vec::from_array(alloc, [frontage])?),
-            stands: Listed::from_vec(Vec::from_array(alloc, stands())?),
-            pairs: Listed::from_vec(Vec::from_array(alloc, [pair])?),
-            types: Listed::from_vec(Vec::from_array(alloc, [narrow, wide])?),
-            ..empty_parts(alloc)
-        },
-    )
+    let frontages = Vec::from_array(alloc, [frontage])?;
+    let stands = Vec::from_array(alloc, stands())?;
+    let pairs = Vec::from_array(alloc, [pair])?;
+    let types = Vec::from_array(alloc, [narrow, wide])?;
+    let parts = AirportParts {
+        days: 1,
+        frontages: Listed::from_vec(frontages),
+        stands: Listed::from_vec(stands),
+        pairs: Listed::from_vec(pairs),
+        types: Listed::from_vec(types),
+        ..empty_parts(alloc)
+    };
+    airport_of(alloc, parts)
 }
 
 fn number(airport: &Airport, name: &str) -> Option<StandNo>
@@ -219,4 +228,29 @@ fn the_rules_hold_at_their_bounds(rt: HostRuntime) -> Result<(), Fail> {
         Some(row) => Err(Fail::new(row)),
         None => Ok(()),
     }
+}
+
+// Two aircraft of 7,180 cm are too near at 7,929 cm but not at 7,930 cm: 7,180 + 7,180 + 1,500 is
+// 15,860. Folded they have 6,480 cm.
+fn folding_airport(alloc: Global) -> Result<Airport, Fail> {
+    let stands = [
+        stand_on_n(Name::literal(b"HOME"), 10_000),
+        stand_on_n(Name::literal(b"IN"), 2_071),
+        stand_on_n(Name::literal(b"OUT"), 2_070),
+    ];
+    let stands = Vec::from_array(alloc, stands)?;
+    let folding = TypeRow {
+        parked: 6_480,
+        fold: 5,
+        ..TypeRow::without_folding(Name::literal(b"FW72"), 7_180, 60)
+    };
+    let types = Vec::from_array(alloc, [folding])?;
+    on_one_frontage(alloc, stands, types)
+}
+
+#[test]
+fn neighbours_are_found_with_unfolded_wing_tips(rt: HostRuntime) -> Result<(), Fail> {
+    let airport = folding_airport(rt.alloc())?;
+    assert!(rt; neighbours_are(&airport, "HOME", &[StandNo(0), StandNo(1)]));
+    Ok(())
 }
