@@ -9,7 +9,7 @@ HELP = "crates/apron_run/specs/Print.antt"
 COMMANDS = "docs/reference/cli.md"
 MANUALS = ("packaging/man/apron.1", "packaging/man/apron-journal.5")
 FORM = re.compile(r"^apron ((?:--)?[a-z]+(?: (?:[A-Z]+|screen))*)(?= |$)", re.M)
-PART = re.compile(r'(\.\\" Made of (.+?)(?:, (.+?))? by scripts/doc-holds --write\.\n).*?(\.\\" End\.\n)', re.S)
+PART = re.compile(r'(\.\\" Made of (.+?)(?:, (.+?))? by scripts/manuals\.\n).*?(\.\\" End\.\n)', re.S)
 INLINE = re.compile(r"`(?P<code>[^`]+)`|\*\*(?P<bold>.+?)\*\*|\*(?P<term>[^*]+)\*|\[(?P<link>(?:[^\[\]]|`[^`]*`)+)\]\([^)]*\)")
 
 
@@ -102,7 +102,7 @@ def manual_faults(top):
         yield f"{COMMANDS}: its commands are {headings}, and those of --help {forms(top)}"
     for path in MANUALS:
         if manual(top, path) != read(top, path):
-            yield f"{path}: a part is not what it is made of; run scripts/doc-holds --write"
+            yield f"{path}: a part is not what it is made of; run scripts/manuals"
 
 
 def write_manuals(top):

@@ -11,7 +11,7 @@ MENTION = re.compile(r"\b[A-Za-z][\w-]*\.md\b")
 SHELLS, SHOWN = ("sh", "bash"), "output"
 # What makes a block without a language one of commands: the first word of its first line.
 COMMANDS = re.compile(
-    r"(?:\./)?(?:apron|curl|examples/\S+|scripts/\S+|sudo|apt|apt-get|systemctl|nginx|openssl|cp|mkdir|install|runuser|nc)\b")
+    r"(?:\./)?(?:apron|curl|(?:examples|scripts|trials|measure)/\S+|sudo|apt|apt-get|systemctl|nginx|openssl|cp|mkdir|install|runuser|nc)\b")
 # A block that cannot be run on any machine, or not from a package, says so in its first line.
 NEEDS = re.compile(r"# needs (systemd|a public name|the toolchain|a checkout)\b.*")
 
