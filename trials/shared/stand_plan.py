@@ -1,15 +1,12 @@
 """The answers of a plan, worked out again and apart from the program: visits, commits, cancels and reads of an airport, as docs/reference/http.md
-tells them, and the history in a journal's bytes of format 2, as docs/reference/journal-format.md tells them. There are no messages and reports here, so that
-no part is ever on block or displaced. Only a chart, which docs/reference/chart.md tells, is of any visits as replies tell them, with facts and displacements."""
+tells them. There are no messages and reports here, so that no part is ever on block or displaced."""
 
 import csv
-import datetime
 import json
-import struct
 import tomllib
-from typing import NamedTuple
 
 from stand_planning.rules import DAY, MOST, MOST_PARTS, Rules, Type, letter_of
+from shared.stand_chart import Chart
 
 
 def compact(value):
@@ -286,101 +283,6 @@ class Plan:
         answer.install()
 
 
-QUARTER, QUARTERS = 15, 96
-
-
-def time_of(minute):
-    return f"{minute // DAY + 1}/{minute % DAY // 60:02}{minute % 60:02}"
-
-
-class Held(NamedTuple):
-    """A part that holds a stand, with the end of its buffer."""
-    stand: int
-    begin: int
-    visit: int
-    part: int
-    to: int
-    end: int
-    actual: bool
-    type: str
-
-    def cell(self):
-        return "#" if self.actual else "="
-
-
-class Chart:
-    """The chart of a day, of all visits of a plan as replies tell them: facts and displacements too."""
-
-    def __init__(self, airport, day, visits):
-        self.airport, self.day = airport, day
-        self.begins, self.ends = (day - 1) * DAY, day * DAY
-        self.held, waiting = [], []
-        for visit in visits:
-            for number, part in enumerate(visit["parts"], 1):
-                if part["stand"] is not None:
-                    self.hold(visit, number, part)
-                elif visit["state"] not in ("gone", "cancelled") and part["from"] < self.ends and part["to"] > self.begins:
-                    rank = visit["class"], visit["on"], visit["visit"], number
-                    waiting.append((rank, f"{visit['visit']}.{number} {visit['type']} {self.times(part)}{self.bumped(part['bump'])}"))
-        self.held.sort()
-        self.waiting = [line for _, line in sorted(waiting)]
-
-    def hold(self, visit, number, part):
-        stand = self.airport.stand_of[part["stand"]]
-        end = part["to"] + self.airport.stands[stand]["buffer"]
-        if part["from"] < self.ends and end > self.begins:
-            self.held.append(Held(stand, part["from"], visit["visit"], number, part["to"], end, part["actual"], visit["type"]))
-
-    @staticmethod
-    def times(part):
-        return f"{time_of(part['from'])}-{time_of(part['to'])}"
-
-    @staticmethod
-    def bumped(bump):
-        if bump is None:
-            return ""
-        blocker = f"{bump['blocker']['visit']}.{bump['blocker']['part']}"
-        return f" bumped by {blocker} in entry {bump['entry']} at {time_of(bump['minute'])} {bump['rule']}"
-
-    def cells(self, stand):
-        """A quarter of an hour each: what is there goes before what is planned."""
-        cells = ["."] * QUARTERS
-        for it in sorted((it for it in self.held if it.stand == stand), key=lambda it: it.actual):
-            for quarter in range(QUARTERS):
-                begins = self.begins + quarter * QUARTER
-                if it.begin < begins + QUARTER and it.end > begins:
-                    cells[quarter] = it.cell()
-        return "".join(cells)
-
-    def alarms(self):
-        """The first minute of the day at which two parts that are there clash."""
-        facts, found = [it for it in self.held if it.actual], []
-        for place, it in enumerate(facts):
-            for other in facts[:place]:
-                if it.visit != other.visit:
-                    met = self.airport.meeting(self.slot(it), self.slot(other), self.begins, self.ends)
-                    if met is not None:
-                        found.append((met[0], *sorted([(it.visit, it.part), (other.visit, other.part)]), met[1]))
-        return ["%s %d.%d %d.%d %s" % (time_of(minute), *one, *two, rule) for minute, one, two, rule in sorted(found)]
-
-    def slot(self, it):
-        return self.airport.type_of[it.type], it.stand, it.begin, it.end
-
-    def text(self, version):
-        """Its bytes, of a plan of this version."""
-        whole = self.airport.described["airport"]
-        date = datetime.date.fromisoformat(whole["first_day"]) + datetime.timedelta(self.day - 1)
-        names = [it["name"] for it in self.airport.stands]
-        lines = [f"STAND CHART {whole['station']} {date} VERSION {version}"]
-        lines += [f"{name:6} {self.cells(stand)}" for stand, name in enumerate(names)]
-        lines.append("PARTS")
-        for it in self.held:
-            times, kind = f"{time_of(it.begin)}-{time_of(it.to)}", "actual" if it.actual else "planned"
-            lines.append(f"{names[it.stand]:6} {it.visit}.{it.part} {it.type} {times} {kind}")
-        lines += ["UNPLACED", *self.waiting, "ALARMS", *self.alarms(), "END"]
-        return "".join(line + "\n" for line in lines).encode()
-
-
 TARGETS = {
     "add": ("POST", "/visits"), "commit": ("POST", "/commits"), "cancel": ("POST", "/cancels"), "version_of": ("GET", "/version"),
     "read": ("GET", "/visits/{visit}"), "day": ("GET", "/plan/{day}"), "unplaced": ("GET", "/unplaced"),
@@ -394,65 +296,3 @@ def request_of(ask):
     kind, said, _ = ask
     method, target = TARGETS[kind]
     return method, target.format(**said), compact(said) if method == "POST" else b""
-
-
-class Reader:
-    """Reads fields from the bytes of an entry."""
-
-    def __init__(self, text):
-        self.text, self.at = text, 0
-
-    def number(self, form):
-        number, = struct.unpack_from("<" + form, self.text, self.at)
-        self.at += struct.calcsize("<" + form)
-        return number
-
-    def name(self):
-        length = self.number("B")
-        self.at += length
-        return self.text[self.at - length:self.at].decode()
-
-
-def entries_of(airport, journal):
-    """The entries of a journal of format 2: the call number, and the command as an ask that has seen nothing."""
-    assert (journal[:5], journal[5:8]) == (b"APRNJ", b"2\r\n"), f"a journal begins with {journal[:8]}"
-    _, behind = records_of(journal, 72)
-    records, _ = records_of(journal, behind)
-    return [entry_of(airport, Reader(it), len(it)) for it in records]
-
-
-def records_of(journal, at):
-    """The records of the part whose first flag stands here, and the place after the gate that ends it."""
-    records = []
-    while journal[at] == 1:
-        length, = struct.unpack_from("<H", journal, at + 1)
-        records.append(journal[at + 3:at + 3 + length])
-        at += 3 + length
-    return records, at + 1
-
-
-def entry_of(airport, text, length):
-    call, kind = text.number("Q"), text.number("B")
-    if kind == 1:
-        name, type, of_class = text.name(), text.number("H"), text.number("B")
-        on, off, arr, dep = text.number("I"), text.number("I"), text.number("B"), text.number("B")
-        assert (arr, dep) == (0, 0), "an entry has a flight"
-        said = {"name": name, "type": airport.types[type].name, "class": of_class, "on": on, "off": off, "arr": None, "dep": None}
-        entry = "add", said, 0
-    elif kind == 2:
-        desk, draft, base, count = text.name(), text.number("I"), text.number("I"), text.number("B")
-        entry = "commit", {"desk": desk, "draft": draft, "base": base, "edits": [edit_of(airport, text) for _ in range(count)]}, 0
-    else:
-        assert kind == 5, f"an entry is of kind {kind}"
-        entry = "cancel", {"visit": text.number("I")}, 0
-    assert text.at == length, "an entry has bytes left over"
-    return call, entry
-
-
-def edit_of(airport, text):
-    kind, said = text.number("B"), {"visit": text.number("I"), "part": text.number("B")}
-    if kind == 1:
-        said["stand"] = airport.stands[text.number("H")]["name"]
-    elif kind == 3:
-        said["at"] = text.number("I")
-    return {("put", "lift", "cut", "join")[kind - 1]: said}
