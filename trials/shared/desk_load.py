@@ -12,7 +12,8 @@ import signal
 import time
 
 from shared import served
-from shared.stand_plan import COMMANDS, MOST, Accepted, Plan, compact, request_of
+from shared.stand_plan import COMMANDS, Accepted, Plan, compact, request_of
+from stand_planning.rules import MOST
 
 OWN_VISITS = 12
 SHARED_VISITS = 16

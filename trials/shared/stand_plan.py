@@ -5,7 +5,7 @@ import csv
 import json
 import tomllib
 
-from stand_planning.rules import DAY, MOST, MOST_PARTS, Rules, Type, letter_of
+from stand_planning.rules import DAY, MOST_PARTS, Rules, Type, letter_of
 from shared.stand_chart import Chart
 
 
