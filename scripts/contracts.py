@@ -13,6 +13,13 @@ BODY = re.compile(r"^ {0,4}(?:\)|pub |fn ).*\{\}?$")
 CITED = re.compile(r"`(\w+)` `([\w: ]+)`: ((?:`\w+`(?:, )?)+)")
 
 
+class Crate(NamedTuple):
+    """A crate: those that it stands on, the part of crates.txt that it is in, and its line there."""
+    below: list
+    part: str
+    line: str
+
+
 class Clause(NamedTuple):
     """A clause by its name, with its text and the comment before it."""
     name: str
@@ -35,14 +42,14 @@ def text_of(path):
 
 
 def crates():
-    """The crates in the order of crates.txt, each with those that it stands on and the title of its part of the list."""
-    found, title = {}, ""
+    """The crates in the order of crates.txt."""
+    found, part = {}, ""
     for line in text_of("crates.txt").split("\n"):
-        if line.startswith("#"):
-            title = line[1:].strip()
-        elif ":" in line:
+        if line.startswith("## "):
+            part = line[3:]
+        elif ":" in line and not line.startswith("#"):
             name, _, rest = line.partition(":")
-            found[name.split()[0]] = (rest.split(), title)
+            found[name.split()[0]] = Crate(rest.split(), part, line)
     return found
 
 
