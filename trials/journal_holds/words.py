@@ -1,4 +1,4 @@
-"""The words that the program takes, in its documents and in fact, and what standard error says of faults."""
+"""The words that the program takes, and those that its documents say that it takes; and what standard error says of faults."""
 
 import os
 import re

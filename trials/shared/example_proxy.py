@@ -1,4 +1,4 @@
-"""nginx with a configuration of examples/proxy, in front of servers of its own, for trials/proxy-trials. It needs the Debian packages curl,
+"""nginx with a configuration of examples/proxy, in front of servers of its own, for proxy-trials and plan-holds. It needs the Debian packages curl,
 openssl and nginx-light."""
 
 import base64
