@@ -1,4 +1,4 @@
-"""Days to be planned, for plan-holds and measure-planner: full days of any number of visits, by a seed, and an airport that is harder than the one of
+"""Days to be planned, for plan-holds and plan-trials: full days of any number of visits, by a seed, and an airport that is harder than the one of
 examples/large. All are invented. The visits are of day 2 of a plan, with stays over the night before it and after it."""
 
 import random

@@ -1,4 +1,4 @@
-"""The tables of measure/measure-planner, for documents: of each size and method the middle one of the seeds, with the least and the greatest."""
+"""The tables of trials/plan-trials, for documents: of each size and method the middle one of the seeds, with the least and the greatest."""
 
 import statistics
 

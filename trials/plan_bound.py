@@ -1,4 +1,4 @@
-"""How many parts any plan of an empty day has to leave, for measure/measure-planner --bound: a whole model of the day, whose linear relaxation
+"""How many parts any plan of an empty day has to leave, for trials/plan-trials --bound: a whole model of the day, whose linear relaxation
 HiGHS solves (the Debian package python3-scipy). A part may be on fractions of stands, and wing tips that fold count as folded, so that
 what it finds is a bound and no plan: no plan leaves less."""
 
