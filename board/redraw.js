@@ -1,6 +1,6 @@
 // When the page is drawn: once before the next frame, however much has changed since the last.
 
-// A page that is hidden before its frame comes is drawn after so many milliseconds.
+// The milliseconds after which a page is drawn that was hidden before its frame came.
 const LATEST = 1000;
 
 const drawers = [];
