@@ -1,5 +1,5 @@
-//! apron: airport stand allocation, with the words of the command line, files, standard input and
-//! standard output, and connections over TCP.
+//! The program itself: gives files, streams and TCP connections of the system to `apron_run` and
+//! `apron_serve`.
 #![tactic(auto)]
 
 mod desks;

@@ -1,5 +1,5 @@
-//! Two files on a shelf: the airport that they make, with the files' digests, or why they make none;
-//! and the lines that say which of these it is. It knows nothing of plans and desks.
+//! Checks the airport file and the type file: the airport and its digests, or why there is none, and
+//! the lines that `check` prints. It knows nothing of plans and desks.
 #![tactic(auto)]
 
 mod faults;

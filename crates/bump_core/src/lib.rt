@@ -1,5 +1,5 @@
-//! Settling: which planned parts lose their stands through an entry that says what happened. It
-//! knows nothing of messages and histories.
+//! Which planned parts lose their stands when an entry says what happened. It knows nothing of
+//! messages and histories.
 #![tactic(auto)]
 
 mod after;

@@ -37,6 +37,9 @@ fn day_parts(alloc: Global) -> Result<AirportParts, Memory>
         name: Name::literal(b"G"),
         objects: Listed::new(alloc),
     };
+    let frontages = Vec::from_array(alloc, [frontage])?;
+    let stands = day_stands(alloc)?;
+    let types = day_types(alloc)?;
     Ok(AirportParts {
         station: Name::literal(b"APR"),
         first: Date {
@@ -47,10 +50,10 @@ fn day_parts(alloc: Global) -> Result<AirportParts, Memory>
         days: 2,
         taxi_in: 5,
         tow: 20,
-        frontages: Listed::from_vec(Vec::from_array(alloc, [frontage])?),
-        stands: day_stands(alloc)?,
+        frontages: Listed::from_vec(frontages),
+        stands,
         pairs: Listed::new(alloc),
-        types: day_types(alloc)?,
+        types,
     })
 }
 
@@ -96,5 +99,6 @@ fn day_types(alloc: Global) -> Result<Listed<TypeRow>, Memory>
         TypeRow::without_folding(Name::literal(b"A388"), 7_975, 90),
         TypeRow::without_folding(Name::literal(b"X360"), 3_600, 40),
     ];
-    Ok(Listed::from_vec(Vec::from_array(alloc, types)?))
+    let types = Vec::from_array(alloc, types)?;
+    Ok(Listed::from_vec(types))
 }

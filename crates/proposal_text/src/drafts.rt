@@ -35,7 +35,8 @@ pub fn draft_text(
 fn used_text(alloc: Global) -> Result<Listed<u8>, Memory>
     ensures text { IfOk result (λ text. text ≡ used_text) }
 {
-    Ok(Listed::from_vec(Vec::from_slice(alloc, b"draft used\n")?))
+    let text = Vec::from_slice(alloc, b"draft used\n")?;
+    Ok(Listed::from_vec(text))
 }
 
 // The lines of a proposal over the plan. Nobody reads the count of the steps of its looks into the

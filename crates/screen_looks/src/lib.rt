@@ -1,6 +1,5 @@
-//! What is done with the connections of screens: one look each. Besides the screens that show a
-//! board, the crate also serves desks at that board. It knows nothing of words of the command line
-//! and of files, nor of where connections come from.
+//! Serves screens, one look a connection, beside the desks of the same board. It knows nothing of
+//! the command line and of files, nor of where connections come from.
 #![tactic(auto)]
 
 mod look;

@@ -58,10 +58,11 @@ pub fn on_one_frontage(
         name: Name::literal(b"N"),
         objects: Listed::new(alloc),
     };
+    let frontages = Vec::from_array(alloc, [frontage])?;
     airport_of(
         alloc,
         AirportParts {
-            frontages: Listed::from_vec(Vec::from_array(alloc, [frontage])?),
+            frontages: Listed::from_vec(frontages),
             stands: Listed::from_vec(stands),
             types: Listed::from_vec(types),
             ..empty_parts(alloc)

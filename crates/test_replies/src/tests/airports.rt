@@ -18,7 +18,8 @@ fn frontages(alloc: Global) -> Result<Listed<Frontage>, Fail> {
         name: Name::literal(b"S"),
         objects: Listed::new(alloc),
     };
-    Ok(Listed::from_vec(Vec::from_array(alloc, [north, south])?))
+    let rows = Vec::from_array(alloc, [north, south])?;
+    Ok(Listed::from_vec(rows))
 }
 
 // A stand, a half of it, and a stand of the other frontage.
@@ -70,6 +71,10 @@ fn mixed_airport(alloc: Global) -> Result<Airport, Fail> {
         lb: Letter::A,
     };
     let types = [type_of_40(Name::literal(b"A320")), folding_type()];
+    let frontages = frontages(alloc)?;
+    let stands = Vec::from_array(alloc, stands())?;
+    let pairs = Vec::from_array(alloc, [pair])?;
+    let types = Vec::from_array(alloc, types)?;
     airport_of(
         alloc,
         AirportParts {
@@ -78,10 +83,10 @@ fn mixed_airport(alloc: Global) -> Result<Airport, Fail> {
                 month: 1,
                 day: 5,
             },
-            frontages: frontages(alloc)?,
-            stands: Listed::from_vec(Vec::from_array(alloc, stands())?),
-            pairs: Listed::from_vec(Vec::from_array(alloc, [pair])?),
-            types: Listed::from_vec(Vec::from_array(alloc, types)?),
+            frontages,
+            stands: Listed::from_vec(stands),
+            pairs: Listed::from_vec(pairs),
+            types: Listed::from_vec(types),
             ..empty_parts(alloc)
         },
     )

@@ -208,7 +208,8 @@ fn a_stand_and_a_type_that_there_are_not_are_told_as_null(rt: HostRuntime) -> Re
 fn days_are_these_bytes(rt: HostRuntime) -> Result<(), Fail> {
     let alloc = rt.alloc();
     let bumped = first_visit(Place::Unplaced(Some(BUMP)), false, End::Live);
-    let visits = Listed::from_vec(Vec::from_array(alloc, [bumped, last_visit()])?);
+    let visits = Vec::from_array(alloc, [bumped, last_visit()])?;
+    let visits = Listed::from_vec(visits);
     let full = has_text(alloc, 7, ReplyBody::Day { visits }, OK, DAY)?;
     let visits = Listed::new(alloc);
     let empty = has_text(alloc, 3, ReplyBody::Day { visits }, OK, EMPTY_DAY)?;
