@@ -101,7 +101,7 @@ export function changeWords({ kind, now, was }, when) {
     lost: () => `lost ${was.stand}`,
     times: () => `${stay(was)} → ${stay(now)}`,
     cut: () => `${stay(now)} is a part of its own`,
-    joined: () => "joined with its next part",
+    joined: () => "merged with its next part",
   };
   return words[kind]();
 }

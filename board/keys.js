@@ -18,13 +18,14 @@ import { nowMinute } from "./times.js";
 import { offWords, pickedWords } from "./words.js";
 
 const KEYS = [
-  ["↑ ↓ ← →", "rows and parts of the chart"], ["Space", "pick the part; again, or Esc, to let it go"],
+  ["↑ ↓", "from row to row; Page Up and Page Down, ten rows"], ["← →", "from part to part of the row"],
+  ["Space", "pick the part; again, or Esc, to let it go"],
   ["Enter", "menu of the part; while one is picked, put it here"], ["Shift ↑ ↓", "while one is picked, the next stand that fits"],
-  ["K", "while one is picked, only stands that fit"], ["L X J", "back to the list, cut, join"], ["M O F Del", "new times, on block, off block, cancel"],
+  ["K", "while one is picked, only stands that fit"], ["L X J", "back to the list, split, merge"], ["M O F Del", "new times, on block, off block, cancel"],
   ["I", "what is known of the part"], ["Z", "close the stand at the cursor"], ["U", "undo the last change"], ["Ctrl Enter", "publish the draft"],
   ["V", "propose a draft"], ["G", "look again, if overtaken"], ["W C A S", "unallocated parts, chart, first alarm, soon"], ["E", "events"],
   ["N T", "add a visit, movement message"], ["/", "find a flight, a stand or a type"], ["\\", "filter the stands"], ["[ ]", "day before, day after"],
-  ["{ }", "a quarter back, on"], ["+ −", "fewer, more hours in sight"], ["0 Home", "follow now"], ["P ,", "print, settings"],
+  ["{ }", "a quarter of the hours back, on"], ["+ −", "fewer, more hours in sight"], ["0 Home", "follow now"], ["P ,", "print, settings"],
 ];
 
 const SHORT = {

@@ -1,4 +1,4 @@
-// What a person does to the plan by a draft: parts are put on stands, deallocated, swapped, cut and joined, one or several at once.
+// What a person does to the plan by a draft: parts are put on stands, deallocated, swapped, split and merged, one or several at once.
 
 import * as drafting from "./drafting.js";
 import { askYes, converse } from "./dialogs.js";
@@ -94,7 +94,7 @@ export function cutPart({ visit, part }) {
   const middle = Math.floor((it.from + it.to) / 2);
   const { least } = typeOf(visitOf(visit));
   const hint = `${TIME_HINT}; each piece lasts ${least} min at least, and ${picture.model().tow} min are for the tow`;
-  converse(`Cut ${partName({ visit, part })}`, [{ name: "at", words: "It ends at", value: typed(middle), hint }], (said) => {
+  converse(`Split ${partName({ visit, part })}`, [{ name: "at", words: "It ends at", value: typed(middle), hint }], (said) => {
     const at = minuteOf(said.at, middle);
     if (at === null) return NO_TIME;
     const edit = { cut: { visit, part, at } };
@@ -102,5 +102,5 @@ export function cutPart({ visit, part }) {
     if (refusal !== null) return refusalWords(refusal);
     addEdits([edit]);
     return null;
-  }, { words: "Cut" });
+  }, { words: "Split" });
 }

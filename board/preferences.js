@@ -1,4 +1,4 @@
-// Where aircraft would rather stand: the file of preferences (docs/reference/files.md), and what a part costs on each stand by it. The server
+// Where aircraft would rather stand: the file of preferences (docs/reference/planner.md), and what a part costs on each stand by it. The server
 // does not read that file, and a preference refuses nothing.
 
 import { unfitOf } from "./rules.js";

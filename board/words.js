@@ -25,7 +25,7 @@ export function editWords(edit) {
   const part = partName(said);
   if (kind === "put") return `${part}: put on ${said.stand}`;
   if (kind === "lift") return `${part}: back to the list`;
-  return kind === "cut" ? `${part}: cut at ${when(said.at)}` : `${part}: join with the next part`;
+  return kind === "cut" ? `${part}: split at ${when(said.at)}` : `${part}: merge with the next part`;
 }
 
 // The words of an edit that is kept, also where its visit is not read: then by the name that was kept with it.

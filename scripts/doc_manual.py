@@ -1,15 +1,19 @@
 """The parts of the manual pages that are made of other sources. The forms of the commands are those of `help_text`, the definition that
 `--help` is proved to print; the headings of docs/reference/cli.md have to be the same; and what the manual pages say of commands, statuses,
-messages and the journal's bytes is said in that page and in journal-format.md."""
+messages and the journal's bytes is said in that page and in journal-format.md. The table of keys in docs/reference/board.md is the list
+that the board itself shows."""
 
+import json
 import os
 import re
 
 HELP = "crates/apron_run/specs/Print.antt"
 COMMANDS = "docs/reference/cli.md"
 MANUALS = ("packaging/man/apron.1", "packaging/man/apron-journal.5")
+KEYS, BOARD = "board/keys.js", "docs/reference/board.md"
 FORM = re.compile(r"^apron ((?:--)?[a-z]+(?: (?:[A-Z]+|screen))*)(?= |$)", re.M)
 PART = re.compile(r'(\.\\" Made of (.+?)(?:, (.+?))? by scripts/manuals\.\n).*?(\.\\" End\.\n)', re.S)
+TABLE = re.compile(r"(<!-- scripts/manuals keys -->\n).*?(<!-- end of the table -->\n)", re.S)
 INLINE = re.compile(r"`(?P<code>[^`]+)`|\*\*(?P<bold>.+?)\*\*|\*(?P<term>[^*]+)\*|\[(?P<link>(?:[^\[\]]|`[^`]*`)+)\]\([^)]*\)")
 
 
@@ -95,18 +99,29 @@ def manual(top, path):
     return PART.sub(lambda it: it[1] + "\n".join(made(top, it[2], it[3])) + "\n" + it[4], read(top, path))
 
 
+def board(top):
+    """The board's page with its table of keys as it has to be."""
+    rows = re.search(r"^const KEYS = (\[.*?\n\]);$", read(top, KEYS), re.M | re.S)[1]
+    lines = [f"| `{key}` | {words} |\n" for key, words in json.loads(re.sub(r",(?=\s*\])", "", rows))]
+    return TABLE.sub(lambda it: it[1] + "\n| Key | What it does |\n|---|---|\n" + "".join(lines) + "\n" + it[2], read(top, BOARD))
+
+
+def made_pages(top):
+    """The pages with parts that are made, as they have to be."""
+    return {**{path: manual(top, path) for path in MANUALS}, BOARD: board(top)}
+
+
 def manual_faults(top):
     """The parts that are not what they are made of."""
     headings = re.findall(r"^### `(.+?)`$", read(top, COMMANDS), re.M)
     if headings != forms(top):
         yield f"{COMMANDS}: its commands are {headings}, and those of --help {forms(top)}"
-    for path in MANUALS:
-        if manual(top, path) != read(top, path):
+    for path, text in made_pages(top).items():
+        if text != read(top, path):
             yield f"{path}: a part is not what it is made of; run scripts/manuals"
 
 
 def write_manuals(top):
-    for path in MANUALS:
-        text = manual(top, path)
+    for path, text in made_pages(top).items():
         with open(os.path.join(top, path), "w", encoding="utf-8") as file:
             file.write(text)

@@ -16,6 +16,10 @@ COMMANDS = re.compile(
 NEEDS = re.compile(r"# needs (systemd|a public name|the toolchain|a checkout)\b.*")
 
 
+# A part of a page that a script makes.
+MADE = re.compile(r"<!-- scripts/\w+ \w+ -->.*?<!-- end of the table -->", re.S)
+
+
 class Block(NamedTuple):
     """Commands of a page, from a line on, and what they have to print, if the page shows it."""
     line: int
@@ -113,8 +117,8 @@ def link_faults(top, pages):
 
 
 def size_faults(pages, limits):
-    """The pages that are larger than their limit, or have none; limits are rows of a pattern of paths, and bytes."""
-    sizes = {page.path: len(page.text.encode()) for page in pages}
+    """The pages that are larger than their limit, without what scripts make, or have none; limits are rows of a pattern of paths, and bytes."""
+    sizes = {page.path: len(MADE.sub("", page.text).encode()) for page in pages}
     taken = set()
     for pattern, most in limits:
         paths = [path for path in sizes if path not in taken and re.fullmatch(pattern, path)]

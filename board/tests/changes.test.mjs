@@ -77,6 +77,6 @@ test("each kind of change has words", () => {
   const was = part(600, 660, "N1");
   const rows = [["new", "new, 10:45–11:40"], ["here", "comes into these days, 10:45–11:40"], ["away", "now at 10:45–11:40"], ["vanished", "cancelled, or moved to another day"],
     ["cancelled", "cancelled"], ["gone", "off block at 11:40"], ["inplace", "in place at 10:45 on N2, planned on N1"], ["put", "put on N2"], ["moved", "N1 → N2"],
-    ["lifted", "taken off N1"], ["times", "10:00–11:00 → 10:45–11:40"], ["cut", "10:45–11:40 is a part of its own"], ["joined", "joined with its next part"]];
+    ["lifted", "taken off N1"], ["times", "10:00–11:00 → 10:45–11:40"], ["cut", "10:45–11:40 is a part of its own"], ["joined", "merged with its next part"]];
   for (const [kind, words] of rows) assert.equal(changeWords({ kind, now, was }, when), words);
 });

@@ -1,4 +1,4 @@
-// Preferences, against docs/reference/files.md.
+// Preferences, against docs/reference/planner.md.
 
 import assert from "node:assert/strict";
 import { test } from "node:test";

@@ -70,7 +70,7 @@ def asked(about):
                                  formatter_class=argparse.RawDescriptionHelpFormatter)
     it.add_argument("server", metavar="SERVER", help="where the server is, as http://127.0.0.1:8080 or https://localhost:8443/ham")
     add_proxy_words(it)
-    it.add_argument("--preferences", metavar="FILE", help="where parts would rather stand (docs/reference/files.md)")
+    it.add_argument("--preferences", metavar="FILE", help="where parts would rather stand (docs/reference/planner.md)")
     it.add_argument("--from", dest="begin", type=lambda word: minute_of(word, False), metavar="TIME", help="where planning begins; else with the plan")
     it.add_argument("--to", dest="end", type=lambda word: minute_of(word, True), metavar="TIME", help="where planning ends; else with the plan")
     it.add_argument("--method", choices=["fit", "chain", "search"], default="fit", help="fit (if it is left out), chain or search")
@@ -79,7 +79,7 @@ def asked(about):
     it.add_argument("--frozen", type=number_in(0, 100000), default=60, metavar="MINUTES",
                     help="no part that begins within so many minutes of now moves, 60 if it is left out")
     it.add_argument("--now", type=moment_of, metavar="TIME", help="the time that counts as now, as 2026-07-02T04:30Z; else the machine's")
-    it.add_argument("--tow", type=number_in(1, 100000), metavar="MINUTES", help="stays of at least so many minutes may be cut, with a tow between the pieces")
+    it.add_argument("--tow", type=number_in(1, 100000), metavar="MINUTES", help="stays of at least so many minutes may be split, with a tow between the parts")
     it.add_argument("--dry-run", action="store_true", help="tells what would be done, and sends nothing")
     it.add_argument("--draft", metavar="FILE", help="with --dry-run: writes the edits to a file, which the board opens")
     it.add_argument("--desk", default="PLAN", metavar="NAME", help="the beginning of the client's name, up to 5 capitals and digits, PLAN if it is left out")

@@ -1,4 +1,4 @@
-"""Where a part would rather stand: the file of preferences, as docs/reference/files.md tells it, and what a part costs on a stand by it. The server
+"""Where a part would rather stand: the file of preferences, as docs/reference/planner.md tells it, and what a part costs on a stand by it. The server
 does not read this file: it refuses no stand that only costs."""
 
 import re

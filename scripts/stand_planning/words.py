@@ -30,7 +30,7 @@ def changes(airport, allocation, cuts):
             lines.append((it.begin, f"{name_of(airport, it)}: {way}"))
     for cut in cuts:
         one, two = cut.pieces
-        lines.append((one.begin, f"{name_of(airport, cut.part)}: cut at {time_of(one.end)}: to {names[one.stand]}, then tow, and from "
+        lines.append((one.begin, f"{name_of(airport, cut.part)}: split at {time_of(one.end)}: to {names[one.stand]}, then tow, and from "
                       f"{time_of(two.begin)} to {names[two.stand]}"))
     return [line for _, line in sorted(lines)]
 
