@@ -212,11 +212,11 @@ async function offerLost() {
   const [lost] = drafting.lostDrafts(await openDesks());
   if (lost === undefined || address.isWall) return;
   const at = new Date(lost.at).toISOString().slice(0, 16).replace("T", " ");
-  const words = `A draft of desk ${lost.desk} was left here on ${at} UTC, with ${lost.kept.length} changes.`;
+  const words = `A draft of client ${lost.desk} was left here on ${at} UTC, with ${lost.kept.length} changes.`;
   const close = () => { $("recovered").hidden = true; };
   $("recovered").replaceChildren(words, button("Take it up", () => {
     close();
-    if (!drafting.isEmpty()) return say("This desk has a draft of its own: publish it or drop it first.");
+    if (!drafting.isEmpty()) return say("This client has a draft of its own: publish it or drop it first.");
     drafting.takeLost(lost);
     if (drafting.pendingDraft() !== null) settle(tellRefused);
     return look();

@@ -19,7 +19,7 @@ export function drawDetail() {
 }
 
 function standWords() {
-  if (cursor().stand === null) return address.isWall ? "" : `Desk ${deskName()}`;
+  if (cursor().stand === null) return address.isWall ? "" : `Client ${deskName()}`;
   const { name, frontage, letter, buffer, half_of: whole } = standOf(cursor().stand);
   return `${name}: frontage ${frontage}, letter ${letter}, buffer ${buffer} min${whole === null ? "" : `, a half of ${whole}`}`;
 }

@@ -38,7 +38,8 @@ export function keptOf(model, visits, edit) {
 }
 
 /**
- * The edits of a draft without those that a later one makes vain: a part that is put or deallocated again, with no cut or join of its visit between.
+ * The edits of a draft without those that a later one makes vain: a part that is put or deallocated again, with no split
+ * or merge of its visit between.
  * @param {Kept[]} kept
  * @returns {Kept[]}
  */
@@ -167,7 +168,8 @@ export function sentOf(model, visits, desk, draft, base, edits) {
 export function takenOf(sent, version, visits, entry) {
   if (version <= sent.base) return { is: "other", why: `version ${version} was there before the draft was made` };
   if (entry !== null && (entry.kind !== "commit" || entry.desk !== sent.desk)) {
-    return { is: "other", why: `version ${version} was made by ${entry.desk === null ? `a ${entry.kind}` : `desk ${entry.desk}`}` };
+    const whose = entry.desk === null ? `a ${entry.kind}` : `client ${entry.desk}`;
+    return { is: "other", why: `version ${version} was made by ${whose}` };
   }
   let sure = false;
   for (const [number, wanted] of Object.entries(sent.parts)) {

@@ -37,7 +37,7 @@ function draftWords() {
   if (drafting.pendingDraft() !== null) return [pendingWords()];
   if (drafting.refusedDraft() !== null) return [["bad", refusedWords()], ...dropped];
   const late = drafting.overtaken();
-  if (late !== null) return [["bad", `Overtaken: ${visitName(late.visit)} was changed by another desk in version ${late.edited}.`]];
+  if (late !== null) return [["bad", `Overtaken: ${visitName(late.visit)} was changed by another client in version ${late.edited}.`]];
   return [...dropped, verdictWords()];
 }
 

@@ -68,7 +68,7 @@ function drawTrouble() {
   const box = $("trouble");
   const late = lateSeconds();
   const { trouble, fault } = state;
-  const words = fault !== null ? `This page met an error that nobody foresaw: ${fault.words}. It has started to ask anew.`
+  const words = fault !== null ? `This page met an error that nobody foresaw: ${fault.words}. It has started to ask again.`
     : trouble !== null ? `${trouble.words} It is asked again and again.`
       : late > 5 ? "The server is slow: its reply is awaited." : "";
   const isAhead = trouble?.cause === "ahead" && fault === null;

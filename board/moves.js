@@ -59,7 +59,7 @@ async function isAgreed(moved) {
     return `${partName(by)} still stands ${where}, ${by.overdue} min after its expected end. `
       + `The plan would let ${partName(part)} be put on ${standOf(place).name}.`;
   }));
-  return lines.length === 0 || askYes("The stand is not clear", lines, "Put it there all the same");
+  return lines.length === 0 || askYes("The stand is not clear", lines, "Put it there anyway");
 }
 
 const standing = ({ visit, part }, place) => standingIn(picture.model(), index(), visits(), visitOf(visit), part, place, nowMinute());

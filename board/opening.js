@@ -1,4 +1,4 @@
-// Opens a file of drafts that a planner wrote: one draft after the other becomes that of this desk, which a person looks at and publishes.
+// Opens a file of drafts that a planner wrote: one draft after the other becomes that of this client, which a person looks at and publishes.
 
 import { keptOf } from "./draft.js";
 import * as drafting from "./drafting.js";

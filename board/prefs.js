@@ -11,7 +11,7 @@ import { changeSettings, settings } from "./settings.js";
 export function changeSettingsDialog() {
   const types = picture.model() === null ? [] : closureTypes(picture.model()).map((type) => type.name);
   converse("Settings", [
-    { name: "name", words: "Your name", value: settings.name, hint: "1 to 5 of A-Z 0-9: the desk is this name and six letters" },
+    { name: "name", words: "Your name", value: settings.name, hint: "1 to 5 of A-Z 0-9: the client's name is this and six letters" },
     { name: "zone", words: "Local time", value: settings.zone, options: Intl.supportedValuesOf("timeZone"), free: true, hint: "an IANA zone, or empty" },
     { name: "theme", words: "Light", value: settings.theme, options: ["auto", "day", "night"] },
     { name: "rows", words: "Rows", value: settings.rows, options: ["dense", "normal", "tall"] },

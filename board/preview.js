@@ -1,5 +1,5 @@
-// What a report, a message or a cancel would do if it were sent, by the rules that the server settles a plan by (docs/reference/messages.md): who would
-// lose a stand, what can't be undone, and whether a person is to be asked first. It is as right as the visits that it is given are complete.
+// What a report, a message or a cancel would do if it were sent, by the rules by which the server resolves conflicts (docs/reference/messages.md): who
+// would lose a stand, what can't be undone, and whether a person is to be asked first. It is as right as the visits that it is given are complete.
 
 import { DAY, alarmsOf, clashesOf, indexOf, meetingOf, slotsOf, unfitOf } from "./rules.js";
 import { effectOf, readMvt } from "./mvt.js";

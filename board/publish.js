@@ -24,7 +24,7 @@ async function deskOf(entry) {
 export async function publish(refused) {
   if (drafting.pendingDraft() !== null || drafting.keptEdits().length === 0) return;
   if (!maySend()) return say("This page publishes nothing.");
-  if (!isHeld()) return say("The name of this desk is not sure yet: try again in a moment.");
+  if (!isHeld()) return say("The name of this client is not sure yet: try again in a moment.");
   const sent = sentOf(picture.model(), picture.visits(), deskName(), nextDraft(), drafting.draftBase(), drafting.edits());
   drafting.setPending({ ...sent, seen: picture.version() });
   await settle(refused);
@@ -79,7 +79,7 @@ async function comparedWith(sent, version) {
 // new name.
 async function sendAsAnother(why, refused) {
   const before = deskName();
-  drafting.settle({ error: `the desk's name was in use: ${why}; the draft goes out again under another` });
+  drafting.settle({ error: `the client's name was in use: ${why}; the draft goes out again under another` });
   await newDesk(settings.name);
   drafting.movedFrom(before);
   await publish(refused);

@@ -89,7 +89,7 @@ export function waitingOf(visits, begin, end) {
 
 /**
  * The parts of a visit after an edit, or why the edit is refused.
- * @param {Model} model @param {Visit} visit @param {string} kind put, lift, cut or join @param {any} said
+ * @param {Model} model @param {Visit} visit @param {string} kind `put`, `lift`, `cut` or `join` @param {any} said
  * @returns {{parts: Part[]} | {error: string, by?: import("./rules.js").Unfit}}
  */
 export function partsAfter(model, visit, kind, said) {
