@@ -27,7 +27,7 @@ class Part:
         # Whether a method may give it another stand; one that waits in the plan is planned here, another one has moved.
         self.is_free = is_free
         self.costs, self.options, self.rank = {}, [], 0
-        # Its flight or its visit's name, its airline, how many parts the visit has, and the cut of which it is a piece.
+        # Its flight or its visit's name, its airline, how many parts the visit has, and the split of which it is a piece.
         self.label, self.airline, self.pieces, self.cut = "", "", 1, None
 
     def again(self):

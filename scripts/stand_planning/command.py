@@ -114,7 +114,7 @@ class Planner:
         return desk.Window(begin, end, now, given.frozen, given.moves - len(self.moved))
 
     def planned(self, picture, window, method):
-        """A plan of the picture, and its cuts. After a refusal it is the plan of before, as far as that is still possible."""
+        """A plan of the picture, and its splits. After a refusal it is the plan of before, as far as that is still possible."""
         allocation = Allocation(self.airport.rules, picture.parts, window.moves)
         if self.wanted:
             methods.take_over(allocation, self.wanted)

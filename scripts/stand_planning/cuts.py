@@ -4,12 +4,12 @@ long stay in its way, which is towed from its stand or to it."""
 from stand_planning.methods import place, waiting
 from stand_planning.rules import MOST_PARTS
 
-# Cuts are planned at whole five minutes.
+# Splits are planned at whole five minutes.
 STEP = 5
 
 
 class Cut:
-    """A part that is cut, and its two pieces, each on a stand."""
+    """A part that is split, and its two pieces, each on a stand."""
 
     def __init__(self, part, pieces):
         self.part, self.pieces = part, pieces
@@ -22,7 +22,7 @@ class Cut:
 
 
 def cut_those_left(allocation, airport, least):
-    """Cuts stays of at least so many minutes for the parts that are left, by rank. What then finds a free stand is put on it. The cuts."""
+    """Splits stays of at least so many minutes for the parts that are left, by rank. What then finds a free stand is put on it. The splits."""
     made = []
     for part in waiting(allocation):
         cut = cut_in_two(allocation, airport, part, least) or cut_in_way(allocation, airport, part, least)
@@ -34,7 +34,7 @@ def cut_those_left(allocation, airport, least):
 
 
 def cut_in_way(allocation, airport, part, least):
-    """Puts the part on a stand where only one part is in its way, and that one can be cut."""
+    """Puts the part on a stand where only one part is in its way, and that one can be split."""
     for stand in part.options:
         found = allocation.blockers(part, stand)
         if len(found) == 1 and found[0].is_free and found[0].waits:

@@ -110,7 +110,7 @@ class Picture:
 
 
 def read(desk, airport, window, is_whole=False):
-    """The picture of a window of the plan, read on the days that matter to what is planned, or on all days. While desks work its parts may be of
+    """The picture of a window of the plan, read on the days that matter to what is planned, or on all days. While clients work its parts may be of
     several versions: then its version is the first, and the server refuses a draft over it that would undo what came later."""
     for _ in range(MOST_LOOKS):
         wait = desk.get("/unplaced")
@@ -200,7 +200,7 @@ def circles(nodes, needs):
 
 def drafts_of(airport, allocation, cuts=(), most=MOST_EDITS):
     """The drafts of a plan: lists of edits that apply one after the other, each whole. The first has at most so many, or one group, and each
-    further one twice as many as the one before, up to 64. Cuts come last, a visit's later parts first, so that no cut changes the number
+    further one twice as many as the one before, up to 64. Splits come last, a visit's later parts first, so that no split changes the number
     of a part that is named after it."""
     made = [[]]
     edits = [[edit_of("put", it, stand=airport.names[it.stand]) for it in group] for group in groups(allocation)]

@@ -182,8 +182,8 @@ class Search:
 
 def take_over(allocation, wanted):
     """After a refusal: gives parts the stands of an earlier plan as far as these are still free, without its moves if not all parts find a
-    stand so. `wanted` has by visit and part the stand that a part had then, and the one that it was to have; a part that another desk has
-    put elsewhere stays there. The rest is placed anew; if `fit` alone does better, its plan is kept."""
+    stand so. `wanted` has by visit and part the stand that a part had then, and the one that it was to have; a part that another client has
+    put elsewhere stays there. The rest is placed again; if `fit` alone does better, its plan is kept."""
     start = allocation.stands()
     fit(allocation)
     value, stands = allocation.value(), allocation.stands()

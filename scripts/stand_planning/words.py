@@ -22,7 +22,7 @@ def name_of(airport, part):
 
 
 def changes(airport, allocation, cuts):
-    """A line for each part that gets a stand, moves or is cut, in the order of their times."""
+    """A line for each part that gets a stand, moves or is split, in the order of their times."""
     names, lines = airport.names, []
     for it in allocation.parts:
         if it.is_free and it.cut is None and it.stand is not None and it.stand != it.was:
