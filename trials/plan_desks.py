@@ -1,4 +1,4 @@
-"""What trials/plan-holds tries the planner with: a server with the visits of a full day at the airport of examples/large, and desks that edit
+"""What trials/plan-holds tries the planner with: a server with the visits of a full day at the airport of examples/large, and clients that edit
 its plan meanwhile."""
 
 import collections
@@ -17,7 +17,7 @@ from plan_server import PlanServer
 PLAN = os.path.join(SCRIPTS, "plan")
 PREFERENCES = os.path.join(served.EXAMPLES, "large", "preferences.csv")
 VISITS, SEED = 500, 3
-# Seconds between two edits of a busy desk, and how long a program may take on a machine that does other work too.
+# Seconds between two edits of a busy client, and how long a program may take on a machine that does other work too.
 BETWEEN, PATIENCE = 0.4, 600
 
 Ran = collections.namedtuple("Ran", "code output errors")
@@ -92,8 +92,8 @@ class Day:
 
 
 class Busy(threading.Thread):
-    """A desk that edits until it is told to end: it puts waiting parts on stands, or it moves and lifts planned ones; of those only that begin
-    no earlier than a minute."""
+    """A client that edits until it is told to end: it puts unallocated parts on stands, or it moves and deallocates planned ones; of those only
+    that begin no earlier than a minute."""
 
     def __init__(self, day, is_taking, begins):
         super().__init__()
@@ -120,7 +120,7 @@ class Busy(threading.Thread):
 
 
 class TwoDesks:
-    """Two busy desks, as long as a `with` lasts: one that takes stands, and one that lifts parts and moves them."""
+    """Two busy clients, as long as a `with` lasts: one that takes stands, and one that deallocates parts and moves them."""
 
     def __init__(self, day, begins=0):
         self.desks = [Busy(day, is_taking, begins) for is_taking in (True, False)]

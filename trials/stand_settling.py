@@ -16,7 +16,7 @@ class Ranked(NamedTuple):
 
 
 def happened(before, after):
-    """The visit with the times that it has afterwards, and on the stands that it had before, but for parts that are on their stands in fact."""
+    """The visit with the times that it has afterwards, and on the stands that it had before, but for the actual parts."""
     parts = list(after["parts"])
     for place, (old, new) in enumerate(zip(before["parts"], parts)):
         if not new["actual"]:
@@ -37,8 +37,8 @@ def slot_of(airport, visit, part):
 
 
 def settled(airport, entry, visits):
-    """The visits as this entry leaves them: from the best part to the worst each is kept, if it is on its stand in fact or clashes with no
-    part that was kept; and the parts that were displaced."""
+    """The visits as this entry leaves them: from the best part to the worst each is kept, if it is actual or clashes with no part that was
+    kept; and the parts that were displaced."""
     visits = [{**it, "parts": list(it["parts"])} for it in visits]
     kept, displaced = [], []
     for rank in ranked(visits):

@@ -81,7 +81,7 @@ def tabs(room):
     twin = room.twin(desk)
     assert twin.text("#draft h2 small") not in ("", name), f"the second tab is {name} too"
     for it in (twin, desk):
-        # The list is drawn anew after the other tab's draft, and a drag that has begun before would take another part.
+        # The list is drawn again after the other tab's draft, and a drag that has begun before would take another part.
         wait("the page has the other tab's draft", lambda: f"version {room.version()}" in it.text("#link"), 8)
         taken_by(it, room, *published(it, room))
     # A reload keeps the client, its count and the draft that is not published.

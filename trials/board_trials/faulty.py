@@ -44,7 +44,7 @@ class Faulty(Address):
     def __init__(self, board, server_port, ahead=0.0, training=False):
         super().__init__(0, board, PREFERENCES, MovedClock(ahead), {"X-Training": "yes"} if training else {}, FaultyExchange)
         self.faults, self.asked, self.slow, self.server_at = [], [], 0.0, server_port
-        # The desk of each request, whatever the page calls itself, as a proxy names it by the user; None leaves the page's name.
+        # The client of each request, whatever the page calls itself, as a proxy names it by the user; None leaves the page's name.
         self.desk = None
         self.lead_to(server_port)
         threading.Thread(target=self.serve_forever, args=(0.05,), daemon=True).start()

@@ -95,7 +95,7 @@ CONTRAST = """
   }
   return [...worst.values()].slice(0, 8);
 """
-# Which of the waiting parts is picked after the first: a short one.
+# Which of the unallocated parts is picked after the first: a short one.
 PICKED_NEXT = 4
 
 

@@ -236,7 +236,7 @@ def report_away(room):
 
 
 def report_named(room):
-    """Behind a proxy that names desks by their user, a report and a message whose reply is lost: what the entries show not to be taken is sent again and is one entry; what may be taken is not, and a person is told to look."""
+    """Behind a proxy that names clients by user, a report and a message whose reply is lost: what the entries show not to be taken is sent again and is one entry; what may be taken is not, and a person is told to look."""
     room.proxy.desk = "NORTH"
     desk = room.desk()
     now, told = room.now(), ""

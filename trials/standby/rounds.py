@@ -219,7 +219,7 @@ class Play:
             self.hosts.mount(host)
         elif kind == "cut":
             self.hosts.link(host, True)
-            # A desk that asks the old host again, as one with another proxy would.
+            # A client that asks the old host again, as one with another proxy would.
             self.desks[0].wanted = host
             time.sleep(HOLD)
             self.hosts.start_bricks()
