@@ -95,7 +95,7 @@ function entryWords(number) {
       drawCard();
     });
   }
-  return entry ? `a ${entry.kind} of ${entry.desk === null ? "a desk that is not named" : `desk ${entry.desk}`} (version ${number})` : `version ${number}`;
+  return entry ? `a ${entry.kind} of ${entry.desk === null ? "a client that is not named" : `client ${entry.desk}`} (version ${number})` : `version ${number}`;
 }
 
 const changesOf = (visit) => changesOfVisit(visit.visit).slice(0, 6).map((change) => el("p", { class: "dim" }, `${change.version}: ${wordsOf(change)}`));

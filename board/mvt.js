@@ -170,7 +170,7 @@ export function effectOf(model, visits, message) {
   const arrives = isArrival(said.says);
   const day = planDayOf(model, message.day, 0);
   const visit = day === null ? null : meantOf(visits, arrives, message.flight, day);
-  if (visit === null) return { none: `no live visit ${arrives ? "arrives" : "leaves"} by flight ${message.flight} of that day` };
+  if (visit === null) return { none: `no visit that is expected or on block ${arrives ? "arrives" : "leaves"} by flight ${message.flight} of that day` };
   const minute = minuteOf(model, said.time, arrives ? visit.on : visit.off);
   if (minute === null) return { none: "its time is outside the plan" };
   return outcomeOf(model, visit, said.says, minute);

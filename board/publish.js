@@ -17,7 +17,7 @@ const AGAIN = 1000;
 // The client that an entry is of, in words.
 async function deskOf(entry) {
   const reply = await ask("GET", `entries/${entry}`);
-  return reply.is === "ok" && reply.body.desk !== null ? `desk ${reply.body.desk}` : "another desk";
+  return reply.is === "ok" && reply.body.desk !== null ? `client ${reply.body.desk}` : "another client";
 }
 
 // Sends the draft. `refused` is told where the server refuses it.

@@ -63,7 +63,7 @@ export function refusalWords(refusal) {
   if (error === "clash") return clashWords(refusal);
   if (error === "unfit") return `${unfitWords(by)}.`;
   if (error === "overtaken") {
-    return `${visitName(visit)} was changed by ${by ?? "another desk"} in version ${edited}, after the picture that this draft was made over.`;
+    return `${visitName(visit)} was changed by ${by ?? "another client"} in version ${edited}, after the picture that this draft was made over.`;
   }
   if (error === "mvt") return fault === "identifier" ? "no line is MVT." : `the message has a fault: ${fault}${at === undefined ? "" : ` at byte ${at}`}.`;
   if (error === "ahead") return "the server's plan is older than the one that is shown.";

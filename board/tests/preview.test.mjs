@@ -47,8 +47,8 @@ test("a message without effect says why", () => {
   const plan = planOf(visit(1, "A320", [part(600, 660)], lh123), present(2, "A320", 600, 660, "N1", { arr: flight("LH5") }));
   const none = (line, of = "LH123/27.DAIQA.APR") => effectOf(demo, plan, readMvt(`MVT\n${of}\n${line}`).message).none;
   assert.match(none("EA1040 APR"), /nothing of this airport/);
-  assert.match(none("AA1040", "LH9/27.DAIQA.APR"), /no live visit arrives/);
-  assert.match(none("AD0930"), /no live visit leaves/);
+  assert.match(none("AA1040", "LH9/27.DAIQA.APR"), /no visit that is expected or on block arrives/);
+  assert.match(none("AD0930"), /no visit that is expected or on block leaves/);
   assert.match(none("AA1040/1045", "LH5/27.DAIQA.APR"), /on block already/);
   assert.match(none("AA010000"), /outside the plan/);
   assert.match(none("AD0930", "LH124/27.DAIQA.APR"), /no part of the visit has begun/);

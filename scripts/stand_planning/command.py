@@ -154,12 +154,12 @@ class Planner:
             if sent.refusal["error"] not in ("overtaken", "clash", "gone", "onblock", "part", "cut"):
                 raise desk.Fault(f"a draft was refused: {json.dumps(sent.refusal)}")
             refused, most = refused + 1, max(most // 2, 1)
-            print(f"a draft was refused as {sent.refusal['error']}, since another desk was quicker: the plan is read again", file=sys.stderr)
+            print(f"a draft was refused as {sent.refusal['error']}, since another client was quicker: the plan is read again", file=sys.stderr)
             if refused == MOST_REFUSED:
                 raise desk.Fault("others edit all the time; what was sent so far is in the plan")
         self.tell_left(allocation)
         unsent = sum(map(len, planned)) - sent.edits
-        print(f"{placed} edits are in the plan, in {drafts} drafts of the desk {self.desk.name}; {len(self.moved)} planned parts moved, "
+        print(f"{placed} edits are in the plan, in {drafts} drafts of the client {self.desk.name}; {len(self.moved)} planned parts moved, "
               f"and {sum(allocation.left)} parts are left" + (f"; {unsent} edits were not sent" if unsent else ""))
 
     def tell(self, picture, window, allocation, cuts):

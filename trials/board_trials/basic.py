@@ -162,7 +162,7 @@ def overtaken(room):
     wait("the first says that it is overtaken", lambda: "Overtaken" in one.text("#draft"))
     one.publish()
     words = wait("it is refused", lambda: one.shown("#bubble") and one.text("#bubble p"))
-    assert re.search(r"changed by (another desk|desk BERT-[A-Z]{6}) in version", words), words
+    assert re.search(r"changed by (another client|client BERT-[A-Z]{6}) in version", words), words
     before = room.version()
     one.click("#again")
     wait("the draft fits again", lambda: "Fits" in one.text("#draft"))

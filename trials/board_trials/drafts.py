@@ -88,7 +88,7 @@ def tabs(room):
     visit, stand = drafted(desk, room)
     desk.reload()
     wait("the draft is there again", lambda: desk.count("#draft li"))
-    assert desk.text("#draft h2 small") == name, "a reload made another desk"
+    assert desk.text("#draft h2 small") == name, "a reload made another client"
     desk.publish()
     taken_by(desk, room, visit, stand)
     # A count that went back, as after a crash of the browser: the number's first draft is recognised, and no edit is lost.
