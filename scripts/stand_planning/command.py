@@ -79,7 +79,7 @@ def asked(about):
     it.add_argument("--frozen", type=number_in(0, 100000), default=60, metavar="MINUTES",
                     help="no part that begins within so many minutes of now moves, 60 if it is left out")
     it.add_argument("--now", type=moment_of, metavar="TIME", help="the time that counts as now, as 2026-07-02T04:30Z; else the machine's")
-    it.add_argument("--tow", type=number_in(1, 100000), metavar="MINUTES", help="stays of at least so many minutes may be split, with a tow between the parts")
+    it.add_argument("--tow", type=number_in(1, 100000), metavar="MINUTES", help="stays of MINUTES or more may be split, with a tow between the parts")
     it.add_argument("--dry-run", action="store_true", help="tells what would be done, and sends nothing")
     it.add_argument("--draft", metavar="FILE", help="with --dry-run: writes the edits to a file, which the board opens")
     it.add_argument("--desk", default="PLAN", metavar="NAME", help="the beginning of the client's name, up to 5 capitals and digits, PLAN if it is left out")

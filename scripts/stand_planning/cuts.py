@@ -22,7 +22,7 @@ class Cut:
 
 
 def cut_those_left(allocation, airport, least):
-    """Splits stays of at least so many minutes for the parts that are left, by rank. What then finds a free stand is put on it. The splits."""
+    """Splits stays of `least` minutes or more for the parts that are left, by rank, and puts what then finds a free stand on it. The splits."""
     made = []
     for part in waiting(allocation):
         cut = cut_in_two(allocation, airport, part, least) or cut_in_way(allocation, airport, part, least)

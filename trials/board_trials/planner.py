@@ -64,7 +64,7 @@ def preferences(room):
 
 
 def lift(room, count):
-    """Has another client deallocate so many parts that begin later; the visits."""
+    """Has another client deallocate this number of parts that begin later; the visits."""
     later = [it for it in room.visits() if it["state"] == "expected" and it["parts"][0]["stand"] and it["parts"][0]["from"] > room.now() + 90]
     for begin in range(0, count, 60):
         edits = [{"lift": {"visit": it["visit"], "part": 1}} for it in later[begin:min(begin + 60, count)]]
