@@ -14,7 +14,7 @@ use Rattle.history_core.specs.Answer.{Given}
 use Rattle.desk_http.specs.Answers.{Answered, Answers, Sent, sends}
 use Rattle.desk_http.specs.Ports.{PortState}
 use Rattle.desk_http.specs.Runs.{Runs}
-use Rattle.desk_http.specs.Session.{Moment, SessionKind, SessionOf, most_requests, refusal_text, texts_of}
+use Rattle.desk_http.specs.Session.{Moment, SessionOf, most_requests, refusal_text, texts_of}
 
 -- nothing hindered a session: memory did not run out, its port had a number for each call, and the
 -- counts of faults of its source and its sink neither rose nor are at their greatest value
@@ -63,11 +63,6 @@ module _ (Comes : PortState → Request → Answered → PortState → Type 0)
       → before.source.left ≡ Some input
       → IsUnhindered before after outcome
       → AnswersEachBy before after outcome input
-
--- the same of a session of this kind
-abbrev pub IsCompleteOfKind : SessionKind → Moment → Moment → Outcome → Type 0
-IsCompleteOfKind kind before after outcome =
-    IsCompleteBy kind.comes kind.airport before after outcome
 
 -- each request of the input was answered by its early reply, or by what the port gave for it at its
 -- place

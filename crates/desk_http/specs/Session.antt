@@ -165,8 +165,3 @@ pub record SessionKind : Type 1 where
 -- a session of this kind
 abbrev pub SessionOfKind : SessionKind → Moment → Moment → Outcome → Type 0
 SessionOfKind kind before after outcome = SessionBy kind.comes kind.airport before after outcome
-
--- the sessions over a port of the airport: `asks` says what it gives for an ask and what it becomes
-abbrev pub sessions_by : (AirportParts → PortState → Ask → Given → PortState → Type 0)
-    → AirportParts → SessionKind
-sessions_by asks airport = record { airport = airport; comes = Answers asks airport }

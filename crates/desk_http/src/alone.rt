@@ -1,9 +1,9 @@
 // One desk alone over a board.
 ghost use Rattle.std.specs.Prelude.{◌≡◌};
 
-use crate::{DeskPort, SessionPort, session};
-use apron_base::{Acted, CALL_END, Keeper, Outcome, Sink, Source};
-use apron_rules::{Airport, AirportParts};
+use crate::DeskPort;
+use apron_base::{Acted, CALL_END, Keeper};
+use apron_rules::Airport;
 use desk_words::asks::Ask;
 use history_core::Board;
 use std::alloc::Global;
@@ -71,31 +71,5 @@ impl<'a, K: Keeper> DeskPort for Alone<'a, K> {
             return Acted::Spent;
         }
         self.board.ask(alloc, call, ask)
-    }
-}
-
-impl<'a, K: Keeper> SessionPort for Alone<'a, K> {
-    ghost use Rattle.desk_http.specs.Alone.{AloneAsks, alone_port};
-    ghost use Rattle.desk_http.specs.Session.{sessions_by};
-
-    type Fixed = AirportParts;
-
-    type Place = ();
-
-    ghost fixed = { λ a. a.board.airport };
-
-    ghost place = { λ a. tt };
-
-    ghost port = { alone_port K.state };
-
-    ghost sessions = { sessions_by AloneAsks };
-
-    fn serve<S: Source, W: Sink>(
-        &mut self,
-        alloc: Global,
-        source: &mut S,
-        sink: &mut W,
-    ) -> Outcome {
-        session(alloc, self, source, sink)
     }
 }

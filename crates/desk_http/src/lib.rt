@@ -12,11 +12,9 @@ mod port;
 mod reading;
 mod routes;
 mod serving;
-mod sessions;
 mod targets;
 
 pub use alone::Alone;
 pub use feeds::session_fed;
 pub use port::{DeskPort, Feed, FeedAsk, FeedPort};
 pub use serving::session;
-pub use sessions::SessionPort;

@@ -11,7 +11,6 @@ use Rattle.turn_board.proofs.Crosses as turns
 use Rattle.turn_board.specs.contracts.board.Seat as Seat
 use Rattle.turn_board.specs.contracts.board.TurnBoard as TurnBoard
 use Rattle.desk_turns.specs.declared.machine.DeskMachine as desks
-use Rattle.desk_turns.specs.declared.turns.Turns as boards
 use Rattle.desk_turns.specs.contracts.served.SeatPort as SeatPort
 
 -- a board may be shared, and a seat may go to another thread, if the machine may
@@ -25,6 +24,6 @@ pub airport_sync : IsSync Airport.the_row
 airport_sync = search (sendable, crosses, maps.crosses) depth 60 fits 20000
 
 -- so that a worker in a thread can have a port
-pub port_send : (σ : NamedLft) (R M B A F : RattleType) (d : desks.Ghosts M.Denot A.Denot F.Denot) (g : machines.Ghosts M.Denot A.Denot Entry F.Denot)
-    (b : boards.Ghosts B.Denot M.Denot A.Denot Entry F.Denot) → IsSync R → IsSend M → IsSync B → IsSend (SeatPort.the_row σ R M B A F d g b)
-port_send σ R M B A F d g b runtime_sync machine_send board_sync = search (airport_sync, seat_send, sendable, crosses) depth 60 fits 20000
+pub port_send : (σ : NamedLft) (R M A F : RattleType) (d : desks.Ghosts M.Denot A.Denot F.Denot) (g : machines.Ghosts M.Denot A.Denot Entry F.Denot)
+    → IsSync R → IsSend M → IsSend (SeatPort.the_row σ R M A F d g)
+port_send σ R M A F d g runtime_sync machine_send = search (airport_sync, turns_sync, seat_send, sendable, crosses) depth 60 fits 20000

@@ -1,7 +1,7 @@
 -- Workers whose seats were cut from one seat and met it again, one more at a time; and what the
 -- closed board then tells of them.
-use Rattle.std.proofs.Common.{◌≡◌, ◌⊎◌, ◌∙◌, ◌<◌, ◌≤◌, ◌+◌, ◌-◌, ◌==◌, ◌&&◌, ◌||◌, nat_le, nat_lt, ℕ, Bool, true, false, cond, List, [], ◌∷◌, ◌++◌, map, length, Option, Some, None, IfSome, refl, sym, ap, subst, inl, inr, ⊎_elim, arith, append_assoc}
-use Rattle.std.specs.List.{AllZip, Any, count_by, sum_by}
+use Rattle.std.proofs.Common.{◌≡◌, ◌⊎◌, ◌∙◌, ◌<◌, ◌≤◌, ◌+◌, ◌-◌, ◌==◌, ◌&&◌, ◌||◌, nat_le, nat_lt, ℕ, suc, Bool, true, false, cond, List, [], ◌∷◌, ◌++◌, map, length, Option, Some, None, IfSome, refl, sym, ap, subst, inl, inr, ⊎_elim, arith, append_assoc}
+use Rattle.std.specs.List.{Any, count_by, sum_by}
 use Rattle.std.proofs.lemmas.Bool.Decides.{nat_tests}
 use Rattle.std.proofs.lemmas.List.{append-nil, map-append}
 use Rattle.std.proofs.lemmas.List.Sums.{sum_by-append, sum_by-cons}
@@ -14,13 +14,13 @@ use Rattle.turn_board.specs.Board.{Closes, IsPutAtRisk, Meets, OpensTurnBoard, S
 use Rattle.turn_board.specs.Totals.{below, times}
 use Rattle.turn_board.specs.declared.view.Call.{Call}
 use Rattle.turn_board.proofs.Totals.{every_append, every_both, every_front, every_more, every_rest, times_append}
-use Rattle.desk_http.specs.Ports.{IsLater}
+use Rattle.desk_http.specs.Ports.{IsLater, PortState}
 use Rattle.desk_http.specs.Session.{SessionKind}
 use Rattle.desk_turns.specs.declared.worker.WorkEnd.{WorkEnd}
 use Rattle.desk_turns.specs.declared.worker.WorkEnd.TheVariants.{Done, ListenerFault}
 use Rattle.desk_turns.specs.Crew.{CountsTold, HasSeen, IsUnkeptOf, ServesBoard, TellsAtRisk, Worker, WorksAt, crew_calls, crew_faults, end_of}
-use Rattle.desk_turns.specs.Seats.{ServedState, call_number, faults_of, latest_at_risk, port_of}
-use Rattle.desk_turns.specs.Together.{AreLater, HasCallOf, StaysAtRisk, WorkTogether, WorksBeside}
+use Rattle.desk_turns.specs.Seats.{ServedState, board_and_share, call_number, faults_of, fixed_of, latest_at_risk, port_of}
+use Rattle.desk_turns.specs.Together.{AreCutFrom, AreLater, HasCallOf, MeetsAll, StaysAtRisk, WorkAll, WorkEach, WorkTogether, WorksBeside}
 use Rattle.desk_turns.specs.Work.{EndStates, Works}
 use Rattle.desk_turns.proofs.Any.{any_append, any_here, any_none, any_there}
 use Rattle.desk_turns.proofs.Asking.{every_map}
@@ -184,26 +184,112 @@ module _ {In Out Fixed : Type 0} (states : EndStates In Out) (kind : SessionKind
     at_risk = λ entry has stays. inl has;
   }
 
-  pub of_none : {L : Type 0} (state : L → ListenerState In Out) (listeners : List L) (seat : Held Fixed) → length listeners ≡ 0
-      → WorkTogether states kind asked (record { listeners = map state listeners; seat = seat }) (record { listeners = map state listeners; seat = seat }) Done
-  of_none state [] seat none = none_works seat
-  of_none state (x ∷ xs) seat none = absurd (omega arith)
+-- the workers over the ports of the front and of the rest
+module _ {In Out L P Place : Type 0} (states : EndStates In Out) (state : L → ListenerState In Out) (port : P → PortState) (place : P → Place) (kind : P → SessionKind) (asked : ℕ) where
+  pub no_work : (ports : List P) (listeners : List L) → length ports ≡ length listeners → length listeners ≡ 0
+      → WorkAll states state port place kind asked ports listeners ports listeners Done
+  no_work [] [] same none = refl
+  no_work ports (listener ∷ listeners) same none = absurd (omega arith)
+  no_work (own ∷ ports) [] same none = absurd (omega arith)
 
-  -- the worker of the one listener of the front, and those of the others
-  pub of_first : {L : Type 0} (state : L → ListenerState In Out) (before less mid after : Held Fixed) (started ended : ServedState Fixed) (xs ys us bs : List L) (one others end : WorkEnd)
-      → length xs ≡ 1
-      → AllZip (λ x y. Works states kind asked (record { listener = state x; port = port_of started }) (record { listener = state y; port = port_of ended }) one) xs ys
-      → less ≡ record before { share = before.share - 1 } → started.seat ≡ record before { calls = []; exhausted = false; share = 1 }
-      → WorkTogether states kind asked (record { listeners = map state us; seat = less }) (record { listeners = map state bs; seat = mid }) others
-      → Meets call_of mid ended.seat after → end ≡ end_of (one ∷ others ∷ [])
-      → WorkTogether states kind asked (record { listeners = map state (xs ++ us); seat = before }) (record { listeners = map state (ys ++ bs); seat = after }) end
-  of_first state before less mid after started ended [] ys us bs one others end single works less_is mine rest meets end_is = absurd (omega arith)
-  of_first state before less mid after started ended (x ∷ xs) [] us bs one others end single works less_is mine rest meets end_is = absurd works
-  of_first state before less mid after started ended (x ∷ []) (y ∷ []) us bs one others end single works less_is mine rest meets end_is =
-      subst (λ (e : WorkEnd). WorkTogether states kind asked (record { listeners = state x ∷ map state us; seat = before }) (record { listeners = state y ∷ map state bs; seat = after }) e) (sym end_is)
-      (one_more before less mid after started ended (state x) (state y) (map state us) (map state bs) one others less_is mine works.0 rest meets)
-  of_first state before less mid after started ended (x ∷ []) (y ∷ (z ∷ ys)) us bs one others end single works less_is mine rest meets end_is = absurd works.1
-  of_first state before less mid after started ended (x ∷ (z ∷ xs)) (y ∷ ys) us bs one others end single works less_is mine rest meets end_is = absurd (omega arith)
+  pub of_front : (front news rest others : List P) (first lefts more lasts : List L) (one end all : WorkEnd) → length front ≡ 1 → length first ≡ 1
+      → WorkEach states state port place kind asked front first news lefts one → WorkAll states state port place kind asked rest more others lasts end
+      → all ≡ end_of (one ∷ end ∷ [])
+      → WorkAll states state port place kind asked (front ++ rest) (first ++ more) (news ++ others) (lefts ++ lasts) all
+  of_front (old ∷ []) (new ∷ []) rest others (listener ∷ []) (left ∷ []) more lasts one end all single only each work is = (one, end, each.0, work, is)
+  of_front [] news rest others first lefts more lasts one end all single only each work is = absurd (omega arith)
+  of_front (old ∷ other ∷ front) news rest others first lefts more lasts one end all single only each work is = absurd (omega arith)
+  of_front (old ∷ []) news rest others [] lefts more lasts one end all single only each work is = absurd (omega arith)
+  of_front (old ∷ []) news rest others (listener ∷ other ∷ first) lefts more lasts one end all single only each work is = absurd (omega arith)
+  of_front (old ∷ []) [] rest others (listener ∷ []) [] more lasts one end all single only each work is = absurd each
+  of_front (old ∷ []) [] rest others (listener ∷ []) (left ∷ lefts) more lasts one end all single only each work is = absurd each
+  of_front (old ∷ []) (new ∷ news) rest others (listener ∷ []) [] more lasts one end all single only each work is = absurd each
+  of_front (old ∷ []) (new ∷ other ∷ news) rest others (listener ∷ []) (left ∷ lefts) more lasts one end all single only each work is = absurd each.1
+  of_front (old ∷ []) (new ∷ []) rest others (listener ∷ []) (left ∷ other ∷ lefts) more lasts one end all single only each work is = absurd each.1
+
+module _ {Fixed : Type 0} where
+  -- one port more was cut
+  pub cut_more : (before mid : Held Fixed) (ports : List (ServedState Fixed)) (port : ServedState Fixed) → AreCutFrom before ports mid
+      → port.seat ≡ record mid { calls = []; exhausted = false; share = 1 } → AreCutFrom before (ports ++ port ∷ []) (record mid { share = mid.share - 1 })
+  cut_more before mid [] port cut own =
+      (subst (λ (seat : Held Fixed). port.seat ≡ record seat { calls = []; exhausted = false; share = 1 }) cut own, ap (λ (seat : Held Fixed). record seat { share = seat.share - 1 }) cut)
+  cut_more before mid (first ∷ ports) port cut own = (cut.0, cut_more (record before { share = before.share - 1 }) mid ports port cut.1 own)
+
+  -- the last port was met
+  pub meet_more : (before between after : Held Fixed) (ports : List (ServedState Fixed)) (port : ServedState Fixed) → Meets call_of before port.seat between
+      → MeetsAll between ports after → MeetsAll before (ports ++ port ∷ []) after
+  meet_more before between after [] port meets all = (before, refl, subst (Meets call_of before port.seat) (sym all) meets)
+  meet_more before between after (first ∷ ports) port meets all = (all.0, meet_more before between all.0 ports port meets all.1, all.2)
+
+-- workers over ports that were cut from a seat of this board, and whose seats it met
+module _ {In Out L Fixed : Type 0} (states : EndStates In Out) (state : L → ListenerState In Out) (kinds : Fixed → SessionKind) (asked : ℕ) (board : TurnBoardState Fixed) where
+  abbrev Over : List (ServedState Fixed) → List L → List (ServedState Fixed) → List L → WorkEnd → Type 0
+  Over = WorkAll states state port_of board_and_share (λ (port : ServedState Fixed). kinds (fixed_of port)) asked
+
+  pub together : (before less after : Held Fixed) (olds news : List (ServedState Fixed)) (listeners lefts : List L) (end : WorkEnd)
+      → AreCutFrom before olds less → Every (λ (port : ServedState Fixed). port.board ≡ board) olds → Over olds listeners news lefts end → MeetsAll less news after
+      → WorkTogether states (kinds board.start.fixed) asked (record { listeners = map state listeners; seat = before }) (record { listeners = map state lefts; seat = after }) end
+  together before less after [] [] [] [] end cut own work meets =
+      subst (λ (e : WorkEnd). WorkTogether states (kinds board.start.fixed) asked (record { listeners = []; seat = before }) (record { listeners = []; seat = after }) e) (sym work)
+      (subst (λ (seat : Held Fixed). WorkTogether states (kinds board.start.fixed) asked (record { listeners = []; seat = before }) (record { listeners = []; seat = seat }) Done) (sym (meets ∙ cut))
+      (none_works states (kinds board.start.fixed) asked before))
+  together before less after (old ∷ olds) (new ∷ news) (listener ∷ listeners) (left ∷ lefts) end cut own work meets =
+      let one : WorkEnd = work.0 in
+      let more : WorkEnd = work.1 in
+      let rest = together (record before { share = before.share - 1 }) less meets.0 olds news listeners lefts more cut.1 own.1 work.3 meets.1 in
+      let works : Works states (kinds board.start.fixed) asked (record { listener = state listener; port = port_of old }) (record { listener = state left; port = port_of new }) one =
+      subst (λ (at : Fixed). Works states (kinds at) asked (record { listener = state listener; port = port_of old }) (record { listener = state left; port = port_of new }) one)
+      (ap (λ (b : TurnBoardState Fixed). b.start.fixed) own.0) work.2.0 in
+      subst (λ (e : WorkEnd). WorkTogether states (kinds board.start.fixed) asked (record { listeners = map state (listener ∷ listeners); seat = before })
+      (record { listeners = map state (left ∷ lefts); seat = after }) e) (sym work.4)
+      (one_more states (kinds board.start.fixed) asked before (record before { share = before.share - 1 }) meets.0 after old new (state listener) (state left) (map state listeners) (map state lefts) one more
+      refl cut.0 works rest meets.2)
+  together before less after [] news (listener ∷ listeners) lefts end cut own work meets = absurd work
+  together before less after [] (new ∷ news) [] lefts end cut own work meets = absurd work
+  together before less after [] [] [] (left ∷ lefts) end cut own work meets = absurd work
+  together before less after (old ∷ olds) news [] lefts end cut own work meets = absurd work
+  together before less after (old ∷ olds) [] (listener ∷ listeners) lefts end cut own work meets = absurd work
+  together before less after (old ∷ olds) (new ∷ news) (listener ∷ listeners) [] end cut own work meets = absurd work
+
+  -- as many ports are left as there were
+  pub same_count : (olds news : List (ServedState Fixed)) (listeners lefts : List L) (end : WorkEnd) → Over olds listeners news lefts end → length news ≡ length olds
+  same_count [] [] [] [] end work = refl
+  same_count (old ∷ olds) (new ∷ news) (listener ∷ listeners) (left ∷ lefts) end work = ap (λ (n : ℕ). suc n) (same_count olds news listeners lefts work.1 work.3)
+  same_count [] news (listener ∷ listeners) lefts end work = absurd work
+  same_count [] (new ∷ news) [] lefts end work = absurd work
+  same_count [] [] [] (left ∷ lefts) end work = absurd work
+  same_count (old ∷ olds) news [] lefts end work = absurd work
+  same_count (old ∷ olds) [] (listener ∷ listeners) lefts end work = absurd work
+  same_count (old ∷ olds) (new ∷ news) (listener ∷ listeners) [] end work = absurd work
+
+  -- they are still ports of the board
+  pub still_own : (olds news : List (ServedState Fixed)) (listeners lefts : List L) (end : WorkEnd) → Every (λ (port : ServedState Fixed). port.board ≡ board) olds
+      → Over olds listeners news lefts end → Every (λ (port : ServedState Fixed). port.board ≡ board) news
+  still_own [] [] [] [] end own work = tt
+  still_own (old ∷ olds) (new ∷ news) (listener ∷ listeners) (left ∷ lefts) end own work =
+      (ap (λ (place : TurnBoardState Fixed × ℕ). place.0) work.2.1 ∙ own.0, still_own olds news listeners lefts work.1 own.1 work.3)
+  still_own [] news (listener ∷ listeners) lefts end own work = absurd work
+  still_own [] (new ∷ news) [] lefts end own work = absurd work
+  still_own [] [] [] (left ∷ lefts) end own work = absurd work
+  still_own (old ∷ olds) news [] lefts end own work = absurd work
+  still_own (old ∷ olds) [] (listener ∷ listeners) lefts end own work = absurd work
+  still_own (old ∷ olds) (new ∷ news) (listener ∷ listeners) [] end own work = absurd work
+
+  -- and the seat has its shares again
+  pub shares_back : (before less after : Held Fixed) (olds news : List (ServedState Fixed)) (listeners lefts : List L) (end : WorkEnd) → length olds ≤ before.share
+      → AreCutFrom before olds less → Over olds listeners news lefts end → MeetsAll less news after → after.share ≡ before.share
+  shares_back before less after [] [] [] [] end few cut work meets = ap (λ (seat : Held Fixed). seat.share) (meets ∙ cut)
+  shares_back before less after (old ∷ olds) (new ∷ news) (listener ∷ listeners) (left ∷ lefts) end few cut work meets =
+      let one : old.seat.share ≡ 1 = ap (λ (seat : Held Fixed). seat.share) cut.0 in
+      let same : new.seat.share ≡ old.seat.share = ap (λ (place : TurnBoardState Fixed × ℕ). place.1) work.2.1 in
+      let rest = shares_back (record before { share = before.share - 1 }) less meets.0 olds news listeners lefts work.1 (omega arith) cut.1 work.3 meets.1 in
+      let added = meets.2.share in omega arith
+  shares_back before less after [] news (listener ∷ listeners) lefts end few cut work meets = absurd work
+  shares_back before less after [] (new ∷ news) [] lefts end few cut work meets = absurd work
+  shares_back before less after [] [] [] (left ∷ lefts) end few cut work meets = absurd work
+  shares_back before less after (old ∷ olds) news [] lefts end few cut work meets = absurd work
+  shares_back before less after (old ∷ olds) [] (listener ∷ listeners) lefts end few cut work meets = absurd work
+  shares_back before less after (old ∷ olds) (new ∷ news) (listener ∷ listeners) [] end few cut work meets = absurd work
 
 -- the calls of a closed board are the numbers from the first one up to the end
 once : (first end number count : ℕ) → first ≤ end → count + below number first ≡ below number end → count ≡ cond (nat_le first number && nat_lt number end) 1 0

@@ -6,10 +6,16 @@ use Rattle.apron_base.specs.Counts.{Counts, Rose}
 use Rattle.apron_base.specs.Keeper.{with_last}
 use Rattle.apron_base.specs.Listener.{ListenerState, TakesFirst, TakesNone, Finishes as IsFinished}
 use Rattle.apron_base.specs.declared.listener.Finished.{Finished}
+use Rattle.apron_rules.specs.declared.parts.AirportParts.{AirportParts}
+use Rattle.desk_words.specs.declared.asks.Ask.{Ask}
+use Rattle.history_core.specs.Answer.{Given}
+use Rattle.desk_http.specs.FeedPorts.{FeedGiven}
 use Rattle.desk_http.specs.Ports.{PortState}
+use Rattle.desk_http.specs.declared.port.FeedAsk.{FeedAsk}
 use Rattle.desk_http.specs.Session.{SessionKind, SessionOfKind}
 use Rattle.desk_turns.specs.declared.worker.WorkEnd.{WorkEnd}
 use Rattle.desk_turns.specs.declared.worker.WorkEnd.TheVariants.{Done, ListenerFault}
+use Rattle.desk_turns.specs.Feeds.{fed_kind}
 use Rattle.desk_turns.specs.Work.{AreServed, Connection, EndStates, Serves, TakesAndFinishes, WorkState, Works, come_of, finished_of}
 
 module _ {In Out : Type 0} where
@@ -162,3 +168,12 @@ module _ {In Out : Type 0} (states : EndStates In Out) {Fixed : Type 0} (kinds :
   pub none_taken : (before after : ListenerState In Out) (port : PortState) → TakesNone before after
       → Serves states (kinds fixed) true (record { listener = before; port = port }) (record { listener = after; port = port }) []
   none_taken before after port none = record { served = refl; finishes = failed_finishing before after none }
+
+-- the sessions over a port, by its place and its airport
+module _ {Place : Type 0} (asks : AirportParts → PortState → Ask → Given → PortState → Type 0) (feeds : Place → AirportParts → PortState → FeedAsk → FeedGiven → PortState → Type 0) where
+  abbrev pub kinds_at : Place × AirportParts → SessionKind
+  kinds_at at = fed_kind asks (feeds at.0) at.1
+
+-- a place and an airport that are as they were
+pub same_at : {A B : Type 0} (a b : A) (c d : B) → a ≡ b → c ≡ d → ◌≡◌ {A = A × B} (a, c) (b, d)
+same_at a b c d first second = rw (first, second) refl

@@ -1,18 +1,19 @@
 -- What workers do whose seats are split from one seat and meet it again.
-use Rattle.std.specs.Prelude.{◌≡◌, ◌⊎◌, ◌+◌, ◌<◌, ◌≤◌, ◌==◌, ℕ, true, List, [], map, Some}
+use Rattle.std.specs.Prelude.{◌≡◌, ◌⊎◌, ◌+◌, ◌-◌, ◌<◌, ◌≤◌, ◌==◌, ℕ, true, false, List, [], ◌∷◌, map, Some}
 use Rattle.std.specs.List.{Any, count_by, sum_by}
 use Rattle.apron_base.specs.Histories.{Every}
 use Rattle.apron_base.specs.Listener.{ListenerState}
 use Rattle.desk_words.specs.declared.asks.Entry.{Entry}
 use Rattle.history_core.specs.History.{call_of}
-use Rattle.turn_board.specs.Board.{SeatState}
+use Rattle.turn_board.specs.Board.{Meets, SeatState}
 use Rattle.turn_board.specs.Totals.{times}
 use Rattle.turn_board.specs.declared.view.Call.{Call}
-use Rattle.desk_http.specs.Ports.{IsLater}
+use Rattle.desk_http.specs.Ports.{IsLater, PortState}
 use Rattle.desk_http.specs.Session.{SessionKind}
 use Rattle.desk_turns.specs.declared.worker.WorkEnd.{WorkEnd}
+use Rattle.desk_turns.specs.declared.worker.WorkEnd.TheVariants.{Done}
 use Rattle.desk_turns.specs.Crew.{HasSeen, IsFresh, TellsAtRisk, Worker, crew_calls, crew_faults, end_of}
-use Rattle.desk_turns.specs.Seats.{call_number, faults_of}
+use Rattle.desk_turns.specs.Seats.{ServedState, call_number, faults_of}
 use Rattle.desk_turns.specs.Work.{EndStates, Works}
 
 -- the listeners of the workers in order, and the seat that theirs are cut from
@@ -67,3 +68,50 @@ pub record WorkTogether {In Out Fixed : Type 0} (states : EndStates In Out) (kin
       → HasCallOf entry after.seat.calls
       → StaysAtRisk entry after.seat.calls
       → HasCallOf entry before.seat.calls ⊎ Any (TellsAtRisk entry) workers
+
+-- `port` says what a port tells, `place` what no call changes of it, and `kind` of which kind its
+-- sessions are
+module _ {In Out L P Place : Type 0} (states : EndStates In Out) (state : L → ListenerState In Out)
+    (port : P → PortState) (place : P → Place) (kind : P → SessionKind) (asked : ℕ) where
+  -- a worker served its listener over its port, which kept its place, and ended so
+  abbrev pub WorksOver : P → L → P → L → WorkEnd → Type 0
+  WorksOver old listener new left end =
+      Works states (kind old) asked (record { listener = state listener; port = port old })
+      (record { listener = state left; port = port new }) end
+      × (place new ≡ place old)
+
+  -- each worker did so, and all ended so
+  abbrev pub WorkEach : List P → List L → List P → List L → WorkEnd → Type 0
+  WorkEach [] [] [] [] end = Unit {0}
+  WorkEach (old ∷ olds) (listener ∷ listeners) (new ∷ news) (left ∷ others) end =
+      WorksOver old listener new left end × WorkEach olds listeners news others end
+  WorkEach olds listeners news others end = ⊥
+
+  -- each worker did so, and this is how they ended together
+  abbrev pub WorkAll : List P → List L → List P → List L → WorkEnd → Type 0
+  WorkAll [] [] [] [] end = end ≡ Done
+  WorkAll (old ∷ olds) (listener ∷ listeners) (new ∷ news) (left ∷ others) end =
+      (one : WorkEnd)
+      × (more : WorkEnd)
+      × WorksOver old listener new left one
+      × WorkAll olds listeners news others more
+      × (end ≡ end_of (one ∷ more ∷ []))
+  WorkAll olds listeners news others end = ⊥
+
+module _ {Fixed : Type 0} where
+  -- the seats of these ports were cut from a seat, one after the other
+  abbrev pub AreCutFrom : SeatState Entry Fixed → List (ServedState Fixed) → SeatState Entry Fixed
+      → Type 0
+  AreCutFrom before [] after = after ≡ before
+  AreCutFrom before (port ∷ ports) after =
+      (port.seat ≡ record before { calls = []; exhausted = false; share = 1 })
+      × AreCutFrom (record before { share = before.share - 1 }) ports after
+
+  -- a seat met those of these ports, the last one first
+  abbrev pub MeetsAll : SeatState Entry Fixed → List (ServedState Fixed) → SeatState Entry Fixed
+      → Type 0
+  MeetsAll before [] after = after ≡ before
+  MeetsAll before (port ∷ ports) after =
+      (between : SeatState Entry Fixed)
+      × MeetsAll before ports between
+      × Meets call_of between port.seat after

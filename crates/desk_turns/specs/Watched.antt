@@ -7,11 +7,9 @@ use Rattle.watch_list.specs.Watches.{shows}
 use Rattle.watch_list.specs.declared.note.Note.{Note}
 use Rattle.watch_list.specs.declared.watch.Watched.{Watched}
 use Rattle.watch_list.specs.declared.watch_asks.WatchFixed.{WatchFixed}
-use Rattle.desk_http.specs.FedSession.{FedAnswers}
 use Rattle.desk_http.specs.Session.{SessionKind}
 use Rattle.desk_http.specs.declared.port.FeedAsk.{FeedAsk}
-use Rattle.desk_turns.specs.Feeds.{FeedTurns}
-use Rattle.desk_turns.specs.Seats.{SeatTurn}
+use Rattle.desk_turns.specs.Feeds.{seat_sessions}
 
 -- the text of the reply to each feed at each history
 abbrev pub watch_text : {R : Type 0} → (R → Note → Bool) → WatchFixed R → FeedAsk → List Entry
@@ -35,7 +33,4 @@ no_feeds = feed_texts shows []
 
 -- the sessions over the port of a seat at the airport that answer these feeds
 abbrev pub fed_sessions : FeedTexts → AirportParts → SessionKind
-fed_sessions feeds airport = record {
-  airport = airport;
-  comes = FedAnswers SeatTurn (FeedTurns (feeds airport)) airport;
-}
+fed_sessions feeds airport = seat_sessions (feeds airport) airport

@@ -6,12 +6,11 @@ ghost use Rattle.desk_http.specs.Alone.{AloneAsks, port_over};
 ghost use Rattle.desk_http.specs.Ports.{ShowsAsk};
 ghost use Rattle.desk_turns.specs.Alone.{ActsNext};
 
-use crate::feeds::FeedMachine;
-use crate::machine::DeskMachine;
+use crate::machine::{DeskMachine, FeedMachine};
 use crate::served::answer_if_uncopied;
 use apron_base::{Acted, CALL_END, Machine, Memory, Name};
 use apron_rules::Airport;
-use desk_http::{DeskPort, FeedPort};
+use desk_http::{DeskPort, Feed, FeedAsk, FeedPort};
 use desk_words::asks::{Ask, What};
 use std::alloc::Global;
 use std::marker::Model;
@@ -66,10 +65,7 @@ impl<'a, M: DeskMachine> AlonePort<'a, M> {
     }
 }
 
-impl<'a, M: FeedMachine> DeskPort for AlonePort<'a, M>
-where
-    M::Ask: Drop,
-{
+impl<'a, M: DeskMachine> DeskPort for AlonePort<'a, M> {
     ghost use Rattle.desk_http.specs.Alone.{AloneAsks, port_over};
 
     type Place = M::Fixed;
@@ -93,10 +89,7 @@ where
     }
 }
 
-impl<'a, M: FeedMachine> FeedPort for AlonePort<'a, M>
-where
-    M::Ask: Drop,
-{
+impl<'a, M: FeedMachine> FeedPort for AlonePort<'a, M> {
     ghost use Rattle.desk_turns.specs.Alone.{AloneFeeds};
     ghost use Rattle.std.specs.Prelude.{◌≡◌, IfSome};
     ghost use Rattle.std.proofs.Common.{subst, sym};
@@ -112,16 +105,18 @@ where
     } };
 
     fn feed(&mut self, alloc: Global, seen: u32, watch: &Name, after: u32) -> Acted {
-        let ask = M::feed_ask(seen, watch, after);
-        act_next(alloc, &mut self.machine, &ask)
+        let feed = Feed {
+            watch: *watch,
+            after,
+        };
+        let own = M::feed_ask(&FeedAsk { seen, feed });
+        act_next(alloc, &mut self.machine, own)
     }
 }
 
 // Asks a machine what a desk asks. An ask that no memory is there to copy is answered so after a
 // call all the same.
-fn ask_next<M: FeedMachine>(alloc: Global, machine: &mut M, ask: &Ask) -> Acted
-where
-    M::Ask: Drop,
+fn ask_next<M: DeskMachine>(alloc: Global, machine: &mut M, ask: &Ask) -> Acted
     requires valid { IsAskOf (M.airport (M.state machine.old).fixed) ask.now }
     ensures fixed { (M.state machine.new).fixed ≡ (M.state machine.old).fixed }
     ensures next { (M.state machine.old).next ≤ (M.state machine.new).next }
@@ -132,16 +127,14 @@ where
         (port_over first (M.state machine.new)) }
 {
     match M::copied(alloc, ask) {
-        Ok(own) => act_next(alloc, machine, &own),
+        Ok(own) => act_next(alloc, machine, own),
         Err(Memory) => call_uncopied(alloc, machine),
     }
 }
 
 // Makes a call that asks for the version, and answers that there is no memory, or `Spent` if the
 // numbers have run out.
-fn call_uncopied<M: FeedMachine>(alloc: Global, machine: &mut M) -> Acted
-where
-    M::Ask: Drop,
+fn call_uncopied<M: DeskMachine>(alloc: Global, machine: &mut M) -> Acted
     ensures fixed { (M.state machine.new).fixed ≡ (M.state machine.old).fixed }
     ensures next { (M.state machine.old).next ≤ (M.state machine.new).next }
     ensures shows { (first : ℕ) (ask : Ask)
@@ -157,26 +150,29 @@ where
     let Ok(own) = M::copied(alloc, &version) else {
         unreachable!()
     };
-    answer_if_uncopied(act_next(alloc, machine, &own))
+    answer_if_uncopied(act_next(alloc, machine, own))
 }
 
 // Asks a machine with the number of its next call. If there is no such number, the answer is
 // `Spent`, and the machine is not asked.
-fn act_next<M: DeskMachine>(alloc: Global, machine: &mut M, ask: &M::Ask) -> Acted
-    requires valid { M.valid (M.state machine.old).fixed ask.now }
+fn act_next<M: DeskMachine>(alloc: Global, machine: &mut M, own: M::Ask) -> Acted
+    requires valid { M.valid (M.state machine.old).fixed own }
     ensures unasked { result ≡ Acted.Spent
         → (M.state machine.new ≡ M.state machine.old) × ((M.state machine.old).next ≡ call_limit) }
     ensures asked { result ≢ Acted.Spent
         → ActsNext M.number M.adds M.answers (M.state machine.old)
-        (record { ask = ask.now; answer = result }) (M.state machine.new) }
+        (record { ask = own; answer = result }) (M.state machine.new) }
     ensures legal { IsLegal (M.airport (M.state machine.old).fixed) (M.state machine.old).history }
     ensures fixed { (M.state machine.new).fixed ≡ (M.state machine.old).fixed }
     ensures next { (M.state machine.old).next ≤ (M.state machine.new).next }
 {
     machine.is_board();
     let call = machine.next_call();
-    if call == CALL_END {
-        return Acted::Spent;
-    }
-    machine.act(alloc, call, ask)
+    let answer = if call == CALL_END {
+        Acted::Spent
+    } else {
+        machine.act(alloc, call, &own)
+    };
+    M::let_go(own);
+    answer
 }

@@ -1,23 +1,21 @@
 // The workers at one board, one for each listener, each in a thread of its own, and a job beside
 // them.
-ghost use Rattle.std.specs.Prelude.{◌≡◌, ◌<◌, IfErr, IfOk, None, [], ◌∷◌, length, map};
-ghost use Rattle.std.specs.List.{AllZip};
+ghost use Rattle.std.specs.Prelude.{◌≡◌, ◌<◌, ◌≤◌, IfErr, IfOk, None, [], ◌∷◌, length, map, vec_capacity};
 ghost use Rattle.std.specs.Thread.{IsSync};
+ghost use Rattle.apron_base.specs.Histories.{Every};
 ghost use Rattle.history_core.specs.History.{IsLegal, call_of};
 ghost use Rattle.turn_board.specs.Board.{Closes, Sits};
 ghost use Rattle.turn_board.specs.Views.{all_shares};
 ghost use Rattle.desk_turns.specs.Crew.{ServesBoard, end_of};
-ghost use Rattle.desk_turns.specs.Together.{WorkTogether};
-ghost use Rattle.desk_turns.specs.Work.{Works};
+ghost use Rattle.desk_turns.specs.Feeds.{fed_kind, seat_sessions};
+ghost use Rattle.desk_turns.specs.Together.{AreCutFrom, MeetsAll, WorkAll, WorkEach, WorkTogether};
 
-use crate::machine::DeskMachine;
+use crate::machine::{DeskMachine, FeedMachine};
 use crate::served::SeatPort;
-use crate::sessions::SessionMachine;
-use crate::split::SplitPort;
 use crate::worker::{WorkEnd, work};
 use apron_base::{Listener, Memory};
 use apron_rules::Airport;
-use desk_http::SessionPort;
+use desk_http::FeedPort;
 use std::alloc::Global;
 use std::sync::Wait;
 use std::thread::{Threads, join_mut};
@@ -31,7 +29,7 @@ use turn_board::{Seat, TurnBoard};
 /// and the job was not run.
 pub fn serve_board<
     R: Threads + Wait + Sync,
-    M: SessionMachine + Send,
+    M: FeedMachine + Send,
     W: Workplace + Send,
     J: FnMut() -> T,
     T,
@@ -49,7 +47,7 @@ pub fn serve_board<
     requires few { length listeners.old < all_shares }
     requires job { J.pre job.old }
     ensures serves { IfOk result.0 (λ ends. ServesBoard W.states
-        (λ fixed. record { airport = M.airport fixed; comes = M.comes fixed }) connections
+        (λ fixed. seat_sessions (M.feed_text fixed) (M.airport fixed)) connections
         (record { listeners = map W.state listeners.old; board = M.state board })
         (record { listeners = map W.state listeners.new; board = M.state result.1 }) ends.0) }
     ensures job { IfOk result.0 (λ ends. J.step job.old ends.1 job.new) }
@@ -57,15 +55,111 @@ pub fn serve_board<
         (λ _. (listeners.new ≡ listeners.old) × (result.1 ≡ board) × (job.new ≡ job.old)) }
 {
     board.is_board();
+    let Ok(ports) = Vec::with_capacity(alloc, listeners.len()) else {
+        return (Err(Memory), board);
+    };
     match TurnBoard::new(alloc, board) {
-        Ok((turns, seat)) => {
-            let mut port = SeatPort::new(rt, &turns, airport, seat);
-            let ends = work_all(rt, alloc, &mut port, listeners, connections, job);
-            let seat = port.into_seat();
+        Ok((turns, mut seat)) => {
+            let ends = work_in_turns(
+                rt,
+                alloc,
+                &turns,
+                airport,
+                &mut seat,
+                ports,
+                listeners,
+                connections,
+                job,
+            );
             (Ok(ends), close_turns(turns, seat))
         }
-        Err(board) => (Err(Memory), board),
+        Err(board) => {
+            ports.destroy_empty();
+            (Err(Memory), board)
+        }
     }
+}
+
+// Cuts a seat for each listener from one seat, lets a worker serve the listener over its port, and
+// takes the seats in again. There is room for the ports.
+fn work_in_turns<
+    's,
+    R: Threads + Wait + Sync,
+    M: FeedMachine + Send,
+    W: Workplace + Send,
+    J: FnMut() -> T,
+    T,
+>(
+    rt: &'s R,
+    alloc: Global,
+    board: &'s TurnBoard<M>,
+    airport: &'s Airport,
+    seat: &mut Seat<M>,
+    mut ports: Vec<SeatPort<'s, R, M>>,
+    listeners: &mut [W],
+    connections: u32,
+    job: &mut J,
+) -> (WorkEnd, T)
+    requires sits { Sits board.now seat.old }
+    requires airport { airport.now ≡ M.airport board.now.start.fixed }
+    requires share { length listeners.old < seat.old.share }
+    requires none { ports.items ≡ [] }
+    requires room { length listeners.old ≤ vec_capacity ports }
+    requires job { J.pre job.old }
+    ensures sits { Sits board.now seat.new }
+    ensures share { seat.new.share ≡ seat.old.share }
+    ensures works { let fixed = board.now.start.fixed in
+        WorkTogether W.states (seat_sessions (M.feed_text fixed) (M.airport fixed)) connections
+        (record { listeners = map W.state listeners.old; seat = seat.old })
+        (record { listeners = map W.state listeners.new; seat = seat.new }) result.0 }
+    ensures job { J.step job.old result.1 job.new }
+{
+    cut_ports(rt, board, airport, seat, listeners.len(), &mut ports);
+    let ends = work_all(rt, alloc, ports.as_mut_slice(), listeners, connections, job);
+    meet_ports(board, seat, ports);
+    ends
+}
+
+// Puts the ports of this many new seats into a list that has room for them.
+fn cut_ports<'s, R, M: DeskMachine>(
+    rt: &'s R,
+    board: &'s TurnBoard<M>,
+    airport: &'s Airport,
+    seat: &mut Seat<M>,
+    count: usize,
+    ports: &mut Vec<SeatPort<'s, R, M>>,
+)
+    requires sits { Sits board.now seat.old }
+    requires airport { airport.now ≡ M.airport board.now.start.fixed }
+    requires share { count < seat.old.share }
+    requires none { ports.old.items ≡ [] }
+    requires room { count ≤ vec_capacity ports.old }
+    ensures sits { Sits board.now seat.new }
+    ensures count { length ports.new.items ≡ count }
+    ensures cut { AreCutFrom seat.old ports.new.items seat.new }
+    ensures board { Every (λ port. port.board ≡ board.now) ports.new.items }
+{
+    for _cut in 0..count {
+        let mine = board.split(seat);
+        ports.push_reserved(SeatPort::new(rt, board, airport, mine));
+    }
+}
+
+// Takes the seats of these ports in, the last one first.
+fn meet_ports<'s, R, M: DeskMachine>(
+    board: &TurnBoard<M>,
+    seat: &mut Seat<M>,
+    mut ports: Vec<SeatPort<'s, R, M>>,
+)
+    requires sits { Sits board.now seat.old }
+    requires board { Every (λ port. port.board ≡ board.now) ports.items }
+    ensures sits { Sits board.now seat.new }
+    ensures meets { MeetsAll seat.old ports.entry.items seat.new }
+{
+    while let Some(port) = ports.pop() {
+        board.meet(seat, port.into_seat());
+    }
+    ports.destroy_empty();
 }
 
 // The board, once all seats have met this one.
@@ -85,6 +179,7 @@ fn close_turns<M: DeskMachine>(turns: TurnBoard<M>, seat: Seat<M>) -> M
 pub trait Workplace {
     ghost use Rattle.std.specs.Prelude.{◌≡◌};
     ghost use Rattle.apron_base.specs.Listener.{ListenerState};
+    ghost use Rattle.desk_turns.specs.Feeds.{fed_kind};
     ghost use Rattle.desk_turns.specs.Work.{EndStates, Works};
 
     /// What a connection sends.
@@ -100,14 +195,15 @@ pub trait Workplace {
     ghost state: { Self → ListenerState Self.In Self.Out };
 
     /// Serves this many connections over the port, as `work` does.
-    fn work<P: SessionPort, R: Wait>(
+    fn work<P: FeedPort, R: Wait>(
         &mut self,
         rt: &R,
         alloc: Global,
         port: &mut P,
         connections: u32,
     ) -> WorkEnd
-        ensures works { Works states (P.sessions (P.fixed port.old)) connections
+        ensures works { Works states
+            (fed_kind P.asks (P.feeds (P.place port.old)) (P.airport_of port.old)) connections
             (record { listener = state self.old; port = P.port port.old })
             (record { listener = state self.new; port = P.port port.new }) result }
         ensures place { P.place port.new ≡ P.place port.old };
@@ -122,7 +218,7 @@ impl<L: Listener> Workplace for L {
 
     ghost state = { L.state };
 
-    fn work<P: SessionPort, R: Wait>(
+    fn work<P: FeedPort, R: Wait>(
         &mut self,
         rt: &R,
         alloc: Global,
@@ -133,27 +229,26 @@ impl<L: Listener> Workplace for L {
     }
 }
 
-// The only listener of a list.
-fn work_first<P: SessionPort, W: Workplace, R: Wait>(
+// The only listener of a list, over the only port of one.
+fn work_first<P: FeedPort, W: Workplace, R: Wait>(
     rt: &R,
     alloc: Global,
-    port: &mut P,
+    ports: &mut [P],
     listeners: &mut [W],
     connections: u32,
 ) -> WorkEnd
+    requires port { length ports.old ≡ 1 }
     requires one { length listeners.old ≡ 1 }
-    ensures works { AllZip (λ before after. Works W.states (P.sessions (P.fixed port.old))
-        connections (record { listener = W.state before; port = P.port port.old })
-        (record { listener = W.state after; port = P.port port.new }) result) listeners.old
-        listeners.new }
-    ensures place { P.place port.new ≡ P.place port.old }
+    ensures works { WorkEach W.states W.state P.port P.place
+        (λ port. fed_kind P.asks (P.feeds (P.place port)) (P.airport_of port)) connections
+        ports.old listeners.old ports.new listeners.new result }
 {
-    listeners[0].work(rt, alloc, port, connections)
+    listeners[0].work(rt, alloc, &mut ports[0], connections)
 }
 
 // The worker of the only listener of a list, in a thread of its own, and another job beside it.
 fn work_beside<
-    P: SessionPort + Send,
+    P: FeedPort + Send,
     W: Workplace + Send,
     R: Threads + Wait + Sync,
     J: FnMut() -> T,
@@ -161,88 +256,68 @@ fn work_beside<
 >(
     rt: &R,
     alloc: Global,
-    port: &mut P,
+    ports: &mut [P],
     listeners: &mut [W],
     connections: u32,
     job: &mut J,
 ) -> (WorkEnd, T)
+    requires port { length ports.old ≡ 1 }
     requires one { length listeners.old ≡ 1 }
     requires job { J.pre job.old }
-    ensures works { AllZip (λ before after. Works W.states (P.sessions (P.fixed port.old))
-        connections (record { listener = W.state before; port = P.port port.old })
-        (record { listener = W.state after; port = P.port port.new }) result.0) listeners.old
-        listeners.new }
-    ensures place { P.place port.new ≡ P.place port.old }
+    ensures works { WorkEach W.states W.state P.port P.place
+        (λ port. fed_kind P.asks (P.feeds (P.place port)) (P.airport_of port)) connections
+        ports.old listeners.old ports.new listeners.new result.0 }
     ensures job { J.step job.old result.1 job.new }
 {
     join_mut(
         rt,
         &mut ||
-            requires { length listeners.now ≡ 1 }
-            ensures works { AllZip (λ before after. Works W.states
-                (P.sessions (P.fixed port.entry.now)) connections
-                (record { listener = W.state before; port = P.port port.entry.now })
-                (record { listener = W.state after; port = P.port port.exit.now }) result)
-                listeners.entry.now listeners.exit.now }
-            ensures place { P.place port.exit.now ≡ P.place port.entry.now }
-        { work_first(rt, alloc, port, listeners, connections) },
+            requires { (length ports.now ≡ 1) × (length listeners.now ≡ 1) }
+            ensures works { WorkEach W.states W.state P.port P.place
+                (λ port. fed_kind P.asks (P.feeds (P.place port)) (P.airport_of port)) connections
+                ports.entry.now listeners.entry.now ports.exit.now listeners.exit.now result }
+        { work_first(rt, alloc, ports, listeners, connections) },
         job,
     )
 }
 
-// A worker for each listener, each in a thread of its own, and the job in this one. All seats are
-// taken in again.
-fn work_all<P: SplitPort + Send, W: Workplace + Send, R: Threads + Wait + Sync, J: FnMut() -> T, T>(
+// A worker for each listener over the port of its place, each in a thread of its own, and the job
+// in this one.
+fn work_all<P: FeedPort + Send, W: Workplace + Send, R: Threads + Wait + Sync, J: FnMut() -> T, T>(
     rt: &R,
     alloc: Global,
-    port: &mut P,
+    ports: &mut [P],
     listeners: &mut [W],
     connections: u32,
     job: &mut J,
 ) -> (WorkEnd, T)
-    requires share { length listeners.old < (P.served port.old).seat.share }
+    requires each { length ports.old ≡ length listeners.old }
     requires job { J.pre job.old }
-    ensures board { (P.served port.new).board ≡ (P.served port.old).board }
-    ensures share { (P.served port.new).seat.share ≡ (P.served port.old).seat.share }
-    ensures works { WorkTogether W.states (P.sessions (P.fixed port.old)) connections
-        (record { listeners = map W.state listeners.old; seat = (P.served port.old).seat })
-        (record { listeners = map W.state listeners.new; seat = (P.served port.new).seat })
-        result.0 }
+    ensures works { WorkAll W.states W.state P.port P.place
+        (λ port. fed_kind P.asks (P.feeds (P.place port)) (P.airport_of port)) connections
+        ports.old listeners.old ports.new listeners.new result.0 }
     ensures job { J.step job.old result.1 job.new }
 {
     if listeners.is_empty() {
         return (WorkEnd::Done, job());
     }
-    port.is_seat();
-    let mut mine = port.split();
+    let (port, others) = ports.split_at_mut(1);
     let (first, rest) = listeners.split_at_mut(1);
-    let (one, (others, done)) = work_beside(
+    let (one, (end, done)) = work_beside(
         rt,
         alloc,
-        &mut mine,
+        port,
         first,
         connections,
         &mut ||
-            requires { IsSync R.row
-                × (length rest.now < (P.served port.now).seat.share)
-                × J.pre job.now }
-            ensures board { (P.served port.exit.now).board ≡ (P.served port.entry.now).board }
-            ensures share { (P.served port.exit.now).seat.share
-                ≡ (P.served port.entry.now).seat.share }
-            ensures works { WorkTogether W.states (P.sessions (P.fixed port.entry.now)) connections
-                (record {
-                  listeners = map W.state rest.entry.now;
-                  seat = (P.served port.entry.now).seat;
-                })
-                (record {
-                  listeners = map W.state rest.exit.now;
-                  seat = (P.served port.exit.now).seat;
-                }) result.0 }
+            requires { IsSync R.row × (length others.now ≡ length rest.now) × J.pre job.now }
+            ensures works { WorkAll W.states W.state P.port P.place
+                (λ port. fed_kind P.asks (P.feeds (P.place port)) (P.airport_of port)) connections
+                others.entry.now rest.entry.now others.exit.now rest.exit.now result.0 }
             ensures job { J.step job.entry.now result.1 job.exit.now }
-        { work_all(rt, alloc, port, rest, connections, job) },
+        { work_all(rt, alloc, others, rest, connections, job) },
     );
-    port.meet(mine);
-    (first_end(one, others), done)
+    (first_end(one, end), done)
 }
 
 /// Of two the end of the first one that was not done.

@@ -1,26 +1,24 @@
 // A board with something around it, at which desks take turns.
-use crate::turns::Turns;
 use apron_base::{Acted, Keeper, Machine, Memory};
 use apron_rules::AirportParts;
+use desk_http::FeedAsk;
 use desk_words::asks::{Ask, Entry};
 use history_core::Board;
 use std::alloc::Global;
-use std::sync::Wait;
-use turn_board::Seat;
 
 /// A board of an airport, with something around it or alone: its history is the board's, and a
-/// desk's ask is answered as by the board.
+/// desk's ask is answered as by the board. What is asked of it owns its data, so that what a desk
+/// asks is copied.
 pub trait DeskMachine: Machine<Entry = Entry> {
     ghost use Rattle.std.specs.Prelude.{◌≡◌, ◌≤◌, ℕ, IfOk, List, OnErr};
     ghost use Rattle.apron_base.specs.declared.outside.Acted.{Acted};
     ghost use Rattle.apron_rules.specs.declared.parts.AirportParts.{AirportParts};
+    ghost use Rattle.desk_words.specs.Commands.{AsksCommand};
     ghost use Rattle.desk_words.specs.declared.asks.Ask.{Ask};
     ghost use Rattle.desk_words.specs.declared.asks.Entry.{Entry};
     ghost use Rattle.history_core.specs.Answer.{ActsLegally};
     ghost use Rattle.history_core.specs.History.{IsAskOf, IsLegal, call_limit, call_of};
-    ghost use Rattle.turn_board.specs.Board.{Sits};
-    ghost use Rattle.desk_words.specs.Commands.{AsksCommand};
-    ghost use Rattle.desk_turns.specs.Machines.{AddsAsked, AsksAt};
+    ghost use Rattle.desk_turns.specs.Machines.{AddsAsked};
 
     /// The airport of its plan.
     ghost airport: { Self.Fixed → AirportParts };
@@ -35,22 +33,15 @@ pub trait DeskMachine: Machine<Entry = Entry> {
         ensures legal { IsLegal (airport (Self.state self.now).fixed)
             (Self.state self.now).history };
 
-    /// Asks at a seat what a desk asks, by reference or by a copy of it. At `Err` no memory was
-    /// there to copy a command, and nothing was asked.
-    fn ask_at<R: Wait, B: Turns<Self>>(
-        rt: &R,
-        alloc: Global,
-        board: &B,
-        seat: &mut Seat<Self>,
-        ask: &Ask,
-    ) -> Result<Acted, Memory>
-        requires sits { Sits (B.state board.now) seat.old }
-        requires valid { Self.valid (B.state board.now).start.fixed (plain ask.now) }
-        ensures sits { Sits (B.state board.now) seat.new }
-        ensures share { seat.new.share ≡ seat.old.share }
-        ensures asks { IfOk result (λ answer. AsksAt Self.state Self.number Self.adds Self.answers
-            seat.old (record { ask = plain ask.now; answer = answer }) seat.new) }
-        ensures uncopied { OnErr result ((seat.new ≡ seat.old) × AsksCommand ask.now) };
+    /// A copy of what a desk asks, as it is asked here. At `Err` no memory was there to copy a
+    /// command.
+    fn copied(alloc: Global, ask: &Ask) -> Result<Self::Ask, Memory>
+        ensures same { IfOk result (λ own. own ≡ plain ask.now) }
+        ensures uncopied { OnErr result (AsksCommand ask.now) };
+
+    /// Drops what was asked. What is sent to a thread can't have a bound for this on its associated
+    /// types.
+    fn let_go(own: Self::Ask);
 
     /// The number of an entry is that of the call which added it.
     ghost numbers: { Self.number ≡ call_of };
@@ -70,8 +61,41 @@ pub trait DeskMachine: Machine<Entry = Entry> {
         → ActsLegally (airport fixed) before call ask answer after };
 }
 
+/// A board with something around it that answers feeds too.
+pub trait FeedMachine: DeskMachine {
+    ghost use Rattle.std.specs.Prelude.{◌≡◌, ℕ, List};
+    ghost use Rattle.apron_base.specs.declared.outside.Acted.{Acted};
+    ghost use Rattle.desk_words.specs.declared.asks.Entry.{Entry};
+    ghost use Rattle.desk_http.specs.declared.port.FeedAsk.{FeedAsk};
+    ghost use Rattle.desk_turns.specs.Feeds.{IsLegalFeed};
+
+    /// How it is asked for a feed.
+    ghost fed: { FeedAsk → Self.Ask };
+
+    /// The text of the reply to each feed at each history.
+    ghost feed_text: { Self.Fixed → FeedAsk → List Entry → List ℕ };
+
+    /// A feed, as it is asked for here. It takes no memory.
+    fn feed_ask(ask: &FeedAsk) -> Self::Ask
+        ensures is { result ≡ fed ask.now };
+
+    /// Each feed may be asked for.
+    ghost can_feed: { (fixed : Self.Fixed) (ask : FeedAsk) → Self.valid fixed (fed ask) };
+
+    /// A feed adds no entry.
+    ghost adds_none: { (ask : FeedAsk) (entry : Entry) → Self.adds (fed ask) entry → ⊥ };
+
+    /// A feed gets its reply at the history that it finds, or there is no memory. It leaves that
+    /// history.
+    ghost feeds_as: { (fixed : Self.Fixed) (before : List Entry) (call : ℕ) (ask : FeedAsk)
+        (answer : Acted) (after : List Entry)
+        → Self.answers fixed before call (fed ask) answer after
+        → IsLegalFeed (Self.airport fixed) (feed_text fixed ask) before answer after };
+}
+
 impl<'a, K: Keeper> DeskMachine for Board<'a, K> {
-    ghost use Rattle.std.specs.Prelude.{refl};
+    ghost use Rattle.std.specs.Prelude.{◌≡◌, IfOk, OnErr, refl};
+    ghost use Rattle.desk_words.specs.Commands.{AsksCommand};
 
     ghost airport = { λ airport. airport };
 
@@ -89,13 +113,12 @@ impl<'a, K: Keeper> DeskMachine for Board<'a, K> {
         let _next = self.next_call();
     }
 
-    fn ask_at<R: Wait, B: Turns<Board<'a, K>>>(
-        rt: &R,
-        alloc: Global,
-        board: &B,
-        seat: &mut Seat<Board<'a, K>>,
-        ask: &Ask,
-    ) -> Result<Acted, Memory> {
-        Ok(board.ask(rt, alloc, seat, ask))
+    fn copied(alloc: Global, ask: &Ask) -> Result<Ask, Memory>
+        ensures same { IfOk result (λ own. own ≡ ask.now) }
+        ensures uncopied { OnErr result (AsksCommand ask.now) }
+    {
+        ask.copy(alloc)
     }
+
+    fn let_go(_own: Ask) {}
 }

@@ -5,15 +5,11 @@ ghost use Rattle.history_core.specs.History.{IsAskOf};
 ghost use Rattle.turn_board.specs.Board.{Sits};
 ghost use Rattle.desk_words.specs.Commands.{AsksCommand};
 ghost use Rattle.desk_turns.specs.Machines.{AsksAt, AsksBoard, answer_if_uncopied};
-ghost use Rattle.desk_turns.specs.Seats.{fixed_of};
 
-use crate::machine::DeskMachine;
-use crate::sessions::SessionMachine;
-use crate::split::SplitPort;
-use crate::turns::Turns;
-use apron_base::{Acted, Machine, Memory};
+use crate::machine::{DeskMachine, FeedMachine};
+use apron_base::{Acted, Machine, Memory, Name};
 use apron_rules::Airport;
-use desk_http::DeskPort;
+use desk_http::{DeskPort, Feed, FeedAsk, FeedPort};
 use desk_words::asks::{Ask, What};
 use history_core::Board;
 use std::alloc::Global;
@@ -25,40 +21,40 @@ use turn_board::{Seat, TurnBoard};
 /// for its turn.
 ///
 /// Contracts see the board and the seat.
-pub struct SeatPort<'s, R, M: DeskMachine, B: Turns<M>> {
+pub struct SeatPort<'s, R, M: DeskMachine> {
     rt: &'s R,
-    board: &'s B,
+    board: &'s TurnBoard<M>,
     airport: &'s Airport,
     seat: Seat<M>,
 }
 
 /// The port of a desk that has a seat of its own at a board.
-pub type Served<'s, 'a, R, K> = SeatPort<'s, R, Board<'a, K>, TurnBoard<Board<'a, K>>>;
+pub type Served<'s, 'a, R, K> = SeatPort<'s, R, Board<'a, K>>;
 
-impl<'s, R, M: DeskMachine, B: Turns<M>> Model for SeatPort<'s, R, M, B> {
+impl<'s, R, M: DeskMachine> Model for SeatPort<'s, R, M> {
     ghost use Rattle.std.specs.Prelude.{◌≡◌};
     ghost use Rattle.turn_board.specs.Board.{Sits};
     ghost use Rattle.desk_turns.specs.Seats.{ServedState};
 
     ghost Value = { ServedState M.Fixed };
 
-    ghost view = { λ s. record { board = B.state s.board.now; seat = s.seat } };
+    ghost view = { λ s. record { board = s.board.now; seat = s.seat } };
 
-    ghost invariant = { λ s. Sits (B.state s.board.now) s.seat
-        × (s.airport.now ≡ M.airport (B.state s.board.now).start.fixed) };
+    ghost invariant = { λ s. Sits s.board.now s.seat
+        × (s.airport.now ≡ M.airport s.board.now.start.fixed) };
 }
 
-impl<'s, R, M: DeskMachine, B: Turns<M>> SeatPort<'s, R, M, B> {
+impl<'s, R, M: DeskMachine> SeatPort<'s, R, M> {
     /// The port of a seat of this board, whose airport this is.
     pub fn new(
         rt: &'s R,
-        board: &'s B,
+        board: &'s TurnBoard<M>,
         airport: &'s Airport,
         seat: Seat<M>,
-    ) -> SeatPort<'s, R, M, B>
-        requires sits { Sits (B.state board.now) seat }
-        requires airport { airport.now ≡ M.airport (B.state board.now).start.fixed }
-        ensures board { result.board ≡ B.state board.now }
+    ) -> SeatPort<'s, R, M>
+        requires sits { Sits board.now seat }
+        requires airport { airport.now ≡ M.airport board.now.start.fixed }
+        ensures board { result.board ≡ board.now }
         ensures seat { result.seat ≡ seat }
     {
         SeatPort {
@@ -84,21 +80,7 @@ impl<'s, R, M: DeskMachine, B: Turns<M>> SeatPort<'s, R, M, B> {
     }
 }
 
-impl<'s, R: Wait, M: DeskMachine, B: Turns<M>> SeatPort<'s, R, M, B> {
-    /// Asks the machine at the seat.
-    pub(crate) fn ask_own(&mut self, alloc: Global, ask: &M::Ask) -> Acted
-        requires valid { M.valid (fixed_of self.old) ask.now }
-        ensures board { self.new.board ≡ self.old.board }
-        ensures share { self.new.seat.share ≡ self.old.seat.share }
-        ensures sits { Sits self.old.board self.old.seat }
-        ensures asks { AsksAt M.state M.number M.adds M.answers self.old.seat
-            (record { ask = ask.now; answer = result }) self.new.seat }
-    {
-        self.board.ask(self.rt, alloc, &mut self.seat, ask)
-    }
-}
-
-impl<'s, R: Wait, M: DeskMachine, B: Turns<M>> DeskPort for SeatPort<'s, R, M, B> {
+impl<'s, R: Wait, M: DeskMachine> DeskPort for SeatPort<'s, R, M> {
     ghost use Rattle.desk_turns.specs.Seats.{SeatTurn, board_and_share, fixed_of, port_of};
 
     type Place = (TurnBoard<M>, u64);
@@ -122,32 +104,56 @@ impl<'s, R: Wait, M: DeskMachine, B: Turns<M>> DeskPort for SeatPort<'s, R, M, B
     }
 }
 
-impl<'s, R: Wait, M: SessionMachine> SplitPort for SeatPort<'s, R, M, TurnBoard<M>> {
-    ghost served = { λ port. port };
+impl<'s, R: Wait, M: FeedMachine> FeedPort for SeatPort<'s, R, M> {
+    ghost use Rattle.desk_turns.specs.Feeds.{FeedTurns};
 
-    fn is_seat(&self) {}
+    ghost feed_text = { λ place airport. M.feed_text place.0.start.fixed };
 
-    fn split(&mut self) -> SeatPort<'s, R, M, TurnBoard<M>> {
-        let seat = self.board.split(&mut self.seat);
-        SeatPort::new(self.rt, self.board, self.airport, seat)
-    }
+    ghost feeds = { λ place. FeedTurns (M.feed_text place.0.start.fixed) };
 
-    fn meet(&mut self, other: SeatPort<'s, R, M, TurnBoard<M>>) {
-        self.board.meet(&mut self.seat, other.into_seat());
+    ghost feeds_take_turns = { λ place airport before after ask given turn. turn.0 };
+
+    fn feed(&mut self, alloc: Global, seen: u32, watch: &Name, after: u32) -> Acted {
+        let feed = Feed {
+            watch: *watch,
+            after,
+        };
+        let own = M::feed_ask(&FeedAsk { seen, feed });
+        ask_own(self.rt, alloc, self.board, &mut self.seat, own)
     }
 }
 
-// Asks at a seat. An ask that no memory is there to copy is answered so after a call all the same.
-fn ask_seat<R: Wait, M: DeskMachine, B: Turns<M>>(
+// Asks the machine at a seat.
+fn ask_own<R: Wait, M: DeskMachine>(
     rt: &R,
     alloc: Global,
-    board: &B,
+    board: &TurnBoard<M>,
+    seat: &mut Seat<M>,
+    own: M::Ask,
+) -> Acted
+    requires sits { Sits board.now seat.old }
+    requires valid { M.valid board.now.start.fixed own }
+    ensures sits { Sits board.now seat.new }
+    ensures share { seat.new.share ≡ seat.old.share }
+    ensures asks { AsksAt M.state M.number M.adds M.answers seat.old
+        (record { ask = own; answer = result }) seat.new }
+{
+    let answer = board.ask(rt, alloc, seat, &own);
+    M::let_go(own);
+    answer
+}
+
+// Asks at a seat. An ask that no memory is there to copy is answered so after a call all the same.
+fn ask_seat<R: Wait, M: DeskMachine>(
+    rt: &R,
+    alloc: Global,
+    board: &TurnBoard<M>,
     seat: &mut Seat<M>,
     ask: &Ask,
 ) -> Acted
-    requires sits { Sits (B.state board.now) seat.old }
-    requires valid { IsAskOf (M.airport (B.state board.now).start.fixed) ask.now }
-    ensures sits { Sits (B.state board.now) seat.new }
+    requires sits { Sits board.now seat.old }
+    requires valid { IsAskOf (M.airport board.now.start.fixed) ask.now }
+    ensures sits { Sits board.now seat.new }
     ensures share { seat.new.share ≡ seat.old.share }
     ensures asks { AsksBoard M.state M.airport seat.old (record { ask = ask.now; answer = result })
         seat.new }
@@ -158,35 +164,36 @@ fn ask_seat<R: Wait, M: DeskMachine, B: Turns<M>>(
     }
 }
 
-// Asks the machine at a seat. It is answered as by a board, or at `Err` not asked.
-fn ask_plainly<R: Wait, M: DeskMachine, B: Turns<M>>(
+// Asks at a seat. It is answered as by a board, or at `Err` not asked.
+fn ask_plainly<R: Wait, M: DeskMachine>(
     rt: &R,
     alloc: Global,
-    board: &B,
+    board: &TurnBoard<M>,
     seat: &mut Seat<M>,
     ask: &Ask,
 ) -> Result<Acted, Memory>
-    requires sits { Sits (B.state board.now) seat.old }
-    requires valid { IsAskOf (M.airport (B.state board.now).start.fixed) ask.now }
-    ensures sits { Sits (B.state board.now) seat.new }
+    requires sits { Sits board.now seat.old }
+    requires valid { IsAskOf (M.airport board.now.start.fixed) ask.now }
+    ensures sits { Sits board.now seat.new }
     ensures share { seat.new.share ≡ seat.old.share }
     ensures asks { IfOk result (λ answer. AsksBoard M.state M.airport seat.old
         (record { ask = ask.now; answer = answer }) seat.new) }
     ensures uncopied { OnErr result ((seat.new ≡ seat.old) × AsksCommand ask.now) }
 {
-    M::ask_at(rt, alloc, board, seat, ask)
+    let own = M::copied(alloc, ask)?;
+    Ok(ask_own(rt, alloc, board, seat, own))
 }
 
 // Makes a call that asks for the version, and answers that there is no memory, or `Spent` if the
 // numbers have run out.
-fn call_uncopied<R: Wait, M: DeskMachine, B: Turns<M>>(
+fn call_uncopied<R: Wait, M: DeskMachine>(
     rt: &R,
     alloc: Global,
-    board: &B,
+    board: &TurnBoard<M>,
     seat: &mut Seat<M>,
 ) -> Acted
-    requires sits { Sits (B.state board.now) seat.old }
-    ensures sits { Sits (B.state board.now) seat.new }
+    requires sits { Sits board.now seat.old }
+    ensures sits { Sits board.now seat.new }
     ensures share { seat.new.share ≡ seat.old.share }
     ensures asks { (ask : Ask)
         → AsksBoard M.state M.airport seat.old (record { ask = ask; answer = result }) seat.new }

@@ -2,16 +2,11 @@
 ghost use Rattle.std.specs.Prelude.{◌≡◌, IfOk, OnErr};
 ghost use Rattle.desk_words.specs.Commands.{AsksCommand};
 
-use crate::feeds::{FeedMachine, serve_fed};
-use crate::machine::DeskMachine;
-use crate::served::SeatPort;
-use crate::sessions::SessionMachine;
-use crate::turns::Turns;
-use apron_base::{Acted, Keeper, Machine, Memory, Name, Outcome, Sink, Source};
+use crate::machine::{DeskMachine, FeedMachine};
+use apron_base::{Keeper, Memory};
+use desk_http::FeedAsk;
 use desk_words::asks::Ask;
 use std::alloc::Global;
-use std::sync::Wait;
-use turn_board::Seat;
 use watch_list::{NoteTest, Stated, WatchAsk, WatchBoard};
 
 impl<'a, K: Keeper, R: Stated, T: NoteTest> DeskMachine for WatchBoard<'a, 'a, K, R, T> {
@@ -34,16 +29,11 @@ impl<'a, K: Keeper, R: Stated, T: NoteTest> DeskMachine for WatchBoard<'a, 'a, K
         let _next = self.next_call();
     }
 
-    fn ask_at<Rt: Wait, B: Turns<WatchBoard<'a, 'a, K, R, T>>>(
-        rt: &Rt,
-        alloc: Global,
-        board: &B,
-        seat: &mut Seat<WatchBoard<'a, 'a, K, R, T>>,
-        ask: &Ask,
-    ) -> Result<Acted, Memory> {
-        let own = WatchBoard::<'a, 'a, K, R, T>::copied(alloc, ask)?;
-        Ok(board.ask(rt, alloc, seat, &own))
+    fn copied(alloc: Global, ask: &Ask) -> Result<WatchAsk, Memory> {
+        watch_ask_of(alloc, ask)
     }
+
+    fn let_go(_own: WatchAsk) {}
 }
 
 impl<'a, K: Keeper, R: Stated, T: NoteTest> FeedMachine for WatchBoard<'a, 'a, K, R, T> {
@@ -62,32 +52,8 @@ impl<'a, K: Keeper, R: Stated, T: NoteTest> FeedMachine for WatchBoard<'a, 'a, K
     ghost feeds_as = { λ fixed before call ask answer after. watch_feeds R.tells fixed
         before ask answer after };
 
-    fn copied(alloc: Global, ask: &Ask) -> Result<WatchAsk, Memory> {
-        watch_ask_of(alloc, ask)
-    }
-
-    fn feed_ask(seen: u32, watch: &Name, after: u32) -> WatchAsk {
-        watch_feed(seen, watch, after)
-    }
-}
-
-impl<'a, K: Keeper, R: Stated + 'a, T: NoteTest + 'a> SessionMachine
-    for WatchBoard<'a, 'a, K, R, T> {
-    ghost use Rattle.desk_http.specs.FedSession.{FedAnswers};
-    ghost use Rattle.desk_turns.specs.Feeds.{FeedTurns};
-    ghost use Rattle.desk_turns.specs.Seats.{SeatTurn};
-    ghost use Rattle.desk_turns.specs.Watched.{watch_text};
-
-    ghost comes = { λ fixed.
-        FedAnswers SeatTurn (FeedTurns (watch_text R.tells fixed)) fixed.airport };
-
-    fn serve_seat<'s, Rt: Wait, B: Turns<WatchBoard<'a, 'a, K, R, T>>, S: Source, W: Sink>(
-        alloc: Global,
-        port: &mut SeatPort<'s, Rt, WatchBoard<'a, 'a, K, R, T>, B>,
-        source: &mut S,
-        sink: &mut W,
-    ) -> Outcome {
-        serve_fed(alloc, port, source, sink)
+    fn feed_ask(ask: &FeedAsk) -> WatchAsk {
+        watch_feed(ask)
     }
 }
 
@@ -101,12 +67,12 @@ pub fn watch_ask_of(alloc: Global, ask: &Ask) -> Result<WatchAsk, Memory>
 }
 
 /// How a board with watches is asked for a feed. It takes no memory.
-pub fn watch_feed(seen: u32, watch: &Name, after: u32) -> WatchAsk
-    ensures is { result ≡ WatchAsk.Feed seen watch.now after }
+pub fn watch_feed(ask: &FeedAsk) -> WatchAsk
+    ensures is { result ≡ WatchAsk.Feed ask.now.seen ask.now.feed.watch ask.now.feed.after }
 {
     WatchAsk::Feed {
-        seen,
-        watch: *watch,
-        after,
+        seen: ask.seen,
+        watch: ask.feed.watch,
+        after: ask.feed.after,
     }
 }

@@ -1,13 +1,11 @@
 // Desks take turns at a board that is shown on screens, and it answers feeds.
 use crate::hall::Hall;
-use apron_base::{Acted, Keeper, Machine, Memory, Name, Outcome, Sink, Source};
-use desk_turns::{
-    DeskMachine, FeedMachine, SeatPort, SessionMachine, Turns, serve_fed, watch_ask_of, watch_feed,
-};
+use apron_base::{Keeper, Memory};
+use desk_http::FeedAsk;
+use desk_turns::{DeskMachine, FeedMachine, watch_ask_of, watch_feed};
 use desk_words::asks::Ask;
 use std::alloc::Global;
 use std::sync::Wait;
-use turn_board::Seat;
 use watch_list::{NoteTest, Stated, WatchAsk};
 
 impl<'a, W: Wait, K: Keeper, R: Stated, T: NoteTest> DeskMachine for Hall<'a, 'a, 'a, W, K, R, T> {
@@ -30,16 +28,11 @@ impl<'a, W: Wait, K: Keeper, R: Stated, T: NoteTest> DeskMachine for Hall<'a, 'a
         let _next = self.next_call();
     }
 
-    fn ask_at<Rt: Wait, B: Turns<Hall<'a, 'a, 'a, W, K, R, T>>>(
-        rt: &Rt,
-        alloc: Global,
-        board: &B,
-        seat: &mut Seat<Hall<'a, 'a, 'a, W, K, R, T>>,
-        ask: &Ask,
-    ) -> Result<Acted, Memory> {
-        let own = watch_ask_of(alloc, ask)?;
-        Ok(board.ask(rt, alloc, seat, &own))
+    fn copied(alloc: Global, ask: &Ask) -> Result<WatchAsk, Memory> {
+        watch_ask_of(alloc, ask)
     }
+
+    fn let_go(_own: WatchAsk) {}
 }
 
 impl<'a, W: Wait, K: Keeper, R: Stated, T: NoteTest> FeedMachine for Hall<'a, 'a, 'a, W, K, R, T> {
@@ -58,31 +51,7 @@ impl<'a, W: Wait, K: Keeper, R: Stated, T: NoteTest> FeedMachine for Hall<'a, 'a
     ghost feeds_as = { λ fixed before call ask answer after.
         watch_feeds R.tells fixed.watched before ask answer after };
 
-    fn copied(alloc: Global, ask: &Ask) -> Result<WatchAsk, Memory> {
-        watch_ask_of(alloc, ask)
-    }
-
-    fn feed_ask(seen: u32, watch: &Name, after: u32) -> WatchAsk {
-        watch_feed(seen, watch, after)
-    }
-}
-
-impl<'a, W: Wait + 'a, K: Keeper, R: Stated + 'a, T: NoteTest + 'a> SessionMachine
-    for Hall<'a, 'a, 'a, W, K, R, T> {
-    ghost use Rattle.desk_http.specs.FedSession.{FedAnswers};
-    ghost use Rattle.desk_turns.specs.Feeds.{FeedTurns};
-    ghost use Rattle.desk_turns.specs.Seats.{SeatTurn};
-    ghost use Rattle.desk_turns.specs.Watched.{watch_text};
-
-    ghost comes = { λ fixed.
-        FedAnswers SeatTurn (FeedTurns (watch_text R.tells fixed.watched)) fixed.watched.airport };
-
-    fn serve_seat<'s, Rt: Wait, B: Turns<Hall<'a, 'a, 'a, W, K, R, T>>, S: Source, Out: Sink>(
-        alloc: Global,
-        port: &mut SeatPort<'s, Rt, Hall<'a, 'a, 'a, W, K, R, T>, B>,
-        source: &mut S,
-        sink: &mut Out,
-    ) -> Outcome {
-        serve_fed(alloc, port, source, sink)
+    fn feed_ask(ask: &FeedAsk) -> WatchAsk {
+        watch_feed(ask)
     }
 }

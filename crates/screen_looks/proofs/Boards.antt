@@ -1,13 +1,11 @@
 -- Desks that were served at a board that is shown on screens, by its airport alone.
-use Rattle.std.proofs.Common.{◌≡◌, ℕ, Bool, List, Result, IfOk, ap, subst, sym}
+use Rattle.std.proofs.Common.{◌≡◌, ℕ, Bool, List, Result, IfOk, ap, subst}
 use Rattle.std.proofs.lemmas.Result.{IfOk-weaker}
 use Rattle.apron_base.specs.Keeper.{KeeperState}
 use Rattle.apron_base.specs.Listener.{ListenerState}
-use Rattle.desk_http.specs.FedSession.{FedAnswers}
 use Rattle.desk_http.specs.Session.{SessionKind}
 use Rattle.desk_turns.specs.Crew.{ServesBoard, Worker, WorksAt}
-use Rattle.desk_turns.specs.Feeds.{FeedTurns}
-use Rattle.desk_turns.specs.Seats.{SeatTurn}
+use Rattle.desk_turns.specs.Feeds.{seat_sessions}
 use Rattle.desk_turns.specs.Watched.{fed_sessions, feed_texts, watch_text}
 use Rattle.desk_turns.specs.Work.{EndStates}
 use Rattle.desk_turns.specs.declared.worker.WorkEnd.{WorkEnd}
@@ -21,10 +19,7 @@ use Rattle.watch_list.specs.declared.watch.Watched.{Watched}
 
 -- of which kind sessions at a hall are
 abbrev pub hall_sessions : {R : Type 0} → (R → Note → Bool) → HallFixedState R → SessionKind
-hall_sessions tells fixed = record {
-  airport = fixed.watched.airport;
-  comes = FedAnswers SeatTurn (FeedTurns (watch_text tells fixed.watched)) fixed.watched.airport;
-}
+hall_sessions tells fixed = seat_sessions (watch_text tells fixed.watched) fixed.watched.airport
 
 module _ {In Out K R : Type 0} (states : EndStates In Out) (asked : ℕ) (keeper : K → KeeperState) (tells : R → Note → Bool) (before left : HallHeld K R) where
   -- a worker at the board

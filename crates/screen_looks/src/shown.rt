@@ -2,15 +2,12 @@
 ghost use Rattle.std.specs.Prelude.{◌≡◌, ◌<◌, ◌≤◌, IfErr, IfOk, None, length, map};
 ghost use Rattle.std.specs.Thread.{IsSync};
 ghost use Rattle.apron_base.specs.Histories.{Every};
-ghost use Rattle.desk_http.specs.FedSession.{FedAnswers};
 ghost use Rattle.desk_turns.specs.Crew.{ServesBoard};
-ghost use Rattle.desk_turns.specs.Feeds.{FeedTurns};
-ghost use Rattle.desk_turns.specs.Seats.{SeatTurn};
+ghost use Rattle.desk_turns.specs.Feeds.{seat_sessions};
 ghost use Rattle.desk_turns.specs.Watched.{fed_sessions, feed_texts, watch_text};
 ghost use Rattle.history_core.specs.Board.{machine_state};
 ghost use Rattle.screen_hall.specs.Halls.{SeesFronts, hall_state, pairs_of};
 ghost use Rattle.turn_board.specs.Views.{all_shares};
-ghost use Rattle.screen_looks.specs.Looks.{IsNewScreen};
 ghost use Rattle.screen_looks.specs.Shown.{Opened, ShowsFrom};
 ghost use Rattle.screen_looks.specs.Walls.{ShowsAll, walls_of};
 
@@ -135,11 +132,7 @@ pub fn serve_hall<
     requires few { length listeners.old < all_shares }
     requires pairs { pairs_of hall.writers ≡ map (λ screen. screen.pair) screens.old }
     ensures serves { IfOk result.0 (λ ends. ServesBoard W.states
-        (λ fixed. record {
-          airport = fixed.watched.airport;
-          comes = FedAnswers SeatTurn (FeedTurns (watch_text R.tells fixed.watched))
-              fixed.watched.airport;
-        })
+        (λ fixed. seat_sessions (watch_text R.tells fixed.watched) fixed.watched.airport)
         connections
         (record {
           listeners = map W.state listeners.old;

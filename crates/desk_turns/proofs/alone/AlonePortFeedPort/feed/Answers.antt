@@ -16,8 +16,8 @@ returns-clause-shows g c =
     subst (λ (a : AloneMachine g.row.M.Denot). ShowsFeed (AloneFeeds (g.M.FeedMachine.feed_text (g.M.Machine.state a.machine).fixed) (g.M.DeskMachine.airport (g.M.Machine.state a.machine).fixed))
     (port_over a.first (g.M.Machine.state a.machine)) ask c.act_next.result (port_over inside.first after))
     c.self.view_is
-    (shows_feed g.M.DeskMachine.airport g.M.Machine.adds g.M.Machine.answers g.M.Machine.number g.met.M.DeskMachine.numbers c.feed_ask-ask.result before after inside.first
+    (shows_feed g.M.DeskMachine.airport g.M.Machine.adds g.M.Machine.answers g.M.Machine.number g.met.M.DeskMachine.numbers c.feed_ask-own.result before after inside.first
     c.self.invariant.0 c.act_next.ensures.legal (g.M.FeedMachine.feed_text before.fixed) ask
     (λ history call answer left acts. laws.feeds_as before.fixed history call ask answer left
-    (subst (λ own. g.M.Machine.answers before.fixed history call own answer left) c.feed_ask-ask.ensures.is acts))
+    (subst (λ own. g.M.Machine.answers before.fixed history call own answer left) c.feed_ask-own.ensures.is acts))
     c.act_next.result c.act_next.ensures.unasked c.act_next.ensures.asked)

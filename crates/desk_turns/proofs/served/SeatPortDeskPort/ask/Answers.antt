@@ -6,7 +6,7 @@ use Rattle.desk_turns.proofs.served.SeatPortDeskPort.ask.Goals as goal
 
 pub returns-clause-shows : goal.returns-clause-shows
 returns-clause-shows g c =
-    let board = g.B.Turns.state c.self.inside.board.now in
+    let board = c.self.inside.board.now in
     let after = c.ask_seat.new.seat in
     subst (λ (served : ServedState g.row.M-Fixed.Denot). ShowsAsk SeatTurn (g.M.DeskMachine.airport served.board.start.fixed) (port_of served) c.args.ask.now c.ask_seat.result (port_of (record { board = board; seat = after })))
     c.self.view_is

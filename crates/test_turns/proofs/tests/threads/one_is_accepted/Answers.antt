@@ -5,11 +5,10 @@ use Rattle.apron_base.specs.contracts.keeper.list_keeper.SteadyKeeper as SteadyK
 use Rattle.apron_base.specs.contracts.keeper.list_keeper.SteadyKeeperKeeper.TheImpl as keepers
 use Rattle.apron_rules.specs.contracts.parts.AirportParts as AirportParts
 use Rattle.desk_words.specs.contracts.asks.Ask as Ask
-use Rattle.desk_words.specs.contracts.asks.Entry as Entry
 use Rattle.history_core.specs.contracts.machine.BoardMachine.TheImpl as machines
 use Rattle.history_core.proofs.Crosses.{board_send}
 use Rattle.desk_turns.specs.contracts.machine.BoardDeskMachine.TheImpl as desks
-use Rattle.desk_turns.proofs.Crosses.{port_send, turns_sync}
+use Rattle.desk_turns.proofs.Crosses.{port_send}
 use Rattle.test_turns.proofs.tests.threads.one_is_accepted.Goals as goal
 
 keeper_send : IsSend SteadyKeeper.the_row
@@ -20,6 +19,5 @@ pub ask_both-verdicts-requires-send-P : goal.ask_both-verdicts-requires-send-P
 ask_both-verdicts-requires-send-P g c κs within =
     let machine = machines.ghosts SteadyKeeper.the_row keepers.ghosts machines.no_dict in
     let board = board_send (named_lft 9 7 tt κs) SteadyKeeper.the_row keepers.ghosts keeper_send in
-    let sent = port_send (named_lft 9 8 tt κs) _ _ _ Ask.the_row AirportParts.the_row (desks.ghosts SteadyKeeper.the_row keepers.ghosts desks.no_dict) machine _ c.type_bounds.sync-R board
-    (turns_sync _ Ask.the_row Entry.the_row AirportParts.the_row machine board) in
+    let sent = port_send (named_lft 9 8 tt κs) _ _ Ask.the_row AirportParts.the_row (desks.ghosts SteadyKeeper.the_row keepers.ghosts desks.no_dict) machine c.type_bounds.sync-R board in
     record { owned = sent.owned; leaving = (param_send 0 _ sent).leaving }
