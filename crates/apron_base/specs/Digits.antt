@@ -4,6 +4,10 @@ use Rattle.std.specs.Char.{is_ascii_digit}
 use Rattle.std.specs.List.{list_all}
 use Rattle.std.specs.Str.Parse.{digits_value}
 
+-- the most digits that a number is read from
+abbrev pub most_digits : ℕ
+most_digits = 10
+
 -- one digit or more, and at most this many
 abbrev pub are_digits : List ℕ → ℕ → Bool
 are_digits text most =

@@ -4,9 +4,8 @@ use Rattle.std.specs.Char.{is_ascii_digit}
 use Rattle.std.specs.List.{list_all}
 use Rattle.std.specs.Option.{option_and_then}
 use Rattle.std.specs.Str.{bytes_eq}
-use Rattle.apron_base.specs.Digits.{number_of}
+use Rattle.apron_base.specs.Digits.{most_digits, number_of}
 use Rattle.apron_base.specs.Name.{is_name}
-use Rattle.apron_base.specs.declared.digits.TheConstants.{MAX_DIGITS}
 use Rattle.generated_day.specs.Days.{most_made}
 use Rattle.apron_run.specs.Statuses.{exit_code}
 use Rattle.apron_run.specs.declared.status.Status.TheVariants.{Usage, FileFault, ShelfFault, DiskFault, JournalFault, Memory}
@@ -62,7 +61,7 @@ if_within first last number =
 
 -- the number from the first to the last that the digits write, if they write one
 abbrev pub number_within : List ℕ → ℕ → ℕ → Option ℕ
-number_within text first last = option_and_then (if_within first last) (number_of text MAX_DIGITS)
+number_within text first last = option_and_then (if_within first last) (number_of text most_digits)
 
 -- what a word asks for that has the names of an airport file and a type file and then one word
 -- more: the name of a season file, or a day

@@ -1,8 +1,7 @@
 -- What the words `serve A T N` and `serve A T N screen DAY` order.
 use Rattle.std.specs.Prelude.{ℕ, Bool, nat_le, ◌==◌, ◌&&◌, Option, Some, None, List, [], ◌∷◌, codes, if◌then◌else◌}
 use Rattle.std.specs.Str.{bytes_eq}
-use Rattle.apron_base.specs.Digits.{number_of}
-use Rattle.apron_base.specs.declared.digits.TheConstants.{MAX_DIGITS}
+use Rattle.apron_base.specs.Digits.{most_digits, number_of}
 use Rattle.apron_rules.specs.declared.parts.AirportParts.{AirportParts}
 use Rattle.apron_run.specs.Words.{is_plain_number, number_within}
 
@@ -38,7 +37,7 @@ order_if_counted airport types day (Some connections) =
 abbrev pub ordered_by : List ℕ → List ℕ → List ℕ → List ℕ → Option (List ℕ) → Option Order
 ordered_by word airport types number day =
     if bytes_eq word (codes "serve") && is_plain_number number
-    then order_if_counted airport types day (number_of number MAX_DIGITS)
+    then order_if_counted airport types day (number_of number most_digits)
     else None
 
 -- what the words order: `serve` with the names of two files and a number, and perhaps `screen` and

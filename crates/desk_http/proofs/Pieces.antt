@@ -12,8 +12,7 @@ use Rattle.std.proofs.lemmas.Iterator.Adapters.{position_from-zero}
 use Rattle.std.proofs.lemmas.Str.{IsAscii-append, IsUtf8-from_ascii}
 use Rattle.std.proofs.lemmas.Str.Ascii.{IsAscii-nil, IsAscii-cons}
 use Rattle.matchit.specs.Seek.{has_slash}
-use Rattle.apron_base.specs.Digits.{are_digits, number_of}
-use Rattle.apron_base.specs.declared.digits.TheConstants.{MAX_DIGITS}
+use Rattle.apron_base.specs.Digits.{are_digits, most_digits, number_of}
 use Rattle.desk_http.specs.Numbers.{within_32_bits}
 use Rattle.desk_http.specs.Table.{number_after_word, route_at}
 use Rattle.desk_http.specs.Targets.{endpoint_of, number_route, numbered_endpoints, onto_first, pieces, plain_endpoints, plain_number, route_of, route_of_pieces, slash, word_route, zero_digit}
@@ -218,18 +217,18 @@ digits-ascii (byte ∷ text) e =
     let small : byte < 128 = grind (arith, nat_tests) in
     IsAscii-cons byte text small (digits-ascii text parts.1)
 
-number-digits : (text : List ℕ) (n : ℕ) → number_of text MAX_DIGITS ≡ Some n → list_all is_ascii_digit text ≡ true
+number-digits : (text : List ℕ) (n : ℕ) → number_of text most_digits ≡ Some n → list_all is_ascii_digit text ≡ true
 unfolding number_of
 number-digits text n e =
-    by (λ v. are_digits text MAX_DIGITS ≡ v → cond v (Some (digits_value 10 text)) None ≡ Some n → list_all is_ascii_digit text ≡ true) (are_digits text MAX_DIGITS)
+    by (λ v. are_digits text most_digits ≡ v → cond v (Some (digits_value 10 text)) None ≡ Some n → list_all is_ascii_digit text ≡ true) (are_digits text most_digits)
     (λ _ are e. (and-parts _ (list_all is_ascii_digit text) are).1) (λ _ are e. absurd (cc)) refl e
 
 pub plain_number-digits : (text : List ℕ) (n : ℕ) → plain_number text ≡ Some n → list_all is_ascii_digit text ≡ true
 plain_number-digits [] n e = absurd (cc)
 plain_number-digits (digit ∷ digits) n e =
-    by (λ v. cond v None (option_and_then within_32_bits (number_of (digit ∷ digits) MAX_DIGITS)) ≡ Some n → list_all is_ascii_digit (digit ∷ digits) ≡ true) (digit == zero_digit)
+    by (λ v. cond v None (option_and_then within_32_bits (number_of (digit ∷ digits) most_digits)) ≡ Some n → list_all is_ascii_digit (digit ∷ digits) ≡ true) (digit == zero_digit)
     (λ _ e. absurd (cc))
-    (λ _ e. elim (number_of (digit ∷ digits) MAX_DIGITS) as (λ o. number_of (digit ∷ digits) MAX_DIGITS ≡ o → option_and_then within_32_bits o ≡ Some n → list_all is_ascii_digit (digit ∷ digits) ≡ true) [
+    (λ _ e. elim (number_of (digit ∷ digits) most_digits) as (λ o. number_of (digit ∷ digits) most_digits ≡ o → option_and_then within_32_bits o ≡ Some n → list_all is_ascii_digit (digit ∷ digits) ≡ true) [
       | None ↦ λ _ e. absurd (cc)
       | Some m ↦ λ is e. number-digits (digit ∷ digits) m is
     ] refl e) e

@@ -2,8 +2,7 @@
 use Rattle.std.specs.Prelude.{ℕ, ◌==◌, List, [], ◌∷◌, codes, Option, None, Some, option_map, if◌then◌else◌}
 use Rattle.std.specs.Option.{option_and_then}
 use Rattle.std.specs.Str.{bytes_eq}
-use Rattle.apron_base.specs.Digits.{number_of}
-use Rattle.apron_base.specs.declared.digits.TheConstants.{MAX_DIGITS}
+use Rattle.apron_base.specs.Digits.{most_digits, number_of}
 use Rattle.desk_http.specs.Numbers.{within_32_bits}
 use Rattle.desk_http.specs.declared.targets.NumberedEndpoint.{NumberedEndpoint}
 use Rattle.desk_http.specs.declared.targets.NumberedEndpoint.TheVariants.{Visit, Entry, Plan, Chart, Day}
@@ -65,7 +64,7 @@ abbrev pub plain_number : List ℕ → Option ℕ
 plain_number [] = None
 plain_number (digit ∷ digits) =
     if digit == zero_digit then None
-    else option_and_then within_32_bits (number_of (digit ∷ digits) MAX_DIGITS)
+    else option_and_then within_32_bits (number_of (digit ∷ digits) most_digits)
 
 -- the route that a word alone names
 abbrev pub word_route : List ℕ → Option Route

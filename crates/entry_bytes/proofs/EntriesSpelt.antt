@@ -7,7 +7,6 @@ use Rattle.std.proofs.lemmas.Bool.{eqb-true, ltb-true, lt-ltb}
 use Rattle.std.proofs.lemmas.List.{append-nil, nil_from_length}
 use Rattle.std.proofs.lemmas.List.Elements.{All-from_recursion, All-head, All-tail}
 use Rattle.apron_base.specs.Name.{IsName}
-use Rattle.apron_base.specs.declared.machine.TheConstants.{CALL_END}
 use Rattle.apron_base.specs.declared.numbers.VisitNo.{VisitNo}
 use Rattle.apron_rules.specs.declared.parts.AirportParts.{AirportParts}
 use Rattle.mvt_grammar.specs.Readable.{IsReadable}
@@ -271,9 +270,9 @@ spelt airport (Cancel visit) f h = f
 
 -- ---- entries of any kinds
 
-call-spells : Spells parse_call (to_le_bytes w64) (λ call. call < CALL_END) 8
-call-spells = Spells-such (λ call. nat_lt call CALL_END) (number w64) (to_le_bytes w64) (λ n. n < 2 ^ 64) (λ call. call < CALL_END) 8 8 (number-spells w64 (2 ^ 64) wide64) (number-front w64)
-    (λ n h test. ltb-true n CALL_END test) (λ n h. omega arith) (λ n h. lt-ltb n CALL_END h) (λ n h. omega arith)
+call-spells : Spells parse_call (to_le_bytes w64) (λ call. call < 2 ^ 62) 8
+call-spells = Spells-such (λ call. nat_lt call (2 ^ 62)) (number w64) (to_le_bytes w64) (λ n. n < 2 ^ 64) (λ call. call < 2 ^ 62) 8 8 (number-spells w64 (2 ^ 64) wide64) (number-front w64)
+    (λ n h test. ltb-true n (2 ^ 62) test) (λ n h. omega arith) (λ n h. lt-ltb n (2 ^ 62) h) (λ n h. omega arith)
 
 abbrev entry_of : ℕ → Command → Entry
 entry_of call command = record { call = call; command = command }
@@ -283,7 +282,7 @@ same_entry a b c d e f = cc
 
 -- an entry with a call number, whose command is such a one
 abbrev pub IsCalled : (Command → Type 0) → Entry → Type 0
-IsCalled P entry = (entry.call < CALL_END) × P entry.command
+IsCalled P entry = (entry.call < 2 ^ 62) × P entry.command
 
 abbrev pub text_with : (Command → List ℕ) → Entry → List ℕ
 text_with spelling entry = to_le_bytes w64 entry.call ++ spelling entry.command

@@ -1,7 +1,6 @@
 -- An entry as bytes: its call number, the kind of its command, and the command's fields.
-use Rattle.std.specs.Prelude.{ℕ, ◌==◌, nat_lt, List, ◌∷◌, ◌++◌, length, Option, Some, None, Result, Ok, Err, if◌then◌else◌}
+use Rattle.std.specs.Prelude.{ℕ, ◌==◌, ◌^◌, nat_lt, List, ◌∷◌, ◌++◌, length, Option, Some, None, Result, Ok, Err, if◌then◌else◌}
 use Rattle.std.specs.Int.{w32, w64, to_le_bytes}
-use Rattle.apron_base.specs.declared.machine.TheConstants.{CALL_END}
 use Rattle.apron_rules.specs.declared.parts.AirportParts.{AirportParts}
 use Rattle.desk_words.specs.declared.asks.Command.{Command}
 use Rattle.desk_words.specs.declared.asks.Command.TheVariants.{AddVisit, Commit, Message, Report, Cancel}
@@ -62,7 +61,7 @@ parse_command kinds = by_tag (λ at. BadKind) kinds
 
 -- a call number, which is below 2^62
 abbrev pub parse_call : Reading ℕ
-parse_call = such_that (λ call. nat_lt call CALL_END) (number w64)
+parse_call = such_that (λ call. nat_lt call (2 ^ 62)) (number w64)
 
 -- an entry with a command of one of these kinds
 unfoldable pub parse_entry : Kinds → Reading Entry

@@ -1,7 +1,6 @@
 -- Which entries have bytes, and which of them can be read at an airport.
 use Rattle.std.specs.Prelude.{◌<◌, ◌^◌, All}
 use Rattle.apron_base.specs.Name.{IsName}
-use Rattle.apron_base.specs.declared.machine.TheConstants.{CALL_END}
 use Rattle.apron_rules.specs.declared.parts.AirportParts.{AirportParts}
 use Rattle.visit_book.specs.declared.drafts.Draft.{Draft}
 use Rattle.visit_book.specs.declared.edits.Edit.{Edit}
@@ -51,6 +50,6 @@ FitsWidths (Cancel visit) = visit.0 < 2 ^ 32
 
 -- an entry that has bytes, and can be read at the airport
 pub record IsEntryOf (airport : AirportParts) (entry : Entry) : Type 0 where
-  pub call : entry.call < CALL_END
+  pub call : entry.call < 2 ^ 62
   pub fits : FitsWidths entry.command
   pub command : IsCommandOf airport entry.command

@@ -6,9 +6,9 @@ use Rattle.desk_words.specs.declared.asks.Command.{Command}
 use Rattle.desk_words.specs.declared.asks.Command.TheVariants.{AddVisit, Message}
 use Rattle.desk_words.specs.declared.replies.Reply.{Reply}
 use Rattle.generated_day.specs.Asked.{drawn_visit, estimate, passed_on, put_first, scheduled_on}
+use Rattle.generated_day.specs.DayAirport.{count_stands}
 use Rattle.generated_day.specs.Days.{Day, IsAsked, IsDayOf, IsDelayed, IsPlaced, IsPutTried, IsTried, IsVisitAdded, IsVisitMade, MakesDay, count_bumped, is_accepted, plan_of, summary_of, with_refusal}
 use Rattle.generated_day.specs.Draws.{draw_below, seed_after}
-use Rattle.generated_day.specs.declared.airport.TheConstants.{STANDS}
 use Rattle.generated_day.specs.declared.summary.Summary.{Summary}
 use Rattle.apron_base.specs.declared.listed.Memory.{Memory}
 
@@ -50,10 +50,10 @@ delayed-by number seed bumped day asked message reply same h draw_below more = r
 }
 
 -- tries of a stand
-pub tried-last : (turns more number first t : ℕ) (day put : Day) → turns ≡ more + 1 → IsPutTried number ((first + t) % STANDS) day put → is_accepted day put ≡ true → IsTried turns number first t day put
+pub tried-last : (turns more number first t : ℕ) (day put : Day) → turns ≡ more + 1 → IsPutTried number ((first + t) % count_stands) day put → is_accepted day put ≡ true → IsTried turns number first t day put
 tried-last turns more number first t day put one h accepted = rw (one, add-one) (put, h, rw accepted refl)
 
-pub tried-next : (turns more number first t : ℕ) (day put after : Day) → turns ≡ more + 1 → IsPutTried number ((first + t) % STANDS) day put → is_accepted day put ≡ false
+pub tried-next : (turns more number first t : ℕ) (day put after : Day) → turns ≡ more + 1 → IsPutTried number ((first + t) % count_stands) day put → is_accepted day put ≡ false
     → IsTried more number first (t + 1) (with_refusal put) after → IsTried turns number first t day after
 tried-next turns more number first t day put after one h refused rest = rw (one, add-one) (put, h, rw refused rest)
 
@@ -61,9 +61,9 @@ pub tried-none : (turns number first t : ℕ) (day : Day) → turns ≡ 0 → Is
 tried-none turns number first t day none = rw none refl
 
 -- the stand that was drawn comes first
-pub placed-by : (number first seed : ℕ) (day after : Day) → first ≡ draw_below STANDS seed → seed ≡ seed_after 1 day.seed → IsTried 8 number first 0 (record day { seed = seed }) after → IsPlaced number day after
+pub placed-by : (number first seed : ℕ) (day after : Day) → first ≡ draw_below count_stands seed → seed ≡ seed_after 1 day.seed → IsTried 8 number first 0 (record day { seed = seed }) after → IsPlaced number day after
 placed-by number first seed day after f s h =
-    let At : ℕ → Type 0 = λ x. IsTried 8 number (draw_below STANDS x) 0 (record day { seed = x }) after in
+    let At : ℕ → Type 0 = λ x. IsTried 8 number (draw_below count_stands x) 0 (record day { seed = x }) after in
     let From : ℕ → Type 0 = λ x. IsTried 8 number x 0 (record day { seed = seed }) after in
     subst At s (subst From f h)
 

@@ -7,7 +7,6 @@ use Rattle.apron_rules.specs.declared.parts.Frontage.{Frontage}
 use Rattle.apron_rules.specs.declared.parts.StandRow.{StandRow}
 use Rattle.apron_rules.specs.declared.parts.TypeRow.{TypeRow}
 use Rattle.mvt_grammar.specs.Canonical.{two_text}
-use Rattle.generated_day.specs.declared.airport.TheConstants.{STANDS}
 
 -- the stand of this number, counted from 1: G01, G02 and so on, 41 metres apart
 abbrev pub day_stand : ℕ → StandRow
@@ -20,9 +19,13 @@ day_stand number = record {
   half_of = None;
 }
 
+-- how many stands there are
+abbrev pub count_stands : ℕ
+count_stands = 60
+
 -- the stands
 abbrev pub day_stands : List StandRow
-day_stands = map day_stand (range_with_len 1 STANDS)
+day_stands = map day_stand (range_with_len 1 count_stands)
 
 -- a type of this name, wing span and least minutes, whose wing tips do not fold
 abbrev pub day_type : List ℕ → ℕ → ℕ → TypeRow

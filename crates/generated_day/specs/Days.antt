@@ -17,9 +17,8 @@ use Rattle.history_core.specs.Answer.{GivesAnswer, replied}
 use Rattle.history_core.specs.History.{replay}
 use Rattle.plan_core.specs.PlanState.{PlanState}
 use Rattle.generated_day.specs.Asked.{drawn_visit, estimate, passed_on, put_first, scheduled_on}
-use Rattle.generated_day.specs.DayAirport.{day_airport}
+use Rattle.generated_day.specs.DayAirport.{count_stands, day_airport}
 use Rattle.generated_day.specs.Draws.{draw_below, seed_after}
-use Rattle.generated_day.specs.declared.airport.TheConstants.{STANDS}
 use Rattle.generated_day.specs.declared.summary.Summary.{Summary}
 
 -- a day in the making: its history, the number of the next call, the generator's number, the number
@@ -75,14 +74,14 @@ with_refusal day = record day { refused = day.refused + 1 }
 abbrev pub IsTried : ℕ → ℕ → ℕ → ℕ → Day → Day → Type 0
 IsTried zero number first t day after = after ≡ day
 IsTried (suc turns) number first t day after =
-    (put : Day) × IsPutTried number ((first + t) % STANDS) day put
+    (put : Day) × IsPutTried number ((first + t) % count_stands) day put
     × MatchBool (is_accepted day put) (after ≡ put)
     (IsTried turns number first (t + 1) (with_refusal put) after)
 
 -- a stand was drawn, and it and the seven after it were tried
 abbrev pub IsPlaced : ℕ → Day → Day → Type 0
 IsPlaced number day after =
-    IsTried 8 number (draw_below STANDS (seed_after 1 day.seed)) 0
+    IsTried 8 number (draw_below count_stands (seed_after 1 day.seed)) 0
     (record day { seed = seed_after 1 day.seed }) after
 
 -- how many parts a message's reply names as bumped

@@ -32,6 +32,11 @@ pub data Sought : Type 0 where
   changes : Command → Sought
   told : ReplyBody → Sought
 
+-- a reply is sought that says something of the plan as it is
+abbrev pub IsTold : Sought → Type 0
+IsTold (told what) = Unit {0}
+IsTold (changes command) = ⊥
+
 -- the visit, or that there is none
 abbrev pub visit_told : Option Visit → ReplyBody
 visit_told None = NoVisit

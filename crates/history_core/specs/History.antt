@@ -1,7 +1,6 @@
 -- The plan that a history of commands makes, and which histories are legal.
-use Rattle.std.specs.Prelude.{◌≤◌, ◌+◌, ℕ, zero, suc, List, [], ◌∷◌, Option, None, slice_get}
+use Rattle.std.specs.Prelude.{◌≤◌, ◌+◌, ◌^◌, ℕ, zero, suc, List, [], ◌∷◌, Option, None, slice_get}
 use Rattle.apron_base.specs.Histories.{Rises}
-use Rattle.apron_base.specs.declared.machine.TheConstants.{CALL_END}
 use Rattle.apron_rules.specs.declared.parts.AirportParts.{AirportParts}
 use Rattle.apron_rules.specs.Clash.{IsSound}
 use Rattle.visit_book.specs.Slots.{slots_of}
@@ -59,7 +58,7 @@ AreTaken airport history = AreTakenFrom (empty_plan airport) 0 history
 
 -- each call number is below this one
 abbrev pub call_limit : ℕ
-call_limit = CALL_END
+call_limit = 2 ^ 62
 
 -- a history that desks can have made: each command is accepted after the entries before it, and the
 -- call numbers rise strictly from at least 1

@@ -2,7 +2,6 @@
 use Rattle.std.specs.Prelude.{◌≡◌, ◌≢◌, ◌≤◌, ◌<◌, ◌+◌, ℕ, not, List, length, Option, None, Some, option_map, unwrap_or, Result, Ok, Err, IsOk, ok_or}
 use Rattle.std.specs.Result.{result_map_both, result_ok}
 use Rattle.apron_base.specs.ResultChain.{◌>>=◌, refuse_if}
-use Rattle.apron_base.specs.declared.keeper.TheConstants.{MAX_ENTRIES}
 use Rattle.apron_base.specs.declared.numbers.VisitNo.{VisitNo}
 use Rattle.mvt_grammar.specs.declared.message.Mvt.{Mvt}
 use Rattle.visit_book.specs.declared.drafts.Draft.{Draft}
@@ -37,7 +36,7 @@ use Rattle.desk_words.specs.declared.replies.ReplyBody.TheVariants.{Added, Commi
 
 -- the most entries of a history
 abbrev pub most_entries : ℕ
-most_entries = MAX_ENTRIES
+most_entries = 200000
 
 -- a history of this many entries takes one more
 abbrev pub TakesEntry : ℕ → Type 0

@@ -9,7 +9,7 @@ ghost use Rattle.desk_words.specs.Replies.{IsTellable};
 ghost use Rattle.history_core.specs.Steps.{TakenAs, accepted, stepped_reply};
 ghost use Rattle.history_core.specs.History.{IsAskOf, IsLegal, call_limit, call_of, replay};
 ghost use Rattle.history_core.specs.Bumped.{last_bumped};
-ghost use Rattle.history_core.specs.Answer.{ActsAs, GivesText, acted_of, ask_outcome, changes, is_keeper_fault, told, visit_told};
+ghost use Rattle.history_core.specs.Answer.{ActsAs, GivesText, IsTold, acted_of, ask_outcome, changes, is_keeper_fault, told, visit_told};
 ghost use Rattle.history_core.specs.AtRisk.{LeavesAtRisk};
 ghost use Rattle.history_core.specs.Board.{IsKeeperOf, entry_texts, machine_state};
 ghost use Rattle.history_core.specs.Opening.{CannotOpen, OpensBoard};
@@ -142,8 +142,8 @@ impl<'a, K: Keeper> Board<'a, K> {
 
     /// Answers an ask with this call number. All memory is taken before the keeper gets an entry,
     /// and the plan changes only after the keeper has it. So an ask that is refused or fails adds
-    /// nothing. The answer is a reply, or that there is no memory, or `Fault` exactly if the append
-    /// of an accepted command failed.
+    /// nothing. A question never calls the keeper. The answer is a reply, or that there is no
+    /// memory, or `Fault` exactly if the append of an accepted command failed.
     pub fn ask(&mut self, alloc: Global, call: u64, ask: &Ask) -> Acted
         requires valid { IsAskOf self.old.airport ask.now }
         requires next { self.old.next ≤ call }
@@ -159,6 +159,9 @@ impl<'a, K: Keeper> Board<'a, K> {
             (K.state self.new.keeper).faults }
         ensures at_risk { LeavesAtRisk (history_at_risk_of (machine_state K.state self.old)) call
             ask.now.what (is_fault result) (history_at_risk_of (machine_state K.state self.new)) }
+        ensures question { let plan = replay self.old.airport self.old.history in
+            IsTold (ask_outcome plan self.old.history ask.now)
+            → self.new.keeper ≡ self.old.keeper }
     {
         let answered = self.answer(alloc, call, ask);
         self.next = call + 1;
@@ -180,6 +183,9 @@ impl<'a, K: Keeper> Board<'a, K> {
         ensures at_risk { LeavesAtRisk (history_at_risk_of (machine_state K.state self.old)) call
             ask.now.what (is_keeper_fault result)
             (history_at_risk_of (machine_state K.state self.new)) }
+        ensures question { let plan = replay self.old.airport self.old.history in
+            IsTold (ask_outcome plan self.old.history ask.now)
+            → self.new.keeper ≡ self.old.keeper }
     {
         if ask.seen > self.plan.version() {
             return self.reply_with(alloc, ReplyBody::Ahead);

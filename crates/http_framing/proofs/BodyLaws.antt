@@ -1,8 +1,7 @@
 -- How long a body is.
 use Rattle.std.proofs.Common.{◌≡◌, ℕ, ◌≤◌, Bool, true, false, List, Option, Some, None, Ok, bytes_eq, codes, arith}
 use Rattle.std.proofs.lemmas.Grind.{common_steps}
-use Rattle.apron_base.specs.Digits.{number_of}
-use Rattle.apron_base.specs.declared.digits.TheConstants.{MAX_DIGITS}
+use Rattle.apron_base.specs.Digits.{most_digits, number_of}
 use Rattle.http_framing.specs.Bodies.{length_by_fields, by_number, by_fields, by_length, max_body}
 use Rattle.http_framing.specs.Fields.{HeaderField, TextSaid, absent, twice, written, text_field}
 
@@ -13,7 +12,7 @@ by_number_bound (Some m) n e = grind (arith, common_steps)
 by_length_bound : (post : Bool) (length : TextSaid) (n : ℕ) → by_length post length ≡ Ok n → n ≤ max_body
 by_length_bound true absent n e = absurd (cc)
 by_length_bound false absent n e = let zero : 0 ≡ n = cc in omega arith
-by_length_bound post (written value) n e = by_number_bound (number_of value MAX_DIGITS) n e
+by_length_bound post (written value) n e = by_number_bound (number_of value most_digits) n e
 by_length_bound post twice n e = absurd (cc)
 
 by_fields_bound : (post : Bool) (encoding length : TextSaid) (n : ℕ) → by_fields post encoding length ≡ Ok n → n ≤ max_body

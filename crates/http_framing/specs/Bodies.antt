@@ -1,7 +1,6 @@
 -- How long the body is that follows a head.
 use Rattle.std.specs.Prelude.{ℕ, List, Bool, bytes_eq, nat_le, codes, if◌then◌else◌, Option, Some, None, Result, Ok, Err}
-use Rattle.apron_base.specs.Digits.{number_of}
-use Rattle.apron_base.specs.declared.digits.TheConstants.{MAX_DIGITS}
+use Rattle.apron_base.specs.Digits.{most_digits, number_of}
 use Rattle.http_framing.specs.Fields.{HeaderField, TextSaid, absent, twice, written, text_field}
 use Rattle.http_framing.specs.declared.bodies.RequestRefusal.{RequestRefusal}
 use Rattle.http_framing.specs.declared.bodies.RequestRefusal.TheVariants.{Head, Encoding, Large, Length}
@@ -18,7 +17,7 @@ by_number (Some number) = if nat_le number max_body then Ok number else Err Larg
 -- by what Content-Length says, of a request that is a POST or is not
 abbrev pub by_length : Bool → TextSaid → Result ℕ RequestRefusal
 by_length post absent = if post then Err Length else Ok 0
-by_length post (written value) = by_number (number_of value MAX_DIGITS)
+by_length post (written value) = by_number (number_of value most_digits)
 by_length post twice = Err Head
 
 -- by what Transfer-Encoding says, and then by what Content-Length says

@@ -1,8 +1,7 @@
 -- What the fields of a head say.
 use Rattle.std.specs.Prelude.{ℕ, List, [], ◌∷◌, map, Bool, bytes_eq, if◌then◌else◌, Option, Some, None}
 use Rattle.std.specs.Char.{to_ascii_lowercase}
-use Rattle.apron_base.specs.Digits.{number_of}
-use Rattle.apron_base.specs.declared.digits.TheConstants.{MAX_DIGITS}
+use Rattle.apron_base.specs.Digits.{most_digits, number_of}
 use Rattle.httparse.specs.Grammar.{RequestHead}
 use Rattle.httparse.specs.Spans.{name_and_value}
 use Rattle.http_framing.specs.declared.fields.FieldNumber.{FieldNumber}
@@ -59,7 +58,7 @@ number_written (Some number) = Written number
 -- the number that fields with this text write
 abbrev pub number_said : TextSaid → FieldNumber
 number_said absent = Absent
-number_said (written value) = number_written (number_of value MAX_DIGITS)
+number_said (written value) = number_written (number_of value most_digits)
 number_said twice = Wrong
 
 -- the number that the only field of this name writes

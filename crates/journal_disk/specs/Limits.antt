@@ -1,14 +1,13 @@
 -- The limits of a journal, and how long its parts are.
 use Rattle.std.specs.Prelude.{ℕ, ◌+◌, ◌*◌}
-use Rattle.apron_base.specs.declared.keeper.TheConstants.{MAX_ENTRIES, MAX_ENTRY}
 
 -- how many entries a journal can have
 abbrev pub most_entries : ℕ
-most_entries = MAX_ENTRIES
+most_entries = 200000
 
 -- how many bytes an entry can have
 abbrev pub most_bytes : ℕ
-most_bytes = MAX_ENTRY
+most_bytes = 1024
 
 -- how long a record is besides its entry: its gate and the entry's length
 abbrev pub record_frame : ℕ

@@ -4,7 +4,6 @@ use Rattle.std.specs.Prelude.{IsTrue, IfSome, nat_le, nat_lt, ◌==◌, ◌&&◌
 use Rattle.std.proofs.lemmas.Bool.{and_parts, leb-true, ltb-true}
 use Rattle.std.proofs.lemmas.Option.{cond_some, option_and_then_some, same_Some}
 use Rattle.apron_base.proofs.SmallNumbers.{digits_small}
-use Rattle.mvt_grammar.specs.declared.flights.TheConstants.{MAX_FLIGHT_DIGITS}
 use Rattle.mvt_grammar.specs.Bytes.{is_capital, is_station, two_digits, split_once}
 use Rattle.std.specs.Str.Parse.{digits_value}
 use Rattle.mvt_grammar.specs.Clocks.{read_day, read_minute, time_without_day, time_with_day, clock_of, times_parted, times_of}
@@ -74,7 +73,7 @@ pub times-range : (text : List ℕ) (times : Clock × Option Clock) → times_of
 times-range text times h = times_parted-range text (split_once 47 text) times h
 
 number-range : (text : List ℕ) → is_number text ≡ true → digits_value 10 text < 10000
-number-range text h = digits_small text MAX_FLIGHT_DIGITS h
+number-range text h = digits_small text 4 h
 
 abbrev flight_at : List ℕ → ℕ → Option ℕ → Flight
 flight_at airline number suffix = record { airline = airline; number = number; suffix = suffix }

@@ -4,7 +4,6 @@ use Rattle.std.specs.List.{list_all, list_any}
 use Rattle.std.specs.Str.Parse.{digits_value}
 use Rattle.apron_base.specs.Digits.{are_digits}
 use Rattle.mvt_grammar.specs.Bytes.{is_capital, is_digit}
-use Rattle.mvt_grammar.specs.declared.flights.TheConstants.{MAX_FLIGHT_DIGITS}
 use Rattle.mvt_grammar.specs.declared.message.Flight.{Flight}
 
 -- a capital or a digit
@@ -22,7 +21,7 @@ airline_len text = if is_capital (slice_index text 2) then 3 else 2
 
 -- one to four digits
 abbrev pub is_number : List ℕ → Bool
-is_number text = are_digits text MAX_FLIGHT_DIGITS
+is_number text = are_digits text 4
 
 -- the flight of an airline, a number and a suffix
 abbrev pub flight_with : List ℕ → List ℕ → Option ℕ → Option Flight

@@ -14,7 +14,6 @@ use Rattle.visit_book.specs.NewVisits.{is_in_time}
 use Rattle.visit_book.specs.WellFormed.{greatest_class}
 use Rattle.visit_book.specs.declared.visits.Key.{Key}
 use Rattle.visit_book.specs.declared.visits.NewVisit.{NewVisit}
-use Rattle.season_files.specs.declared.records.TheConstants.{COLUMNS}
 
 -- the greatest day that a key can have
 abbrev pub greatest_day : ℕ
@@ -46,7 +45,7 @@ heads_flights fields =
 
 -- the first record: name, type, class, on, off, arr, arrday, dep, depday
 unfoldable pub is_header : List (List ℕ) → Bool
-is_header fields = (length fields == COLUMNS) && (heads_visit fields && heads_flights fields)
+is_header fields = (length fields == 9) && (heads_visit fields && heads_flights fields)
 
 -- the text, if it is a name
 abbrev pub if_name : List ℕ → Option (List ℕ)
@@ -130,4 +129,4 @@ visit_in airport fields = do
 -- the visit that a record gives at the airport: a name, a type of the airport, a class, the minutes
 -- on and off block, and the flights that it comes and leaves by, each with its day or both empty
 abbrev pub visit_of_record : AirportParts → List (List ℕ) → Option NewVisit
-visit_of_record airport fields = if length fields == COLUMNS then visit_in airport fields else None
+visit_of_record airport fields = if length fields == 9 then visit_in airport fields else None

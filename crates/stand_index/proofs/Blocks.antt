@@ -1,6 +1,6 @@
 -- Blocks of slots: when they end, and which a look passes over.
 use Rattle.std.proofs.Common.{◌≡◌, ◌==◌, ◌∙◌, ◌<◌, ◌≤◌, ◌⊎◌, ◌+◌, ◌*◌, ◌-◌, ◌/◌, ◌||◌, inl, inr, ℕ, zero, suc, min, Bool, true, false, List, [], ◌∷◌, ◌++◌, length, get_or, take, drop, refl, sym, ap, arith, subst, nat_lt, append_assoc, length-append, slice_index, take-add, add-one, nat_cmp}
-use Rattle.std.specs.Prelude.{filter}
+use Rattle.std.specs.Prelude.{filter, if◌then◌else◌}
 use Rattle.std.specs.List.{list_any}
 use Rattle.std.specs.Ordering.{ord_max}
 use Rattle.std.proofs.lemmas.Grind.{common_steps}
@@ -12,7 +12,7 @@ use Rattle.std.proofs.lemmas.List.Elements.{filter-append}
 use Rattle.std.proofs.lemmas.List.Folds.{list_any_at, list_any_more, list_any_none}
 use Rattle.apron_base.specs.declared.slot.Slot.{Slot}
 use Rattle.stand_index.specs.Blocks.{AreInBlocks, AreLastEnds, IsLastEnd, block, count_blocks, ends_after, is_reached, slot_starts_before}
-use Rattle.stand_index.specs.Slots.{IsByStart, StandSlots, is_hit}
+use Rattle.stand_index.specs.Slots.{IsByStart, StandSlots, hits_of, is_hit}
 use Rattle.stand_index.specs.Steps.{binary_digits, block_steps, blocks_steps, most_steps}
 use Rattle.stand_index.proofs.Hits.{none_pass}
 
@@ -123,8 +123,25 @@ more_steps from end xs few (suc more) h =
 pub next_steps : (from end : ℕ) (xs : List Slot) (number : ℕ) → blocks_steps from end xs (number + 1) ≡ blocks_steps from end xs number + block_steps from end (block xs number)
 next_steps from end xs number = rw add-one refl
 
-pub reached_steps : (from end : ℕ) (xs : List Slot) → is_reached from end xs ≡ true → block_steps from end xs ≡ 1 + length xs
+pub reached_steps : (from end : ℕ) (xs : List Slot) → is_reached from end xs ≡ true → block_steps from end xs ≡ length xs
 reached_steps from end xs reached = rw reached refl
+
+-- a look takes at most as many steps at a block as it has slots
+block_within : (from end : ℕ) (xs : List Slot) → 0 < length xs → block_steps from end xs ≤ length xs
+block_within from end xs some = by (is_reached from end xs)
+  where
+    by : (b : Bool) → (if b then length xs else 1) ≤ length xs
+    by true = omega arith
+    by false = omega arith
+
+-- and at the first blocks as these have
+blocks_within : (from end : ℕ) (xs : List Slot) (number : ℕ) → number * 64 < length xs + 64 → blocks_steps from end xs number ≤ min (number * 64) (length xs)
+blocks_within from end xs zero few = omega arith
+blocks_within from end xs (suc before) few =
+    let more : suc before * 64 ≡ before * 64 + 64 = omega arith in
+    let size = block_length xs before in
+    let here = block_within from end (block xs before) (omega (arith, size, few, more)) in
+    omega (arith, blocks_within from end xs before (omega (arith, few, more)), here, size, few, more)
 
 -- the first slot and the last end say whether a block is reached
 pub reached_then : (xs ys : List Slot) (ends : List ℕ) (number from end : ℕ) (slot : Slot) (last : ℕ) → AreInBlocks xs ends → xs ≡ ys → number * 64 < length ys
@@ -205,3 +222,8 @@ pub all_steps : (slots : StandSlots) (from end before middle after : ℕ) → mi
     → after ≤ middle + blocks_steps from end slots.actual (count_blocks slots.actual) → after ≤ before + most_steps slots from end
 unfolding most_steps
 all_steps slots from end before middle after few more = omega (arith, length-append (filter (is_hit from end) slots.planned) (filter (is_hit from end) slots.actual))
+
+-- a look takes at most one step for each actual slot, and those at the planned ones
+pub most_within : (slots : StandSlots) (from end : ℕ) → most_steps slots from end ≤ binary_digits (length slots.planned) + 1 + length (hits_of slots from end) + length slots.actual
+unfolding most_steps
+most_within slots from end = omega (arith, blocks_within from end slots.actual (count_blocks slots.actual) (omega arith))

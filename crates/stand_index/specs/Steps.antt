@@ -13,9 +13,9 @@ count_bits = 64
 abbrev pub binary_digits : ℕ → ℕ
 binary_digits number = count_bits - leading_zeros w64 number
 
--- the steps of a look at a block: one, and one for each of its slots if it is reached
+-- the steps of a look at a block: one for each of its slots if it is reached, and otherwise one
 abbrev pub block_steps : ℕ → ℕ → List Slot → ℕ
-block_steps from end slots = if is_reached from end slots then 1 + length slots else 1
+block_steps from end slots = if is_reached from end slots then length slots else 1
 
 -- the steps of a look at this many blocks of the slots
 abbrev pub blocks_steps : ℕ → ℕ → List Slot → ℕ → ℕ
@@ -24,8 +24,8 @@ blocks_steps from end slots (suc before) =
     blocks_steps from end slots before + block_steps from end (block slots before)
 
 -- the most steps of one look: as many as the number of planned slots has binary digits, one more,
--- one for each hit, one for each block of actual slots, and one for each slot of those that are
--- reached
+-- one for each hit, one for each block of actual slots that is not reached, and one for each slot
+-- of those that are
 unfoldable pub most_steps : StandSlots → ℕ → ℕ → ℕ
 most_steps slots from end =
     binary_digits (length slots.planned) + 1 + length (hits_of slots from end)

@@ -1,7 +1,7 @@
 // The slots of all stands.
 ghost use Rattle.std.specs.Prelude.{◌≡◌, ◌≤◌, ◌<◌, ◌+◌, All, IfOk, OnOk, length};
 ghost use Rattle.stand_index.specs.Slots.{AddsSlot, HasMinutes, HasNoSlots, IsIndex, KeepsOrder, KeepsOtherStands, KeepsSlots, RemovesPart, at_stand, hits_of};
-ghost use Rattle.stand_index.specs.Steps.{most_steps};
+ghost use Rattle.stand_index.specs.Steps.{binary_digits, most_steps};
 
 use crate::one_stand::OneStand;
 use apron_base::{Memory, Minute, PartId, Slot, StandNo, Steps};
@@ -85,7 +85,7 @@ impl StandIndex {
 
     /// The slots of a stand that have a minute in `from <= m < end`: the planned ones by their
     /// start, then the actual ones by theirs. Each slot that is looked at is a step, and so is each
-    /// block of actual ones. The only error is a lack of memory.
+    /// block of actual ones that is passed over. The only error is a lack of memory.
     pub fn hits<L: Ledger>(
         &self,
         alloc: Global,
@@ -98,6 +98,10 @@ impl StandIndex {
         ensures hits { IfOk result
             (λ hits. hits.items ≡ hits_of (at_stand self.now stand) from end) }
         ensures steps { steps.new ≤ steps.old + most_steps (at_stand self.now stand) from end }
+        ensures bound { let slots = at_stand self.now stand in
+            steps.new
+            ≤ steps.old + binary_digits (length slots.planned) + 1
+            + length (hits_of slots from end) + length slots.actual }
         ensures index { IsIndex self.now }
     {
         self.stands[stand.0 as usize].hits(alloc, from, end, steps)

@@ -1,4 +1,5 @@
-// Finding the slots of a range of minutes. Each slot or block of slots looked at is a step.
+// Finding the slots of a range of minutes. Each slot that is read is a step, and so is each block
+// that is passed over.
 ghost use Rattle.std.specs.Prelude.{◌≡◌, ◌≤◌, ◌<◌, ◌+◌, ◌*◌, ◌++◌, ◌∷◌, [], All, AllPairs, IfOk, OnOk, filter, length};
 ghost use Rattle.std.specs.List.{AllWithin};
 ghost use Rattle.stand_index.specs.Blocks.{block, count_blocks};

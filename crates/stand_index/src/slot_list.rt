@@ -1,5 +1,5 @@
 // Slots of one kind on one stand.
-ghost use Rattle.std.specs.Prelude.{◌≡◌, ◌≤◌, ◌<◌, ◌+◌, ◌*◌, [], ℕ, OnOk, length, slice_index, slice_index_or, take, vec_len, vec_capacity};
+ghost use Rattle.std.specs.Prelude.{◌≡◌, ◌≤◌, ◌<◌, ◌+◌, ◌*◌, [], ℕ, OnOk, length, slice_index, slice_index_or, take, vec_len, vec_capacity, if◌then◌else◌};
 ghost use Rattle.apron_base.specs.declared.slot.Slot.{Slot};
 ghost use Rattle.stand_index.specs.Blocks.{AreLastEnds, IsLastEnd, block, is_reached};
 ghost use Rattle.stand_index.specs.Slots.{IsByStart, insert_by_start, is_of_part, remove_part};
@@ -13,8 +13,8 @@ use std::sync::ledger::Ledger;
 pub(crate) const BLOCK: usize = 64;
 
 /// Slots by their start, and for each block of them when its last one ends. The one way to read a
-/// slot or a block counts a step. Contracts also see how many more slots can be added without
-/// taking memory.
+/// slot counts a step, and so does the one way to find that a block is not reached. Contracts also
+/// see how many more slots can be added without taking memory.
 #[derive(Debug, Drop)]
 pub(crate) struct SlotList {
     slots: Vec<Slot>,
@@ -104,7 +104,7 @@ impl SlotList {
     }
 
     /// Whether a slot of this block, counted from 0, starts before `end`, and one ends after
-    /// `from`. It is a step.
+    /// `from`. It is a step if not: if so, the block's slots are read, and each of them is one.
     pub(crate) fn is_reached<L: Ledger>(
         &self,
         number: usize,
@@ -114,9 +114,20 @@ impl SlotList {
     ) -> bool
         requires inside { number * 64 < length self.now.slots }
         ensures is { result ≡ is_reached from end (block self.now.slots number) }
-        ensures step { steps.new ≡ steps.old + 1 }
+        ensures step { steps.new ≡ steps.old + (if result then 0 else 1) }
     {
-        steps.tick();
+        let reached = self.reaches(number, from, end);
+        if !reached {
+            steps.tick();
+        }
+        reached
+    }
+
+    // The same, without a step.
+    fn reaches(&self, number: usize, from: Minute, end: Minute) -> bool
+        requires inside { number * 64 < length self.now.slots }
+        ensures is { result ≡ is_reached from end (block self.now.slots number) }
+    {
         let starts = self.slots[number * BLOCK].from < end;
         starts && from < self.ends[number]
     }

@@ -1,10 +1,9 @@
 -- For how many seconds a peer may keep a worker.
 use Rattle.std.specs.Prelude.{◌≤◌, ◌<◌, ℕ}
-use Rattle.tcp_desks.specs.declared.limits.TheConstants.{MOST_SECONDS}
 
 -- a limit is between a second and a day
 abbrev pub IsLimit : ℕ → Type 0
-IsLimit seconds = (1 ≤ seconds) × (seconds ≤ MOST_SECONDS)
+IsLimit seconds = (1 ≤ seconds) × (seconds ≤ 86400)
 
 -- between requests, within a request, for a whole request and for a reply: each is a limit, and
 -- that within a request is below that between requests

@@ -4,11 +4,11 @@ ghost use Rattle.apron_base.specs.Counts.{Counts};
 ghost use Rattle.apron_base.specs.Keeper.{with_last};
 ghost use Rattle.apron_base.specs.Machine.{history_at_risk_of, is_fault};
 ghost use Rattle.plan_core.specs.PlanState.{IsPlan};
-ghost use Rattle.history_core.specs.Answer.{ActsAs};
+ghost use Rattle.history_core.specs.Answer.{ActsAs, IsTold, ask_outcome};
 ghost use Rattle.history_core.specs.AtRisk.{LeavesAtRisk};
 ghost use Rattle.history_core.specs.Board.{entry_texts, machine_state};
 ghost use Rattle.history_core.specs.Bumped.{last_bumped};
-ghost use Rattle.history_core.specs.History.{IsAskOf, IsLegal, call_limit};
+ghost use Rattle.history_core.specs.History.{IsAskOf, IsLegal, call_limit, replay};
 ghost use Rattle.history_core.specs.Opening.{CannotOpen, OpensBoard};
 ghost use Rattle.watch_list.specs.HistoryNotes.{HasNoteRoom, last_notes, may_bump, notes_of};
 ghost use Rattle.watch_list.specs.Notes.{notes_by};
@@ -113,6 +113,9 @@ impl<'a, K: Keeper> NotedBoard<'a, K> {
             (K.state self.new.keeper).faults }
         ensures at_risk { LeavesAtRisk (history_at_risk_of (machine_state K.state self.old)) call
             ask.now.what (is_fault result) (history_at_risk_of (machine_state K.state self.new)) }
+        ensures question { let plan = replay self.old.airport self.old.history in
+            IsTold (ask_outcome plan self.old.history ask.now)
+            → self.new.keeper ≡ self.old.keeper }
     {
         let entries = self.board.history().len();
         if make_room(&mut self.notes, self.board.plan(), &ask.what).is_err() {

@@ -3,7 +3,7 @@ ghost use Rattle.std.specs.Prelude.{◌≡◌, ◌≤◌, ◌<◌, ◌+◌, leng
 ghost use Rattle.apron_base.specs.Counts.{Counts};
 ghost use Rattle.apron_base.specs.Histories.{Rises};
 ghost use Rattle.apron_base.specs.Machine.{history_at_risk_of, is_fault};
-ghost use Rattle.history_core.specs.Answer.{ActsAs};
+ghost use Rattle.history_core.specs.Answer.{ActsAs, IsTold, ask_outcome};
 ghost use Rattle.history_core.specs.AtRisk.{LeavesAtRisk};
 ghost use Rattle.history_core.specs.Board.{machine_state};
 ghost use Rattle.history_core.specs.History.{IsAskOf, IsLegal, call_limit, call_of, replay};
@@ -165,6 +165,9 @@ impl<'w, 'a, K: Keeper, R: Stated, T: NoteTest> WatchBoard<'w, 'a, K, R, T> {
         ensures at_risk { LeavesAtRisk (history_at_risk_of (machine_state K.state self.old.board))
             call ask.now.what (is_fault result)
             (history_at_risk_of (machine_state K.state self.new.board)) }
+        ensures question { let board = self.old.board in
+            IsTold (ask_outcome (replay board.airport board.history) board.history ask.now)
+            → self.new.board.keeper ≡ board.keeper }
     {
         self.next = call + 1;
         self.noted.ask(alloc, call, ask)

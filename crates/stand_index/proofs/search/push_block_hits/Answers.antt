@@ -17,7 +17,6 @@ returns-in_err-push_hit-clause-steps g c =
     let slots = c.args.slots.now.slots in
     omega (
       arith,
-      c.is_reached.ensures.step,
       c.read.ensures.step,
       c.loop-place.invariant.steps,
       c.loop-place-test.true,

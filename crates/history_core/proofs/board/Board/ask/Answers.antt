@@ -50,3 +50,7 @@ returns-clause-at_risk g c =
     subst (λ (failed : Bool). LeavesAtRisk (history_at_risk_of (machine_state tells c.args.self.now)) c.args.call c.args.ask.now.what failed
     (record { entries = c.self.inside.history.items; at_risk = read_entry_at_risk c.self.inside.airport.now (tells c.self.inside.keeper) }))
     (sym c.acted_of.ensures.fault) leaves
+
+pub returns-clause-question : goal.returns-clause-question
+returns-clause-question g c told =
+    subst (λ (b : BoardHeld g.row.K.Denot). b.keeper ≡ c.args.self.now.keeper) (sym c.self.view_is) (c.answer-answered.ensures.question told)
