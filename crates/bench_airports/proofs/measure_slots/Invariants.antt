@@ -1,4 +1,0 @@
-use Rattle.bench_airports.proofs.measure_slots.Given as goal
-
-abbrev pub ghosts-looks_at_slots : goal.ghosts-looks_at_slots
-ghosts-looks_at_slots a = record { name = a.blank.name; parts = a.blank.parts }

@@ -1,0 +1,7 @@
+// What is read of texts and bytes, what is refused in them, and what is written.
+mod airport_files;
+mod bodies;
+mod entries;
+mod framing;
+mod messages;
+mod seasons;

@@ -1,5 +1,0 @@
-use Rattle.std.proofs.Common.{◌≡◌}
-use Rattle.test_halls.proofs.tests.are_replied.Given as goal
-
-abbrev pub invariant-loop-deed : goal.invariant-loop-deed
-invariant-loop-deed g l = l.hall.board.board.airport ≡ l.airport

@@ -1,5 +1,0 @@
-use Rattle.std.proofs.Common.{◌≡◌, length}
-use Rattle.test_halls.proofs.tests.are_seen.Given as goal
-
-abbrev pub invariant-loop-index : goal.invariant-loop-index
-invariant-loop-index g l = (l.hall.board.board.airport ≡ l.airport) × (length l.screens ≡ length l.row.days.now)

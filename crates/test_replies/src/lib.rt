@@ -1,5 +1,0 @@
-//! Tests of `desk_words`: each reply, byte for byte.
-#![tactic(auto)]
-
-#[cfg(test)]
-mod tests;

@@ -1,4 +1,0 @@
-use Rattle.test_rules.proofs.tests.looks.visits_at.Given as goal
-
-abbrev pub ghosts-hits : goal.ghosts-hits
-ghosts-hits a = record { name = a.blank.name; parts = a.blank.parts }
