@@ -40,7 +40,11 @@ fn main(rt: HostRuntime) -> io::Result<()> {
             measure_commits(&rt, airport.as_str(), types.as_str())
         }
         ("messages", Some(times), None, None) => measure_messages(&rt, count_of(times.as_str())),
-        ("turns", Some(turns), None, None) => measure_turns(&rt, count_of(turns.as_str())),
+        ("turns", Some(turns), None, None) => measure_turns(
+            &rt,
+            rt.alloc(),
+            count_of(turns.as_str()),
+        ),
         _ => println!(rt; "{USAGE}"),
     }
 }

@@ -74,7 +74,11 @@ fn measure<R: Threads + Wait + Clock + Print + Sync>(
 
 /// Takes this many turns at a machine that does nothing, and a hundredth of them at one whose acts
 /// take 200 microseconds.
-pub fn measure_turns(rt: &HostRuntime, turns: u64) -> io::Result<()> {
-    measure(rt, rt.alloc(), 0, turns)?;
-    measure(rt, rt.alloc(), SLOW, turns / FEWER)
+pub fn measure_turns<R: Threads + Wait + Clock + Print + Sync>(
+    rt: &R,
+    alloc: Global,
+    turns: u64,
+) -> io::Result<()> {
+    measure(rt, alloc, 0, turns)?;
+    measure(rt, alloc, SLOW, turns / FEWER)
 }

@@ -1,10 +1,10 @@
-// What the program does with files, disks and streams that fail, and with watches. The
+// What the program does with files, disks and streams that fail, and without watches. The
 // expected texts are written by hand from the format of requests and replies.
 mod crashes;
 mod failing;
 mod feeds;
 mod imports;
 mod journals;
-mod lines;
 mod runs;
 mod upgrades;
+mod versions;

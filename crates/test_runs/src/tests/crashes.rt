@@ -1,6 +1,7 @@
 // What a desk finds after a stop at any call of the disk.
-use super::lines::Session;
 use super::runs::{DEMO, Ended, Run};
+use super::versions::{TOLD, VERSION, is_told_on};
+use apron_base::Memory;
 use journal_disk::{MemoryDisk, Unsynced};
 use std::alloc::Global;
 use std::test::Fail;
@@ -10,12 +11,10 @@ use test_support::FIRST;
 const THREE: &[u8] =
     b"POST /visits HTTP/1.1\r\nContent-Length: 56\r\n\r\n{\"name\":\"V1\",\"type\":\"A320\",\"class\":3,\"on\":600,\"off\":660}POST /visits HTTP/1.1\r\nContent-Length: 56\r\n\r\n{\"name\":\"V2\",\"type\":\"A320\",\"class\":3,\"on\":600,\"off\":660}POST /visits HTTP/1.1\r\nContent-Length: 56\r\n\r\n{\"name\":\"V3\",\"type\":\"A320\",\"class\":3,\"on\":600,\"off\":660}";
 
-const VERSION: &[u8] = b"GET /version HTTP/1.1\r\n\r\n";
-
 // How many entries a desk begins with, at least and at most, if it stopped after a number of calls
 // of the disk, one row for each number. Five calls open the journal, and then each entry has four:
 // the third opens its gate and the fourth makes that safe.
-const EACH_DONE: [(u32, u32); 18] = [
+const EACH_DONE: [(usize, usize); 18] = [
     (0, 0),
     (0, 0),
     (0, 0),
@@ -37,7 +36,7 @@ const EACH_DONE: [(u32, u32); 18] = [
 ];
 
 // The same for two entries.
-const TWO_DONE: [(u32, u32); 14] = [
+const TWO_DONE: [(usize, usize); 14] = [
     (0, 0),
     (0, 0),
     (0, 0),
@@ -56,7 +55,7 @@ const TWO_DONE: [(u32, u32); 14] = [
 
 // The same for three entries if the call failed that opens the first gate: the next two calls close
 // the gate again and make that safe.
-const GATE_FAILED: [(u32, u32); 19] = [
+const GATE_FAILED: [(usize, usize); 19] = [
     (0, 0),
     (0, 0),
     (0, 0),
@@ -79,7 +78,7 @@ const GATE_FAILED: [(u32, u32); 19] = [
 ];
 
 // The same if the call failed that makes it safe.
-const SYNC_FAILED: [(u32, u32); 20] = [
+const SYNC_FAILED: [(usize, usize); 20] = [
     (0, 0),
     (0, 0),
     (0, 0),
@@ -103,10 +102,11 @@ const SYNC_FAILED: [(u32, u32); 20] = [
 ];
 
 // A desk on a disk of these bytes says that the plan has this version.
-fn has_version(alloc: Global, stored: &[u8], version: u32) -> Result<bool, Fail> {
-    let reply = format!(in alloc; "< 200 {version} {{\"version\":{version}}}")?;
-    let session = Session::of(alloc, &reply)?;
-    Ok(session.is_told_on(alloc, stored, VERSION)?)
+fn has_version(alloc: Global, stored: &[u8], version: usize) -> Result<bool, Memory> {
+    match TOLD.get(version) {
+        Some(told) => is_told_on(alloc, stored, VERSION, told),
+        None => Ok(false),
+    }
 }
 
 // What becomes of what is not safe.
@@ -124,7 +124,7 @@ fn is_within(
     disk: &MemoryDisk,
     shows: &str,
     moment: usize,
-    bounds: (u32, u32),
+    bounds: (usize, usize),
 ) -> Result<(), Fail> {
     let (least, most) = bounds;
     for unsynced in EACH_UNSYNCED {
@@ -141,7 +141,7 @@ type Stops = (
     &'static str,
     &'static [u8],
     &'static [u64],
-    &'static [(u32, u32)],
+    &'static [(usize, usize)],
 );
 
 const EACH_STOPS: [Stops; 4] = [

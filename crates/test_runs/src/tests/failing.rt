@@ -1,5 +1,4 @@
 // Runs in which a call of an end fails, and input that is cut or that no session takes.
-use super::lines::Session;
 use super::runs::{DEMO, Run};
 use std::alloc::Global;
 use std::test::Fail;
@@ -194,29 +193,30 @@ fn two_requests_are_cut_after_each_byte(rt: HostRuntime) -> Result<(), Fail> {
 
 const HEAD: &[u8] = b"GET /version HTTP/1.1\r\nX-Filled: ";
 
-const REFUSED: &str = "< 400 close {\"error\":\"head\"}";
+const REFUSED: &[u8] =
+    b"HTTP/1.1 400 Bad Request\r\nContent-Type: application/json\r\nContent-Length: 16\r\nConnection: close\r\n\r\n{\"error\":\"head\"}";
 
 // What the input begins with, the length up to which it is filled, the reply, and the status.
-const REFUSALS: [(&[u8], usize, &str, u8); 6] = [
-    (HEAD, 8191, "", 10),
+const REFUSALS: [(&[u8], usize, &[u8], u8); 6] = [
+    (HEAD, 8191, b"", 10),
     (HEAD, 8192, REFUSED, 13),
     (HEAD, 8193, REFUSED, 13),
     (
         b"POST /mvt HTTP/1.1\r\nContent-Length: 65537\r\n\r\n",
         0,
-        "< 413 close {\"error\":\"large\"}",
+        b"HTTP/1.1 413 Payload Too Large\r\nContent-Type: application/json\r\nContent-Length: 17\r\nConnection: close\r\n\r\n{\"error\":\"large\"}",
         13,
     ),
     (
         b"POST /mvt HTTP/1.1\r\nTransfer-Encoding: chunked\r\n\r\n",
         0,
-        "< 501 close {\"error\":\"encoding\"}",
+        b"HTTP/1.1 501 Not Implemented\r\nContent-Type: application/json\r\nContent-Length: 20\r\nConnection: close\r\n\r\n{\"error\":\"encoding\"}",
         13,
     ),
     (
         b"POST /mvt HTTP/1.1\r\n\r\n",
         0,
-        "< 411 close {\"error\":\"length\"}",
+        b"HTTP/1.1 411 Length Required\r\nContent-Type: application/json\r\nContent-Length: 18\r\nConnection: close\r\n\r\n{\"error\":\"length\"}",
         13,
     ),
 ];
@@ -225,17 +225,16 @@ fn is_refused(
     alloc: Global,
     begins: &[u8],
     length: usize,
-    reply: &str,
+    reply: &[u8],
     status: u8,
 ) -> Result<(), Fail> {
-    let session = Session::of(alloc, reply)?;
     let mut input = Vec::from_slice(alloc, begins)?;
     input.resize(length.max(begins.len()), b'x')?;
     let run = Run {
         input: &input,
         ..DEMO
     };
-    run.gives(alloc, &(begins, length), &session.output, status)
+    run.gives(alloc, &(begins, length), reply, status)
 }
 
 #[test]

@@ -1,85 +1,21 @@
-// Feeds of a program with watches and without. The expected replies are written by hand from the
-// format of requests and replies.
-use super::lines::all_hold;
+// Feeds of a run that takes no watches: one that is ahead of the plan is so first, and each other one
+// is of no watch. The replies are written by hand from their format.
 use super::runs::{DEMO, Run};
-use apron_base::Minute;
 use std::test::Fail;
-use watch_list::Shown;
 
-// What a watch of every class shows.
-const EVERY: Shown = Shown {
-    top_class: 9,
-    stand: None,
-    from: 0,
-    until: Minute::MAX,
-};
+// A visit is added, and feeds are asked for.
+const ASKED: &[u8] =
+    b"POST /visits HTTP/1.1\r\nContent-Length: 78\r\n\r\n{\"name\":\"V1\",\"type\":\"A320\",\"class\":3,\"on\":600,\"off\":660,\"arr\":null,\"dep\":null}GET /feeds/ALL/0 HTTP/1.1\r\nContent-Length: 0\r\n\r\nGET /feeds/HIGH/1 HTTP/1.1\r\nContent-Length: 0\r\n\r\nGET /feeds/ALL/2 HTTP/1.1\r\nContent-Length: 0\r\n\r\nGET /feeds/all/0 HTTP/1.1\r\nContent-Length: 0\r\n\r\nPOST /feeds/ALL/0 HTTP/1.1\r\nContent-Length: 0\r\n\r\nGET /version HTTP/1.1\r\nContent-Length: 0\r\n\r\n";
 
-// The watch of every class, and one of the classes 0 to 2.
-const WATCHES: [(&str, Shown); 2] = [
-    ("ALL", EVERY),
-    (
-        "HIGH",
-        Shown {
-            top_class: 2,
-            ..EVERY
-        },
-    ),
-];
-
-#[test]
-fn watches_are_fed_their_bumps(rt: HostRuntime) -> Result<(), Fail> {
-    let run = Run {
-        watches: &WATCHES,
-        ..DEMO
-    };
-    all_hold(rt.alloc(), run, OF_FEEDS)
-}
+// The replies.
+const REPLIES: &[u8] =
+    b"HTTP/1.1 200 OK\r\nContent-Type: application/json\r\nContent-Length: 23\r\nX-Version: 1\r\n\r\n{\"version\":1,\"visit\":1}HTTP/1.1 404 Not Found\r\nContent-Type: application/json\r\nContent-Length: 29\r\nX-Version: 1\r\n\r\n{\"error\":\"watch\",\"version\":1}HTTP/1.1 404 Not Found\r\nContent-Type: application/json\r\nContent-Length: 29\r\nX-Version: 1\r\n\r\n{\"error\":\"watch\",\"version\":1}HTTP/1.1 409 Conflict\r\nContent-Type: application/json\r\nContent-Length: 29\r\nX-Version: 1\r\n\r\n{\"error\":\"ahead\",\"version\":1}HTTP/1.1 404 Not Found\r\nContent-Type: application/json\r\nContent-Length: 17\r\n\r\n{\"error\":\"route\"}HTTP/1.1 405 Method Not Allowed\r\nContent-Type: application/json\r\nContent-Length: 18\r\nAllow: GET\r\n\r\n{\"error\":\"method\"}HTTP/1.1 200 OK\r\nContent-Type: application/json\r\nContent-Length: 13\r\nX-Version: 1\r\n\r\n{\"version\":1}";
 
 #[test]
 fn without_watches_a_feed_that_is_not_ahead_is_of_no_watch(rt: HostRuntime) -> Result<(), Fail> {
-    all_hold(rt.alloc(), DEMO, OF_NO_WATCH)
+    let run = Run {
+        input: ASKED,
+        ..DEMO
+    };
+    run.gives(rt.alloc(), &"no watch", REPLIES, 0)
 }
-
-const OF_FEEDS: &str = r#"
-# A watch is fed the bump that it tells of, and no later commit changes that.
-> POST /visits {"name":"V1","type":"A320","class":1,"on":600,"off":660,"arr":{"flight":"LH123","day":1},"dep":null}
-< 200 1 {"version":1,"visit":1}
-> POST /visits {"name":"V2","type":"A320","class":5,"on":680,"off":740,"arr":null,"dep":null}
-< 200 2 {"version":2,"visit":2}
-> POST /commits {"desk":"D","draft":1,"base":2,"edits":[{"put":{"visit":1,"part":1,"stand":"N1"}}]}
-< 200 3 {"version":3}
-> POST /commits {"desk":"D","draft":2,"base":3,"edits":[{"put":{"visit":2,"part":1,"stand":"N1"}}]}
-< 200 4 {"version":4}
-> POST /mvt MVT|LH123/27.DAIQA.MUC|AD0930/0940 EA1040 APR|
-< 200 5 {"bumped":[{"part":1,"visit":2}],"version":5,"visit":1}
-> GET /feeds/ALL/0
-< 200 5 {"bumps":[{"blocker":{"part":1,"visit":1},"class":5,"entry":5,"minute":680,"part":{"part":1,"visit":2},"rule":"same","stand":"N1"}],"version":5}
-> GET /feeds/HIGH/0
-< 200 5 {"bumps":[],"version":5}
-> GET /feeds/ALL/6
-< 409 5 {"error":"ahead","version":5}
-> GET /feeds/NONE/0
-< 404 5 {"error":"watch","version":5}
-> POST /commits {"desk":"D","draft":3,"base":5,"edits":[{"put":{"visit":2,"part":1,"stand":"S1"}}]}
-< 200 6 {"version":6}
-> GET /feeds/ALL/0
-< 200 6 {"bumps":[{"blocker":{"part":1,"visit":1},"class":5,"entry":5,"minute":680,"part":{"part":1,"visit":2},"rule":"same","stand":"N1"}],"version":6}
-"#;
-
-const OF_NO_WATCH: &str = r#"
-# Without a watch a feed that is not ahead is of no watch.
-> POST /visits {"name":"V1","type":"A320","class":3,"on":600,"off":660,"arr":null,"dep":null}
-< 200 1 {"version":1,"visit":1}
-> GET /feeds/ALL/0
-< 404 1 {"error":"watch","version":1}
-> GET /feeds/HIGH/1
-< 404 1 {"error":"watch","version":1}
-> GET /feeds/ALL/2
-< 409 1 {"error":"ahead","version":1}
-> GET /feeds/all/0
-< 404 - {"error":"route"}
-> POST /feeds/ALL/0
-< 405 GET {"error":"method"}
-> GET /version
-< 200 1 {"version":1}
-"#;

@@ -1,6 +1,6 @@
 // Journals: how they are made, what desks keep in them, and appends that fail.
-use super::lines::Session;
 use super::runs::{DEMO, Ended, FORMAT_2, Run, journal, put_records};
+use super::versions::{AT_NONE, AT_ONE, AT_THREE, AT_TWO, is_told_on};
 use apron_base::Memory;
 use std::alloc::Global;
 use std::test::Fail;
@@ -139,36 +139,31 @@ fn is_answered(
     failing_calls: &[u64],
     replies: [&str; 4],
     calls: usize,
-) -> Result<bool, Fail> {
-    let mut lines = String::new(alloc);
+) -> Result<bool, Memory> {
+    let mut output = Vec::new(alloc);
     for reply in replies {
-        lines.push_str(reply)?;
+        output.extend_from_slice(reply.as_bytes())?;
     }
-    let session = Session::of(alloc, &lines)?;
     let run = Run {
         input: THREE,
         failing_calls,
         ..DEMO
     };
     let ended = run.ends(alloc)?;
-    Ok(ended.is(&session.output, 0) && ended.disk.calls().len() == calls)
+    Ok(ended.is(&output, 0) && ended.disk.calls().len() == calls)
 }
 
-const FAILED: &str = "< 503 - {\"error\":\"keeper\"}\n";
+const FAILED: &str =
+    "HTTP/1.1 503 Service Unavailable\r\nContent-Type: application/json\r\nContent-Length: 18\r\n\r\n{\"error\":\"keeper\"}";
 
-const ONE: &str = "< 200 1 {\"version\":1,\"visit\":1}\n";
+const ONE: &str =
+    "HTTP/1.1 200 OK\r\nContent-Type: application/json\r\nContent-Length: 23\r\nX-Version: 1\r\n\r\n{\"version\":1,\"visit\":1}";
 
-const TWO: &str = "< 200 2 {\"version\":2,\"visit\":2}\n";
+const TWO: &str =
+    "HTTP/1.1 200 OK\r\nContent-Type: application/json\r\nContent-Length: 23\r\nX-Version: 2\r\n\r\n{\"version\":2,\"visit\":2}";
 
-const THIRD: &str = "< 200 3 {\"version\":3,\"visit\":3}\n";
-
-const AT_NONE: &str = "< 200 0 {\"version\":0}\n";
-
-const AT_ONE: &str = "< 200 1 {\"version\":1}\n";
-
-const AT_TWO: &str = "< 200 2 {\"version\":2}\n";
-
-const AT_THREE: &str = "< 200 3 {\"version\":3}\n";
+const THIRD: &str =
+    "HTTP/1.1 200 OK\r\nContent-Type: application/json\r\nContent-Length: 23\r\nX-Version: 3\r\n\r\n{\"version\":3,\"visit\":3}";
 
 // The calls that fail, the replies to the three visits and to the question, and how many calls of
 // the disk were made. Opening makes five, an append four, and two before them if the third or the
@@ -218,19 +213,18 @@ fn full_journal(alloc: Global) -> Result<Vec<u8>, Memory> {
 }
 
 // A message, the commit of the two requests again, and a new commit on a visit that doesn't exist.
-const AT_FULL: &str = r#"> POST /mvt MVT|LH999/27.DAIQA.APR|AD1000|
-< 409 200000 {"error":"full","version":200000}
-> POST /commits {"desk":"D","draft":1,"base":1,"edits":[{"put":{"visit":1,"part":1,"stand":"N1"}}]}
-< 200 200000 {"version":2}
-> POST /commits {"desk":"D","draft":2,"base":200000,"edits":[{"put":{"visit":9,"part":1,"stand":"N1"}}]}
-< 422 200000 {"edit":1,"error":"unknown","version":200000}"#;
+const AT_FULL: &[u8] =
+    b"POST /mvt HTTP/1.1\r\nContent-Length: 30\r\n\r\nMVT\nLH999/27.DAIQA.APR\nAD1000\nPOST /commits HTTP/1.1\r\nContent-Length: 83\r\n\r\n{\"desk\":\"D\",\"draft\":1,\"base\":1,\"edits\":[{\"put\":{\"visit\":1,\"part\":1,\"stand\":\"N1\"}}]}POST /commits HTTP/1.1\r\nContent-Length: 88\r\n\r\n{\"desk\":\"D\",\"draft\":2,\"base\":200000,\"edits\":[{\"put\":{\"visit\":9,\"part\":1,\"stand\":\"N1\"}}]}";
+
+// Their replies.
+const FULL: &str =
+    "HTTP/1.1 409 Conflict\r\nContent-Type: application/json\r\nContent-Length: 33\r\nX-Version: 200000\r\n\r\n{\"error\":\"full\",\"version\":200000}HTTP/1.1 200 OK\r\nContent-Type: application/json\r\nContent-Length: 13\r\nX-Version: 200000\r\n\r\n{\"version\":2}HTTP/1.1 422 Unprocessable Entity\r\nContent-Type: application/json\r\nContent-Length: 45\r\nX-Version: 200000\r\n\r\n{\"edit\":1,\"error\":\"unknown\",\"version\":200000}";
 
 // A desk on the full journal takes no more entries, and goes on.
 #[test]
 fn a_full_history_takes_no_more(rt: HostRuntime) -> Result<(), Fail> {
-    let session = Session::of(rt.alloc(), AT_FULL)?;
     let full = full_journal(rt.alloc())?;
-    let goes_on = session.is_told_on(rt.alloc(), &full, &session.input)?;
+    let goes_on = is_told_on(rt.alloc(), &full, AT_FULL, FULL)?;
     assert!(rt; goes_on);
     Ok(())
 }

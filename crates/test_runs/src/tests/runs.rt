@@ -1,12 +1,11 @@
 // The program on texts in memory.
-use apron_base::{ListSink, ListSource, MapShelf, Memory, Name, ShelfFile};
-use apron_run::{run, run_with};
+use apron_base::{ListSink, ListSource, MapShelf, Memory, ShelfFile};
+use apron_run::run;
 use journal_disk::{MemoryDisk, digest_of};
 use std::alloc::Global;
 use std::fmt::Debug;
 use std::test::Fail;
 use test_support::{AIRPORT, ROOM, TYPES, shelf_file, words};
-use watch_list::{Shown, Watch, Watches};
 
 /// What the program is run on.
 #[derive(Clone, Copy)]
@@ -19,8 +18,6 @@ pub(super) struct Run<'a> {
     pub(super) types: &'a str,
     /// The bytes of the file `S`.
     pub(super) season: &'a [u8],
-    /// The watches: their names, and what they show. Without one it is a run that takes no watches.
-    pub(super) watches: &'a [(&'a str, Shown)],
     /// The bytes that the source has.
     pub(super) input: &'a [u8],
     /// How many bytes of them the source gives at a time; after the last of these it gives the rest
@@ -47,7 +44,6 @@ pub(super) const DEMO: Run = Run {
     airport: AIRPORT,
     types: TYPES,
     season: &[],
-    watches: &[],
     input: &[],
     pieces: &[],
     failing_files: &[],
@@ -108,37 +104,12 @@ impl Run<'_> {
         let mut sink = ListSink::new(alloc, 200_000, self.failing_puts.to_vec(alloc)?)?;
         let mut disk = self.disk(alloc)?;
         let words = words.as_slice();
-        let status = if self.watches.is_empty() {
-            run(alloc, words, &mut shelf, &mut source, &mut sink, &mut disk)
-        } else {
-            let watches = self.watches(alloc)?;
-            run_with(
-                alloc,
-                words,
-                &watches,
-                &mut shelf,
-                &mut source,
-                &mut sink,
-                &mut disk,
-            )
-        };
+        let status = run(alloc, words, &mut shelf, &mut source, &mut sink, &mut disk);
         Ok(Ended {
             output: sink.bytes().to_vec(alloc)?,
             status,
             disk,
         })
-    }
-
-    // A name that is none, or that two watches have, counts as a lack of memory.
-    fn watches(&self, alloc: Global) -> Result<Watches<Shown, Shown>, Memory> {
-        let mut watches = Watches::new(alloc)?;
-        for (name, shown) in self.watches {
-            let name = Name::new(name.as_bytes()).ok_or(Memory)?;
-            if watches.add(Watch::new(name, *shown, *shown)).is_err() {
-                return Err(Memory);
-            }
-        }
-        Ok(watches)
     }
 
     fn shelf(&self, alloc: Global) -> Result<MapShelf, Memory> {

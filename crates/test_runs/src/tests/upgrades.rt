@@ -1,8 +1,8 @@
 // Journals of format 1: a desk refuses them, and an upgrade makes them journals of format 2.
 use super::crashes::EACH_UNSYNCED;
 use super::journals::{ADDS, PUTS};
-use super::lines::Session;
 use super::runs::{DEMO, Ended, FORMAT_1, FORMAT_2, Run, journal};
+use super::versions::{AT_TWO, VERSION, is_told_on};
 use apron_base::Memory;
 use journal_disk::Unsynced;
 use std::alloc::Global;
@@ -88,13 +88,10 @@ fn a_journal_of_format_1_is_refused_until_it_is_upgraded(rt: HostRuntime) -> Res
     Ok(())
 }
 
-const VERSION: &[u8] = b"GET /version HTTP/1.1\r\n\r\n";
-
 #[test]
 fn an_upgraded_journal_has_its_entries(rt: HostRuntime) -> Result<(), Fail> {
-    let session = Session::of(rt.alloc(), "< 200 2 {\"version\":2}")?;
     let upgraded = upgraded_of_two(rt.alloc())?;
-    let has_two = session.is_told_on(rt.alloc(), &upgraded, VERSION)?;
+    let has_two = is_told_on(rt.alloc(), &upgraded, VERSION, AT_TWO)?;
     assert!(rt; has_two);
     Ok(())
 }
