@@ -8,7 +8,7 @@ use crate::FilesFault;
 use airport_files::read_airport;
 use apron_base::{Shelf, ShelfFault};
 use apron_rules::Airport;
-use journal_disk::digest_of;
+use sha2::{Digest, Sha256};
 use std::alloc::Global;
 
 /// The most bytes of a file: 1 MiB.
@@ -59,8 +59,8 @@ fn digests_of(airport: &[u8], types: &[u8]) -> [u8; 64]
 {
     let mut both = [0; 64];
     let (front, back) = both.split_at_mut(32);
-    front.copy_from_slice(&digest_of(airport));
-    back.copy_from_slice(&digest_of(types));
+    front.copy_from_slice(&Sha256::digest(airport));
+    back.copy_from_slice(&Sha256::digest(types));
     both
 }
 

@@ -3,7 +3,7 @@ use Rattle.std.proofs.Common.{◌≡◌, Bool, true, Option, None, Some, Result,
 use Rattle.std.specs.Prelude.{is_ok}
 use Rattle.apron_rules.specs.declared.parts.AirportParts.{AirportParts}
 use Rattle.http_framing.specs.Requests.{Request}
-use Rattle.desk_words.specs.declared.asks.Ask.{Ask}
+use Rattle.desk_asks.specs.declared.asks.Ask.{Ask}
 use Rattle.desk_words.specs.declared.early.EarlyReply.{EarlyReply}
 use Rattle.history_core.specs.Answer.{keeper_fault, no_memory}
 use Rattle.desk_http.specs.Alone.{AloneAsks}

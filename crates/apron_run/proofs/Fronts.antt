@@ -8,7 +8,7 @@ use Rattle.std.proofs.lemmas.List.{take-append-le, take_all, take_at}
 use Rattle.apron_base.specs.Counts.{Counts}
 use Rattle.apron_base.specs.Keeper.{AddsEntry, FailsToAdd, KeeperState, with_last}
 use Rattle.apron_rules.specs.declared.parts.AirportParts.{AirportParts}
-use Rattle.desk_words.specs.declared.asks.Entry.{Entry}
+use Rattle.desk_asks.specs.declared.asks.Entry.{Entry}
 use Rattle.entry_bytes.specs.Entries.{decode_entry}
 use Rattle.history_core.specs.AtRisk.{read_entry_at_risk as entry_behind}
 use Rattle.history_core.specs.Board.{IsKeeperOf, IsNextText, entry_texts}

@@ -9,7 +9,7 @@ use Rattle.apron_base.specs.declared.outside.Outcome.TheVariants as came
 use Rattle.apron_base.proofs.Runs.{wrote_both, wrote_none}
 use Rattle.apron_rules.specs.declared.parts.AirportParts.{AirportParts}
 use Rattle.visit_book.specs.declared.visits.NewVisit.{NewVisit}
-use Rattle.desk_words.specs.declared.asks.Entry.{Entry}
+use Rattle.desk_asks.specs.declared.asks.Entry.{Entry}
 use Rattle.history_core.specs.History.{IsLegal, call_limit}
 use Rattle.history_core.specs.Opening.{next_after}
 use Rattle.history_core.proofs.Added.{visits_added}

@@ -4,7 +4,7 @@ use Rattle.std.specs.Prelude.{IfOk}
 use Rattle.apron_base.specs.declared.listed.Memory.{Memory as Wanting}
 use Rattle.apron_rules.specs.declared.parts.AirportParts.{AirportParts}
 use Rattle.plan_core.specs.Drafts.{draft_version}
-use Rattle.desk_words.specs.declared.asks.Entry.{Entry}
+use Rattle.desk_asks.specs.declared.asks.Entry.{Entry}
 use Rattle.history_core.specs.History.{IsLegal, replay}
 use Rattle.history_core.proofs.Drafts.{drafts_made}
 use Rattle.proposal_text.specs.Lines.{IsDraftText}

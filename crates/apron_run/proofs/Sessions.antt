@@ -16,8 +16,8 @@ use Rattle.http_framing.specs.Requests.{HasRequest, Request}
 use Rattle.http_framing.specs.Streams.{Ending, ended, cut, closed, malformed, IsOpen, Requests, Splits}
 use Rattle.http_framing.proofs.OneReading.{HasRequest-unique, one_reading, request_ends}
 use Rattle.http_framing.proofs.StreamLaws.{splits_more, whole_more}
-use Rattle.desk_words.specs.declared.asks.Ask.{Ask}
-use Rattle.desk_words.specs.declared.asks.Entry.{Entry}
+use Rattle.desk_asks.specs.declared.asks.Ask.{Ask}
+use Rattle.desk_asks.specs.declared.asks.Entry.{Entry}
 use Rattle.desk_words.specs.declared.early.EarlyReply.{EarlyReply}
 use Rattle.history_core.specs.History.{call_limit}
 use Rattle.history_core.specs.Opening.{next_after}

@@ -7,7 +7,7 @@ use Rattle.apron_base.specs.Shelf.{ShelfState}
 use Rattle.apron_rules.specs.declared.parts.AirportParts.{AirportParts}
 use Rattle.airport_files.specs.Meaning.{meaning}
 use Rattle.airport_files.specs.declared.read.FileFault.{FileFault}
-use Rattle.desk_words.specs.declared.asks.Entry.{Entry}
+use Rattle.desk_asks.specs.declared.asks.Entry.{Entry}
 use Rattle.entry_bytes.specs.Entries.{decode_entry}
 use Rattle.history_core.specs.Board.{Spells, entry_texts}
 use Rattle.history_core.specs.History.{IsLegal}

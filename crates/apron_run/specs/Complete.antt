@@ -10,8 +10,8 @@ use Rattle.visit_book.specs.declared.visits.NewVisit.{NewVisit}
 use Rattle.visit_book.specs.declared.visits.Visit.{Visit}
 use Rattle.plan_core.specs.Names.{visit_named}
 use Rattle.plan_core.specs.PlanState.{PlanState}
-use Rattle.desk_words.specs.declared.asks.Command.TheVariants.{AddVisit}
-use Rattle.desk_words.specs.declared.asks.Entry.{Entry}
+use Rattle.desk_asks.specs.declared.asks.Command.TheVariants.{AddVisit}
+use Rattle.desk_asks.specs.declared.asks.Entry.{Entry}
 use Rattle.history_core.specs.History.{call_limit, replay}
 use Rattle.history_core.specs.Opening.{next_after}
 use Rattle.history_core.specs.Steps.{HasPlace, IsOtherName}

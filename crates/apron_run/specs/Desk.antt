@@ -6,7 +6,7 @@ use Rattle.apron_base.specs.declared.outside.Outcome.{Outcome}
 use Rattle.apron_base.specs.declared.outside.Outcome.TheVariants.{Memory}
 use Rattle.apron_rules.specs.declared.parts.AirportParts.{AirportParts}
 use Rattle.http_framing.specs.Requests.{Request}
-use Rattle.desk_words.specs.declared.asks.Entry.{Entry}
+use Rattle.desk_asks.specs.declared.asks.Entry.{Entry}
 use Rattle.history_core.specs.History.{call_limit}
 use Rattle.history_core.specs.Opening.{next_after}
 use Rattle.desk_http.specs.Alone.{AloneAsks}

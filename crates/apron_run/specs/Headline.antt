@@ -9,8 +9,8 @@ use Rattle.apron_base.specs.Histories.{Rises}
 use Rattle.apron_rules.specs.declared.parts.AirportParts.{AirportParts}
 use Rattle.visit_book.specs.declared.visits.NewVisit.{NewVisit}
 use Rattle.plan_core.specs.Drafts.{draft_version}
-use Rattle.desk_words.specs.declared.asks.Ask.{Ask}
-use Rattle.desk_words.specs.declared.asks.Entry.{Entry}
+use Rattle.desk_asks.specs.declared.asks.Ask.{Ask}
+use Rattle.desk_asks.specs.declared.asks.Entry.{Entry}
 use Rattle.desk_words.specs.declared.early.EarlyReply.{EarlyReply}
 use Rattle.history_core.specs.Answer.{keeper_fault}
 use Rattle.history_core.specs.AtRisk.{IsAskedFor}

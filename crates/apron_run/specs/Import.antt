@@ -6,7 +6,7 @@ use Rattle.apron_base.specs.Shelf.{ShelfState}
 use Rattle.apron_rules.specs.declared.parts.AirportParts.{AirportParts}
 use Rattle.visit_book.specs.declared.visits.NewVisit.{NewVisit}
 use Rattle.season_files.specs.Seasons.{season_in}
-use Rattle.desk_words.specs.declared.asks.Entry.{Entry}
+use Rattle.desk_asks.specs.declared.asks.Entry.{Entry}
 use Rattle.history_core.specs.History.{IsLegal}
 use Rattle.history_core.specs.Opening.{next_after}
 use Rattle.journal_disk.specs.Disk.{DiskState}

@@ -1,7 +1,7 @@
 -- What the word `propose` does: a first-fit draft for the plan in the journal of an airport.
 use Rattle.std.specs.Prelude.{◌≡◌, ◌⊎◌, ℕ, List}
 use Rattle.apron_rules.specs.declared.parts.AirportParts.{AirportParts}
-use Rattle.desk_words.specs.declared.asks.Entry.{Entry}
+use Rattle.desk_asks.specs.declared.asks.Entry.{Entry}
 use Rattle.history_core.specs.History.{replay}
 use Rattle.history_core.specs.Laws.{HasCommit}
 use Rattle.proposal_text.specs.Lines.{IsProposalText, used_text}

@@ -1,7 +1,7 @@
 -- What a crash may leave of a journal that a run opens and uses, over the moments of its disk.
 use Rattle.std.specs.Prelude.{◌≡◌, ◌⊎◌, ◌<◌, ◌≤◌, ◌+◌, ℕ, List, length, take, Option, Some, IfSome, Ok}
 use Rattle.apron_base.specs.Keeper.{KeeperState, with_last}
-use Rattle.desk_words.specs.declared.asks.Entry.{Entry}
+use Rattle.desk_asks.specs.declared.asks.Entry.{Entry}
 use Rattle.entry_bytes.specs.Entries.{entry_text}
 use Rattle.history_core.specs.Board.{entry_texts}
 use Rattle.journal_disk.specs.Disk.{DiskState, EachImage, IfExposed, TellsAlike}

@@ -5,7 +5,7 @@ use Rattle.apron_base.specs.Counts.{Counts}
 use Rattle.apron_base.specs.Ends.{SinkState}
 use Rattle.apron_base.specs.Histories.{Every}
 use Rattle.apron_rules.specs.declared.parts.AirportParts.{AirportParts}
-use Rattle.desk_words.specs.declared.asks.Entry.{Entry}
+use Rattle.desk_asks.specs.declared.asks.Entry.{Entry}
 use Rattle.entry_bytes.specs.Entries.{decode_entry}
 use Rattle.entry_bytes.specs.Former.{decode_former_entry, lift_entry}
 use Rattle.entry_bytes.specs.declared.faults.EntryFault.{EntryFault}

@@ -31,7 +31,7 @@ use std::marker::{Brand, PhantomData};
 pub(crate) trait PlanText {
     ghost use Rattle.std.specs.Prelude.{ℕ, List, IfOk};
     ghost use Rattle.apron_rules.specs.declared.parts.AirportParts.{AirportParts};
-    ghost use Rattle.desk_words.specs.declared.asks.Entry.{Entry};
+    ghost use Rattle.desk_asks.specs.declared.asks.Entry.{Entry};
     ghost use Rattle.history_core.specs.History.{IsLegal};
 
     /// Whether it can be asked at an airport.

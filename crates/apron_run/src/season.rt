@@ -9,7 +9,7 @@ ghost use Rattle.apron_run.specs.declared.imported.Imported.{Imported};
 use crate::imported::Imported;
 use apron_base::{Acted, CALL_END, Keeper, Listed, Shelf, ShelfFault};
 use apron_rules::Airport;
-use desk_words::asks::{Ask, Command, What};
+use desk_asks::{Ask, Command, What};
 use history_core::Board;
 use plan_core::Plan;
 use season_files::{SeasonFault, read_season};

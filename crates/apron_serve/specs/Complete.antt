@@ -1,7 +1,7 @@
 -- Completeness: `serve` serves all that it is asked for, if nothing fails, or memory has run out.
 use Rattle.std.specs.Prelude.{ℕ, List, Option, None, Some, IsSome}
 use Rattle.apron_base.specs.Counts.{Rose}
-use Rattle.desk_words.specs.declared.asks.Entry.{Entry}
+use Rattle.desk_asks.specs.declared.asks.Entry.{Entry}
 use Rattle.apron_check.specs.declared.files.AirportFiles.{AirportFiles}
 use Rattle.apron_run.specs.Complete.{EndsWell, HasFiles, HasJournal}
 use Rattle.apron_serve.specs.Orders.{Order, day_shown}

@@ -15,7 +15,7 @@ use Rattle.http_framing.specs.Requests.{IsMalformed, Request}
 use Rattle.http_framing.specs.Streams.{Ending, ended, cut, closed, malformed, IsOpen, Requests, Splits}
 use Rattle.http_framing.proofs.OneReading.{HasRequest-unique, one_reading, request_ends}
 use Rattle.http_framing.proofs.StreamLaws.{malformed_more, requests_closed, requests_of, splits_more, splits_push}
-use Rattle.desk_words.specs.declared.asks.Ask.{Ask}
+use Rattle.desk_asks.specs.declared.asks.Ask.{Ask}
 use Rattle.history_core.specs.Answer.{Given}
 use Rattle.desk_http.specs.Answers.{Answered, Answers, Sent, sends, sent_text}
 use Rattle.desk_http.specs.Complete.{AnswersEachBy, ComesToEnd, IsCompleteBy, IsUnhindered, SessionsAreComplete}

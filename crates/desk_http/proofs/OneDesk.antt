@@ -8,9 +8,9 @@ use Rattle.apron_base.specs.Machine.{MachineState, Standing, history_at_risk_of,
 use Rattle.apron_base.specs.declared.outside.Acted.{Acted}
 use Rattle.apron_base.specs.declared.outside.Acted.TheVariants.{Reply as Replied, Memory as NoMemory, Fault, Spent}
 use Rattle.apron_rules.specs.declared.parts.AirportParts.{AirportParts}
-use Rattle.desk_words.specs.declared.asks.Ask.{Ask}
-use Rattle.desk_words.specs.declared.asks.Entry.{Entry}
-use Rattle.desk_words.specs.declared.asks.What.{What}
+use Rattle.desk_asks.specs.declared.asks.Ask.{Ask}
+use Rattle.desk_asks.specs.declared.asks.Entry.{Entry}
+use Rattle.desk_asks.specs.declared.asks.What.{What}
 use Rattle.history_core.specs.Answer.{ActsAs, Given, GivesAnswer, replied, no_memory, keeper_fault}
 use Rattle.history_core.specs.AtRisk.{LeavesAtRisk}
 use Rattle.history_core.specs.History.{IsLegal, call_limit}

@@ -4,7 +4,7 @@ use Rattle.apron_rules.specs.declared.parts.AirportParts.{AirportParts}
 use Rattle.http_framing.specs.Fronts.{ArePartsOf}
 use Rattle.http_framing.specs.Requests.{Request}
 use Rattle.http_framing.specs.declared.front.RequestParts.{RequestParts}
-use Rattle.desk_words.specs.declared.asks.Ask.{Ask}
+use Rattle.desk_asks.specs.declared.asks.Ask.{Ask}
 use Rattle.desk_words.specs.declared.early.EarlyReply.{EarlyReply as EarlyReply}
 use Rattle.history_core.specs.Answer.{Given}
 use Rattle.desk_http.specs.Answers.{Answers, FindsExhausted, SendsFor, at_once, given}

@@ -2,9 +2,9 @@
 use Rattle.std.proofs.Common.{◌≡◌, ◌∙◌, ◌⊎◌, ◌≤◌, ℕ, true, false, true≢false, cond, List, Option, inl, inr, refl, sym, nat_lt, length}
 use Rattle.apron_rules.specs.declared.parts.AirportParts.{AirportParts}
 use Rattle.plan_core.specs.PlanState.{PlanState}
-use Rattle.desk_words.specs.declared.asks.Ask.{Ask}
-use Rattle.desk_words.specs.declared.asks.Entry.{Entry}
-use Rattle.desk_words.specs.declared.asks.What.{What}
+use Rattle.desk_asks.specs.declared.asks.Ask.{Ask}
+use Rattle.desk_asks.specs.declared.asks.Entry.{Entry}
+use Rattle.desk_asks.specs.declared.asks.What.{What}
 use Rattle.desk_words.specs.declared.replies.ReplyBody.TheVariants.{Ahead, Version as ToldVersion}
 use Rattle.history_core.specs.Answer.{Given, GivesAt, IsAccepted, Replies, Sought, ask_outcome, keeper_fault, no_memory, replied, told}
 use Rattle.history_core.specs.History.{replay}

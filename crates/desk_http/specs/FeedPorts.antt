@@ -4,9 +4,9 @@ use Rattle.apron_base.specs.declared.outside.Acted.{Acted}
 use Rattle.apron_base.specs.declared.outside.Acted.TheVariants.{Reply, Memory, Fault, Spent}
 use Rattle.apron_rules.specs.declared.parts.AirportParts.{AirportParts}
 use Rattle.desk_words.specs.Fixed.{no_memory_text}
-use Rattle.desk_words.specs.declared.asks.Ask.{Ask}
-use Rattle.desk_words.specs.declared.asks.Entry.{Entry}
-use Rattle.desk_words.specs.declared.asks.What.TheVariants.{Version}
+use Rattle.desk_asks.specs.declared.asks.Ask.{Ask}
+use Rattle.desk_asks.specs.declared.asks.Entry.{Entry}
+use Rattle.desk_asks.specs.declared.asks.What.TheVariants.{Version}
 use Rattle.history_core.specs.Answer.{no_memory}
 use Rattle.desk_http.specs.Ports.{IsExhausted, PortState, Turn}
 use Rattle.desk_http.specs.declared.port.FeedAsk.{FeedAsk}

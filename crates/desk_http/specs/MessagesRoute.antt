@@ -3,9 +3,9 @@ use Rattle.std.specs.Prelude.{ℕ, List, Result, Ok, Err}
 use Rattle.mvt_grammar.specs.Reading.{read_mvt_of}
 use Rattle.mvt_grammar.specs.declared.message.Mvt.{Mvt}
 use Rattle.mvt_grammar.specs.declared.message.MvtFault.{MvtFault}
-use Rattle.desk_words.specs.declared.asks.Command.TheVariants.{Message}
-use Rattle.desk_words.specs.declared.asks.What.{What}
-use Rattle.desk_words.specs.declared.asks.What.TheVariants.{Change}
+use Rattle.desk_asks.specs.declared.asks.Command.TheVariants.{Message}
+use Rattle.desk_asks.specs.declared.asks.What.{What}
+use Rattle.desk_asks.specs.declared.asks.What.TheVariants.{Change}
 use Rattle.desk_words.specs.declared.early.EarlyReply.{EarlyReply}
 use Rattle.desk_words.specs.declared.early.EarlyReply.TheVariants.{NotMvt}
 

@@ -5,9 +5,9 @@ use Rattle.apron_base.specs.Histories.{Every, Rises}
 use Rattle.apron_base.specs.declared.outside.Acted.{Acted}
 use Rattle.apron_base.specs.declared.outside.Acted.TheVariants.{Spent}
 use Rattle.apron_rules.specs.declared.parts.AirportParts.{AirportParts}
-use Rattle.desk_words.specs.declared.asks.Entry.{Entry}
-use Rattle.desk_words.specs.declared.asks.Ask.{Ask}
-use Rattle.desk_words.specs.declared.asks.What.{What}
+use Rattle.desk_asks.specs.declared.asks.Entry.{Entry}
+use Rattle.desk_asks.specs.declared.asks.Ask.{Ask}
+use Rattle.desk_asks.specs.declared.asks.What.{What}
 use Rattle.history_core.specs.History.{call_limit, call_of, IsLegal}
 use Rattle.history_core.specs.Answer.{Given, keeper_fault, acted_from, GivesAnswer}
 use Rattle.history_core.specs.AtRisk.{IsAskedFor}

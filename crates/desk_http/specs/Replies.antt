@@ -2,7 +2,7 @@
 use Rattle.std.specs.Prelude.{◌≡◌, List, ℕ, Option, None, Some, Result, Ok, Err}
 use Rattle.apron_rules.specs.declared.parts.AirportParts.{AirportParts}
 use Rattle.desk_words.specs.Early.{early_text}
-use Rattle.desk_words.specs.declared.asks.Ask.{Ask}
+use Rattle.desk_asks.specs.declared.asks.Ask.{Ask}
 use Rattle.history_core.specs.Answer.{Given, given_text}
 use Rattle.desk_http.specs.Answers.{Answered, sends, exhausted, unread, Sent, sent_text}
 use Rattle.desk_http.specs.FeedPorts.{FeedGiven, feed_given_text}

@@ -5,9 +5,9 @@ use Rattle.apron_rules.specs.declared.parts.AirportParts.{AirportParts}
 use Rattle.visit_book.specs.declared.reports.Event.{Event}
 use Rattle.visit_book.specs.declared.reports.Event.TheVariants.{On, Off}
 use Rattle.desk_bodies.specs.Reports.{EventSaid, body_cancel, body_report, off, on}
-use Rattle.desk_words.specs.declared.asks.Command.TheVariants.{Cancel, Report}
-use Rattle.desk_words.specs.declared.asks.What.{What}
-use Rattle.desk_words.specs.declared.asks.What.TheVariants.{Change}
+use Rattle.desk_asks.specs.declared.asks.Command.TheVariants.{Cancel, Report}
+use Rattle.desk_asks.specs.declared.asks.What.{What}
+use Rattle.desk_asks.specs.declared.asks.What.TheVariants.{Change}
 use Rattle.desk_words.specs.declared.early.EarlyReply.{EarlyReply}
 use Rattle.desk_words.specs.declared.early.EarlyReply.TheVariants.{NoStand, NotJson}
 use Rattle.desk_http.specs.Names.{stand_named}

@@ -7,9 +7,9 @@ use Rattle.http_framing.specs.Fields.{number_field, pairs, text_field}
 use Rattle.http_framing.specs.Requests.{Request}
 use Rattle.http_framing.specs.declared.fields.FieldNumber.{FieldNumber}
 use Rattle.http_framing.specs.declared.fields.FieldNumber.TheVariants.{Absent, Written, Wrong}
-use Rattle.desk_words.specs.declared.asks.Ask.{Ask}
-use Rattle.desk_words.specs.declared.asks.What.{What}
-use Rattle.desk_words.specs.declared.asks.What.TheVariants as what
+use Rattle.desk_asks.specs.declared.asks.Ask.{Ask}
+use Rattle.desk_asks.specs.declared.asks.What.{What}
+use Rattle.desk_asks.specs.declared.asks.What.TheVariants as what
 use Rattle.desk_words.specs.declared.early.EarlyReply.{EarlyReply}
 use Rattle.desk_words.specs.declared.early.EarlyReply.TheVariants.{NoRoute, OnlyGet, OnlyPost, BadSeen, BadDesk}
 use Rattle.desk_http.specs.Numbers.{within_32_bits}

@@ -11,7 +11,7 @@ use Rattle.http_framing.specs.declared.bodies.RequestRefusal.TheVariants.{Head, 
 use Rattle.http_framing.specs.Closing.{is_closing}
 use Rattle.http_framing.specs.Requests.{Request, HasRequest, IsPartial, IsMalformed}
 use Rattle.http_framing.specs.Streams.{EndsStream, ended, cut, Splits, IsOpen}
-use Rattle.desk_words.specs.declared.asks.Ask.{Ask}
+use Rattle.desk_asks.specs.declared.asks.Ask.{Ask}
 use Rattle.desk_words.specs.Fixed.{bad_encoding_text, bad_head_text, large_body_text, no_length_text}
 use Rattle.history_core.specs.Answer.{Given}
 use Rattle.desk_http.specs.Answers.{Answered, sends, exhausted, unread, Answers, Sent, sent_text}

@@ -5,9 +5,9 @@ use Rattle.apron_rules.specs.declared.parts.AirportParts.{AirportParts}
 use Rattle.visit_book.specs.NewVisits.{is_in_time}
 use Rattle.visit_book.specs.declared.visits.NewVisit.{NewVisit}
 use Rattle.desk_bodies.specs.Visits.{VisitSaid, body_visit}
-use Rattle.desk_words.specs.declared.asks.Command.TheVariants.{AddVisit}
-use Rattle.desk_words.specs.declared.asks.What.{What}
-use Rattle.desk_words.specs.declared.asks.What.TheVariants.{Change}
+use Rattle.desk_asks.specs.declared.asks.Command.TheVariants.{AddVisit}
+use Rattle.desk_asks.specs.declared.asks.What.{What}
+use Rattle.desk_asks.specs.declared.asks.What.TheVariants.{Change}
 use Rattle.desk_words.specs.declared.early.EarlyReply.{EarlyReply}
 use Rattle.desk_words.specs.declared.early.EarlyReply.TheVariants.{NotJson, BadType, BadTimes}
 use Rattle.desk_http.specs.Names.{type_named}

@@ -4,7 +4,7 @@ ghost use Rattle.std.specs.Prelude.{◌≡◌};
 use crate::DeskPort;
 use apron_base::{Acted, CALL_END, Keeper};
 use apron_rules::Airport;
-use desk_words::asks::Ask;
+use desk_asks::Ask;
 use history_core::Board;
 use std::alloc::Global;
 use std::marker::Model;

@@ -8,7 +8,7 @@ use crate::DeskPort;
 use crate::routes::{Unasked, asked_by};
 use crate::targets::DeskRoutes;
 use apron_base::{Acted, Failed, Listed, Sink};
-use desk_words::asks::Ask;
+use desk_asks::Ask;
 use desk_words::early::{EarlyReply, early_bytes};
 use desk_words::fixed;
 use http_framing::RequestParts;

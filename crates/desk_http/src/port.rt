@@ -5,13 +5,13 @@ ghost use Rattle.desk_http.specs.Ports.{ShowsAsk, Turn};
 
 use apron_base::{Acted, Name};
 use apron_rules::Airport;
-use desk_words::asks::Ask;
+use desk_asks::Ask;
 use std::alloc::Global;
 
 /// A way to one board: for one desk alone, or for one of several desks that take turns.
 pub trait DeskPort {
     ghost use Rattle.apron_rules.specs.declared.parts.AirportParts.{AirportParts};
-    ghost use Rattle.desk_words.specs.declared.asks.Ask.{Ask};
+    ghost use Rattle.desk_asks.specs.declared.asks.Ask.{Ask};
     ghost use Rattle.history_core.specs.Answer.{Given};
     ghost use Rattle.desk_http.specs.Ports.{PortState, Turn, ShowsAsk};
 
@@ -71,7 +71,7 @@ pub struct FeedAsk {
 pub trait FeedPort: DeskPort {
     ghost use Rattle.std.specs.Prelude.{◌≡◌, ℕ, List};
     ghost use Rattle.apron_rules.specs.declared.parts.AirportParts.{AirportParts};
-    ghost use Rattle.desk_words.specs.declared.asks.Entry.{Entry};
+    ghost use Rattle.desk_asks.specs.declared.asks.Entry.{Entry};
     ghost use Rattle.desk_http.specs.Ports.{PortState};
     ghost use Rattle.desk_http.specs.FeedPorts.{FeedGiven, FeedTurn, ShowsFeed};
     ghost use Rattle.desk_http.specs.declared.port.FeedAsk.{FeedAsk};

@@ -9,8 +9,8 @@ use Rattle.apron_base.proofs.Rising.{rises_length}
 use Rattle.apron_base.specs.declared.outside.Acted.{Acted}
 use Rattle.apron_base.specs.declared.outside.Acted.TheVariants.{Reply as Replied, Memory as NoMemory, Fault, Spent}
 use Rattle.apron_rules.specs.declared.parts.AirportParts.{AirportParts}
-use Rattle.desk_words.specs.declared.asks.Ask.{Ask}
-use Rattle.desk_words.specs.declared.asks.Entry.{Entry}
+use Rattle.desk_asks.specs.declared.asks.Ask.{Ask}
+use Rattle.desk_asks.specs.declared.asks.Entry.{Entry}
 use Rattle.history_core.specs.Answer.{ActsLegally, Given, GivesAnswer, acted_from, keeper_fault, no_memory, replied}
 use Rattle.history_core.specs.History.{IsLegal, call_of}
 use Rattle.turn_board.specs.Board.{GotTurn, SeatState, Sits, TurnBoardState}

@@ -6,7 +6,7 @@ use Rattle.std.proofs.Crossing.{crosses}
 use Rattle.std.proofs.MapsCrossing as maps
 use Rattle.apron_base.specs.declared.machine.Machine as machines
 use Rattle.apron_rules.specs.contracts.airport.Airport as Airport
-use Rattle.desk_words.specs.declared.asks.Entry.{Entry}
+use Rattle.desk_asks.specs.declared.asks.Entry.{Entry}
 use Rattle.turn_board.proofs.Crosses as turns
 use Rattle.turn_board.specs.contracts.board.Seat as Seat
 use Rattle.turn_board.specs.contracts.board.TurnBoard as TurnBoard

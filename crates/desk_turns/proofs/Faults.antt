@@ -8,7 +8,7 @@ use Rattle.apron_base.specs.Histories.{Every}
 use Rattle.apron_base.specs.Machine.{is_fault}
 use Rattle.apron_base.specs.declared.outside.Acted.{Acted}
 use Rattle.apron_rules.specs.declared.parts.AirportParts.{AirportParts}
-use Rattle.desk_words.specs.declared.asks.Entry.{Entry}
+use Rattle.desk_asks.specs.declared.asks.Entry.{Entry}
 use Rattle.history_core.specs.Answer.{Given, acted_from, keeper_fault, no_memory, replied}
 use Rattle.turn_board.specs.Totals.{rise_of}
 use Rattle.turn_board.specs.declared.view.Call.{Call}

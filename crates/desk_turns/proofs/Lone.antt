@@ -7,8 +7,8 @@ use Rattle.apron_base.specs.Machine.{ActsAtRisk, MachineState, Standing, history
 use Rattle.apron_base.specs.declared.outside.Acted.{Acted}
 use Rattle.apron_base.specs.declared.outside.Acted.TheVariants.{Reply as Replied, Memory as NoMemory, Fault, Spent}
 use Rattle.apron_rules.specs.declared.parts.AirportParts.{AirportParts}
-use Rattle.desk_words.specs.declared.asks.Ask.{Ask}
-use Rattle.desk_words.specs.declared.asks.Entry.{Entry}
+use Rattle.desk_asks.specs.declared.asks.Ask.{Ask}
+use Rattle.desk_asks.specs.declared.asks.Entry.{Entry}
 use Rattle.desk_words.specs.declared.replies.ReplyBody.{ReplyBody}
 use Rattle.desk_words.specs.declared.replies.ReplyBody.TheVariants.{Ahead, Version as ToldVersion}
 use Rattle.history_core.specs.Answer.{ActsLegally, Given, GivesAt, Sought, acted_from, keeper_fault, no_memory, replied, told}

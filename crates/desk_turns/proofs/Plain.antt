@@ -3,8 +3,8 @@ use Rattle.std.proofs.Common.{◌≡◌, ℕ, Bool, List, inl, inr, subst}
 use Rattle.apron_base.specs.Machine.{ActsAtRisk, MachineState, Standing}
 use Rattle.apron_base.specs.declared.outside.Acted.{Acted}
 use Rattle.apron_rules.specs.declared.parts.AirportParts.{AirportParts}
-use Rattle.desk_words.specs.declared.asks.Ask.{Ask}
-use Rattle.desk_words.specs.declared.asks.Entry.{Entry}
+use Rattle.desk_asks.specs.declared.asks.Ask.{Ask}
+use Rattle.desk_asks.specs.declared.asks.Entry.{Entry}
 use Rattle.history_core.specs.Answer.{ActsLegally}
 use Rattle.history_core.specs.History.{call_of}
 use Rattle.turn_board.specs.Board.{GotTurn, SeatState}

@@ -8,7 +8,7 @@ use Rattle.std.proofs.lemmas.List.Sums.{sum_by-append, sum_by-cons}
 use Rattle.apron_base.specs.Histories.{Every}
 use Rattle.apron_base.specs.Listener.{ListenerState}
 use Rattle.apron_base.specs.Machine.{MachineState}
-use Rattle.desk_words.specs.declared.asks.Entry.{Entry}
+use Rattle.desk_asks.specs.declared.asks.Entry.{Entry}
 use Rattle.history_core.specs.History.{IsLegal, call_of}
 use Rattle.turn_board.specs.Board.{Closes, IsPutAtRisk, Meets, OpensTurnBoard, SeatState, TurnBoardState}
 use Rattle.turn_board.specs.Totals.{below, times}

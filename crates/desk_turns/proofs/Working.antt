@@ -7,7 +7,7 @@ use Rattle.apron_base.specs.Keeper.{with_last}
 use Rattle.apron_base.specs.Listener.{ListenerState, TakesFirst, TakesNone, Finishes as IsFinished}
 use Rattle.apron_base.specs.declared.listener.Finished.{Finished}
 use Rattle.apron_rules.specs.declared.parts.AirportParts.{AirportParts}
-use Rattle.desk_words.specs.declared.asks.Ask.{Ask}
+use Rattle.desk_asks.specs.declared.asks.Ask.{Ask}
 use Rattle.history_core.specs.Answer.{Given}
 use Rattle.desk_http.specs.FeedPorts.{FeedGiven}
 use Rattle.desk_http.specs.Ports.{PortState}

@@ -5,7 +5,7 @@ use Rattle.apron_base.specs.Counts.{RoseBy}
 use Rattle.apron_base.specs.Histories.{Every, Rises}
 use Rattle.apron_base.specs.Listener.{ListenerState}
 use Rattle.apron_base.specs.Machine.{MachineState}
-use Rattle.desk_words.specs.declared.asks.Entry.{Entry}
+use Rattle.desk_asks.specs.declared.asks.Entry.{Entry}
 use Rattle.history_core.specs.History.{IsLegal, call_limit, call_of}
 use Rattle.desk_http.specs.Ports.{IsLater, PortState}
 use Rattle.desk_http.specs.Session.{SessionKind}

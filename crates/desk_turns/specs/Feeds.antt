@@ -3,8 +3,8 @@ use Rattle.std.specs.Prelude.{◌≡◌, ◌≢◌, ℕ, List}
 use Rattle.apron_base.specs.declared.outside.Acted.{Acted}
 use Rattle.apron_base.specs.declared.outside.Acted.TheVariants.{Reply, Fault}
 use Rattle.apron_rules.specs.declared.parts.AirportParts.{AirportParts}
-use Rattle.desk_words.specs.declared.asks.Ask.{Ask}
-use Rattle.desk_words.specs.declared.asks.Entry.{Entry}
+use Rattle.desk_asks.specs.declared.asks.Ask.{Ask}
+use Rattle.desk_asks.specs.declared.asks.Entry.{Entry}
 use Rattle.history_core.specs.Answer.{Given, no_memory}
 use Rattle.history_core.specs.History.{IsLegal}
 use Rattle.desk_http.specs.FeedPorts.{FeedGiven, FeedTurn}

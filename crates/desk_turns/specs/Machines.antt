@@ -4,9 +4,9 @@ use Rattle.apron_base.specs.Machine.{MachineState}
 use Rattle.apron_base.specs.declared.outside.Acted.{Acted}
 use Rattle.apron_base.specs.declared.outside.Acted.TheVariants.{Memory as NoMemory, Spent}
 use Rattle.apron_rules.specs.declared.parts.AirportParts.{AirportParts}
-use Rattle.desk_words.specs.declared.asks.Ask.{Ask}
-use Rattle.desk_words.specs.declared.asks.Entry.{Entry}
-use Rattle.desk_words.specs.declared.asks.What.TheVariants.{Change}
+use Rattle.desk_asks.specs.declared.asks.Ask.{Ask}
+use Rattle.desk_asks.specs.declared.asks.Entry.{Entry}
+use Rattle.desk_asks.specs.declared.asks.What.TheVariants.{Change}
 use Rattle.history_core.specs.Answer.{ActsLegally}
 use Rattle.history_core.specs.History.{call_of}
 use Rattle.turn_board.specs.Board.{AskAndAnswer, GotTurn, SeatState}

@@ -2,7 +2,7 @@
 use Rattle.std.specs.Prelude.{Bool, List}
 use Rattle.std.proofs.Common.{subst}
 use Rattle.apron_base.specs.declared.outside.Acted.{Acted}
-use Rattle.desk_words.specs.declared.asks.Entry.{Entry}
+use Rattle.desk_asks.specs.declared.asks.Entry.{Entry}
 use Rattle.watch_list.specs.WatchBoards.{FindsLegalHistory as FeedsNotes, IsReplyOrMemory}
 use Rattle.watch_list.specs.declared.note.Note.{Note}
 use Rattle.watch_list.specs.declared.watch_asks.WatchFixed.{WatchFixed}

@@ -1,7 +1,7 @@
 -- A board with watches as a machine that answers feeds.
 use Rattle.std.specs.Prelude.{ℕ, Bool, List, []}
 use Rattle.apron_rules.specs.declared.parts.AirportParts.{AirportParts}
-use Rattle.desk_words.specs.declared.asks.Entry.{Entry}
+use Rattle.desk_asks.specs.declared.asks.Entry.{Entry}
 use Rattle.watch_list.specs.WatchBoards.{feed_reply}
 use Rattle.watch_list.specs.Watches.{shows}
 use Rattle.watch_list.specs.declared.note.Note.{Note}

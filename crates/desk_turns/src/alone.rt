@@ -1,6 +1,6 @@
 // One desk that has a machine to itself.
 ghost use Rattle.std.specs.Prelude.{◌≡◌, ◌≢◌, ◌≤◌, ℕ};
-ghost use Rattle.desk_words.specs.declared.asks.Ask.{Ask};
+ghost use Rattle.desk_asks.specs.declared.asks.Ask.{Ask};
 ghost use Rattle.history_core.specs.History.{IsAskOf, IsLegal, call_limit};
 ghost use Rattle.desk_http.specs.Alone.{AloneAsks, port_over};
 ghost use Rattle.desk_http.specs.Ports.{ShowsAsk};
@@ -10,8 +10,8 @@ use crate::machine::{DeskMachine, FeedMachine};
 use crate::served::answer_if_uncopied;
 use apron_base::{Acted, CALL_END, Machine, Memory, Name};
 use apron_rules::Airport;
+use desk_asks::{Ask, What};
 use desk_http::{DeskPort, Feed, FeedAsk, FeedPort};
-use desk_words::asks::{Ask, What};
 use std::alloc::Global;
 use std::marker::Model;
 

@@ -1,8 +1,8 @@
 // A board with something around it, at which desks take turns.
 use apron_base::{Acted, Keeper, Machine, Memory};
 use apron_rules::AirportParts;
+use desk_asks::{Ask, Entry};
 use desk_http::FeedAsk;
-use desk_words::asks::{Ask, Entry};
 use history_core::Board;
 use std::alloc::Global;
 
@@ -13,9 +13,9 @@ pub trait DeskMachine: Machine<Entry = Entry> {
     ghost use Rattle.std.specs.Prelude.{◌≡◌, ◌≤◌, ℕ, IfOk, List, OnErr};
     ghost use Rattle.apron_base.specs.declared.outside.Acted.{Acted};
     ghost use Rattle.apron_rules.specs.declared.parts.AirportParts.{AirportParts};
-    ghost use Rattle.desk_words.specs.Commands.{AsksCommand};
-    ghost use Rattle.desk_words.specs.declared.asks.Ask.{Ask};
-    ghost use Rattle.desk_words.specs.declared.asks.Entry.{Entry};
+    ghost use Rattle.desk_asks.specs.Commands.{AsksCommand};
+    ghost use Rattle.desk_asks.specs.declared.asks.Ask.{Ask};
+    ghost use Rattle.desk_asks.specs.declared.asks.Entry.{Entry};
     ghost use Rattle.history_core.specs.Answer.{ActsLegally};
     ghost use Rattle.history_core.specs.History.{IsAskOf, IsLegal, call_limit, call_of};
     ghost use Rattle.desk_turns.specs.Machines.{AddsAsked};
@@ -65,7 +65,7 @@ pub trait DeskMachine: Machine<Entry = Entry> {
 pub trait FeedMachine: DeskMachine {
     ghost use Rattle.std.specs.Prelude.{◌≡◌, ℕ, List};
     ghost use Rattle.apron_base.specs.declared.outside.Acted.{Acted};
-    ghost use Rattle.desk_words.specs.declared.asks.Entry.{Entry};
+    ghost use Rattle.desk_asks.specs.declared.asks.Entry.{Entry};
     ghost use Rattle.desk_http.specs.declared.port.FeedAsk.{FeedAsk};
     ghost use Rattle.desk_turns.specs.Feeds.{IsLegalFeed};
 
@@ -95,7 +95,7 @@ pub trait FeedMachine: DeskMachine {
 
 impl<'a, K: Keeper> DeskMachine for Board<'a, K> {
     ghost use Rattle.std.specs.Prelude.{◌≡◌, IfOk, OnErr, refl};
-    ghost use Rattle.desk_words.specs.Commands.{AsksCommand};
+    ghost use Rattle.desk_asks.specs.Commands.{AsksCommand};
 
     ghost airport = { λ airport. airport };
 

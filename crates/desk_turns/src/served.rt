@@ -1,16 +1,16 @@
 // One of several desks that take turns at a board.
 ghost use Rattle.std.specs.Prelude.{◌≡◌, IfOk, OnErr};
-ghost use Rattle.desk_words.specs.declared.asks.Ask.{Ask};
+ghost use Rattle.desk_asks.specs.declared.asks.Ask.{Ask};
 ghost use Rattle.history_core.specs.History.{IsAskOf};
 ghost use Rattle.turn_board.specs.Board.{Sits};
-ghost use Rattle.desk_words.specs.Commands.{AsksCommand};
+ghost use Rattle.desk_asks.specs.Commands.{AsksCommand};
 ghost use Rattle.desk_turns.specs.Machines.{AsksAt, AsksBoard, answer_if_uncopied};
 
 use crate::machine::{DeskMachine, FeedMachine};
 use apron_base::{Acted, Machine, Memory, Name};
 use apron_rules::Airport;
+use desk_asks::{Ask, What};
 use desk_http::{DeskPort, Feed, FeedAsk, FeedPort};
-use desk_words::asks::{Ask, What};
 use history_core::Board;
 use std::alloc::Global;
 use std::marker::Model;

@@ -1,11 +1,11 @@
 // A board with watches: desks take turns at it, and it answers feeds.
 ghost use Rattle.std.specs.Prelude.{◌≡◌, IfOk, OnErr};
-ghost use Rattle.desk_words.specs.Commands.{AsksCommand};
+ghost use Rattle.desk_asks.specs.Commands.{AsksCommand};
 
 use crate::machine::{DeskMachine, FeedMachine};
 use apron_base::{Keeper, Memory};
+use desk_asks::Ask;
 use desk_http::FeedAsk;
-use desk_words::asks::Ask;
 use std::alloc::Global;
 use watch_list::{NoteTest, Stated, WatchAsk, WatchBoard};
 

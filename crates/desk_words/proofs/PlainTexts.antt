@@ -13,6 +13,9 @@ use Rattle.serde_json.specs.Data.{string}
 use Rattle.serde_json.specs.Written.{compact_text}
 use Rattle.apron_base.specs.Name.{IsName, IsNameByte}
 use Rattle.mvt_grammar.specs.Canonical.{two_text}
+use Rattle.apron_rules.specs.RuleWords.{rule_word}
+use Rattle.apron_rules.specs.declared.rules.Rule.{Rule}
+use Rattle.apron_rules.specs.declared.rules.Rule.TheVariants.{Same, Split, Clearance, Pair}
 use Rattle.desk_words.specs.JsonText.{is_plain, is_plain_byte}
 
 -- after the quotation mark, a plain byte stands as it is
@@ -57,3 +60,9 @@ digits_plain (suc count) n line h =
 pub decimal_plain : (n : ℕ) → is_plain (decimal n) ≡ true
 unfolding digits
 decimal_plain n = digits_plain 64 n [] refl
+
+pub rule_plain : (rule : Rule) → is_plain (rule_word rule) ≡ true
+rule_plain Same = refl
+rule_plain Split = refl
+rule_plain Clearance = refl
+rule_plain Pair = refl

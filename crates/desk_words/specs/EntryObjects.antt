@@ -1,8 +1,8 @@
 -- An entry of the history, as replies give it.
 use Rattle.std.specs.Prelude.{ℕ, List, Option, codes}
 use Rattle.serde_json.specs.Data.{Data, string, object, member, no_members}
-use Rattle.desk_words.specs.declared.asks.EntryKind.{EntryKind}
-use Rattle.desk_words.specs.declared.asks.EntryKind.TheVariants.{Visit, Commit, Message, Report, Cancel}
+use Rattle.desk_asks.specs.declared.asks.EntryKind.{EntryKind}
+use Rattle.desk_asks.specs.declared.asks.EntryKind.TheVariants.{Visit, Commit, Message, Report, Cancel}
 use Rattle.desk_words.specs.PartObjects.{name_data, whole}
 
 -- the word of a kind

@@ -9,7 +9,8 @@ use Rattle.visit_book.specs.declared.edits.EditFault.{EditFault}
 use Rattle.visit_book.specs.declared.edits.EditFault.TheVariants.{UnknownVisit, Overtaken, Gone, NoSuchPart, OnBlock, BadCut, BadJoin, Unfit, Clash, Memory}
 use Rattle.desk_words.specs.declared.replies.Denial.{Denial}
 use Rattle.desk_words.specs.declared.replies.Denial.TheVariants as denial
-use Rattle.desk_words.specs.PartObjects.{part_data, rule_word, whole}
+use Rattle.apron_rules.specs.RuleWords.{rule_word}
+use Rattle.desk_words.specs.PartObjects.{part_data, whole}
 
 -- {"error":WORD,"version":N}
 abbrev pub refused_data : List ℕ → ℕ → Data

@@ -1,4 +1,3 @@
-pub mod Commands
 pub mod JsonText
 pub mod Texts
 pub mod Fixed

@@ -1,4 +1,4 @@
--- Parts of visits and rules, as replies give them.
+-- Parts of visits, stands and types, as replies give them.
 use Rattle.std.specs.Prelude.{ℕ, List, Option, None, Some, option_map, codes}
 use Rattle.serde_json.specs.Data.{Data, null, number, unsigned, string, object, member, no_members}
 use Rattle.apron_base.specs.declared.numbers.PartId.{PartId}
@@ -6,8 +6,6 @@ use Rattle.apron_base.specs.declared.numbers.StandNo.{StandNo}
 use Rattle.apron_base.specs.declared.numbers.TypeNo.{TypeNo}
 use Rattle.apron_rules.specs.declared.parts.AirportParts.{AirportParts}
 use Rattle.apron_rules.specs.Rules.{stand_at, type_at}
-use Rattle.apron_rules.specs.declared.rules.Rule.{Rule}
-use Rattle.apron_rules.specs.declared.rules.Rule.TheVariants.{Same, Split, Clearance, Pair}
 
 -- a whole number
 abbrev pub whole : ℕ → Data
@@ -18,13 +16,6 @@ abbrev pub part_data : PartId → Data
 part_data part =
     object (member (codes "part") (whole part.part)
     (member (codes "visit") (whole part.visit.0) no_members))
-
--- the word of a rule
-abbrev pub rule_word : Rule → List ℕ
-rule_word Same = codes "same"
-rule_word Split = codes "split"
-rule_word Clearance = codes "clearance"
-rule_word Pair = codes "pair"
 
 -- a name, or null if there is none
 abbrev pub name_data : Option (List ℕ) → Data

@@ -4,7 +4,7 @@ use Rattle.serde_json.specs.Data.{Data, boolean, array, object, member, no_membe
 use Rattle.serde_json.specs.View.{items_of}
 use Rattle.apron_rules.specs.declared.parts.AirportParts.{AirportParts}
 use Rattle.visit_book.specs.Places.{is_actual}
-use Rattle.desk_words.specs.declared.replies.PartRow.{PartRow}
+use Rattle.visit_book.specs.declared.visits.PartRow.{PartRow}
 use Rattle.desk_words.specs.PartObjects.{whole}
 use Rattle.desk_words.specs.VisitObjects.{place_bump_data, place_stand_data}
 

@@ -14,7 +14,7 @@ use Rattle.visit_book.specs.declared.visits.Bump.{Bump}
 use Rattle.visit_book.specs.declared.visits.Place.TheVariants.{Planned, Actual, Unplaced as Nowhere}
 use Rattle.visit_book.specs.declared.visits.Visit.{Visit}
 use Rattle.visit_book.specs.declared.edits.EditFault.TheVariants.{Unfit, Clash}
-use Rattle.desk_words.specs.declared.replies.PartRow.{PartRow}
+use Rattle.visit_book.specs.declared.visits.PartRow.{PartRow}
 use Rattle.desk_words.specs.declared.replies.ReplyBody.TheVariants.{Committed, Visit as AVisit, Plan, Unplaced, Chart, Edit}
 use Rattle.desk_words.specs.Replies.{reply_text}
 

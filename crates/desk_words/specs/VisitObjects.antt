@@ -13,7 +13,8 @@ use Rattle.visit_book.specs.declared.visits.Part.{Part}
 use Rattle.visit_book.specs.declared.visits.Place.{Place}
 use Rattle.visit_book.specs.declared.visits.Place.TheVariants.{Unplaced, Planned, Actual}
 use Rattle.visit_book.specs.declared.visits.Visit.{Visit}
-use Rattle.desk_words.specs.PartObjects.{part_data, rule_word, stand_data, type_data, whole}
+use Rattle.apron_rules.specs.RuleWords.{rule_word}
+use Rattle.desk_words.specs.PartObjects.{part_data, stand_data, type_data, whole}
 
 -- {"blocker":PART,"entry":N,"minute":M,"rule":WORD,"stand":STAND}
 abbrev pub bump_data : AirportParts → Bump → Data

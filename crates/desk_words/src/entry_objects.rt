@@ -6,9 +6,9 @@ ghost use Rattle.serde_json.specs.Data.{string};
 ghost use Rattle.serde_json.specs.Written.{compact_text};
 ghost use Rattle.desk_words.specs.EntryObjects.{entry_data, kind_word};
 
-use crate::asks::EntryKind;
 use crate::json_text::{push_member, push_name_if, push_text};
 use apron_base::{Memory, Name};
+use desk_asks::EntryKind;
 
 pub(crate) fn push_entry(
     bytes: &mut Vec<u8>,

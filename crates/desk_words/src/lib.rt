@@ -1,5 +1,4 @@
-//! What desks may ask, and the replies that they get back, byte for byte. It doesn't know how an
-//! answer is found.
+//! The replies that desks get back, byte for byte. It doesn't know how an answer is found.
 #![tactic(auto)]
 
 mod airport_objects;

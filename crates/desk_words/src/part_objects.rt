@@ -5,11 +5,12 @@ ghost use Rattle.std.specs.Prelude.{◌≡◌, ◌++◌, true, OnOk};
 ghost use Rattle.serde_json.specs.Data.{string};
 ghost use Rattle.serde_json.specs.Written.{compact_text};
 ghost use Rattle.desk_words.specs.JsonText.{is_plain};
-ghost use Rattle.desk_words.specs.PartObjects.{part_data, rule_word, stand_data, type_data};
+ghost use Rattle.apron_rules.specs.RuleWords.{rule_word};
+ghost use Rattle.desk_words.specs.PartObjects.{part_data, stand_data, type_data};
 
 use crate::json_text::{push_member, push_name, push_null, push_text};
 use apron_base::{Memory, PartId, StandNo, TypeNo};
-use apron_rules::{AirportParts, Rule};
+use apron_rules::{AirportParts, Rule, rule_word};
 
 /// Writes a part at the end, as `{"part":P,"visit":N}`. At `Err` memory has run out.
 pub fn push_part(bytes: &mut Vec<u8>, part: PartId) -> Result<(), Memory>
@@ -50,22 +51,10 @@ pub(crate) fn push_type(
 }
 
 /// Writes the word of a rule at the end. At `Err` memory has run out.
+#[tactic(auto, using(crate::proofs::PlainTexts::rule_plain))]
 pub fn push_rule(bytes: &mut Vec<u8>, rule: Rule) -> Result<(), Memory>
     ensures text { OnOk result
         (bytes.new.items ≡ bytes.old.items ++ compact_text (string (rule_word rule))) }
 {
     push_text(bytes, rule_word(rule).as_bytes())
-}
-
-/// The word of a rule.
-pub fn rule_word(rule: Rule) -> &'static str
-    ensures text { result.now ≡ rule_word rule }
-    ensures plain { is_plain result.now ≡ true }
-{
-    match rule {
-        Rule::Same => "same",
-        Rule::Split => "split",
-        Rule::Clearance => "clearance",
-        Rule::Pair => "pair",
-    }
 }

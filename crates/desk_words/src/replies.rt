@@ -6,7 +6,6 @@ ghost use Rattle.desk_words.specs.Texts.{reply_head, text_of, version_line};
 ghost use Rattle.desk_words.specs.Replies.{IsTellable, added_data, body_text, fault_code, media_of, reply_text, status_code, version_data};
 
 use crate::airport_objects::push_airport;
-use crate::asks::EntryKind;
 use crate::bumped_objects::{push_message, push_reported};
 use crate::entry_objects::push_entry;
 use crate::fault_objects::{denial_word, push_fault, push_other_name, push_refused};
@@ -15,9 +14,10 @@ use crate::row_objects::{push_plan, push_unplaced};
 use crate::visit_objects::{push_day, push_visit};
 use apron_base::{Listed, Memory, Name, PartId, VisitNo};
 use apron_rules::{Airport, AirportParts};
+use desk_asks::EntryKind;
 use http::StatusCode;
 use std::alloc::{AllocError, Global};
-use visit_book::{EditFault, Part, Visit};
+use visit_book::{EditFault, PartRow, Visit};
 
 /// The media type of a body that is JSON.
 pub const JSON: &str = "application/json";
@@ -37,13 +37,6 @@ const MOST_VISIT: usize = 876;
 
 // More than the bytes of any body but its listed items, unless it is the airport's.
 const MOST_OTHER: usize = 256;
-
-/// A part with its numbers.
-#[derive(Clone, Copy, Debug, PartialEq, Eq)]
-pub struct PartRow {
-    pub id: PartId,
-    pub part: Part,
-}
 
 /// What came of what was asked.
 #[derive(Debug, Drop)]

@@ -8,10 +8,10 @@ ghost use Rattle.serde_json.specs.Written.{compact_text};
 ghost use Rattle.desk_words.specs.RowObjects.{plan_data, placed_data, unplaced_data, waiting_data};
 
 use crate::json_text::{push_comma_if, push_member};
-use crate::replies::PartRow;
 use crate::visit_objects::{push_actual, push_place_bump, push_place_stand};
 use apron_base::Memory;
 use apron_rules::AirportParts;
+use visit_book::PartRow;
 
 pub(crate) fn push_plan(
     bytes: &mut Vec<u8>,

@@ -15,18 +15,18 @@ use Rattle.visit_book.specs.declared.drafts.Draft.{Draft}
 use Rattle.visit_book.specs.declared.edits.Edit.{Edit}
 use Rattle.visit_book.specs.declared.reports.Event.{Event}
 use Rattle.visit_book.specs.declared.visits.NewVisit.{NewVisit}
-use Rattle.desk_words.specs.declared.asks.Command.{Command}
-use Rattle.desk_words.specs.declared.asks.Command.TheVariants.{AddVisit, Commit, Message, Report, Cancel}
-use Rattle.desk_words.specs.declared.asks.DeskMessage.{DeskMessage}
-use Rattle.desk_words.specs.declared.asks.DeskReport.{DeskReport}
-use Rattle.desk_words.specs.declared.asks.Entry.{Entry}
+use Rattle.desk_asks.specs.declared.asks.Command.{Command}
+use Rattle.desk_asks.specs.declared.asks.Command.TheVariants.{AddVisit, Commit, Message, Report, Cancel}
+use Rattle.desk_asks.specs.declared.asks.DeskMessage.{DeskMessage}
+use Rattle.desk_asks.specs.declared.asks.DeskReport.{DeskReport}
+use Rattle.desk_asks.specs.declared.asks.Entry.{Entry}
 use Rattle.entry_bytes.specs.declared.faults.EntryFault.{EntryFault}
 use Rattle.entry_bytes.specs.declared.faults.EntryFault.TheVariants.{BadField, BadKind, TrailingBytes}
 use Rattle.entry_bytes.specs.declared.faults.ReadFault.{ReadFault}
 use Rattle.entry_bytes.specs.declared.faults.ReadFault.TheVariants as faults
 use Rattle.entry_bytes.specs.Gives.{FailsReading}
 use Rattle.visit_book.specs.Edits.{IsEditOf}
-use Rattle.desk_words.specs.Commands.{IsCommandOf}
+use Rattle.desk_asks.specs.Commands.{IsCommandOf}
 use Rattle.entry_bytes.specs.Widths.{EditFits, FitsWidths, IsEntryOf}
 use Rattle.entry_bytes.specs.Commits.{commit_text, parse_commit}
 use Rattle.entry_bytes.specs.Entries.{Kinds, command_text, decode_entry, entry_text, fields_of, parse_call, parse_command, parse_desk_message, parse_desk_report, parse_entry, read_with, with_none_left}

@@ -8,10 +8,10 @@ use Rattle.apron_base.proofs.NameTests.{name_decides}
 use Rattle.apron_rules.specs.declared.parts.AirportParts.{AirportParts}
 use Rattle.mvt_grammar.specs.Readable.{IsReadable}
 use Rattle.mvt_grammar.specs.declared.message.Mvt.{Mvt}
-use Rattle.desk_words.specs.declared.asks.Command.{Command}
-use Rattle.desk_words.specs.declared.asks.Command.TheVariants.{AddVisit, Commit, Message, Report, Cancel}
-use Rattle.desk_words.specs.declared.asks.DeskReport.{DeskReport}
-use Rattle.desk_words.specs.declared.asks.Entry.{Entry}
+use Rattle.desk_asks.specs.declared.asks.Command.{Command}
+use Rattle.desk_asks.specs.declared.asks.Command.TheVariants.{AddVisit, Commit, Message, Report, Cancel}
+use Rattle.desk_asks.specs.declared.asks.DeskReport.{DeskReport}
+use Rattle.desk_asks.specs.declared.asks.Entry.{Entry}
 use Rattle.entry_bytes.specs.declared.faults.EntryFault.{EntryFault}
 use Rattle.entry_bytes.specs.declared.faults.EntryFault.TheVariants.{BadKind}
 use Rattle.entry_bytes.specs.Widths.{IsEntryOf}

@@ -1,9 +1,9 @@
 -- Each entry has one spelling.
 use Rattle.std.specs.Prelude.{◌≡◌, ◌<◌, ◌≤◌, ℕ, List, length, slice_index, Ok, Err}
 use Rattle.apron_rules.specs.declared.parts.AirportParts.{AirportParts}
-use Rattle.desk_words.specs.declared.asks.Entry.{Entry}
+use Rattle.desk_asks.specs.declared.asks.Entry.{Entry}
 use Rattle.entry_bytes.specs.declared.faults.EntryFault.{EntryFault}
-use Rattle.desk_words.specs.Commands.{IsCommand}
+use Rattle.desk_asks.specs.Commands.{IsCommand}
 use Rattle.entry_bytes.specs.Widths.{FitsWidths, IsEntryOf}
 use Rattle.entry_bytes.specs.Faults.{IsWithin}
 use Rattle.entry_bytes.specs.Entries.{decode_entry, entry_text}

@@ -5,7 +5,7 @@ use Rattle.apron_base.specs.declared.numbers.VisitNo.{VisitNo}
 use Rattle.apron_rules.specs.declared.parts.AirportParts.{AirportParts}
 use Rattle.visit_book.specs.declared.reports.Event.{Event}
 use Rattle.visit_book.specs.declared.reports.Event.TheVariants.{On, Off}
-use Rattle.desk_words.specs.declared.asks.DeskReport.{DeskReport}
+use Rattle.desk_asks.specs.declared.asks.DeskReport.{DeskReport}
 use Rattle.entry_bytes.specs.declared.faults.EntryFault.TheVariants.{BadField}
 use Rattle.entry_bytes.specs.Readings.{Reading, ◌>>=◌, byte, give, number, such_that, by_tag}
 

@@ -8,10 +8,10 @@ use Rattle.visit_book.specs.declared.edits.Edit.TheVariants.{Put, Lift, Cut, Joi
 use Rattle.visit_book.specs.declared.reports.Event.{Event}
 use Rattle.visit_book.specs.declared.reports.Event.TheVariants.{On, Off}
 use Rattle.visit_book.specs.declared.visits.NewVisit.{NewVisit}
-use Rattle.desk_words.specs.Commands.{IsCommandOf}
-use Rattle.desk_words.specs.declared.asks.Command.{Command}
-use Rattle.desk_words.specs.declared.asks.Command.TheVariants.{AddVisit, Commit, Message, Report, Cancel}
-use Rattle.desk_words.specs.declared.asks.Entry.{Entry}
+use Rattle.desk_asks.specs.Commands.{IsCommandOf}
+use Rattle.desk_asks.specs.declared.asks.Command.{Command}
+use Rattle.desk_asks.specs.declared.asks.Command.TheVariants.{AddVisit, Commit, Message, Report, Cancel}
+use Rattle.desk_asks.specs.declared.asks.Entry.{Entry}
 
 -- the name is one, and each number fits the bytes that it is written in
 pub record VisitFits (new : NewVisit) : Type 0 where

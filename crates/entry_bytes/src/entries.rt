@@ -2,7 +2,7 @@
 ghost use Rattle.std.specs.Prelude.{◌≡◌, ◌≢◌, ◌≤◌, ◌<◌, ◌++◌, IfOk, OnOk, length, Err, Ok};
 ghost use Rattle.apron_base.specs.declared.machine.TheConstants.{CALL_END};
 ghost use Rattle.apron_rules.specs.declared.parts.AirportParts.{AirportParts};
-ghost use Rattle.desk_words.specs.Commands.{IsCommand, IsCommandOf};
+ghost use Rattle.desk_asks.specs.Commands.{IsCommand, IsCommandOf};
 ghost use Rattle.entry_bytes.specs.Widths.{FitsWidths, IsEntryOf};
 ghost use Rattle.entry_bytes.specs.Entries.{parse_command, command_text, parse_call, decode_entry, parse_desk_message, parse_desk_report, parse_entry, entry_text, fields_of, with_none_left};
 ghost use Rattle.entry_bytes.specs.Gives.{FailsReading, GivesReading, ReadsEntry};
@@ -18,7 +18,7 @@ use crate::reports::{parse_cancel, parse_report, push_cancel, push_report};
 use crate::writing::push_name;
 use apron_base::{CALL_END, Listed, Memory};
 use apron_rules::Airport;
-use desk_words::asks::{Command, DeskMessage, DeskReport, Entry};
+use desk_asks::{Command, DeskMessage, DeskReport, Entry};
 use std::alloc::Global;
 
 fn push_command(alloc: Global, out: &mut Vec<u8>, command: &Command) -> Result<(), Memory>

@@ -16,7 +16,7 @@ use crate::reader::Reader;
 use crate::reports::{parse_cancel, parse_report};
 use apron_base::{Listed, Name};
 use apron_rules::Airport;
-use desk_words::asks::{Command, DeskMessage, Entry};
+use desk_asks::{Command, DeskMessage, Entry};
 use std::alloc::Global;
 
 // The name that stands in for the desk of a message or report that named none.

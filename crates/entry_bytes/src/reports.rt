@@ -10,7 +10,7 @@ use crate::reader::{Reader, in_form};
 use crate::writing::{push_u16, push_u32};
 use apron_base::{Memory, Name, StandNo, VisitNo};
 use apron_rules::Airport;
-use desk_words::asks::DeskReport;
+use desk_asks::DeskReport;
 use visit_book::Event;
 
 pub(crate) fn push_cancel(out: &mut Vec<u8>, visit: VisitNo) -> Result<(), Memory>

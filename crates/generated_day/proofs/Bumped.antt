@@ -4,9 +4,9 @@ use Rattle.std.specs.Prelude.{nat_lt}
 use Rattle.std.proofs.lemmas.Bool.{le-ltb, ltb-true, ltb-false}
 use Rattle.std.proofs.lemmas.List.{append-nil, length_push}
 use Rattle.bump_core.specs.Bumped.{bumped_by}
-use Rattle.desk_words.specs.declared.asks.Command.TheVariants.{Message}
-use Rattle.desk_words.specs.declared.asks.DeskMessage.{DeskMessage}
-use Rattle.desk_words.specs.declared.asks.Entry.{Entry}
+use Rattle.desk_asks.specs.declared.asks.Command.TheVariants.{Message}
+use Rattle.desk_asks.specs.declared.asks.DeskMessage.{DeskMessage}
+use Rattle.desk_asks.specs.declared.asks.Entry.{Entry}
 use Rattle.desk_words.specs.declared.replies.Reply.{Reply}
 use Rattle.history_core.specs.Answer.{Replies, added_entries, changes}
 use Rattle.history_core.specs.History.{replay}

@@ -2,8 +2,8 @@
 use Rattle.std.proofs.Common.{◌≡◌, ℕ, subst, Result, Ok, Err, IfOk, ◌+◌, ◌%◌, true, false, refl, ap, add-one}
 use Rattle.mvt_grammar.specs.declared.message.Mvt.{Mvt}
 use Rattle.visit_book.specs.declared.visits.NewVisit.{NewVisit}
-use Rattle.desk_words.specs.declared.asks.Command.{Command}
-use Rattle.desk_words.specs.declared.asks.Command.TheVariants.{AddVisit, Message}
+use Rattle.desk_asks.specs.declared.asks.Command.{Command}
+use Rattle.desk_asks.specs.declared.asks.Command.TheVariants.{AddVisit, Message}
 use Rattle.desk_words.specs.declared.replies.Reply.{Reply}
 use Rattle.generated_day.specs.Asked.{drawn_visit, estimate, passed_on, put_first, scheduled_on}
 use Rattle.generated_day.specs.DayAirport.{count_stands}

@@ -7,9 +7,9 @@ use Rattle.visit_book.specs.Numbers.{visit_at}
 use Rattle.visit_book.specs.declared.edits.Edit.TheVariants.{Put}
 use Rattle.visit_book.specs.declared.visits.NewVisit.{NewVisit}
 use Rattle.visit_book.specs.declared.visits.Visit.{Visit}
-use Rattle.desk_words.specs.declared.asks.Command.{Command}
-use Rattle.desk_words.specs.declared.asks.Command.TheVariants.{Commit}
-use Rattle.desk_words.specs.declared.asks.DeskMessage.{DeskMessage}
+use Rattle.desk_asks.specs.declared.asks.Command.{Command}
+use Rattle.desk_asks.specs.declared.asks.Command.TheVariants.{Commit}
+use Rattle.desk_asks.specs.declared.asks.DeskMessage.{DeskMessage}
 use Rattle.generated_day.specs.Draws.{draw_below, seed_after}
 
 -- the flight that the visit of this number comes by

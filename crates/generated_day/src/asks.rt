@@ -2,7 +2,7 @@
 ghost use Rattle.std.specs.Prelude.{◌≡◌, ◌≤◌, ◌<◌, ◌∷◌, decimal, IfOk};
 ghost use Rattle.mvt_grammar.specs.Readable.{IsFlight, IsReadable};
 ghost use Rattle.visit_book.specs.NewVisits.{IsNewVisitOf};
-ghost use Rattle.desk_words.specs.Commands.{IsCommandOf};
+ghost use Rattle.desk_asks.specs.Commands.{IsCommandOf};
 ghost use Rattle.generated_day.specs.Asked.{day_flight, drawn_visit, estimate, put_first};
 ghost use Rattle.generated_day.specs.DayAirport.{day_airport};
 ghost use Rattle.generated_day.specs.Days.{most_made};
@@ -10,7 +10,7 @@ ghost use Rattle.generated_day.specs.Days.{most_made};
 use crate::airport::STANDS;
 use crate::draws::{draw_below, next_seed};
 use apron_base::{Listed, Memory, Name, StandNo, TypeNo, VisitNo};
-use desk_words::asks::Command;
+use desk_asks::Command;
 use mvt_grammar::{Clock, Flight, Mvt};
 use std::alloc::Global;
 use visit_book::{Draft, Edit, Key, NewVisit};

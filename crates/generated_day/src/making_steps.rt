@@ -1,6 +1,6 @@
 // The steps by which a day is made, each of which asks something of its board.
 ghost use Rattle.std.specs.Prelude.{◌≡◌, ◌≤◌, ◌<◌, IfOk, OnOk};
-ghost use Rattle.desk_words.specs.Commands.{IsCommandOf};
+ghost use Rattle.desk_asks.specs.Commands.{IsCommandOf};
 ghost use Rattle.desk_words.specs.declared.replies.Reply.{Reply};
 ghost use Rattle.generated_day.specs.Asked.{scheduled_on};
 ghost use Rattle.generated_day.specs.DayAirport.{day_airport};
@@ -15,7 +15,7 @@ use crate::making::Making;
 use apron_base::{Acted, CALL_END, Memory, Name, SteadyKeeper, VisitNo};
 use apron_rules::Airport;
 use bump_core::bumped_by;
-use desk_words::asks::{Ask, Command, DeskMessage, What};
+use desk_asks::{Ask, Command, DeskMessage, What};
 use history_core::{Board, OpenFault};
 use std::alloc::Global;
 

@@ -16,10 +16,10 @@ use Rattle.plan_core.specs.Names.{has_name, visit_named}
 use Rattle.plan_core.specs.PlanState.{IsSameVisit, PlanState, empty_plan}
 use Rattle.plan_core.specs.Rebase.{edited_last, stamp, visits_after_commit}
 use Rattle.plan_core.proofs.Changed.{Follows, edits_follow}
-use Rattle.desk_words.specs.Commands.{IsCommandOf}
-use Rattle.desk_words.specs.declared.asks.Command.{Command}
-use Rattle.desk_words.specs.declared.asks.Command.TheVariants.{AddVisit, Commit, Message, Report, Cancel}
-use Rattle.desk_words.specs.declared.asks.Entry.{Entry}
+use Rattle.desk_asks.specs.Commands.{IsCommandOf}
+use Rattle.desk_asks.specs.declared.asks.Command.{Command}
+use Rattle.desk_asks.specs.declared.asks.Command.TheVariants.{AddVisit, Commit, Message, Report, Cancel}
+use Rattle.desk_asks.specs.declared.asks.Entry.{Entry}
 use Rattle.history_core.specs.History.{AreTakenFrom, IsLegal, after_entries, replay}
 use Rattle.history_core.specs.Laws.{HasAdded, HasEntry, HasVisit, IsAddedBy}
 use Rattle.history_core.specs.Steps.{IsTaken, after_command}

@@ -7,8 +7,8 @@ use Rattle.apron_base.specs.declared.numbers.PartId.{PartId}
 use Rattle.apron_rules.specs.declared.parts.AirportParts.{AirportParts}
 use Rattle.visit_book.specs.Numbers.{IsNumbered}
 use Rattle.plan_core.specs.PlanState.{PlanState, empty_plan}
-use Rattle.desk_words.specs.Commands.{IsCommandOf}
-use Rattle.desk_words.specs.declared.asks.Entry.{Entry}
+use Rattle.desk_asks.specs.Commands.{IsCommandOf}
+use Rattle.desk_asks.specs.declared.asks.Entry.{Entry}
 use Rattle.entry_bytes.specs.Entries.{decode_entry, entry_text}
 use Rattle.history_core.specs.Board.{BoardHeld, IsBoard}
 use Rattle.history_core.specs.Bumped.{last_bumped}

@@ -29,9 +29,9 @@ use Rattle.bump_core.specs.Settle.{place_after, settled_parts, settled_place, se
 use Rattle.bump_core.specs.Settled.{with_changed, with_settled}
 use Rattle.bump_core.specs.declared.ranks.Conflict.{Conflict}
 use Rattle.bump_core.specs.declared.ranks.Ranked.{Ranked}
-use Rattle.desk_words.specs.declared.asks.Command.{Command}
-use Rattle.desk_words.specs.declared.asks.Command.TheVariants.{AddVisit, Commit, Message, Report, Cancel}
-use Rattle.desk_words.specs.declared.asks.Entry.{Entry}
+use Rattle.desk_asks.specs.declared.asks.Command.{Command}
+use Rattle.desk_asks.specs.declared.asks.Command.TheVariants.{AddVisit, Commit, Message, Report, Cancel}
+use Rattle.desk_asks.specs.declared.asks.Entry.{Entry}
 use Rattle.desk_words.specs.declared.replies.Denial.{Denial}
 use Rattle.history_core.specs.History.{AreTakenFrom, IsLegal, after_entries, replay}
 use Rattle.history_core.specs.Bumped.{bumped_in, last_bumped}

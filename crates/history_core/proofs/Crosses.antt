@@ -7,7 +7,7 @@ use Rattle.std.proofs.MapsCrossing as maps
 use Rattle.apron_base.specs.declared.keeper.Keeper.{Ghosts}
 use Rattle.apron_rules.specs.contracts.airport.Airport as Airport
 use Rattle.plan_core.specs.contracts.plan.Plan as Plan
-use Rattle.desk_words.specs.contracts.asks.Entry as Entry
+use Rattle.desk_asks.specs.contracts.asks.Entry as Entry
 use Rattle.history_core.specs.contracts.board.Board as Board
 
 plan_send : IsSend Plan.the_row

@@ -9,9 +9,9 @@ use Rattle.visit_book.specs.declared.visits.Visit.{Visit}
 use Rattle.plan_core.specs.Drafts.{draft_version, id_of, is_draft}
 use Rattle.plan_core.specs.PlanState.{PlanState, empty_plan}
 use Rattle.plan_core.proofs.DraftIndex.{version_pushed}
-use Rattle.desk_words.specs.declared.asks.Command.{Command}
-use Rattle.desk_words.specs.declared.asks.Command.TheVariants.{AddVisit, Commit, Message, Report, Cancel}
-use Rattle.desk_words.specs.declared.asks.Entry.{Entry}
+use Rattle.desk_asks.specs.declared.asks.Command.{Command}
+use Rattle.desk_asks.specs.declared.asks.Command.TheVariants.{AddVisit, Commit, Message, Report, Cancel}
+use Rattle.desk_asks.specs.declared.asks.Entry.{Entry}
 use Rattle.history_core.specs.History.{AreTakenFrom, IsLegal, after_entries, replay}
 use Rattle.history_core.specs.Laws.{HasCommit, HasEntry, IsCommitOf}
 use Rattle.desk_words.specs.declared.replies.Denial.{Denial}

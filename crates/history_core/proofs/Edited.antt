@@ -16,9 +16,9 @@ use Rattle.plan_core.specs.PlanState.{PlanState, empty_plan}
 use Rattle.plan_core.specs.Rebase.{edited_last, visits_after_commit}
 use Rattle.plan_core.proofs.EditKept.{EditsVisit, edits_visit}
 use Rattle.plan_core.proofs.Results.{then_ok}
-use Rattle.desk_words.specs.declared.asks.Command.{Command}
-use Rattle.desk_words.specs.declared.asks.Command.TheVariants.{AddVisit, Commit, Message, Report, Cancel}
-use Rattle.desk_words.specs.declared.asks.Entry.{Entry}
+use Rattle.desk_asks.specs.declared.asks.Command.{Command}
+use Rattle.desk_asks.specs.declared.asks.Command.TheVariants.{AddVisit, Commit, Message, Report, Cancel}
+use Rattle.desk_asks.specs.declared.asks.Entry.{Entry}
 use Rattle.history_core.specs.History.{AreTakenFrom, IsLegal, after_entries, replay}
 use Rattle.history_core.specs.Laws.{edits_visit as edits_this, last_edit}
 use Rattle.history_core.specs.Steps.{IsTaken, after_command}

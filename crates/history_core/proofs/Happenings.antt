@@ -33,8 +33,8 @@ use Rattle.bump_core.specs.Ranks.{all_parts_on, kept_of}
 use Rattle.bump_core.specs.Settle.{settled_visit}
 use Rattle.bump_core.specs.Settled.{IsChanged, with_changed, with_settled}
 use Rattle.bump_core.specs.declared.ranks.Ranked.{Ranked}
-use Rattle.desk_words.specs.declared.asks.Command.TheVariants.{Cancel}
-use Rattle.desk_words.specs.declared.asks.DeskReport.{DeskReport}
+use Rattle.desk_asks.specs.declared.asks.Command.TheVariants.{Cancel}
+use Rattle.desk_asks.specs.declared.asks.DeskReport.{DeskReport}
 use Rattle.desk_words.specs.declared.replies.Denial.{Denial}
 use Rattle.desk_words.specs.declared.replies.Denial.TheVariants as denial
 use Rattle.history_core.specs.Steps.{after_command, cancellable, cancelled_if, denial_of, visit_after_message, visit_after_report}

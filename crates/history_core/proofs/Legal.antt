@@ -13,9 +13,9 @@ use Rattle.bump_core.specs.Settled.{with_changed}
 use Rattle.bump_core.proofs.Settled.{settled_sound}
 use Rattle.plan_core.proofs.Changed.{stamped_slots}
 use Rattle.plan_core.proofs.SlotLists.{slots_of-push}
-use Rattle.desk_words.specs.declared.asks.Command.{Command}
-use Rattle.desk_words.specs.declared.asks.Command.TheVariants.{AddVisit, Commit, Message, Report, Cancel}
-use Rattle.desk_words.specs.declared.asks.Entry.{Entry}
+use Rattle.desk_asks.specs.declared.asks.Command.{Command}
+use Rattle.desk_asks.specs.declared.asks.Command.TheVariants.{AddVisit, Commit, Message, Report, Cancel}
+use Rattle.desk_asks.specs.declared.asks.Entry.{Entry}
 use Rattle.desk_words.specs.declared.replies.Denial.{Denial}
 use Rattle.history_core.specs.Steps.{IsTaken, after_command, cancellable, cancelled_if, committed_if, visit_after_message, visit_after_report}
 use Rattle.history_core.specs.History.{AreTakenFrom, IsLegal, IsSoundPlan, after_entries, call_limit, call_of, replay}

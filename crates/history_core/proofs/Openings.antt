@@ -6,8 +6,8 @@ use Rattle.apron_base.specs.Keeper.{KeeperState, with_last}
 use Rattle.apron_base.specs.declared.numbers.PartId.{PartId}
 use Rattle.apron_rules.specs.declared.parts.AirportParts.{AirportParts}
 use Rattle.plan_core.specs.PlanState.{PlanState, empty_plan}
-use Rattle.desk_words.specs.Commands.{IsCommandOf}
-use Rattle.desk_words.specs.declared.asks.Entry.{Entry}
+use Rattle.desk_asks.specs.Commands.{IsCommandOf}
+use Rattle.desk_asks.specs.declared.asks.Entry.{Entry}
 use Rattle.desk_words.specs.declared.replies.Reply.{Reply}
 use Rattle.entry_bytes.specs.declared.faults.EntryFault.{EntryFault}
 use Rattle.entry_bytes.specs.declared.faults.EntryFault.TheVariants as unread

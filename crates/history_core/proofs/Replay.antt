@@ -15,10 +15,10 @@ use Rattle.plan_core.specs.PlanState.{PlanState, empty_plan}
 use Rattle.plan_core.specs.Rebase.{edited_last, plan_after_commit, visits_after_commit}
 use Rattle.plan_core.proofs.Changed.{edits_follow, follows_numbered}
 use Rattle.plan_core.proofs.Puts.{last_numbered}
-use Rattle.desk_words.specs.Commands.{IsCommandOf}
-use Rattle.desk_words.specs.declared.asks.Command.{Command}
-use Rattle.desk_words.specs.declared.asks.Command.TheVariants.{AddVisit, Commit, Message, Report, Cancel}
-use Rattle.desk_words.specs.declared.asks.Entry.{Entry}
+use Rattle.desk_asks.specs.Commands.{IsCommandOf}
+use Rattle.desk_asks.specs.declared.asks.Command.{Command}
+use Rattle.desk_asks.specs.declared.asks.Command.TheVariants.{AddVisit, Commit, Message, Report, Cancel}
+use Rattle.desk_asks.specs.declared.asks.Entry.{Entry}
 use Rattle.desk_words.specs.declared.replies.Denial.{Denial}
 use Rattle.history_core.specs.Steps.{IsTaken, TakenAs, accepted, after_command, cancellable, cancelled_if, committed_if}
 use Rattle.history_core.specs.History.{AreTakenFrom, after_entries, replay}

@@ -5,11 +5,11 @@ use Rattle.std.specs.Result.{IsErrAnd, result_ok}
 use Rattle.apron_base.specs.Keeper.{AddsEntry, FailsToAdd, KeeperState}
 use Rattle.apron_base.specs.Machine.{Standing}
 use Rattle.apron_rules.specs.declared.parts.AirportParts.{AirportParts}
-use Rattle.desk_words.specs.Commands.{IsCommandOf}
-use Rattle.desk_words.specs.declared.asks.Command.{Command}
-use Rattle.desk_words.specs.declared.asks.Entry.{Entry}
-use Rattle.desk_words.specs.declared.asks.What.{What}
-use Rattle.desk_words.specs.declared.asks.What.TheVariants.{Change}
+use Rattle.desk_asks.specs.Commands.{IsCommandOf}
+use Rattle.desk_asks.specs.declared.asks.Command.{Command}
+use Rattle.desk_asks.specs.declared.asks.Entry.{Entry}
+use Rattle.desk_asks.specs.declared.asks.What.{What}
+use Rattle.desk_asks.specs.declared.asks.What.TheVariants.{Change}
 use Rattle.entry_bytes.specs.Entries.{decode_entry, entry_text}
 use Rattle.history_core.specs.Answer.{is_keeper_fault}
 use Rattle.history_core.specs.declared.ask_fault.AskFault.{AskFault}

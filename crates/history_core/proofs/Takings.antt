@@ -17,10 +17,10 @@ use Rattle.plan_core.specs.Rebase.{IsRebased, Rebases, RefusesDraft}
 use Rattle.plan_core.proofs.AnswerExists.{answer}
 use Rattle.plan_core.proofs.Kept.{rebase_commits}
 use Rattle.plan_core.proofs.OneRefusal.{rebased_or_refused, refusals_are_one}
-use Rattle.desk_words.specs.declared.asks.Command.{Command}
-use Rattle.desk_words.specs.declared.asks.Command.TheVariants.{AddVisit, Commit, Message, Report, Cancel}
-use Rattle.desk_words.specs.declared.asks.DeskMessage.{DeskMessage}
-use Rattle.desk_words.specs.declared.asks.DeskReport.{DeskReport}
+use Rattle.desk_asks.specs.declared.asks.Command.{Command}
+use Rattle.desk_asks.specs.declared.asks.Command.TheVariants.{AddVisit, Commit, Message, Report, Cancel}
+use Rattle.desk_asks.specs.declared.asks.DeskMessage.{DeskMessage}
+use Rattle.desk_asks.specs.declared.asks.DeskReport.{DeskReport}
 use Rattle.desk_words.specs.declared.replies.Denial.{Denial}
 use Rattle.desk_words.specs.declared.replies.ReplyBody.{ReplyBody}
 use Rattle.desk_words.specs.declared.replies.ReplyBody.TheVariants.{Added, Committed, Denied, Full, OtherName, Edit as Refused}

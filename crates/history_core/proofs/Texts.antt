@@ -8,9 +8,9 @@ use Rattle.visit_book.specs.declared.visits.Visit.{Visit}
 use Rattle.visit_book.specs.NewVisits.{IsNewVisit, IsNewVisitOf, new_of}
 use Rattle.visit_book.specs.Numbers.{visit_at}
 use Rattle.plan_core.specs.PlanState.{PlanState}
-use Rattle.desk_words.specs.declared.asks.Ask.{Ask}
-use Rattle.desk_words.specs.declared.asks.Command.{Command}
-use Rattle.desk_words.specs.declared.asks.Entry.{Entry}
+use Rattle.desk_asks.specs.declared.asks.Ask.{Ask}
+use Rattle.desk_asks.specs.declared.asks.Command.{Command}
+use Rattle.desk_asks.specs.declared.asks.Entry.{Entry}
 use Rattle.desk_words.specs.declared.replies.Reply.{Reply}
 use Rattle.desk_words.specs.declared.replies.ReplyBody.{ReplyBody}
 use Rattle.desk_words.specs.Replies.{IsTellable, reply_text}

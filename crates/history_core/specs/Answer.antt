@@ -6,12 +6,12 @@ use Rattle.apron_rules.specs.declared.parts.AirportParts.{AirportParts}
 use Rattle.visit_book.specs.declared.visits.Visit.{Visit}
 use Rattle.visit_book.specs.Numbers.{visit_at}
 use Rattle.plan_core.specs.PlanState.{PlanState}
-use Rattle.desk_words.specs.Commands.{desk_of, kind_of}
-use Rattle.desk_words.specs.declared.asks.Command.{Command}
-use Rattle.desk_words.specs.declared.asks.Entry.{Entry}
-use Rattle.desk_words.specs.declared.asks.What.{What}
-use Rattle.desk_words.specs.declared.asks.What.TheVariants.{Change, Version as AskVersion, Visit as AskVisit, Plan as AskPlan, Unplaced as AskUnplaced, Chart as AskChart, Entry as AskEntry, Airport as AskAirport, Day as AskDay}
-use Rattle.desk_words.specs.declared.asks.Ask.{Ask}
+use Rattle.desk_asks.specs.Commands.{desk_of, kind_of}
+use Rattle.desk_asks.specs.declared.asks.Command.{Command}
+use Rattle.desk_asks.specs.declared.asks.Entry.{Entry}
+use Rattle.desk_asks.specs.declared.asks.What.{What}
+use Rattle.desk_asks.specs.declared.asks.What.TheVariants.{Change, Version as AskVersion, Visit as AskVisit, Plan as AskPlan, Unplaced as AskUnplaced, Chart as AskChart, Entry as AskEntry, Airport as AskAirport, Day as AskDay}
+use Rattle.desk_asks.specs.declared.asks.Ask.{Ask}
 use Rattle.desk_words.specs.declared.replies.Reply.{Reply}
 use Rattle.desk_words.specs.declared.replies.ReplyBody.{ReplyBody}
 use Rattle.desk_words.specs.declared.replies.ReplyBody.TheVariants.{Version as ToldVersion, Visit as ToldVisit, Plan as ToldPlan, Unplaced as ToldUnplaced, Chart as ToldChart, Entry as ToldEntry, Airport as ToldAirport, Day as ToldDay, NoVisit, NoEntry, Ahead}

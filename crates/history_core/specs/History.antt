@@ -5,11 +5,11 @@ use Rattle.apron_rules.specs.declared.parts.AirportParts.{AirportParts}
 use Rattle.apron_rules.specs.Clash.{IsSound}
 use Rattle.visit_book.specs.Slots.{slots_of}
 use Rattle.plan_core.specs.PlanState.{PlanState, empty_plan}
-use Rattle.desk_words.specs.Commands.{IsCommandOf}
-use Rattle.desk_words.specs.declared.asks.Entry.{Entry}
-use Rattle.desk_words.specs.declared.asks.What.{What}
-use Rattle.desk_words.specs.declared.asks.What.TheVariants.{Change, Plan as AskPlan, Chart as AskChart, Day as AskDay}
-use Rattle.desk_words.specs.declared.asks.Ask.{Ask}
+use Rattle.desk_asks.specs.Commands.{IsCommandOf}
+use Rattle.desk_asks.specs.declared.asks.Entry.{Entry}
+use Rattle.desk_asks.specs.declared.asks.What.{What}
+use Rattle.desk_asks.specs.declared.asks.What.TheVariants.{Change, Plan as AskPlan, Chart as AskChart, Day as AskDay}
+use Rattle.desk_asks.specs.declared.asks.Ask.{Ask}
 use Rattle.history_core.specs.Steps.{TakenAs, accepted, after_command}
 
 -- the number of the call that added the entry

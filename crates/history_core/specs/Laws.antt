@@ -5,9 +5,9 @@ use Rattle.visit_book.specs.declared.visits.Visit.{Visit}
 use Rattle.visit_book.specs.NewVisits.{new_of}
 use Rattle.plan_core.specs.Edits.{is_edited}
 use Rattle.plan_core.specs.Names.{visit_named}
-use Rattle.desk_words.specs.declared.asks.Command.{Command}
-use Rattle.desk_words.specs.declared.asks.Command.TheVariants.{AddVisit, Commit, Message, Report}
-use Rattle.desk_words.specs.declared.asks.Entry.{Entry}
+use Rattle.desk_asks.specs.declared.asks.Command.{Command}
+use Rattle.desk_asks.specs.declared.asks.Command.TheVariants.{AddVisit, Commit, Message, Report}
+use Rattle.desk_asks.specs.declared.asks.Entry.{Entry}
 
 -- this entry is the one of the history with this number, counted from 1
 pub record HasEntry (history : List Entry) (number : ℕ) (entry : Entry) : Type 0 where

@@ -4,7 +4,7 @@ use Rattle.apron_base.specs.Keeper.{with_last}
 use Rattle.apron_base.specs.declared.numbers.PartId.{PartId}
 use Rattle.apron_rules.specs.declared.parts.AirportParts.{AirportParts}
 use Rattle.plan_core.specs.PlanState.{PlanState}
-use Rattle.desk_words.specs.declared.asks.Entry.{Entry}
+use Rattle.desk_asks.specs.declared.asks.Entry.{Entry}
 use Rattle.entry_bytes.specs.declared.faults.EntryFault.{EntryFault}
 use Rattle.entry_bytes.specs.declared.faults.EntryFault.TheVariants as unread
 use Rattle.entry_bytes.specs.Entries.{decode_entry, entry_text}

@@ -25,9 +25,9 @@ use Rattle.plan_core.specs.PlanState.{PlanState, most_visits}
 use Rattle.plan_core.specs.Rebase.{Rebases, RefusesDraft, plan_after_commit}
 use Rattle.bump_core.specs.Bumped.{bumped_by}
 use Rattle.bump_core.specs.Settled.{with_settled}
-use Rattle.desk_words.specs.declared.asks.Command.{Command}
-use Rattle.desk_words.specs.declared.asks.Command.TheVariants.{AddVisit, Commit, Message, Report, Cancel}
-use Rattle.desk_words.specs.declared.asks.DeskReport.{DeskReport}
+use Rattle.desk_asks.specs.declared.asks.Command.{Command}
+use Rattle.desk_asks.specs.declared.asks.Command.TheVariants.{AddVisit, Commit, Message, Report, Cancel}
+use Rattle.desk_asks.specs.declared.asks.DeskReport.{DeskReport}
 use Rattle.desk_words.specs.declared.replies.Denial.{Denial}
 use Rattle.desk_words.specs.declared.replies.Denial.TheVariants as denial
 use Rattle.desk_words.specs.declared.replies.Reply.{Reply}

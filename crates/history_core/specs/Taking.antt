@@ -1,7 +1,7 @@
 -- What a command comes to.
 use Rattle.std.specs.Prelude.{◌≡◌, ◌≢◌, ℕ}
 use Rattle.plan_core.specs.PlanState.{ChangeState, IsInstallable, PlanState, plan_after_change}
-use Rattle.desk_words.specs.declared.asks.Command.{Command}
+use Rattle.desk_asks.specs.declared.asks.Command.{Command}
 use Rattle.desk_words.specs.declared.replies.Reply.{Reply}
 use Rattle.history_core.specs.declared.taking.Taken.{Taken}
 use Rattle.history_core.specs.declared.taking.Taken.TheVariants.{Accepted, Answered}

@@ -2,12 +2,12 @@
 use crate::Board;
 use apron_base::{Acted, Keeper, Machine};
 use apron_rules::AirportParts;
-use desk_words::asks::{Ask, Entry};
+use desk_asks::{Ask, Entry};
 use std::alloc::Global;
 
 impl<'a, K: Keeper> Machine for Board<'a, K> {
     ghost use Rattle.std.specs.Prelude.{◌≡◌};
-    ghost use Rattle.desk_words.specs.declared.asks.What.TheVariants.{Change};
+    ghost use Rattle.desk_asks.specs.declared.asks.What.TheVariants.{Change};
     ghost use Rattle.history_core.specs.Answer.{ActsLegally};
     ghost use Rattle.history_core.specs.Board.{machine_state};
     ghost use Rattle.history_core.specs.History.{IsAskOf, call_of};

@@ -10,7 +10,7 @@ use crate::room::make_room;
 use crate::taking::{Taken, take_command};
 use apron_base::{Listed, Memory, PartId};
 use apron_rules::Airport;
-use desk_words::asks::Entry;
+use desk_asks::Entry;
 use entry_bytes::{EntryFault, decode_entry};
 use plan_core::Plan;
 use std::alloc::Global;

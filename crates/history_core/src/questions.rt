@@ -10,7 +10,7 @@ ghost use Rattle.history_core.specs.History.{entry_at};
 
 use apron_base::Memory;
 use apron_rules::Airport;
-use desk_words::asks::Entry;
+use desk_asks::Entry;
 use desk_words::replies::ReplyBody;
 use plan_core::Plan;
 use plan_lists::{held_on, unplaced_parts, visits_on};

@@ -3,7 +3,7 @@ ghost use Rattle.std.specs.Prelude.{◌≡◌, ◌<◌, OnOk, vec_capacity, vec_
 ghost use Rattle.plan_core.specs.PlanState.{HasRoom, IsInstallable};
 
 use apron_base::Memory;
-use desk_words::asks::Entry;
+use desk_asks::Entry;
 use plan_core::{Change, Plan};
 
 /// Takes the memory for one more entry, and for its change of the plan. `Err` if there is none.

@@ -2,7 +2,7 @@
 // own module.
 ghost use Rattle.std.specs.Prelude.{◌≡◌, ◌↔◌, IfOk, IsTrue};
 ghost use Rattle.visit_book.specs.Numbers.{IsNumbered};
-ghost use Rattle.desk_words.specs.Commands.{IsCommandOf};
+ghost use Rattle.desk_asks.specs.Commands.{IsCommandOf};
 ghost use Rattle.history_core.specs.Steps.{TakesEntry};
 ghost use Rattle.history_core.specs.Taking.{ComesTo};
 
@@ -17,7 +17,7 @@ use apron_base::{MAX_ENTRIES, Memory};
 use apron_rules::Airport;
 use cancel::take_cancel;
 use commit::take_commit;
-use desk_words::asks::Command;
+use desk_asks::Command;
 use desk_words::replies::{Reply, ReplyBody};
 use message::take_message;
 use plan_core::{Change, Plan};

@@ -11,7 +11,7 @@ use Rattle.visit_book.specs.Ends.{is_live}
 use Rattle.visit_book.specs.Places.{stand_of}
 use Rattle.visit_book.specs.Slots.{slot_on}
 use Rattle.plan_core.specs.PlanState.{PlanState}
-use Rattle.desk_words.specs.declared.replies.PartRow.{PartRow}
+use Rattle.visit_book.specs.declared.visits.PartRow.{PartRow}
 use Rattle.plan_lists.specs.declared.waiting.Waiting.{Waiting}
 use Rattle.plan_lists.specs.Held.{held_of, held_on, holds_on, is_held_on}
 use Rattle.plan_lists.specs.Rows.{rows_of}

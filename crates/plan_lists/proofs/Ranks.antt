@@ -19,7 +19,7 @@ use Rattle.clash_check.proofs.Ordered.{is_part}
 use Rattle.bump_core.specs.Ranks.{is_lower, part_rank}
 use Rattle.bump_core.proofs.Order.{lower_apart, lower_trans}
 use Rattle.bump_core.proofs.Settled.{lower_total}
-use Rattle.desk_words.specs.declared.replies.PartRow.{PartRow}
+use Rattle.visit_book.specs.declared.visits.PartRow.{PartRow}
 use Rattle.plan_lists.specs.declared.waiting.Waiting.{Waiting}
 use Rattle.plan_lists.specs.Rows.{rows_from}
 use Rattle.plan_lists.specs.Unplaced.{by_rank, is_unplaced_row, rank_of, ranks_before, waiting_of, with_rank}

@@ -7,7 +7,7 @@ use Rattle.apron_rules.specs.Clash.{is_held}
 use Rattle.visit_book.specs.declared.visits.Visit.{Visit}
 use Rattle.visit_book.specs.Slots.{slot_of}
 use Rattle.plan_core.specs.PlanState.{PlanState}
-use Rattle.desk_words.specs.declared.replies.PartRow.{PartRow}
+use Rattle.visit_book.specs.declared.visits.PartRow.{PartRow}
 use Rattle.plan_lists.specs.Days.{minutes_of_day}
 use Rattle.plan_lists.specs.Rows.{rows_of}
 

@@ -7,7 +7,7 @@ use Rattle.visit_book.specs.Ends.{is_live}
 use Rattle.visit_book.specs.Places.{stand_of}
 use Rattle.plan_core.specs.PlanState.{PlanState}
 use Rattle.bump_core.specs.Ranks.{is_lower, part_rank}
-use Rattle.desk_words.specs.declared.replies.PartRow.{PartRow}
+use Rattle.visit_book.specs.declared.visits.PartRow.{PartRow}
 use Rattle.plan_lists.specs.Rows.{rows_of}
 use Rattle.plan_lists.specs.declared.waiting.Waiting.{Waiting}
 

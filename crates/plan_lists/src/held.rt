@@ -9,10 +9,9 @@ use crate::days::overlaps_day;
 use crate::rows::{push_if, row};
 use apron_base::{Listed, Memory, Slot};
 use apron_rules::Airport;
-use desk_words::replies::PartRow;
 use plan_core::Plan;
 use std::alloc::Global;
-use visit_book::{Part, Visit, slot_of};
+use visit_book::{Part, PartRow, Visit, slot_of};
 
 /// The parts that hold their stand at a minute of this day, counted from 1, in order of visit and
 /// part. The minutes that a part holds include the stand's buffer. The only error is a lack of

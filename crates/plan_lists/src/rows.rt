@@ -3,8 +3,7 @@ ghost use Rattle.std.specs.Prelude.{◌≡◌, ◌++◌, ◌∷◌, [], OnOk, if
 ghost use Rattle.plan_lists.specs.Rows.{row};
 
 use apron_base::{Listed, Memory, PartId};
-use desk_words::replies::PartRow;
-use visit_book::{Part, Visit};
+use visit_book::{Part, PartRow, Visit};
 
 // A part of the visit with this number.
 pub(crate) fn row(visit: &Visit, number: u8, part: &Part) -> PartRow

@@ -12,10 +12,9 @@ use crate::rows::{push_if, row};
 use crate::waiting::is_unplaced;
 use apron_base::{Listed, Memory};
 use apron_rules::Airport;
-use desk_words::replies::PartRow;
 use plan_core::Plan;
 use std::alloc::Global;
-use visit_book::{Part, Visit, is_live};
+use visit_book::{Part, PartRow, Visit, is_live};
 
 /// The visits with a part that holds a stand on this day, counted from 1, or waits for one, in
 /// order of number. The only error is a lack of memory.

@@ -6,10 +6,9 @@ ghost use Rattle.plan_lists.specs.Unplaced.{is_unplaced_row, unplaced_parts, wai
 
 use crate::rows::row;
 use apron_base::{Listed, Memory, Minute};
-use desk_words::replies::PartRow;
 use plan_core::Plan;
 use std::alloc::Global;
-use visit_book::{Place, Visit, is_live};
+use visit_book::{PartRow, Place, Visit, is_live};
 
 /// A part that is on no stand, with the class and the scheduled minute on block of its visit.
 #[derive(Clone, Copy, Debug)]

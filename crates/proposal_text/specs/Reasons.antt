@@ -7,7 +7,7 @@ use Rattle.apron_rules.specs.declared.rules.Clash.{Clash}
 use Rattle.apron_rules.specs.declared.rules.UnfitBy.{UnfitBy}
 use Rattle.apron_rules.specs.declared.rules.UnfitBy.TheVariants.{Letter, Object}
 use Rattle.apron_rules.specs.Rules.{stand_at}
-use Rattle.desk_words.specs.PartObjects.{rule_word}
+use Rattle.apron_rules.specs.RuleWords.{rule_word}
 use Rattle.wall_chart.specs.Rows.{name_or_none, part_text}
 use Rattle.wall_chart.specs.Times.{time_text}
 use Rattle.stand_proposer.specs.declared.proposals.Left.{Left}

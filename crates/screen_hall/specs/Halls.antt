@@ -6,7 +6,7 @@ use Rattle.apron_base.specs.Keeper.{KeeperState}
 use Rattle.apron_base.specs.Machine.{MachineState}
 use Rattle.apron_rules.specs.declared.parts.AirportParts.{AirportParts}
 use Rattle.plan_core.specs.PlanState.{PlanState}
-use Rattle.desk_words.specs.declared.asks.Entry.{Entry}
+use Rattle.desk_asks.specs.declared.asks.Entry.{Entry}
 use Rattle.history_core.specs.History.{replay}
 use Rattle.watch_list.specs.declared.watch_asks.WatchFixed.{WatchFixed}
 use Rattle.watch_list.specs.WatchBoards.{WatchHeld, watch_fixed, watch_state}

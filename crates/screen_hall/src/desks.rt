@@ -1,9 +1,9 @@
 // Desks take turns at a board that is shown on screens, and it answers feeds.
 use crate::hall::Hall;
 use apron_base::{Keeper, Memory};
+use desk_asks::Ask;
 use desk_http::FeedAsk;
 use desk_turns::{DeskMachine, FeedMachine, watch_ask_of, watch_feed};
-use desk_words::asks::Ask;
 use std::alloc::Global;
 use std::sync::Wait;
 use watch_list::{NoteTest, Stated, WatchAsk};

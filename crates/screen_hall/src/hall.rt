@@ -10,7 +10,7 @@ ghost use Rattle.screen_hall.specs.Halls.{IsHall, IsNewWriter, IsShown, SeesFron
 use crate::charts::Charts;
 use crate::show::{ShownAfter, close_all, know_all, show_after};
 use apron_base::{Acted, Keeper, Machine};
-use desk_words::asks::Entry;
+use desk_asks::Entry;
 use screen_feed::{Screen, ScreenWriter};
 use std::alloc::Global;
 use std::marker::Model;

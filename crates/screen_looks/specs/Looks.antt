@@ -5,7 +5,7 @@ use Rattle.apron_base.specs.Listener.{ListenerState}
 use Rattle.apron_base.specs.declared.outside.Outcome.{Outcome}
 use Rattle.apron_base.specs.declared.outside.Outcome.TheVariants.{Ended, Memory, WriteFault}
 use Rattle.apron_rules.specs.declared.parts.AirportParts.{AirportParts}
-use Rattle.desk_words.specs.declared.asks.Entry.{Entry}
+use Rattle.desk_asks.specs.declared.asks.Entry.{Entry}
 use Rattle.history_core.specs.History.{replay}
 use Rattle.desk_turns.specs.Work.{Connection, EndStates, IsEndAt, TakesAndFinishes, is_listener_fault}
 use Rattle.desk_turns.specs.declared.worker.WorkEnd.{WorkEnd}

@@ -13,7 +13,7 @@ use Rattle.visit_book.specs.Slots.{slots_of}
 use Rattle.plan_core.specs.PlanState.{PlanState}
 use Rattle.plan_core.proofs.Results.{ok_is}
 use Rattle.bump_core.proofs.Blockers.{map_append}
-use Rattle.desk_words.specs.declared.replies.PartRow.{PartRow}
+use Rattle.visit_book.specs.declared.visits.PartRow.{PartRow}
 use Rattle.stand_proposer.specs.declared.proposals.Left.{Left}
 use Rattle.stand_proposer.specs.declared.proposals.Proposal.{Proposal}
 use Rattle.stand_proposer.specs.declared.proposals.Why.{Why}

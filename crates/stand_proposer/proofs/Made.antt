@@ -29,7 +29,7 @@ use Rattle.plan_core.specs.Edits.{after_all_edits, part_at_place}
 use Rattle.plan_core.specs.Indexed.{IsIndexed}
 use Rattle.plan_core.specs.PlanState.{IsPlan, PlanState}
 use Rattle.plan_core.proofs.IndexedVisits.{first_same, sound_within}
-use Rattle.desk_words.specs.declared.replies.PartRow.{PartRow}
+use Rattle.visit_book.specs.declared.visits.PartRow.{PartRow}
 use Rattle.stand_proposer.specs.declared.proposals.Why.{Why}
 use Rattle.stand_proposer.specs.declared.proposals.Why.TheVariants as why
 use Rattle.stand_proposer.specs.Clauses.{ClashesWith}

@@ -29,7 +29,7 @@ use Rattle.plan_core.specs.PlanState.{PlanState}
 use Rattle.plan_core.proofs.ByNumber.{found_number, number_is}
 use Rattle.plan_core.proofs.Results.{ok_is, then_ok}
 use Rattle.plan_core.proofs.SlotLists.{slots_from_alike}
-use Rattle.desk_words.specs.declared.replies.PartRow.{PartRow}
+use Rattle.visit_book.specs.declared.visits.PartRow.{PartRow}
 use Rattle.stand_proposer.specs.Proposals.{put_edit}
 use Rattle.stand_proposer.specs.SoFar.{Waits}
 

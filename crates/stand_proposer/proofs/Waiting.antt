@@ -16,7 +16,7 @@ use Rattle.visit_book.specs.PartFields.{part_at}
 use Rattle.visit_book.specs.Places.{stand_of}
 use Rattle.plan_core.specs.PlanState.{IsPlan, IsVisitAt, PlanState}
 use Rattle.plan_core.proofs.EditKept.{found_has}
-use Rattle.desk_words.specs.declared.replies.PartRow.{PartRow}
+use Rattle.visit_book.specs.declared.visits.PartRow.{PartRow}
 use Rattle.plan_lists.specs.declared.waiting.Waiting.{Waiting}
 use Rattle.plan_lists.specs.Rows.{rows_from}
 use Rattle.plan_lists.specs.Unplaced.{by_rank, is_unplaced_row, ranks_before, unplaced_parts, waiting_of, with_rank}

@@ -16,7 +16,7 @@ use Rattle.visit_book.specs.Slots.{slots_of}
 use Rattle.visit_book.specs.WellFormed.{IsWellFormed}
 use Rattle.plan_core.specs.Edits.{after_all_edits}
 use Rattle.plan_core.specs.PlanState.{PlanState}
-use Rattle.desk_words.specs.declared.replies.PartRow.{PartRow}
+use Rattle.visit_book.specs.declared.visits.PartRow.{PartRow}
 use Rattle.stand_proposer.specs.declared.proposals.Left.{Left}
 use Rattle.stand_proposer.specs.Clauses.{ClashesAmong}
 use Rattle.stand_proposer.specs.Proposals.{put_edit}

@@ -11,7 +11,7 @@ use Rattle.visit_book.specs.declared.visits.Place.TheVariants.{Planned}
 use Rattle.visit_book.specs.declared.visits.Visit.{Visit}
 use Rattle.visit_book.specs.Slots.{slot_on}
 use Rattle.plan_core.specs.Edits.{part_at_place}
-use Rattle.desk_words.specs.declared.replies.PartRow.{PartRow}
+use Rattle.visit_book.specs.declared.visits.PartRow.{PartRow}
 use Rattle.stand_proposer.specs.declared.proposals.Why.{Why}
 use Rattle.stand_proposer.specs.declared.proposals.Why.TheVariants as why
 use Rattle.stand_proposer.specs.declared.trials.Tried.{Tried}

@@ -9,12 +9,11 @@ ghost use Rattle.stand_proposer.specs.SoFar.{AreTold, IsProposedSoFar, IsUnput, 
 use crate::trials::{Tried, first_stand};
 use apron_base::{Listed, Memory, Name, PartId, Slot, Steps};
 use apron_rules::{Airport, Clash, UnfitBy};
-use desk_words::replies::PartRow;
 use plan_core::Plan;
 use plan_lists::unplaced_parts;
 use std::alloc::Global;
 use std::sync::ledger::Ledger;
-use visit_book::{Edit, MAX_EDITS, Visit, visit_at};
+use visit_book::{Edit, MAX_EDITS, PartRow, Visit, visit_at};
 
 /// Why a part can't be put on a stand.
 #[derive(Clone, Copy, Debug, PartialEq, Eq)]

@@ -11,11 +11,10 @@ use crate::Why;
 use apron_base::{Listed, Memory, Slot, StandNo, Steps};
 use apron_rules::{Airport, Clash, sooner};
 use clash_check::{first_among, first_clash};
-use desk_words::replies::PartRow;
 use stand_index::StandIndex;
 use std::alloc::Global;
 use std::sync::ledger::Ledger;
-use visit_book::{Part, Place, Visit, slot_of};
+use visit_book::{Part, PartRow, Place, Visit, slot_of};
 
 /// What came of trying the stands for a part.
 #[derive(Drop)]

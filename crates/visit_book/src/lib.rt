@@ -24,4 +24,4 @@ pub use numbers::visit_at;
 pub use parts::Parts;
 pub use reports::{Event, ReportFault, is_live, report};
 pub use slots::{is_actual, slot_of};
-pub use visits::{Bump, End, Key, NewVisit, Part, Place, Visit};
+pub use visits::{Bump, End, Key, NewVisit, Part, PartRow, Place, Visit};

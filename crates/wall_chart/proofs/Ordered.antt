@@ -9,7 +9,7 @@ use Rattle.apron_base.specs.Sorting.{insert_by, sorted_by}
 use Rattle.apron_rules.specs.declared.rules.Clash.{Clash}
 use Rattle.visit_book.specs.Places.{stand_of}
 use Rattle.bump_core.specs.Ranks.{is_lower}
-use Rattle.desk_words.specs.declared.replies.PartRow.{PartRow}
+use Rattle.visit_book.specs.declared.visits.PartRow.{PartRow}
 use Rattle.plan_lists.proofs.Ranks.{order_by}
 use Rattle.wall_chart.specs.declared.alarms.Alarm.{Alarm}
 use Rattle.wall_chart.specs.Alarms.{alarm_order}

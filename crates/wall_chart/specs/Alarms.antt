@@ -5,7 +5,7 @@ use Rattle.apron_base.specs.declared.slot.Slot.{Slot}
 use Rattle.apron_rules.specs.declared.parts.AirportParts.{AirportParts}
 use Rattle.apron_rules.specs.declared.rules.Clash.{Clash}
 use Rattle.clash_check.specs.Meetings.{clash_within, is_smaller}
-use Rattle.desk_words.specs.PartObjects.{rule_word}
+use Rattle.apron_rules.specs.RuleWords.{rule_word}
 use Rattle.plan_lists.specs.Days.{day_length, day_start, minutes_of_day}
 use Rattle.wall_chart.specs.Cells.{is_held_at_some}
 use Rattle.wall_chart.specs.Order.{in_order}

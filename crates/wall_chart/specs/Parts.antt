@@ -5,7 +5,7 @@ use Rattle.apron_rules.specs.declared.parts.AirportParts.{AirportParts}
 use Rattle.visit_book.specs.declared.visits.Visit.{Visit}
 use Rattle.visit_book.specs.Places.{is_actual, stand_of}
 use Rattle.plan_core.specs.PlanState.{PlanState}
-use Rattle.desk_words.specs.declared.replies.PartRow.{PartRow}
+use Rattle.visit_book.specs.declared.visits.PartRow.{PartRow}
 use Rattle.plan_lists.specs.Held.{held_on}
 use Rattle.wall_chart.specs.Order.{in_order}
 use Rattle.wall_chart.specs.Rows.{row_text, stand_text}

@@ -8,8 +8,8 @@ use Rattle.visit_book.specs.declared.visits.Place.{Place}
 use Rattle.visit_book.specs.declared.visits.Place.TheVariants.{Unplaced}
 use Rattle.visit_book.specs.declared.visits.Visit.{Visit}
 use Rattle.plan_core.specs.PlanState.{PlanState}
-use Rattle.desk_words.specs.PartObjects.{rule_word}
-use Rattle.desk_words.specs.declared.replies.PartRow.{PartRow}
+use Rattle.apron_rules.specs.RuleWords.{rule_word}
+use Rattle.visit_book.specs.declared.visits.PartRow.{PartRow}
 use Rattle.plan_lists.specs.OfDay.{is_of_day}
 use Rattle.plan_lists.specs.Unplaced.{unplaced_parts}
 use Rattle.wall_chart.specs.Rows.{part_text, row_text}

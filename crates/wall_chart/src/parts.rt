@@ -7,11 +7,10 @@ ghost use Rattle.wall_chart.specs.Parts.{fact_text, part_line, parts_of_day, pla
 use crate::rows::{push_row, push_stand};
 use apron_base::Memory;
 use apron_rules::{Airport, AirportParts};
-use desk_words::replies::PartRow;
 use plan_core::Plan;
 use plan_lists::held_on;
 use std::alloc::Global;
-use visit_book::{Place, is_actual};
+use visit_book::{PartRow, Place, is_actual};
 
 /// Writes the lines of the parts that hold a stand on the day at the end.
 pub(crate) fn push_part_lines(

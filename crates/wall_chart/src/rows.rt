@@ -1,14 +1,13 @@
 // What stands, types, parts and rules are called on a chart.
 ghost use Rattle.std.specs.Prelude.{◌≡◌, ◌++◌, OnOk};
-ghost use Rattle.desk_words.specs.PartObjects.{rule_word};
+ghost use Rattle.apron_rules.specs.RuleWords.{rule_word};
 ghost use Rattle.wall_chart.specs.Rows.{filled_up, part_text, row_text, stand_text, type_text};
 
 use crate::times::{push_number, push_span};
 use apron_base::{Memory, PartId, StandNo, VisitNo};
-use apron_rules::{AirportParts, Rule};
-use desk_words::part_objects::rule_word;
-use desk_words::replies::PartRow;
+use apron_rules::{AirportParts, Rule, rule_word};
 use plan_core::Plan;
+use visit_book::PartRow;
 
 // How many places a stand's name takes.
 const NAME_PLACES: usize = 6;

@@ -7,11 +7,10 @@ use crate::rows::{push_part, push_row, push_rule};
 use crate::times::{push_number, push_time};
 use apron_base::Memory;
 use apron_rules::AirportParts;
-use desk_words::replies::PartRow;
 use plan_core::Plan;
 use plan_lists::{is_of_day, unplaced_parts};
 use std::alloc::Global;
-use visit_book::{Bump, Place};
+use visit_book::{Bump, PartRow, Place};
 
 /// Writes the lines of the parts that wait for a stand on the day at the end.
 pub(crate) fn push_unplaced_lines(

@@ -6,11 +6,11 @@ use Rattle.apron_base.specs.declared.outside.Acted.{Acted}
 use Rattle.apron_base.proofs.Rising.{rises_more, rises_push}
 use Rattle.apron_rules.specs.declared.parts.AirportParts.{AirportParts}
 use Rattle.plan_core.specs.PlanState.{PlanState}
-use Rattle.desk_words.specs.declared.asks.Ask.{Ask}
-use Rattle.desk_words.specs.declared.asks.Command.{Command}
-use Rattle.desk_words.specs.declared.asks.Entry.{Entry}
-use Rattle.desk_words.specs.declared.asks.What.{What}
-use Rattle.desk_words.specs.declared.asks.What.TheVariants.{Change, Version as AskVersion, Visit as AskVisit, Plan as AskPlan, Unplaced as AskUnplaced, Chart as AskChart, Entry as AskEntry, Airport as AskAirport, Day as AskDay}
+use Rattle.desk_asks.specs.declared.asks.Ask.{Ask}
+use Rattle.desk_asks.specs.declared.asks.Command.{Command}
+use Rattle.desk_asks.specs.declared.asks.Entry.{Entry}
+use Rattle.desk_asks.specs.declared.asks.What.{What}
+use Rattle.desk_asks.specs.declared.asks.What.TheVariants.{Change, Version as AskVersion, Visit as AskVisit, Plan as AskPlan, Unplaced as AskUnplaced, Chart as AskChart, Entry as AskEntry, Airport as AskAirport, Day as AskDay}
 use Rattle.desk_words.specs.declared.replies.Reply.{Reply}
 use Rattle.desk_words.specs.declared.replies.ReplyBody.TheVariants.{Ahead}
 use Rattle.history_core.specs.Answer.{ActsAs, Given, GivesAnswer, Replies, Sought, added_entries, ask_outcome, changes, keeper_fault, no_memory, replied, sought_of, told}

@@ -5,7 +5,8 @@ use Rattle.serde_json.specs.View.{items_of}
 use Rattle.serde_json.specs.Written.{compact_text}
 use Rattle.apron_rules.specs.declared.parts.AirportParts.{AirportParts}
 use Rattle.desk_words.specs.FaultObjects.{refused_data}
-use Rattle.desk_words.specs.PartObjects.{part_data, rule_word, stand_data, whole}
+use Rattle.apron_rules.specs.RuleWords.{rule_word}
+use Rattle.desk_words.specs.PartObjects.{part_data, stand_data, whole}
 use Rattle.desk_words.specs.Texts.{json_media, text_of, version_line}
 use Rattle.watch_list.specs.declared.feed_words.FeedOutcome.{FeedOutcome}
 use Rattle.watch_list.specs.declared.feed_words.FeedOutcome.TheVariants.{Ahead, NoWatch, Notes}

@@ -4,10 +4,10 @@ use Rattle.apron_base.specs.Keeper.{with_last}
 use Rattle.apron_rules.specs.declared.parts.AirportParts.{AirportParts}
 use Rattle.visit_book.specs.PartFields.{most_parts}
 use Rattle.plan_core.specs.PlanState.{PlanState}
-use Rattle.desk_words.specs.declared.asks.Command.TheVariants.{Message, Report}
-use Rattle.desk_words.specs.declared.asks.Entry.{Entry}
-use Rattle.desk_words.specs.declared.asks.What.{What}
-use Rattle.desk_words.specs.declared.asks.What.TheVariants.{Change}
+use Rattle.desk_asks.specs.declared.asks.Command.TheVariants.{Message, Report}
+use Rattle.desk_asks.specs.declared.asks.Entry.{Entry}
+use Rattle.desk_asks.specs.declared.asks.What.{What}
+use Rattle.desk_asks.specs.declared.asks.What.TheVariants.{Change}
 use Rattle.history_core.specs.History.{replay}
 use Rattle.watch_list.specs.declared.note.Note.{Note}
 use Rattle.watch_list.specs.Notes.{notes_by}

@@ -4,8 +4,8 @@ use Rattle.apron_base.specs.Keeper.{KeeperState}
 use Rattle.apron_base.specs.Machine.{MachineState}
 use Rattle.apron_base.specs.declared.outside.Acted.{Acted}
 use Rattle.apron_base.specs.declared.outside.Acted.TheVariants.{Reply, Memory}
-use Rattle.desk_words.specs.declared.asks.Entry.{Entry}
-use Rattle.desk_words.specs.declared.asks.What.TheVariants.{Change}
+use Rattle.desk_asks.specs.declared.asks.Entry.{Entry}
+use Rattle.desk_asks.specs.declared.asks.What.TheVariants.{Change}
 use Rattle.history_core.specs.Answer.{ActsLegally}
 use Rattle.history_core.specs.AtRisk.{read_entry_at_risk}
 use Rattle.history_core.specs.Board.{BoardHeld}

@@ -17,7 +17,7 @@ use crate::entry_notes::push_notes;
 use crate::note::Note;
 use apron_base::{Acted, Keeper, Listed, Memory, PartId, SteadyKeeper};
 use apron_rules::Airport;
-use desk_words::asks::{Ask, Command, Entry, What};
+use desk_asks::{Ask, Command, Entry, What};
 use history_core::{Board, OpenFault, Opening};
 use plan_core::Plan;
 use std::alloc::Global;

@@ -2,7 +2,7 @@
 use crate::watch::Watched;
 use apron_base::Name;
 use apron_rules::AirportParts;
-use desk_words::asks::Ask;
+use desk_asks::Ask;
 use std::collections::LinkedList;
 
 /// What a board with watches is asked.

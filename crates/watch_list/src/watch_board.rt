@@ -21,7 +21,7 @@ use crate::watch_feed::feed;
 use crate::watches::Watches;
 use apron_base::{Acted, Keeper, Listed, Machine, Memory, Name};
 use apron_rules::Airport;
-use desk_words::asks::{Ask, Entry};
+use desk_asks::{Ask, Entry};
 use history_core::{Board, OpenFault};
 use std::alloc::Global;
 use std::marker::Model;

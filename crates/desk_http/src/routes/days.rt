@@ -3,7 +3,7 @@ ghost use Rattle.std.specs.Prelude.{◌≡◌, ◌≤◌, OnOk};
 ghost use Rattle.desk_http.specs.DaysRoute.{day_asked as day_asked_lem, is_day as is_day_lem};
 
 use apron_rules::Airport;
-use desk_words::asks::What;
+use desk_asks::What;
 use desk_words::early::EarlyReply;
 
 /// What is asked of a day, counted from 1, if the plan has it.

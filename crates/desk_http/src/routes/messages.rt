@@ -5,7 +5,7 @@ ghost use Rattle.history_core.specs.History.{IsWhatOf};
 ghost use Rattle.desk_http.specs.MessagesRoute.{message_asked as message_asked_lem};
 
 use apron_base::Name;
-use desk_words::asks::{Command, DeskMessage, What};
+use desk_asks::{Command, DeskMessage, What};
 use desk_words::early::EarlyReply;
 use mvt_grammar::read_mvt;
 

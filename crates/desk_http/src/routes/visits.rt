@@ -9,8 +9,8 @@ ghost use Rattle.desk_http.specs.VisitsRoute.{new_named as new_named_lem, visit_
 use super::Unasked;
 use crate::names::type_named;
 use apron_rules::Airport;
+use desk_asks::{Command, What};
 use desk_bodies::{VisitText, read_visit};
-use desk_words::asks::{Command, What};
 use desk_words::early::EarlyReply;
 use std::alloc::Global;
 use visit_book::{NewVisit, is_in_time};

@@ -1,6 +1,6 @@
 // A visit is cancelled.
 ghost use Rattle.std.specs.Prelude.{◌≡◌, IfOk};
-ghost use Rattle.desk_words.specs.declared.asks.Command.TheVariants.{Cancel};
+ghost use Rattle.desk_asks.specs.declared.asks.Command.TheVariants.{Cancel};
 ghost use Rattle.history_core.specs.Steps.{cancellable};
 ghost use Rattle.history_core.specs.Taking.{ComesTo};
 

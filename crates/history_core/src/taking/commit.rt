@@ -3,8 +3,8 @@ ghost use Rattle.std.specs.Prelude.{◌≡◌, ◌≢◌, ◌↔◌, ◌<◌, �
 ghost use Rattle.visit_book.specs.Numbers.{IsNumbered};
 ghost use Rattle.plan_core.specs.PlanState.{IsInstallable, version_limit};
 ghost use Rattle.plan_core.specs.Rebase.{IsDraftFor, IsRebased, RefusesDraft};
-ghost use Rattle.desk_words.specs.Commands.{IsCommandOf};
-ghost use Rattle.desk_words.specs.declared.asks.Command.TheVariants.{Commit};
+ghost use Rattle.desk_asks.specs.Commands.{IsCommandOf};
+ghost use Rattle.desk_asks.specs.declared.asks.Command.TheVariants.{Commit};
 ghost use Rattle.history_core.specs.Taking.{ComesTo};
 
 use super::{Taken, takes_entry};

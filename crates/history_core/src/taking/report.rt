@@ -1,7 +1,7 @@
 // A visit came on block or went off block.
 ghost use Rattle.std.specs.Prelude.{◌≡◌, IfOk};
 ghost use Rattle.visit_book.specs.Reports.{IsEventOf};
-ghost use Rattle.desk_words.specs.declared.asks.Command.TheVariants.{Report};
+ghost use Rattle.desk_asks.specs.declared.asks.Command.TheVariants.{Report};
 ghost use Rattle.bump_core.specs.Settled.{IsChanged};
 ghost use Rattle.history_core.specs.Steps.{denial_of, visit_after_report};
 ghost use Rattle.history_core.specs.Taking.{ComesTo};
@@ -10,7 +10,7 @@ use super::settling::settle_changed;
 use super::{Taken, answer_unchanged, taken_with_body, takes_entry};
 use apron_base::Memory;
 use apron_rules::Airport;
-use desk_words::asks::DeskReport;
+use desk_asks::DeskReport;
 use desk_words::replies::{Denial, ReplyBody};
 use plan_core::Plan;
 use std::alloc::Global;

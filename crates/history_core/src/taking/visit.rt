@@ -2,8 +2,8 @@
 ghost use Rattle.std.specs.Prelude.{◌≡◌, ◌≢◌, IfOk};
 ghost use Rattle.visit_book.specs.NewVisits.{IsNewVisitOf, added_visit, new_of};
 ghost use Rattle.visit_book.specs.WellFormed.{IsWellFormed};
-ghost use Rattle.desk_words.specs.Commands.{IsCommandOf};
-ghost use Rattle.desk_words.specs.declared.asks.Command.TheVariants.{AddVisit};
+ghost use Rattle.desk_asks.specs.Commands.{IsCommandOf};
+ghost use Rattle.desk_asks.specs.declared.asks.Command.TheVariants.{AddVisit};
 ghost use Rattle.history_core.specs.Taking.{ComesTo};
 
 use super::{Taken, takes_entry};

@@ -1,7 +1,7 @@
 // Entries, read and written again, and the first fault of bytes that are none.
 use apron_base::{Name, StandNo, TypeNo, VisitNo};
 use apron_rules::Airport;
-use desk_words::asks::Command;
+use desk_asks::Command;
 use entry_bytes::{EntryFault, decode_entry, encode_entry, lift_entry};
 use mvt_grammar::{Clock, Flight, Mvt};
 use std::alloc::Global;

@@ -4,7 +4,7 @@ ghost use Rattle.history_core.specs.History.{IsAskOf};
 
 use apron_base::{Acted, CALL_END, ListKeeper, Listed, Name, TypeNo};
 use apron_rules::Airport;
-use desk_words::asks::{Ask, Command, What};
+use desk_asks::{Ask, Command, What};
 use history_core::{Board, OpenFault};
 use std::alloc::Global;
 use std::test::Fail;

@@ -4,7 +4,7 @@ use Rattle.apron_base.specs.Histories.{Every}
 use Rattle.desk_turns.specs.Seats.{ServedState}
 use Rattle.desk_turns.specs.Together.{MeetsAll}
 use Rattle.turn_board.specs.Board.{SeatState, Sits}
-use Rattle.desk_words.specs.declared.asks.Entry.{Entry}
+use Rattle.desk_asks.specs.declared.asks.Entry.{Entry}
 use Rattle.desk_turns.proofs.crew.meet_ports.Given as goal
 
 -- to meet those that are left is to meet all

@@ -3,7 +3,7 @@ use Rattle.std.specs.Prelude.{IsSome}
 use Rattle.std.proofs.lemmas.Grind.{common_steps}
 use Rattle.std.proofs.lemmas.List.Elements.{All-same}
 use Rattle.visit_book.specs.Places.{stand_of}
-use Rattle.desk_words.specs.declared.replies.PartRow.{PartRow}
+use Rattle.visit_book.specs.declared.visits.PartRow.{PartRow}
 use Rattle.plan_lists.specs.Held.{held_on}
 use Rattle.plan_lists.proofs.OnStands.{held_are_on}
 use Rattle.plan_lists.proofs.held.held_on.Goals as goal

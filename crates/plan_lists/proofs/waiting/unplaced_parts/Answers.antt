@@ -5,7 +5,7 @@ use Rattle.std.proofs.lemmas.List.Elements.{All-same}
 use Rattle.std.proofs.lemmas.List.Sorted.{answers_always}
 use Rattle.std.proofs.lemmas.Result.{IfOk-weaker}
 use Rattle.visit_book.specs.Places.{stand_of}
-use Rattle.desk_words.specs.declared.replies.PartRow.{PartRow}
+use Rattle.visit_book.specs.declared.visits.PartRow.{PartRow}
 use Rattle.plan_lists.specs.declared.waiting.Waiting.{Waiting}
 use Rattle.plan_lists.specs.Unplaced.{unplaced_parts, waiting_of}
 use Rattle.plan_lists.proofs.OnStands.{waiting_are_nowhere}

@@ -1,6 +1,6 @@
 use Rattle.std.proofs.Common.{◌≡◌, ◌<◌, ◌≤◌, ℕ, length, map, take}
 use Rattle.std.specs.Prelude.{slice_index_or}
-use Rattle.desk_words.specs.declared.replies.PartRow.{PartRow}
+use Rattle.visit_book.specs.declared.visits.PartRow.{PartRow}
 use Rattle.stand_proposer.specs.Proposals.{AreDecided, nothing_proposed}
 use Rattle.stand_proposer.specs.SoFar.{AreTold, IsProposedSoFar, IsUnput}
 use Rattle.stand_proposer.proofs.proposals.propose.Given as goal

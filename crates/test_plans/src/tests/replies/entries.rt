@@ -1,7 +1,7 @@
 // Entries of the history.
 use super::{NOT_FOUND, OK, has_text};
 use apron_base::Name;
-use desk_words::asks::EntryKind;
+use desk_asks::EntryKind;
 use desk_words::replies::ReplyBody;
 use std::test::Fail;
 

@@ -5,7 +5,7 @@ ghost use Rattle.watch_list.specs.WatchBoards.{IsWatchAskOf, watch_fixed};
 
 use apron_base::{Acted, CALL_END, Listed, Machine, Name, StandNo, SteadyKeeper, TypeNo, VisitNo};
 use apron_rules::Airport;
-use desk_words::asks::{Ask, Command, What};
+use desk_asks::{Ask, Command, What};
 use screen_hall::Hall;
 use std::alloc::Global;
 use std::sync::Wait;

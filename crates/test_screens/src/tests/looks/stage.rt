@@ -4,7 +4,7 @@ ghost use Rattle.history_core.specs.History.{IsAskOf};
 
 use apron_base::{Acted, CALL_END, Listed, Minute, Name, StandNo, SteadyKeeper, TypeNo, VisitNo};
 use apron_rules::Airport;
-use desk_words::asks::{Ask, Command, What};
+use desk_asks::{Ask, Command, What};
 use history_core::Board;
 use plan_core::Plan;
 use screen_feed::{Screen, ScreenWriter, Told};

@@ -1,5 +1,5 @@
 use Rattle.std.proofs.Common.{◌∙◌, sym, subst}
-use Rattle.desk_words.specs.declared.asks.Command.TheVariants.{Cancel}
+use Rattle.desk_asks.specs.declared.asks.Command.TheVariants.{Cancel}
 use Rattle.history_core.specs.Taking.{ComesTo}
 use Rattle.history_core.proofs.Happenings.{cancellable_is}
 use Rattle.history_core.proofs.Takings.{cancel_denied}

@@ -1,5 +1,5 @@
 use Rattle.std.proofs.Common.{◌∙◌, ◌≤◌, arith, sym, subst}
-use Rattle.desk_words.specs.declared.asks.Command.TheVariants.{Commit}
+use Rattle.desk_asks.specs.declared.asks.Command.TheVariants.{Commit}
 use Rattle.desk_words.specs.declared.replies.ReplyBody.{ReplyBody}
 use Rattle.history_core.specs.Steps.{TakesEntry}
 use Rattle.history_core.specs.Taking.{ComesTo, IsAnswered}

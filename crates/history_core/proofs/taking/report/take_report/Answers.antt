@@ -1,5 +1,5 @@
 use Rattle.std.proofs.Common.{◌∙◌, sym, subst}
-use Rattle.desk_words.specs.declared.asks.Command.TheVariants.{Report}
+use Rattle.desk_asks.specs.declared.asks.Command.TheVariants.{Report}
 use Rattle.history_core.specs.Taking.{ComesTo}
 use Rattle.history_core.proofs.Takings.{report_denied, report_full}
 use Rattle.history_core.proofs.taking.report.take_report.Goals as goal

@@ -4,7 +4,7 @@ use Rattle.std.proofs.Crossing.{crosses}
 use Rattle.apron_base.specs.contracts.keeper.list_keeper.SteadyKeeper as SteadyKeeper
 use Rattle.apron_base.specs.contracts.keeper.list_keeper.SteadyKeeperKeeper.TheImpl as keepers
 use Rattle.apron_rules.specs.contracts.parts.AirportParts as AirportParts
-use Rattle.desk_words.specs.contracts.asks.Ask as Ask
+use Rattle.desk_asks.specs.contracts.asks.Ask as Ask
 use Rattle.history_core.specs.contracts.machine.BoardMachine.TheImpl as machines
 use Rattle.history_core.proofs.Crosses.{board_send}
 use Rattle.desk_turns.specs.contracts.machine.BoardDeskMachine.TheImpl as desks

@@ -1,5 +1,5 @@
 use Rattle.std.proofs.Common.{subst, sym}
-use Rattle.desk_words.specs.Commands.{IsCommandOf}
+use Rattle.desk_asks.specs.Commands.{IsCommandOf}
 use Rattle.watch_list.proofs.Repeated.{next_below, next_taken, next_valid}
 use Rattle.watch_list.proofs.noted_board.NotedBoard+SteadyKeeper.repeat.Goals as goal
 

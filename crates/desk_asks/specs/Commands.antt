@@ -5,12 +5,12 @@ use Rattle.apron_rules.specs.declared.parts.AirportParts.{AirportParts}
 use Rattle.visit_book.specs.Edits.{IsEditOf, most_edits}
 use Rattle.visit_book.specs.NewVisits.{IsNewVisit, IsNewVisitOf}
 use Rattle.visit_book.specs.Reports.{IsEventOf}
-use Rattle.desk_words.specs.declared.asks.Ask.{Ask}
-use Rattle.desk_words.specs.declared.asks.Command.{Command}
-use Rattle.desk_words.specs.declared.asks.Command.TheVariants.{AddVisit, Commit, Message, Report, Cancel}
-use Rattle.desk_words.specs.declared.asks.EntryKind.{EntryKind}
-use Rattle.desk_words.specs.declared.asks.EntryKind.TheVariants as kind
-use Rattle.desk_words.specs.declared.asks.What.TheVariants.{Change}
+use Rattle.desk_asks.specs.declared.asks.Ask.{Ask}
+use Rattle.desk_asks.specs.declared.asks.Command.{Command}
+use Rattle.desk_asks.specs.declared.asks.Command.TheVariants.{AddVisit, Commit, Message, Report, Cancel}
+use Rattle.desk_asks.specs.declared.asks.EntryKind.{EntryKind}
+use Rattle.desk_asks.specs.declared.asks.EntryKind.TheVariants as kind
+use Rattle.desk_asks.specs.declared.asks.What.TheVariants.{Change}
 
 -- what kind of command it is
 abbrev pub kind_of : Command → EntryKind
