@@ -10,13 +10,13 @@ use crate::unclear::tell_unclear;
 use apron_base::{MAX_DIGITS, Memory, Sink, Word, number_of};
 use apron_run::{Status, is_plain_number};
 use apron_serve::{MAX_CONNECTIONS, MAX_LISTENERS, MAX_SCREENS, serve_all};
-use host_files::{FileDisk, FileShelf, report_meaning};
 use std::alloc::Global;
 use std::io;
 use std::net::{Net, TcpListener, TcpStream};
 use std::rt::Env;
 use std::sync::Wait;
 use std::thread::Threads;
+use system_files::{FileDisk, FileShelf, report_meaning};
 use tcp_desks::{TcpDesks, TimeLimits};
 use watch_list::{Shown, Watches};
 

@@ -6,9 +6,9 @@ use apron_check::{AirportFiles, MAX_FILE, airport_of};
 use apron_rules::Airport;
 use apron_run::Status;
 use file_faults::{airport_fault, dates_of_season, season_fault, season_row_there, types_fault};
-use host_files::FileShelf;
 use std::alloc::Global;
 use std::rt::Files;
+use system_files::FileShelf;
 
 /// The most bytes of a season file: 16 MiB.
 const MAX_SEASON: u32 = 16_777_216;

@@ -18,7 +18,6 @@ use apron_run::{Status, run_with};
 use file_lines::{import_files, tell_files_fault};
 use forms::{JournalUse, journal_use};
 use front::{Front, FrontStream};
-use host_files::{FileDisk, FileShelf, ToldStream, report_meaning};
 use journal_disk::{Disk, MemoryDisk, Room};
 use journal_faults::tell_journal_fault;
 use std::alloc::Global;
@@ -27,6 +26,7 @@ use std::fs::File;
 use std::process::ExitCode;
 use std::rt::{Env, Files};
 use std::{env, io};
+use system_files::{FileDisk, FileShelf, ToldStream, report_meaning};
 use watch_list::{Shown, Watches};
 use watches::all_and_high;
 

@@ -3,11 +3,11 @@ ghost use Rattle.std.specs.Prelude.{◌≡◌};
 
 use crate::opening::Opening;
 use apron_base::{Failed, Listener, Outcome, ReaderSource, WriterSink};
-use host_files::report_cause;
 use std::io;
 use std::marker::Model;
 use std::sync::Wait;
 use std::time::Clock;
+use system_files::report_cause;
 use tcp_desks::{Reporter, TcpDesks, TimedReader, TimedWriter};
 
 /// Desks over TCP. Standard error says why an accept failed, and while none can succeed, that it is

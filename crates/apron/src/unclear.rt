@@ -3,9 +3,9 @@ use crate::desks::{connections_of, is_day_word, screens_of, workers_of};
 use crate::forms::{FORMS, Form, form_of};
 use apron_base::{Name, Word};
 use apron_check::airport_of;
-use host_files::FileShelf;
 use std::fmt;
 use std::rt::Files;
+use system_files::FileShelf;
 
 /// Says on standard error what was not understood of these words, which ask for nothing known. If
 /// they ask for help, it says how a command is called, or all of them.

@@ -18,7 +18,7 @@ use Rattle.desk_http.specs.Answers.{Sent, SendsFor, at_once, fed, given}
 use Rattle.desk_http.specs.Ports.{PortState}
 use Rattle.desk_http.specs.Routes.{ask_of_request}
 use Rattle.desk_http.specs.Runs.{Runs}
-use Rattle.desk_turns.specs.Watched.{FeedTexts}
+use Rattle.desk_workers.specs.Watched.{FeedTexts}
 use Rattle.apron_run.specs.Desk.{new_port}
 use Rattle.apron_run.specs.Headline.{Exchange, IsUnkept, Sends, is_given, takes_number}
 use Rattle.apron_run.proofs.Feeding.{AsPlain, as_plain}

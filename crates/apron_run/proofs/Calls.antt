@@ -15,7 +15,7 @@ use Rattle.desk_http.specs.Alone.{AloneAsks, numbers_from}
 use Rattle.desk_http.specs.Answers.{Sent, SendsFor, at_once, fed, given}
 use Rattle.desk_http.specs.Ports.{CountsGiven, PortState}
 use Rattle.desk_http.specs.Runs.{Runs}
-use Rattle.desk_turns.specs.Watched.{FeedTexts}
+use Rattle.desk_workers.specs.Watched.{FeedTexts}
 use Rattle.desk_http.proofs.OneDesk.{length-numbers_from, numbers_from-push}
 use Rattle.apron_run.specs.Headline.{GoesOnFrom, Sends, is_given}
 use Rattle.apron_run.proofs.Feeding.{as_plain}

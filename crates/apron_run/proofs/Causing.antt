@@ -5,7 +5,7 @@ use Rattle.apron_base.specs.Ends.{SinkState}
 use Rattle.apron_check.specs.Files.{is_files_shelf_fault as is_shelf_found}
 use Rattle.apron_check.specs.declared.files.AirportFiles.{AirportFiles}
 use Rattle.apron_check.specs.declared.faults.FilesFault.{FilesFault}
-use Rattle.desk_turns.specs.Watched.{FeedTexts}
+use Rattle.desk_workers.specs.Watched.{FeedTexts}
 use Rattle.apron_run.specs.Causes.{FaultsHaveCause, NoFaultIsTold}
 use Rattle.apron_run.specs.Chart.{ChartsNamed}
 use Rattle.apron_run.specs.Check.{TellsFound}

@@ -1,6 +1,6 @@
 -- Every run is complete.
 use Rattle.std.proofs.Common.{◌≡◌, ◌∙◌, ℕ, inl, inr, ap}
-use Rattle.desk_turns.specs.Watched.{FeedTexts}
+use Rattle.desk_workers.specs.Watched.{FeedTexts}
 use Rattle.apron_run.specs.Complete.{CanBeRun, EndsWell, IsRunComplete, NoneFails}
 use Rattle.apron_run.specs.Export.{IsSeason}
 use Rattle.apron_run.specs.Propose.{IsProposed}

@@ -2,7 +2,7 @@
 use Rattle.std.proofs.Common.{◌≡◌, ◌≤◌, ◌∙◌, ℕ, List, Bool, true, false, inl, inr, refl, sym, ap, subst, arith, Result, Ok, Err}
 use Rattle.apron_base.specs.Counts.{Counts}
 use Rattle.apron_base.specs.Ends.{SinkState}
-use Rattle.desk_turns.specs.Watched.{FeedTexts}
+use Rattle.desk_workers.specs.Watched.{FeedTexts}
 use Rattle.journal_disk.specs.declared.fault.JournalFault.TheVariants as journal
 use Rattle.history_core.specs.declared.opening.OpenFault.TheVariants as entries
 use Rattle.apron_check.specs.Files.{is_files_shelf_fault as is_shelf_found}

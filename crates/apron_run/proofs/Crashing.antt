@@ -1,6 +1,6 @@
 -- What a crash leaves of a run, by its word.
 use Rattle.std.proofs.Common.{◌≡◌, ℕ, Bool, true, false, subst}
-use Rattle.desk_turns.specs.Watched.{FeedTexts}
+use Rattle.desk_workers.specs.Watched.{FeedTexts}
 use Rattle.apron_run.specs.Crash.{CrashesAs, LeavesAll}
 use Rattle.apron_run.specs.Run.{RunsAs}
 use Rattle.apron_run.specs.Survival.{DiskStates}

@@ -5,7 +5,7 @@ use Rattle.apron_base.specs.Ends.{SinkState, SourceState}
 use Rattle.apron_base.specs.declared.outside.Outcome.{Outcome}
 use Rattle.apron_base.specs.declared.outside.Outcome.TheVariants as came
 use Rattle.desk_http.specs.Session.{is_read_fault as is_read_outcome, is_write_fault as is_write_outcome}
-use Rattle.desk_turns.specs.Watched.{FeedTexts}
+use Rattle.desk_workers.specs.Watched.{FeedTexts}
 use Rattle.journal_disk.specs.Disk.{DiskState}
 use Rattle.apron_check.specs.Files.{is_files_shelf_fault as is_shelf_found}
 use Rattle.apron_check.specs.Lines.{fault_line}

@@ -15,7 +15,7 @@ use Rattle.desk_http.specs.Session.{ComesFirst, EndsAfter, IsCount, IsReadToEnd,
 use Rattle.desk_http.proofs.SoFar.{runs_push, texts_of-push}
 use Rattle.apron_check.specs.Lines.{fault_line}
 use Rattle.apron_check.specs.declared.faults.FilesFault.TheVariants as files
-use Rattle.desk_turns.specs.Watched.{FeedTexts}
+use Rattle.desk_workers.specs.Watched.{FeedTexts}
 use Rattle.apron_run.specs.Desk.{DeskAnswers}
 use Rattle.apron_run.specs.Headline.{Carried, Exchange, Sends, StopsWith}
 use Rattle.apron_run.specs.Statuses.{status_of_outcome}

@@ -13,8 +13,8 @@ use Rattle.desk_http.specs.FeedPorts.{version_ask}
 use Rattle.desk_http.specs.Ports.{IsExhausted, PortState}
 use Rattle.desk_http.specs.Routes.{ask_of_request, said_in}
 use Rattle.desk_http.specs.declared.port.FeedAsk.{FeedAsk}
-use Rattle.desk_turns.specs.Alone.{AloneFeeds}
-use Rattle.desk_turns.specs.Watched.{FeedTexts}
+use Rattle.desk_workers.specs.Alone.{AloneFeeds}
+use Rattle.desk_workers.specs.Watched.{FeedTexts}
 use Rattle.apron_run.specs.Desk.{DeskAnswers}
 use Rattle.apron_run.specs.Headline.{Sends, is_asking, is_given, takes_number, tells_unkept}
 

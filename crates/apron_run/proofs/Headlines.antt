@@ -19,7 +19,7 @@ use Rattle.desk_http.specs.Alone.{numbers_from}
 use Rattle.desk_http.specs.Ports.{PortState}
 use Rattle.desk_http.specs.Session.{IsReadToEnd, is_write_fault, texts_of}
 use Rattle.desk_http.proofs.OneDesk.{length-numbers_from}
-use Rattle.desk_turns.specs.Watched.{FeedTexts}
+use Rattle.desk_workers.specs.Watched.{FeedTexts}
 use Rattle.apron_check.specs.Lines.{fault_line}
 use Rattle.apron_check.specs.declared.files.AirportFiles.{AirportFiles}
 use Rattle.apron_check.specs.declared.faults.FilesFault.{FilesFault}

@@ -13,7 +13,7 @@ use Rattle.journal_disk.specs.Disk.{DiskState}
 use Rattle.apron_check.specs.Files.{FindsFiles, is_files_shelf_fault as is_shelf_found}
 use Rattle.apron_check.specs.declared.files.AirportFiles.{AirportFiles}
 use Rattle.apron_check.specs.declared.faults.FilesFault.{FilesFault}
-use Rattle.desk_turns.specs.Watched.{FeedTexts}
+use Rattle.desk_workers.specs.Watched.{FeedTexts}
 use Rattle.apron_run.specs.Asking.{AsksSeason, MeetsAll, Reached, StopsAmong, StopsImport, reached_by, record_behind}
 use Rattle.apron_run.specs.Crash.{ImportsOnJournalLeaving, MeetsImportLeaving}
 use Rattle.apron_run.specs.Import.{Around, AsksFound, FindsSeason, HasSeasonCause, ImportsFound, ImportsSeason, MeetsImport, PrintsImportEnd, Stores, around, around_at, is_season_shelf_fault as is_shelf_read, new_import, stores_at}

@@ -8,7 +8,7 @@ use Rattle.apron_check.specs.Files.{FindsFiles, is_files_shelf_fault as is_shelf
 use Rattle.apron_check.specs.declared.files.AirportFiles.{AirportFiles}
 use Rattle.apron_check.specs.declared.faults.FilesFault.{FilesFault}
 use Rattle.apron_check.specs.declared.faults.FilesFault.TheVariants as files
-use Rattle.desk_turns.specs.Watched.{FeedTexts}
+use Rattle.desk_workers.specs.Watched.{FeedTexts}
 use Rattle.apron_run.specs.Check.{TellsFound}
 use Rattle.apron_run.specs.Init.{InitsJournal, Makes, MakesJournal, TellsMade}
 use Rattle.apron_run.specs.Make.{TellsDay}

@@ -8,7 +8,7 @@ use Rattle.history_core.specs.History.{replay}
 use Rattle.history_core.proofs.Replay.{replay-airport}
 use Rattle.apron_check.specs.declared.files.AirportFiles.{AirportFiles}
 use Rattle.apron_check.specs.declared.faults.FilesFault.TheVariants.{Memory}
-use Rattle.desk_turns.specs.Watched.{FeedTexts}
+use Rattle.desk_workers.specs.Watched.{FeedTexts}
 use Rattle.apron_run.specs.Chart.{ChartsDay, ChartsFiles, ChartsNamed, IsChart, day_named}
 use Rattle.apron_run.specs.Export.{ExportsFiles, IsSeason}
 use Rattle.apron_run.specs.PlanText.{MeetsText, PrintsText, TellsText}

@@ -27,8 +27,8 @@ use Rattle.watch_list.specs.WatchBoards.{WatchHeld, watch_fixed, watch_state}
 use Rattle.watch_list.specs.declared.note.Note.{Note}
 use Rattle.watch_list.specs.declared.watch.Watched.{Watched}
 use Rattle.watch_list.specs.declared.watch_asks.WatchFixed.{WatchFixed}
-use Rattle.desk_turns.specs.Alone.{AloneFeeds, AloneMachine}
-use Rattle.desk_turns.specs.Watched.{FeedTexts, feed_texts, watch_text}
+use Rattle.desk_workers.specs.Alone.{AloneFeeds, AloneMachine}
+use Rattle.desk_workers.specs.Watched.{FeedTexts, feed_texts, watch_text}
 use Rattle.history_core.specs.declared.opening.OpenFault.TheVariants as entries
 use Rattle.desk_http.proofs.OneDesk.{length-numbers_from}
 use Rattle.history_core.proofs.Keepers.{spells_with}

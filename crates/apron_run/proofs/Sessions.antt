@@ -27,7 +27,7 @@ use Rattle.desk_http.specs.Complete.{AnswersEachBy, ComesToEnd, IsUnhindered}
 use Rattle.desk_http.specs.Ports.{PortState}
 use Rattle.desk_http.specs.Runs.{Runs}
 use Rattle.desk_http.specs.Session.{EndsAfter, Last, Moment, SessionBy, most_requests, nothing, refusal, reply}
-use Rattle.desk_turns.specs.Watched.{FeedTexts}
+use Rattle.desk_workers.specs.Watched.{FeedTexts}
 use Rattle.desk_http.proofs.Complete.{GoesOnBehind, listed_behind, sessions_complete_by}
 use Rattle.desk_http.proofs.OneDesk.{length-numbers_from}
 use Rattle.apron_check.specs.declared.files.AirportFiles.{AirportFiles}

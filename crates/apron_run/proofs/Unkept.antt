@@ -12,7 +12,7 @@ use Rattle.desk_http.specs.Alone.{AloneAsks}
 use Rattle.desk_http.specs.Answers.{Sent, SendsFor, at_once, fed, given}
 use Rattle.desk_http.specs.Ports.{PortState}
 use Rattle.desk_http.specs.Runs.{Runs}
-use Rattle.desk_turns.specs.Watched.{FeedTexts}
+use Rattle.desk_workers.specs.Watched.{FeedTexts}
 use Rattle.apron_run.specs.Headline.{CountsUnkept, Sends, tells_unkept}
 use Rattle.apron_run.proofs.Feeding.{as_plain}
 

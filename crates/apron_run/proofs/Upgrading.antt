@@ -7,7 +7,7 @@ use Rattle.journal_disk.specs.declared.fault.JournalFault.{JournalFault}
 use Rattle.journal_disk.specs.declared.fault.JournalFault.TheVariants as journal
 use Rattle.history_core.specs.declared.opening.OpenFault.TheVariants as entries
 use Rattle.apron_check.specs.declared.files.AirportFiles.{AirportFiles}
-use Rattle.desk_turns.specs.Watched.{FeedTexts}
+use Rattle.desk_workers.specs.Watched.{FeedTexts}
 use Rattle.apron_run.specs.Complete.{HasFiles}
 use Rattle.apron_run.specs.Run.{RunsAs}
 use Rattle.apron_run.specs.Statuses.{exit_code, is_disk_fault}

@@ -1,7 +1,7 @@
 -- Why a run ends with the status of an end that failed.
 use Rattle.std.specs.Prelude.{◌≡◌, ◌≢◌, ℕ, Bool, true}
 use Rattle.apron_base.specs.Counts.{Rose}
-use Rattle.desk_turns.specs.Watched.{FeedTexts}
+use Rattle.desk_workers.specs.Watched.{FeedTexts}
 use Rattle.apron_run.specs.Run.{RunsAs}
 use Rattle.apron_run.specs.Statuses.{exit_code}
 use Rattle.apron_run.specs.Words.{Subcommand, uses_disk, uses_shelf, uses_source}

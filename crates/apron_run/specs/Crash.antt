@@ -1,7 +1,7 @@
 -- What a crash may leave of the disk in a run and after it, by what the run does.
 use Rattle.std.specs.Prelude.{◌≡◌, ◌≢◌, ℕ, List, length, Option, None, Some, Result, Ok, Err}
 use Rattle.apron_base.specs.declared.outside.Outcome.{Outcome}
-use Rattle.desk_turns.specs.Watched.{FeedTexts}
+use Rattle.desk_workers.specs.Watched.{FeedTexts}
 use Rattle.journal_disk.specs.Disk.{IfExposed, IsSafe, Stays}
 use Rattle.journal_disk.specs.Header.{empty_journal}
 use Rattle.journal_disk.specs.declared.fault.JournalFault.{JournalFault}

@@ -14,8 +14,8 @@ use Rattle.desk_http.specs.Answers.{Answered}
 use Rattle.desk_http.specs.FedSession.{FedAnswers}
 use Rattle.desk_http.specs.Ports.{PortState}
 use Rattle.desk_http.specs.Session.{Moment, SessionBy}
-use Rattle.desk_turns.specs.Alone.{AloneFeeds}
-use Rattle.desk_turns.specs.Watched.{FeedTexts}
+use Rattle.desk_workers.specs.Alone.{AloneFeeds}
+use Rattle.desk_workers.specs.Watched.{FeedTexts}
 use Rattle.apron_check.specs.Files.{FindsFiles}
 use Rattle.apron_check.specs.declared.files.AirportFiles.{AirportFiles}
 use Rattle.apron_check.specs.declared.faults.FilesFault.{FilesFault}

@@ -25,7 +25,7 @@ use Rattle.desk_http.specs.Routes.{ask_of_request, said_in}
 use Rattle.desk_http.specs.Runs.{Runs}
 use Rattle.desk_http.specs.Session.{most_requests, refusal_text, texts_of}
 use Rattle.desk_http.specs.declared.port.FeedAsk.{FeedAsk}
-use Rattle.desk_turns.specs.Watched.{FeedTexts}
+use Rattle.desk_workers.specs.Watched.{FeedTexts}
 use Rattle.apron_check.specs.Files.{FindsFiles}
 use Rattle.apron_check.specs.Lines.{fault_line}
 use Rattle.apron_check.specs.declared.files.AirportFiles.{AirportFiles}

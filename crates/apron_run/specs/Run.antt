@@ -1,7 +1,7 @@
 -- What the program does with its words, its files, its bytes and its disk.
 use Rattle.std.specs.Prelude.{◌≡◌, ◌≤◌, ℕ, Bool, true, false, MatchBool}
 use Rattle.apron_base.specs.Counts.{Counts}
-use Rattle.desk_turns.specs.Watched.{FeedTexts}
+use Rattle.desk_workers.specs.Watched.{FeedTexts}
 use Rattle.apron_run.specs.Words.{Subcommand, desk, init, check, chart, import, export, propose, upgrade, make, help, version, faulty}
 use Rattle.apron_run.specs.World.{World}
 use Rattle.apron_run.specs.Statuses.{exit_code, is_disk_fault, is_shelf_status, is_sink_status, is_source_status, is_told}

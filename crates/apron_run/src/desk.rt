@@ -1,6 +1,6 @@
 // The word `run_desk`.
 ghost use Rattle.std.specs.Prelude.{◌≡◌, ℕ, not, false, OnErr};
-ghost use Rattle.desk_turns.specs.Watched.{feed_texts};
+ghost use Rattle.desk_workers.specs.Watched.{feed_texts};
 ghost use Rattle.journal_disk.specs.Disk.{Stays};
 ghost use Rattle.apron_run.specs.Crash.{MeetsDeskLeaving, RunsDeskLeaving, RunsOnJournalLeaving};
 ghost use Rattle.apron_run.specs.Run.{KeptUnless};
@@ -19,7 +19,7 @@ use crate::unusable::{Unusable, tell_unusable};
 use apron_base::{Outcome, Shelf, Sink, Source};
 use apron_check::{AirportFiles, FilesFault, airport_of};
 use desk_http::session_fed;
-use desk_turns::AlonePort;
+use desk_workers::AlonePort;
 use journal_disk::Disk;
 use std::alloc::Global;
 use std::marker::{Brand, PhantomData};

@@ -1,6 +1,6 @@
 // The program's one call.
 ghost use Rattle.std.specs.Prelude.{◌≡◌, ℕ, List, [], true};
-ghost use Rattle.desk_turns.specs.Watched.{feed_texts};
+ghost use Rattle.desk_workers.specs.Watched.{feed_texts};
 ghost use Rattle.watch_list.specs.Watches.{shows};
 ghost use Rattle.apron_run.specs.Causes.{FaultsHaveCause};
 ghost use Rattle.apron_run.specs.Complete.{IsRunComplete};

@@ -4,7 +4,7 @@ use Rattle.std.specs.Prelude.{IsSome}
 use Rattle.std.specs.Option.{option_map}
 use Rattle.apron_base.specs.Counts.{Counts, Rose}
 use Rattle.desk_asks.specs.declared.asks.Entry.{Entry}
-use Rattle.screen_looks.specs.declared.shown.Task.{Task}
+use Rattle.screen_server.specs.declared.shown.Task.{Task}
 use Rattle.apron_check.specs.Files.{is_files_shelf_fault}
 use Rattle.apron_check.specs.declared.files.AirportFiles.{AirportFiles}
 use Rattle.apron_check.specs.declared.faults.FilesFault.{FilesFault}

@@ -14,13 +14,13 @@ use Rattle.history_core.specs.declared.opening.OpenFault.TheVariants as entries
 use Rattle.history_core.proofs.Added.{visits_added}
 use Rattle.history_core.proofs.Drafts.{drafts_made}
 use Rattle.history_core.proofs.Legal.{front_legal, legal_sound}
-use Rattle.desk_turns.specs.Crew.{ServesBoard, end_of}
-use Rattle.desk_turns.specs.Watched.{fed_sessions}
+use Rattle.desk_workers.specs.Crew.{ServesBoard, end_of}
+use Rattle.desk_workers.specs.Watched.{fed_sessions}
 use Rattle.screen_feed.specs.Screens.{WriterState}
-use Rattle.screen_hall.specs.Halls.{HallHeld, IsHall, ShowsVersion}
-use Rattle.screen_looks.specs.Shown.{ShowsFrom}
-use Rattle.screen_looks.specs.declared.shown.ShownEnd.{ShownEnd}
-use Rattle.screen_looks.specs.declared.shown.Task.{Task}
+use Rattle.shown_board.specs.Halls.{HallHeld, IsHall, ShowsVersion}
+use Rattle.screen_server.specs.Shown.{ShowsFrom}
+use Rattle.screen_server.specs.declared.shown.ShownEnd.{ShownEnd}
+use Rattle.screen_server.specs.declared.shown.Task.{Task}
 use Rattle.apron_check.specs.declared.files.AirportFiles.{AirportFiles}
 use Rattle.apron_run.specs.Headline.{AllSound}
 use Rattle.apron_run.specs.Journal.{IsOpened, KeepsHistory}

@@ -8,11 +8,11 @@ use Rattle.apron_base.specs.Listener.{ListenerState}
 use Rattle.apron_rules.specs.declared.parts.AirportParts.{AirportParts}
 use Rattle.journal_disk.specs.declared.fault.JournalFault.TheVariants as journal
 use Rattle.history_core.specs.declared.opening.OpenFault.TheVariants as entries
-use Rattle.desk_turns.specs.Crew.{end_of}
-use Rattle.desk_turns.specs.Watched.{fed_sessions}
-use Rattle.desk_turns.specs.declared.worker.WorkEnd.{WorkEnd}
-use Rattle.desk_turns.specs.declared.worker.WorkEnd.TheVariants as work
-use Rattle.screen_looks.specs.declared.shown.Task.{Task}
+use Rattle.desk_workers.specs.Crew.{end_of}
+use Rattle.desk_workers.specs.Watched.{fed_sessions}
+use Rattle.desk_workers.specs.declared.worker.WorkEnd.{WorkEnd}
+use Rattle.desk_workers.specs.declared.worker.WorkEnd.TheVariants as work
+use Rattle.screen_server.specs.declared.shown.Task.{Task}
 use Rattle.apron_check.specs.Files.{is_files_shelf_fault as is_shelf_found}
 use Rattle.apron_check.specs.declared.files.AirportFiles.{AirportFiles}
 use Rattle.apron_check.specs.declared.faults.FilesFault.{FilesFault}

@@ -5,12 +5,12 @@ use Rattle.apron_base.specs.Histories.{Every}
 use Rattle.apron_base.specs.Listener.{ListenerState}
 use Rattle.turn_board.proofs.Totals.{every_more}
 use Rattle.desk_http.specs.Session.{SessionKind}
-use Rattle.desk_turns.specs.Crew.{CrewState, ServesBoard, Worker, WorksAt, end_of}
-use Rattle.desk_turns.specs.Work.{EndStates, IsEndAt, is_listener_fault}
-use Rattle.desk_turns.specs.declared.worker.WorkEnd.{WorkEnd}
-use Rattle.desk_turns.specs.declared.worker.WorkEnd.TheVariants.{Done, ListenerFault}
-use Rattle.screen_looks.specs.Looks.{ShowsOn}
-use Rattle.screen_looks.specs.Walls.{ScreenWorker, ShowsAll, WallsState}
+use Rattle.desk_workers.specs.Crew.{CrewState, ServesBoard, Worker, WorksAt, end_of}
+use Rattle.desk_workers.specs.Work.{EndStates, IsEndAt, is_listener_fault}
+use Rattle.desk_workers.specs.declared.worker.WorkEnd.{WorkEnd}
+use Rattle.desk_workers.specs.declared.worker.WorkEnd.TheVariants.{Done, ListenerFault}
+use Rattle.screen_server.specs.Looks.{ShowsOn}
+use Rattle.screen_server.specs.Walls.{ScreenWorker, ShowsAll, WallsState}
 use Rattle.apron_serve.specs.Serve.{HaveFinished, SomeFailed}
 
 -- the first of some workers that were all done, and the others

@@ -6,8 +6,8 @@ use Rattle.apron_check.specs.declared.files.AirportFiles.{AirportFiles}
 use Rattle.apron_check.specs.declared.faults.FilesFault.{FilesFault}
 use Rattle.apron_run.specs.declared.status.Status.{Status}
 use Rattle.apron_run.specs.declared.unusable.Unusable.{Unusable}
-use Rattle.screen_looks.specs.declared.shown.Task.{Task}
-use Rattle.screen_looks.specs.Walls.{ScreenWorker}
+use Rattle.screen_server.specs.declared.shown.Task.{Task}
+use Rattle.screen_server.specs.Walls.{ScreenWorker}
 use Rattle.apron_serve.specs.Board.{MeetsDesks, Service}
 use Rattle.apron_serve.specs.Files.{ServesFound, ServesTask, task_at}
 use Rattle.apron_serve.specs.Orders.{Order, may_have, order_of, order_of_words, order_with}

@@ -5,13 +5,13 @@ use Rattle.apron_rules.specs.declared.parts.AirportParts.{AirportParts}
 use Rattle.visit_book.specs.declared.visits.NewVisit.{NewVisit}
 use Rattle.desk_asks.specs.declared.asks.Entry.{Entry}
 use Rattle.history_core.specs.Opening.{next_after}
-use Rattle.desk_turns.specs.Crew.{ServesBoard, end_of}
-use Rattle.desk_turns.specs.Watched.{FeedTexts, fed_sessions}
-use Rattle.desk_turns.specs.Work.{EndStates}
-use Rattle.desk_turns.specs.declared.worker.WorkEnd.{WorkEnd}
-use Rattle.desk_turns.specs.declared.worker.WorkEnd.TheVariants as work
-use Rattle.screen_looks.specs.Shown.{ShowsFrom}
-use Rattle.screen_looks.specs.declared.shown.Task.{Task}
+use Rattle.desk_workers.specs.Crew.{ServesBoard, end_of}
+use Rattle.desk_workers.specs.Watched.{FeedTexts, fed_sessions}
+use Rattle.desk_workers.specs.Work.{EndStates}
+use Rattle.desk_workers.specs.declared.worker.WorkEnd.{WorkEnd}
+use Rattle.desk_workers.specs.declared.worker.WorkEnd.TheVariants as work
+use Rattle.screen_server.specs.Shown.{ShowsFrom}
+use Rattle.screen_server.specs.declared.shown.Task.{Task}
 use Rattle.apron_check.specs.declared.files.AirportFiles.{AirportFiles}
 use Rattle.apron_run.specs.Headline.{AllSound, HasItsEntry, IsOfItsEntry}
 use Rattle.apron_run.specs.Journal.{KeepsHistory, NotOpened, OpensTo}

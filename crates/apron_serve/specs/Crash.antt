@@ -1,6 +1,6 @@
 -- What a crash may leave of the disk while desks are served, and after it.
 use Rattle.std.specs.Prelude.{◌≡◌, ℕ, Option, None, Some, Result, Ok, Err}
-use Rattle.screen_looks.specs.declared.shown.Task.{Task}
+use Rattle.screen_server.specs.declared.shown.Task.{Task}
 use Rattle.apron_check.specs.declared.files.AirportFiles.{AirportFiles}
 use Rattle.apron_check.specs.declared.faults.FilesFault.{FilesFault}
 use Rattle.apron_run.specs.Crash.{LeavesAll}

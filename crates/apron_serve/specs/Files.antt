@@ -6,7 +6,7 @@ use Rattle.apron_check.specs.Files.{FindsFiles}
 use Rattle.apron_check.specs.declared.files.AirportFiles.{AirportFiles}
 use Rattle.apron_check.specs.declared.faults.FilesFault.{FilesFault}
 use Rattle.history_core.specs.declared.opening.OpenFault.TheVariants as entries
-use Rattle.screen_looks.specs.declared.shown.Task.{Task}
+use Rattle.screen_server.specs.declared.shown.Task.{Task}
 use Rattle.apron_run.specs.Check.{TellsFault}
 use Rattle.apron_run.specs.Print.{Writes, usage_text}
 use Rattle.apron_run.specs.Unusable.{TellsUnusable}

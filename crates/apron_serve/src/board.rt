@@ -1,9 +1,9 @@
 // Desks and screens at the board of an airport over its journal on a disk.
 ghost use Rattle.std.specs.Prelude.{◌≡◌, ◌<◌, ◌≤◌, [], ◌∷◌, OnErr, length, map};
-ghost use Rattle.desk_turns.specs.Crew.{end_of};
-ghost use Rattle.desk_turns.specs.Watched.{feed_texts};
+ghost use Rattle.desk_workers.specs.Crew.{end_of};
+ghost use Rattle.desk_workers.specs.Watched.{feed_texts};
 ghost use Rattle.journal_disk.specs.Disk.{Stays};
-ghost use Rattle.screen_hall.specs.Halls.{IsHall};
+ghost use Rattle.shown_board.specs.Halls.{IsHall};
 ghost use Rattle.apron_run.specs.World.{disk_seen};
 ghost use Rattle.apron_serve.specs.Board.{MeetsDesks, served_end};
 ghost use Rattle.apron_serve.specs.Crash.{LeavesOfService};
@@ -13,11 +13,11 @@ ghost use Rattle.apron_serve.specs.World.{serve_ends_at};
 use apron_base::{Keeper, Memory};
 use apron_check::AirportFiles;
 use apron_run::{OfFiles, Unusable, close_board, open_watched};
-use desk_turns::{WorkEnd, first_end};
+use desk_workers::{WorkEnd, first_end};
 use history_core::OpenFault;
 use journal_disk::Disk;
-use screen_hall::Hall;
-use screen_looks::{ShownEnd, Task, Wall, serve_watched};
+use screen_server::{ShownEnd, Task, Wall, serve_watched};
+use shown_board::Hall;
 use std::alloc::Global;
 use std::sync::Wait;
 use std::thread::Threads;

@@ -1,6 +1,6 @@
 // The calls of the words `serve A T N` and `serve A T N screen DAY`.
 ghost use Rattle.std.specs.Prelude.{◌≡◌, ◌↔◌, ◌⊎◌, ◌<◌, ◌≤◌, true, false, [], None, Ok, Some, length, map, not};
-ghost use Rattle.desk_turns.specs.Watched.{feed_texts, no_feeds};
+ghost use Rattle.desk_workers.specs.Watched.{feed_texts, no_feeds};
 ghost use Rattle.apron_run.specs.Run.{KeptUnless};
 ghost use Rattle.apron_run.specs.Statuses.{exit_code};
 ghost use Rattle.apron_run.specs.World.{disk_seen};
@@ -19,7 +19,7 @@ use apron_check::{AirportFiles, airport_of};
 use apron_run::{Status, Unusable, print_fault, print_usage, tell_unusable};
 use history_core::OpenFault;
 use journal_disk::Disk;
-use screen_looks::{Task, Wall};
+use screen_server::{Task, Wall};
 use std::alloc::Global;
 use std::marker::Brand;
 use std::sync::Wait;

@@ -10,11 +10,11 @@ use self::rules::{Count, count_of};
 use airport_files::read_airport;
 use apron_check::MAX_FILE;
 use apron_rules::Airport;
-use host_files::FileShelf;
 use std::io;
 use std::marker::Brand;
 use std::sync::ledger::Blank;
 use std::time::{Duration, Instant};
+use system_files::FileShelf;
 
 // A duration in microseconds, at least 1.
 fn micros(duration: Duration) -> u64 {

@@ -6,11 +6,11 @@ use self::replies::Replies;
 use self::requests::{Requests, requests_of};
 use apron_base::{Memory, NullSink, SteadySource, Word};
 use apron_run::run;
-use host_files::FileShelf;
 use journal_disk::{MemoryDisk, Room};
 use std::alloc::Global;
 use std::io;
 use std::time::Instant;
+use system_files::FileShelf;
 
 // The most bytes that the source gives at once, as in a packet of a network.
 const PIECE: usize = 1460;

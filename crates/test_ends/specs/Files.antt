@@ -2,8 +2,8 @@
 use Rattle.std.specs.Prelude.{ℕ, Bool, List, Option, Some, None, if◌then◌else◌}
 use Rattle.std.specs.Str.{bytes_eq}
 use Rattle.journal_disk.specs.Calls.{MemoryHeld, disk_of}
-use Rattle.host_files.specs.Files.{FileState, Lock}
-use Rattle.host_files.specs.Files.Lock.{Unlocked, Shared, Exclusive, Unavailable}
+use Rattle.system_files.specs.Files.{FileState, Lock}
+use Rattle.system_files.specs.Files.Lock.{Unlocked, Shared, Exclusive, Unavailable}
 use Rattle.test_ends.specs.declared.memory_file.Held.{Held}
 use Rattle.test_ends.specs.declared.memory_file.Held.TheVariants.{Nothing, AmongReaders, Alone, NoLocks}
 

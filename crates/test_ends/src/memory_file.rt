@@ -2,15 +2,15 @@
 ghost use Rattle.std.specs.Prelude.{◌≡◌, IsErrAnd, MatchResult, is_err};
 ghost use Rattle.std.specs.IoError.{error_kind};
 ghost use Rattle.apron_base.specs.Counts.{Counts};
-ghost use Rattle.host_files.specs.Files.{lock_after, lock_beside};
+ghost use Rattle.system_files.specs.Files.{lock_after, lock_beside};
 ghost use Rattle.test_ends.specs.Files.{lock_of};
 
 use apron_base::Failed;
-use host_files::RawFile;
 use journal_disk::{Disk, MemoryDisk};
 use std::fs::TryLockError;
 use std::io;
 use std::io::ErrorKind;
+use system_files::RawFile;
 
 /// What a process has of a file.
 #[derive(Clone, Copy, PartialEq, Eq)]

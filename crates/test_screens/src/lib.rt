@@ -1,4 +1,4 @@
-//! Tests of `screen_feed` and `screen_hall` by their public calls, at boards of the demo airport.
+//! Tests of `screen_feed` and `shown_board` by their public calls, at boards of the demo airport.
 #![tactic(auto)]
 
 #[cfg(test)]

@@ -9,7 +9,7 @@ use apron_base::{ListListener, ListSink, ListSource, MapShelf, Memory};
 use apron_run::run;
 use apron_serve::serve;
 use journal_disk::{Disk, MemoryDisk};
-use screen_looks::Wall;
+use screen_server::Wall;
 use std::alloc::Global;
 use std::sync::Wait;
 use std::test::Fail;

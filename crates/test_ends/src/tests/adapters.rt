@@ -2,9 +2,9 @@
 ghost use Rattle.std.specs.Prelude.{◌≤◌, IfOk};
 
 use apron_base::{Failed, ReaderSource, Sink, Source, WriterSink};
-use host_files::ToldStream;
 use std::io;
 use std::io::{ErrorKind, Read, Write};
+use system_files::ToldStream;
 
 // Gives or takes at most two bytes at each call, five in all. Its second call and its fourth flush
 // fail; a signal interrupts its third call and its second flush.

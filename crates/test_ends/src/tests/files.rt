@@ -1,12 +1,12 @@
 // A disk over a file in memory.
 use crate::memory_file::{Held, MemoryFile};
 use apron_base::Failed;
-use host_files::FileDisk;
 use journal_disk::{Disk, MemoryDisk, Room};
 use std::alloc::Global;
 use std::io;
 use std::io::ErrorKind;
 use std::test::Fail;
+use system_files::FileDisk;
 
 const ROOM: Room = Room {
     bytes: 10,

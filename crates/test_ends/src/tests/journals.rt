@@ -1,6 +1,5 @@
 // Journals on disks in memory and in a file: what was acknowledged is found again.
 use apron_base::{Failed, Keeper, Listed, MAX_ENTRIES, MAX_ENTRY};
-use host_files::FileDisk;
 use journal_disk::{Disk, Journal, JournalFault, MemoryDisk, Room, Unsynced, digest_of, init};
 use std::alloc::Global;
 use std::fs;
@@ -8,6 +7,7 @@ use std::fs::File;
 use std::marker::Model;
 use std::rt::Files;
 use std::test::Fail;
+use system_files::FileDisk;
 
 const DIGESTS: [u8; 64] = [7; 64];
 

@@ -1,10 +1,10 @@
 // Files in memory, and those of the system.
 use apron_base::{Listed, MapShelf, Memory, Shelf, ShelfFault, ShelfFile, SteadyShelf, Word};
-use host_files::{FileShelf, Folder};
 use std::alloc::Global;
 use std::io::ErrorKind;
 use std::test::Fail;
 use std::{fs, io};
+use system_files::{FileShelf, Folder};
 
 // One file, of three bytes.
 fn one_file(alloc: Global) -> Result<Vec<ShelfFile>, Memory> {

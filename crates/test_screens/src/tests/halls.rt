@@ -10,7 +10,7 @@ use apron_rules::Airport;
 use asks::{Deed, Shows, reply_to};
 use history_core::Board;
 use screen_feed::Screen;
-use screen_hall::Hall;
+use shown_board::Hall;
 use std::alloc::Global;
 use std::sync::Wait;
 use std::test::Fail;

@@ -7,7 +7,7 @@ use apron_base::{Acted, Name, SteadyKeeper, VisitNo};
 use apron_rules::Airport;
 use desk_asks::{Ask, What};
 use desk_http::DeskPort;
-use desk_turns::Served;
+use desk_workers::Served;
 use history_core::Board;
 use std::alloc::Global;
 use std::sync::Wait;

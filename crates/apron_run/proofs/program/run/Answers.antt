@@ -2,7 +2,7 @@ use Rattle.std.proofs.Common.{◌≡◌, ℕ, List, [], subst}
 use Rattle.watch_list.specs.Watches.{shows}
 use Rattle.watch_list.specs.declared.note.Shown.{Shown}
 use Rattle.watch_list.specs.declared.watch.Watched.{Watched}
-use Rattle.desk_turns.specs.Watched.{FeedTexts, feed_texts}
+use Rattle.desk_workers.specs.Watched.{FeedTexts, feed_texts}
 use Rattle.apron_run.specs.Crash.{CrashesAs}
 use Rattle.apron_run.specs.Headline.{TellsHeadline}
 use Rattle.apron_run.specs.Run.{RunsAs}

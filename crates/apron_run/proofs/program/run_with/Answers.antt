@@ -1,5 +1,5 @@
 use Rattle.std.proofs.Common.{ℕ, subst, sym}
-use Rattle.desk_turns.specs.Watched.{feed_texts}
+use Rattle.desk_workers.specs.Watched.{feed_texts}
 use Rattle.apron_run.specs.Crash.{CrashesAs}
 use Rattle.apron_run.specs.Run.{RunsAs}
 use Rattle.apron_run.specs.Survival.{DiskStates}

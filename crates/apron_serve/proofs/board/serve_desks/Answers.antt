@@ -4,8 +4,8 @@ use Rattle.std.proofs.lemmas.List.{length-map}
 use Rattle.history_core.specs.AtRisk.{read_entry_at_risk}
 use Rattle.history_core.specs.Board.{machine_state}
 use Rattle.watch_list.specs.declared.watch.Watched.{Watched}
-use Rattle.desk_turns.specs.Crew.{ServesBoard}
-use Rattle.desk_turns.specs.Watched.{fed_sessions, feed_texts}
+use Rattle.desk_workers.specs.Crew.{ServesBoard}
+use Rattle.desk_workers.specs.Watched.{fed_sessions, feed_texts}
 use Rattle.journal_disk.specs.Disk.{Stays}
 use Rattle.apron_run.specs.Journal.{KeepsHistory, journal_tells}
 use Rattle.apron_run.specs.Survival.{Survives}

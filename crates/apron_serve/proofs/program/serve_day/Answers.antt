@@ -1,7 +1,7 @@
 use Rattle.std.proofs.Common.{◌≡◌, ◌∙◌, ℕ, Option, None, Some, map, refl, sym, ap, subst}
 use Rattle.std.specs.Option.{option_map}
 use Rattle.apron_rules.specs.declared.parts.AirportParts.{AirportParts}
-use Rattle.desk_turns.specs.Watched.{feed_texts}
+use Rattle.desk_workers.specs.Watched.{feed_texts}
 use Rattle.apron_run.specs.World.{disk_seen}
 use Rattle.apron_run.proofs.Fronts.{stays_same}
 use Rattle.apron_serve.specs.Crash.{LeavesTask}

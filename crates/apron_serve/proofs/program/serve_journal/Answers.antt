@@ -1,6 +1,6 @@
 use Rattle.std.proofs.Common.{◌≡◌, ◌<◌, ℕ, Ok, length, map, subst}
 use Rattle.std.proofs.lemmas.List.{length-map}
-use Rattle.desk_turns.specs.Watched.{feed_texts}
+use Rattle.desk_workers.specs.Watched.{feed_texts}
 use Rattle.apron_run.specs.World.{disk_seen}
 use Rattle.apron_serve.specs.declared.board.ServeEnd.TheVariants as end
 use Rattle.apron_serve.proofs.Endings.{missed_shown}

@@ -1,6 +1,6 @@
 use Rattle.std.proofs.Common.{◌≡◌, ◌⊎◌, ◌∙◌, ◌<◌, List, [], ◌++◌, None, Some, length, map, refl, sym, true, arith, ⊎_elim}
 use Rattle.std.proofs.lemmas.List.{length-map}
-use Rattle.desk_turns.specs.Watched.{feed_texts}
+use Rattle.desk_workers.specs.Watched.{feed_texts}
 use Rattle.apron_run.specs.Run.{KeptUnless}
 use Rattle.apron_run.specs.Statuses.{exit_code}
 use Rattle.apron_run.specs.Survival.{DiskStates}

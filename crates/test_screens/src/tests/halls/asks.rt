@@ -6,7 +6,7 @@ ghost use Rattle.watch_list.specs.WatchBoards.{IsWatchAskOf, watch_fixed};
 use apron_base::{Acted, CALL_END, Listed, Machine, Name, StandNo, SteadyKeeper, TypeNo, VisitNo};
 use apron_rules::Airport;
 use desk_asks::{Ask, Command, What};
-use screen_hall::Hall;
+use shown_board::Hall;
 use std::alloc::Global;
 use std::sync::Wait;
 use visit_book::{Draft, Edit, NewVisit, is_in_time};

@@ -2,7 +2,7 @@
 ghost use Rattle.std.specs.Prelude.{◌≡◌};
 ghost use Rattle.apron_base.specs.Histories.{Every};
 ghost use Rattle.history_core.specs.History.{replay};
-ghost use Rattle.screen_hall.specs.Halls.{IsNewWriter};
+ghost use Rattle.shown_board.specs.Halls.{IsNewWriter};
 
 use apron_base::SteadyKeeper;
 use apron_rules::Airport;

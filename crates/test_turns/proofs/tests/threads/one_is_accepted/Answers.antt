@@ -7,8 +7,8 @@ use Rattle.apron_rules.specs.contracts.parts.AirportParts as AirportParts
 use Rattle.desk_asks.specs.contracts.asks.Ask as Ask
 use Rattle.history_core.specs.contracts.machine.BoardMachine.TheImpl as machines
 use Rattle.history_core.proofs.Crosses.{board_send}
-use Rattle.desk_turns.specs.contracts.machine.BoardDeskMachine.TheImpl as desks
-use Rattle.desk_turns.proofs.Crosses.{port_send}
+use Rattle.desk_workers.specs.contracts.machine.BoardDeskMachine.TheImpl as desks
+use Rattle.desk_workers.proofs.Crosses.{port_send}
 use Rattle.test_turns.proofs.tests.threads.one_is_accepted.Goals as goal
 
 keeper_send : IsSend SteadyKeeper.the_row

@@ -1,7 +1,7 @@
 use Rattle.std.proofs.Common.{◌≡◌}
 use Rattle.apron_base.specs.Histories.{Every}
 use Rattle.history_core.specs.History.{replay}
-use Rattle.screen_hall.specs.Halls.{IsNewWriter}
+use Rattle.shown_board.specs.Halls.{IsNewWriter}
 use Rattle.test_screens.proofs.tests.halls.writers.writers_of.Given as goal
 
 abbrev pub invariant-loop-day : goal.invariant-loop-day

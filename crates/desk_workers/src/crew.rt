@@ -1,0 +1,331 @@
+// The workers at one board, one for each listener, each in a thread of its own, and a job beside
+// them.
+ghost use Rattle.std.specs.Prelude.{◌≡◌, ◌<◌, ◌≤◌, IfErr, IfOk, None, [], ◌∷◌, length, map, vec_capacity};
+ghost use Rattle.std.specs.Thread.{IsSync};
+ghost use Rattle.apron_base.specs.Histories.{Every};
+ghost use Rattle.history_core.specs.History.{IsLegal, call_of};
+ghost use Rattle.turn_board.specs.Board.{Closes, Sits};
+ghost use Rattle.turn_board.specs.Views.{all_shares};
+ghost use Rattle.desk_workers.specs.Crew.{ServesBoard, end_of};
+ghost use Rattle.desk_workers.specs.Feeds.{fed_kind, seat_sessions};
+ghost use Rattle.desk_workers.specs.Together.{AreCutFrom, MeetsAll, WorkAll, WorkEach, WorkTogether};
+
+use crate::machine::{DeskMachine, FeedMachine};
+use crate::served::SeatPort;
+use crate::worker::{WorkEnd, work};
+use apron_base::{Listener, Memory};
+use apron_rules::Airport;
+use desk_http::FeedPort;
+use std::alloc::Global;
+use std::sync::Wait;
+use std::thread::{Threads, join_mut};
+use turn_board::{Seat, TurnBoard};
+
+/// Serves this many connections of each listener at a board at which no entry is at risk: each
+/// listener by a worker in a thread of its own with a seat of its own at the board. The job runs
+/// beside the workers, in this thread, and has to end by itself. When all have ended, all seats are
+/// taken in, and the board comes back with what the job gave. It ends as the first worker in order
+/// that stopped early, and is done if none did. At `Err` there is no memory: nothing was served,
+/// and the job was not run.
+pub fn serve_board<
+    R: Threads + Wait + Sync,
+    M: FeedMachine + Send,
+    W: Workplace + Send,
+    J: FnMut() -> T,
+    T,
+>(
+    rt: &R,
+    alloc: Global,
+    airport: &Airport,
+    board: M,
+    listeners: &mut [W],
+    connections: u32,
+    job: &mut J,
+) -> (Result<(WorkEnd, T), Memory>, M)
+    requires airport { airport.now ≡ M.airport (M.state board).fixed }
+    requires at_risk { (M.state board).at_risk ≡ None }
+    requires few { length listeners.old < all_shares }
+    requires job { J.pre job.old }
+    ensures serves { IfOk result.0 (λ ends. ServesBoard W.states
+        (λ fixed. seat_sessions (M.feed_text fixed) (M.airport fixed)) connections
+        (record { listeners = map W.state listeners.old; board = M.state board })
+        (record { listeners = map W.state listeners.new; board = M.state result.1 }) ends.0) }
+    ensures job { IfOk result.0 (λ ends. J.step job.old ends.1 job.new) }
+    ensures refused { IfErr result.0
+        (λ _. (listeners.new ≡ listeners.old) × (result.1 ≡ board) × (job.new ≡ job.old)) }
+{
+    board.is_board();
+    let Ok(ports) = Vec::with_capacity(alloc, listeners.len()) else {
+        return (Err(Memory), board);
+    };
+    match TurnBoard::new(alloc, board) {
+        Ok((turns, mut seat)) => {
+            let ends = work_in_turns(
+                rt,
+                alloc,
+                &turns,
+                airport,
+                &mut seat,
+                ports,
+                listeners,
+                connections,
+                job,
+            );
+            (Ok(ends), close_turns(turns, seat))
+        }
+        Err(board) => {
+            ports.destroy_empty();
+            (Err(Memory), board)
+        }
+    }
+}
+
+// Cuts a seat for each listener from one seat, lets a worker serve the listener over its port, and
+// takes the seats in again. There is room for the ports.
+fn work_in_turns<
+    's,
+    R: Threads + Wait + Sync,
+    M: FeedMachine + Send,
+    W: Workplace + Send,
+    J: FnMut() -> T,
+    T,
+>(
+    rt: &'s R,
+    alloc: Global,
+    board: &'s TurnBoard<M>,
+    airport: &'s Airport,
+    seat: &mut Seat<M>,
+    mut ports: Vec<SeatPort<'s, R, M>>,
+    listeners: &mut [W],
+    connections: u32,
+    job: &mut J,
+) -> (WorkEnd, T)
+    requires sits { Sits board.now seat.old }
+    requires airport { airport.now ≡ M.airport board.now.start.fixed }
+    requires share { length listeners.old < seat.old.share }
+    requires none { ports.items ≡ [] }
+    requires room { length listeners.old ≤ vec_capacity ports }
+    requires job { J.pre job.old }
+    ensures sits { Sits board.now seat.new }
+    ensures share { seat.new.share ≡ seat.old.share }
+    ensures works { let fixed = board.now.start.fixed in
+        WorkTogether W.states (seat_sessions (M.feed_text fixed) (M.airport fixed)) connections
+        (record { listeners = map W.state listeners.old; seat = seat.old })
+        (record { listeners = map W.state listeners.new; seat = seat.new }) result.0 }
+    ensures job { J.step job.old result.1 job.new }
+{
+    cut_ports(rt, board, airport, seat, listeners.len(), &mut ports);
+    let ends = work_all(rt, alloc, ports.as_mut_slice(), listeners, connections, job);
+    meet_ports(board, seat, ports);
+    ends
+}
+
+// Puts the ports of this many new seats into a list that has room for them.
+fn cut_ports<'s, R, M: DeskMachine>(
+    rt: &'s R,
+    board: &'s TurnBoard<M>,
+    airport: &'s Airport,
+    seat: &mut Seat<M>,
+    count: usize,
+    ports: &mut Vec<SeatPort<'s, R, M>>,
+)
+    requires sits { Sits board.now seat.old }
+    requires airport { airport.now ≡ M.airport board.now.start.fixed }
+    requires share { count < seat.old.share }
+    requires none { ports.old.items ≡ [] }
+    requires room { count ≤ vec_capacity ports.old }
+    ensures sits { Sits board.now seat.new }
+    ensures count { length ports.new.items ≡ count }
+    ensures cut { AreCutFrom seat.old ports.new.items seat.new }
+    ensures board { Every (λ port. port.board ≡ board.now) ports.new.items }
+{
+    for _cut in 0..count {
+        let mine = board.split(seat);
+        ports.push_reserved(SeatPort::new(rt, board, airport, mine));
+    }
+}
+
+// Takes the seats of these ports in, the last one first.
+fn meet_ports<'s, R, M: DeskMachine>(
+    board: &TurnBoard<M>,
+    seat: &mut Seat<M>,
+    mut ports: Vec<SeatPort<'s, R, M>>,
+)
+    requires sits { Sits board.now seat.old }
+    requires board { Every (λ port. port.board ≡ board.now) ports.items }
+    ensures sits { Sits board.now seat.new }
+    ensures meets { MeetsAll seat.old ports.entry.items seat.new }
+{
+    while let Some(port) = ports.pop() {
+        board.meet(seat, port.into_seat());
+    }
+    ports.destroy_empty();
+}
+
+// The board, once all seats have met this one.
+fn close_turns<M: DeskMachine>(turns: TurnBoard<M>, seat: Seat<M>) -> M
+    requires sits { Sits turns seat }
+    requires share { seat.share ≡ all_shares }
+    ensures closes { Closes call_of turns seat (M.state result) }
+    ensures legal { IsLegal (M.airport (M.state result).fixed) (M.state result).history }
+{
+    let board = turns.close(seat);
+    board.is_board();
+    board
+}
+
+/// A listener as its worker sees it. Every listener is one. The ends of its connections have no
+/// bound, since what is sent to a thread can't have a bound on its associated types.
+pub trait Workplace {
+    ghost use Rattle.std.specs.Prelude.{◌≡◌};
+    ghost use Rattle.apron_base.specs.Listener.{ListenerState};
+    ghost use Rattle.desk_workers.specs.Feeds.{fed_kind};
+    ghost use Rattle.desk_workers.specs.Work.{EndStates, Works};
+
+    /// What a connection sends.
+    type In;
+
+    /// What a connection is sent.
+    type Out;
+
+    /// How the ends of a connection are seen.
+    ghost states: { EndStates Self.In Self.Out };
+
+    /// The state of the listener.
+    ghost state: { Self → ListenerState Self.In Self.Out };
+
+    /// Serves this many connections over the port, as `work` does.
+    fn work<P: FeedPort, R: Wait>(
+        &mut self,
+        rt: &R,
+        alloc: Global,
+        port: &mut P,
+        connections: u32,
+    ) -> WorkEnd
+        ensures works { Works states
+            (fed_kind P.asks (P.feeds (P.place port.old)) (P.airport_of port.old)) connections
+            (record { listener = state self.old; port = P.port port.old })
+            (record { listener = state self.new; port = P.port port.new }) result }
+        ensures place { P.place port.new ≡ P.place port.old };
+}
+
+impl<L: Listener> Workplace for L {
+    type In = L::In;
+
+    type Out = L::Out;
+
+    ghost states = { record { source = L.In.state; sink = L.Out.state } };
+
+    ghost state = { L.state };
+
+    fn work<P: FeedPort, R: Wait>(
+        &mut self,
+        rt: &R,
+        alloc: Global,
+        port: &mut P,
+        connections: u32,
+    ) -> WorkEnd {
+        work(rt, alloc, port, self, connections)
+    }
+}
+
+// The only listener of a list, over the only port of one.
+fn work_first<P: FeedPort, W: Workplace, R: Wait>(
+    rt: &R,
+    alloc: Global,
+    ports: &mut [P],
+    listeners: &mut [W],
+    connections: u32,
+) -> WorkEnd
+    requires port { length ports.old ≡ 1 }
+    requires one { length listeners.old ≡ 1 }
+    ensures works { WorkEach W.states W.state P.port P.place
+        (λ port. fed_kind P.asks (P.feeds (P.place port)) (P.airport_of port)) connections
+        ports.old listeners.old ports.new listeners.new result }
+{
+    listeners[0].work(rt, alloc, &mut ports[0], connections)
+}
+
+// The worker of the only listener of a list, in a thread of its own, and another job beside it.
+fn work_beside<
+    P: FeedPort + Send,
+    W: Workplace + Send,
+    R: Threads + Wait + Sync,
+    J: FnMut() -> T,
+    T,
+>(
+    rt: &R,
+    alloc: Global,
+    ports: &mut [P],
+    listeners: &mut [W],
+    connections: u32,
+    job: &mut J,
+) -> (WorkEnd, T)
+    requires port { length ports.old ≡ 1 }
+    requires one { length listeners.old ≡ 1 }
+    requires job { J.pre job.old }
+    ensures works { WorkEach W.states W.state P.port P.place
+        (λ port. fed_kind P.asks (P.feeds (P.place port)) (P.airport_of port)) connections
+        ports.old listeners.old ports.new listeners.new result.0 }
+    ensures job { J.step job.old result.1 job.new }
+{
+    join_mut(
+        rt,
+        &mut ||
+            requires { (length ports.now ≡ 1) × (length listeners.now ≡ 1) }
+            ensures works { WorkEach W.states W.state P.port P.place
+                (λ port. fed_kind P.asks (P.feeds (P.place port)) (P.airport_of port)) connections
+                ports.entry.now listeners.entry.now ports.exit.now listeners.exit.now result }
+        { work_first(rt, alloc, ports, listeners, connections) },
+        job,
+    )
+}
+
+// A worker for each listener over the port of its place, each in a thread of its own, and the job
+// in this one.
+fn work_all<P: FeedPort + Send, W: Workplace + Send, R: Threads + Wait + Sync, J: FnMut() -> T, T>(
+    rt: &R,
+    alloc: Global,
+    ports: &mut [P],
+    listeners: &mut [W],
+    connections: u32,
+    job: &mut J,
+) -> (WorkEnd, T)
+    requires each { length ports.old ≡ length listeners.old }
+    requires job { J.pre job.old }
+    ensures works { WorkAll W.states W.state P.port P.place
+        (λ port. fed_kind P.asks (P.feeds (P.place port)) (P.airport_of port)) connections
+        ports.old listeners.old ports.new listeners.new result.0 }
+    ensures job { J.step job.old result.1 job.new }
+{
+    if listeners.is_empty() {
+        return (WorkEnd::Done, job());
+    }
+    let (port, others) = ports.split_at_mut(1);
+    let (first, rest) = listeners.split_at_mut(1);
+    let (one, (end, done)) = work_beside(
+        rt,
+        alloc,
+        port,
+        first,
+        connections,
+        &mut ||
+            requires { IsSync R.row × (length others.now ≡ length rest.now) × J.pre job.now }
+            ensures works { WorkAll W.states W.state P.port P.place
+                (λ port. fed_kind P.asks (P.feeds (P.place port)) (P.airport_of port)) connections
+                others.entry.now rest.entry.now others.exit.now rest.exit.now result.0 }
+            ensures job { J.step job.entry.now result.1 job.exit.now }
+        { work_all(rt, alloc, others, rest, connections, job) },
+    );
+    (first_end(one, end), done)
+}
+
+/// Of two the end of the first one that was not done.
+pub fn first_end(one: WorkEnd, others: WorkEnd) -> WorkEnd
+    ensures is { result ≡ end_of (one ∷ others ∷ []) }
+{
+    match one {
+        WorkEnd::Done => others,
+        WorkEnd::ListenerFault => WorkEnd::ListenerFault,
+    }
+}

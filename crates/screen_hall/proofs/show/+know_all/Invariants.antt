@@ -1,5 +1,0 @@
-use Rattle.std.proofs.Common.{length}
-use Rattle.screen_hall.proofs.show.+know_all.Given as goal
-
-abbrev pub decreases-know_all : goal.decreases-know_all
-decreases-know_all l = length l.writers.now

@@ -1,4 +1,0 @@
-use Rattle.screen_hall.proofs.show.close_all.Given as goal
-
-abbrev pub decreases-loop-writer : goal.decreases-loop-writer
-decreases-loop-writer g l = goal.left-loop-writer g l
