@@ -7,6 +7,7 @@ mod file_lines;
 mod forms;
 mod front;
 mod journal_faults;
+mod no_disk;
 mod opening;
 mod reporting_desks;
 mod time_limits;
@@ -18,8 +19,9 @@ use apron_run::{Status, run_with};
 use file_lines::{import_files, tell_files_fault};
 use forms::{JournalUse, journal_use};
 use front::{Front, FrontStream};
-use journal_disk::{Disk, MemoryDisk, Room};
+use journal_disk::Disk;
 use journal_faults::tell_journal_fault;
+use no_disk::NoDisk;
 use std::alloc::Global;
 use std::cell::Cell;
 use std::fs::File;
@@ -103,8 +105,8 @@ fn run_program(rt: &HostRuntime, words: &[Word], watches: &Watches<Shown, Shown>
     status
 }
 
-// Words that have a journal have its path last. Others get an empty disk in memory, and so do no
-// words, which is what words come to that are too few or too many.
+// Words that have a journal have its path last. Others get no disk, and so do no words, which is
+// what words come to that are too few or too many.
 fn run_with_journal(
     rt: &HostRuntime,
     words: &[Word],
@@ -112,7 +114,7 @@ fn run_with_journal(
     front: &Cell<Front>,
 ) -> u8 {
     match (journal_use(words), words.split_last()) {
-        (Some(JournalUse::None), _) => run_on_nothing(rt, words, watches, front),
+        (Some(JournalUse::None), _) => run_on(rt, words, watches, NoDisk::new(), front),
         (Some(JournalUse::Made), Some((path, asked))) => {
             run_on(rt, asked, watches, FileDisk::make(rt, path.text()), front)
         }
@@ -123,25 +125,7 @@ fn run_with_journal(
         (Some(JournalUse::Written), Some((path, asked))) => {
             run_on(rt, asked, watches, FileDisk::open(rt, path.text()), front)
         }
-        _ => run_on_nothing(rt, &[], watches, front),
-    }
-}
-
-fn run_on_nothing(
-    rt: &HostRuntime,
-    words: &[Word],
-    watches: &Watches<Shown, Shown>,
-    front: &Cell<Front>,
-) -> u8 {
-    let alloc: Global = rt.alloc();
-    let room = Room {
-        bytes: 0,
-        written: 0,
-        calls: 0,
-    };
-    match MemoryDisk::new(alloc, Vec::new(alloc), room, Vec::new(alloc)) {
-        Ok(disk) => run_on(rt, words, watches, disk, front),
-        Err(Memory) => Status::Memory.code(),
+        _ => run_on(rt, &[], watches, NoDisk::new(), front),
     }
 }
 
