@@ -1,5 +1,5 @@
 // What is read of texts and bytes, what is refused in them, and what is written.
-mod airport_files;
+mod airports;
 mod bodies;
 mod entries;
 mod framing;

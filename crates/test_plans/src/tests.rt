@@ -1,5 +1,5 @@
 // What plans hold, what boards answer, and how replies tell it.
-mod generated_day;
+mod days;
 mod history;
 mod replies;
 mod rules;
