@@ -44,6 +44,14 @@ def put_of(visit, part, stand):
     return struct.pack("<BIBH", 1, visit, part, stand)
 
 
+def cut_of(visit, part, minute):
+    return struct.pack("<BIBI", 3, visit, part, minute)
+
+
+def join_of(visit, part):
+    return struct.pack("<BIB", 4, visit, part)
+
+
 def commit_of(desk, draft, base, edits):
     return struct.pack("<B", 2) + text_of(desk) + struct.pack("<IIB", draft, base, len(edits)) + b"".join(edits)
 

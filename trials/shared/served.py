@@ -131,6 +131,7 @@ class Server:
             assert time.monotonic() < until, "the server does not say that it listens"
             time.sleep(0.002)
         while self.screens and not listens_at(self.screen_port):
+            assert self.process.poll() is None, f"the server ended with {self.process.returncode} before it listened for screens"
             assert time.monotonic() < until, "the server does not listen for screens"
             time.sleep(0.002)
 
