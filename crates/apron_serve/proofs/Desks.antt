@@ -1,8 +1,6 @@
 -- Desks that are served at a journal: what they begin with, and what they leave on the disk.
-use Rattle.std.proofs.Common.{◌≡◌, ◌<◌, ◌∙◌, ℕ, zero, suc, Bool, true, List, [], ◌∷◌, length, None, Result, Ok, Err, refl, subst, sym, arith}
+use Rattle.std.proofs.Common.{◌≡◌, ◌∙◌, ℕ, List, [], ◌∷◌, length, Option, None, Result, Ok, Err, refl, subst, sym, arith}
 use Rattle.std.specs.Prelude.{IfErr, IfOk}
-use Rattle.std.proofs.lemmas.Bool.{false≢true}
-use Rattle.apron_base.specs.Histories.{Every}
 use Rattle.apron_base.specs.Keeper.{KeeperState}
 use Rattle.apron_base.specs.Machine.{MachineState}
 use Rattle.apron_rules.specs.declared.parts.AirportParts.{AirportParts}
@@ -10,14 +8,15 @@ use Rattle.desk_asks.specs.declared.asks.Entry.{Entry}
 use Rattle.history_core.specs.AtRisk.{read_entry_at_risk}
 use Rattle.history_core.specs.Board.{BoardHeld, entry_texts, machine_state}
 use Rattle.history_core.specs.History.{IsLegal}
+use Rattle.history_core.specs.Opening.{next_after}
 use Rattle.history_core.specs.declared.opening.OpenFault.TheVariants as entries
 use Rattle.history_core.proofs.Added.{visits_added}
 use Rattle.history_core.proofs.Drafts.{drafts_made}
-use Rattle.history_core.proofs.Legal.{front_legal, legal_sound}
+use Rattle.history_core.proofs.Legal.{front_legal, legal_counted, legal_sound}
 use Rattle.desk_workers.specs.Crew.{ServesBoard, end_of}
 use Rattle.desk_workers.specs.Watched.{fed_sessions}
 use Rattle.screen_feed.specs.Screens.{WriterState}
-use Rattle.shown_board.specs.Halls.{HallHeld, IsHall, ShowsVersion}
+use Rattle.shown_board.specs.Halls.{HallHeld, HallNoteState, hall_note, note_with}
 use Rattle.screen_server.specs.Shown.{ShowsFrom}
 use Rattle.screen_server.specs.declared.shown.ShownEnd.{ShownEnd}
 use Rattle.screen_server.specs.declared.shown.Task.{Task}
@@ -26,7 +25,7 @@ use Rattle.apron_run.specs.Headline.{AllSound}
 use Rattle.apron_run.specs.Journal.{IsOpened, KeepsHistory}
 use Rattle.apron_run.specs.World.{DiskSeen}
 use Rattle.apron_run.specs.declared.unusable.Unusable.TheVariants.{Entries}
-use Rattle.apron_serve.specs.Board.{ServeFindsNoJournal, ServesDesks, Service, opened_board, served_end}
+use Rattle.apron_serve.specs.Board.{IsNoteOf, ServeFindsNoJournal, ServesDesks, Service, has_missed, opened_board, served_end}
 use Rattle.apron_serve.specs.declared.board.ServeEnd.{ServeEnd}
 use Rattle.apron_serve.specs.World.{ServeEnds}
 
@@ -53,35 +52,37 @@ of_err {A} {E} {P} met why is holds = subst (λ (r : Result A E). IfErr r (λ _.
 pub of_ok : {A E P : Type 0} (met : Result A E) (answer : A) → met ≡ Ok answer → IfOk met (λ _. P) → P
 of_ok {A} {E} {P} met answer is holds = subst (λ (r : Result A E). IfOk r (λ _. P)) is holds
 
-none_misses : (version : ℕ) (writers : List WriterState) → length writers ≡ 0 → Every (ShowsVersion version) writers
-none_misses version [] none = tt
-none_misses version (writer ∷ writers) none = absurd (omega arith)
+-- the note of a hall with as many writers as this
+pub note_is : (opened history : List Entry) (count : ℕ) (writers : List WriterState) (note : HallNoteState) → length writers ≡ count
+    → note.begun ≡ next_after opened → note.version ≡ length history → note.writers ≡ length writers → IsNoteOf opened history count (note_with writers note)
+note_is opened history count [] note many begun version writers = sym many
+note_is opened history count (writer ∷ others) note many begun version writers = (begun, version, writers ∙ many, omega arith)
 
--- a hall missed a version only if it has writers, as many as there are screens
-pub missed_of : {K R : Type 0} (hall : HallHeld K R) (count : ℕ) → length hall.writers ≡ count → IsHall hall → hall.missed ≡ true → 0 < count
-missed_of hall zero none is missed = absurd (false≢true (sym (is.missed.1 (none_misses _ hall.writers none)) ∙ missed))
-missed_of hall (suc count) some is missed = omega arith
-
--- desks and screens that were served at a board that was opened, with the disk that was closed
--- after them
-abbrev pub desks_serve : {In Out K R : Type 0} (service : Service In Out) (tells : K → KeeperState) (files : AirportFiles) (task : Task) (before after : ServeEnds In Out) (board left : BoardHeld K)
-    (met : Result ShownEnd R) (ends : ShownEnd) (missed : Bool) (served : ServeEnd)
+-- desks and screens that were served at a hall of a board that was opened, with the disk that was
+-- closed after them
+abbrev pub desks_serve : {In Out K R E : Type 0} (service : Service In Out) (tells : K → KeeperState) (files : AirportFiles) (task : Task) (before after : ServeEnds In Out) (board : BoardHeld K)
+    (hall : HallHeld K R) (met : Result ShownEnd E) (ends : ShownEnd) (served : ServeEnd)
     → IsOpened tells files before.disk board
     → met ≡ Ok ends
-    → IfOk met (λ ended. ServesBoard service.states (fed_sessions service.feeds) task.connections (record { listeners = before.listeners; board = machine_state tells board }) (record { listeners = after.listeners; board = machine_state tells left }) ended.desks)
-    → IfOk met (λ ended. ShowsFrom service.states (record { airport = files.airport; history = board.history }) task before.screens (record { listeners = after.screens; history = left.history; end = ended.screens }))
-    → (missed ≡ true → 0 < length before.screens)
-    → served ≡ served_end (end_of (ends.desks ∷ ends.screens ∷ [])) missed
-    → after.disk.faults ≡ (tells left.keeper).faults → KeepsHistory (record { airport = left.airport; digests = files.digests }) left.history (read_entry_at_risk left.airport (tells left.keeper)) after.disk
+    → IfOk met (λ ended. ServesBoard service.states (fed_sessions service.feeds) task.connections (record { listeners = before.listeners; board = machine_state tells board }) (record { listeners = after.listeners; board = machine_state tells hall.board.board }) ended.desks)
+    → IfOk met (λ ended. ShowsFrom service.states (record { airport = files.airport; history = board.history }) task before.screens (record { listeners = after.screens; history = hall.board.board.history; end = ended.screens }))
+    → length hall.writers ≡ length before.screens
+    → hall.begun ≡ board.next
+    → after.note ≡ hall_note hall
+    → served ≡ served_end (end_of (ends.desks ∷ ends.screens ∷ [])) (has_missed after.note)
+    → after.disk.faults ≡ (tells hall.board.board.keeper).faults
+    → KeepsHistory (record { airport = hall.board.board.airport; digests = files.digests }) hall.board.board.history (read_entry_at_risk hall.board.board.airport (tells hall.board.board.keeper)) after.disk
     → ServesDesks service files task before after served
-desks_serve {R = R} service tells files task before after board left met ends missed served opened is serve show some end_is counted keeps =
+desks_serve {E = E} service tells files task before after board hall met ends served opened is serve show many begun noted end_is counted keeps =
+    let left = hall.board.board in
     let serves : ServesBoard service.states (fed_sessions service.feeds) task.connections (record { listeners = before.listeners; board = machine_state tells board }) (record { listeners = after.listeners; board = machine_state tells left }) ends.desks =
-    subst (λ (r : Result ShownEnd R).
+    subst (λ (r : Result ShownEnd E).
     IfOk r (λ ended. ServesBoard service.states (fed_sessions service.feeds) task.connections (record { listeners = before.listeners; board = machine_state tells board }) (record { listeners = after.listeners; board = machine_state tells left }) ended.desks)) is serve in
     let fresh : machine_state tells board ≡ opened_board files.airport board.history before.disk.faults =
     opened_begun tells files.airport before.disk.faults _ board opened.airport_is opened.next opened.faults opened.at_risk in
     let same : left.airport ≡ files.airport = serves.fixed ∙ opened.airport_is in
-    let legal : IsLegal files.airport left.history = subst (λ (a : AirportParts). IsLegal a left.history) same serves.legal in
+    let own : IsLegal left.airport left.history = serves.legal in
+    let legal : IsLegal files.airport left.history = subst (λ (a : AirportParts). IsLegal a left.history) same own in
     record {
       opened = board.history;
       opens = opened.opens;
@@ -90,10 +91,10 @@ desks_serve {R = R} service tells files task before after board left met ends mi
       serves = subst (λ (m : MachineState Entry AirportParts).
           ServesBoard service.states (fed_sessions service.feeds) task.connections (record { listeners = before.listeners; board = m }) (record { listeners = after.listeners; board = machine_state tells left }) ends.desks) fresh serves;
       looks = ends.screens;
-      shows = subst (λ (r : Result ShownEnd R).
+      shows = subst (λ (r : Result ShownEnd E).
           IfOk r (λ ended. ShowsFrom service.states (record { airport = files.airport; history = board.history }) task before.screens (record { listeners = after.screens; history = left.history; end = ended.screens }))) is show;
-      missed = missed;
-      screens = some;
+      note = subst (λ (n : Option HallNoteState). IsNoteOf board.history left.history (length before.screens) n) (sym noted)
+          (note_is board.history left.history (length before.screens) hall.writers _ many (begun ∙ opened.next) (legal_counted left.airport left.history own) refl);
       end_is = end_is;
       faults = counted;
       keeps = subst (λ (a : AirportParts).
@@ -105,11 +106,13 @@ desks_serve {R = R} service tells files task before after board left met ends mi
 
 -- there is no memory to serve at a board that was opened, and the disk reads as before
 pub turns_want_memory : {In Out K : Type 0} (tells : K → KeeperState) (files : AirportFiles) (before after : ServeEnds In Out) (board : BoardHeld K)
-    → IsOpened tells files before.disk board → after.listeners ≡ before.listeners → after.screens ≡ before.screens → after.disk.contents ≡ before.disk.contents
+    → IsOpened tells files before.disk board → after.listeners ≡ before.listeners → after.screens ≡ before.screens → after.note ≡ before.note
+    → after.disk.contents ≡ before.disk.contents
     → after.disk.faults ≡ (tells board.keeper).faults → ServeFindsNoJournal files before after (Entries entries.Memory)
-turns_want_memory tells files before after board opened listeners screens reads counted =
+turns_want_memory tells files before after board opened listeners screens note reads counted =
     let opens = opened.opens in record {
       listeners = listeners;
       screens = screens;
       disk = record { reads = reads; cause = (entry_texts board.history, record { opening = opens.entries; counts = counted ∙ opened.faults }, tt) };
+      note = note;
     }

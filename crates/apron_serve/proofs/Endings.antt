@@ -6,12 +6,14 @@ use Rattle.apron_base.specs.Counts.{Counts}
 use Rattle.apron_base.specs.Ends.{SinkState}
 use Rattle.apron_base.specs.Listener.{ListenerState}
 use Rattle.apron_rules.specs.declared.parts.AirportParts.{AirportParts}
+use Rattle.desk_asks.specs.declared.asks.Entry.{Entry}
 use Rattle.journal_disk.specs.declared.fault.JournalFault.TheVariants as journal
 use Rattle.history_core.specs.declared.opening.OpenFault.TheVariants as entries
 use Rattle.desk_workers.specs.Crew.{end_of}
 use Rattle.desk_workers.specs.Watched.{fed_sessions}
 use Rattle.desk_workers.specs.declared.worker.WorkEnd.{WorkEnd}
 use Rattle.desk_workers.specs.declared.worker.WorkEnd.TheVariants as work
+use Rattle.shown_board.specs.Halls.{HallNoteState}
 use Rattle.screen_server.specs.declared.shown.Task.{Task}
 use Rattle.apron_check.specs.Files.{is_files_shelf_fault as is_shelf_found}
 use Rattle.apron_check.specs.declared.files.AirportFiles.{AirportFiles}
@@ -29,7 +31,7 @@ use Rattle.apron_run.specs.declared.unusable.Unusable.{Unusable}
 use Rattle.apron_run.specs.declared.unusable.Unusable.TheVariants.{Journal, Entries}
 use Rattle.apron_run.proofs.Counting.{Lines, fault_disk, fault_shelf, lines_of, unusable_shelf}
 use Rattle.apron_run.proofs.Serving.{why_counts}
-use Rattle.apron_serve.specs.Board.{MeetsDesks, ServesDesks, Service, served_end}
+use Rattle.apron_serve.specs.Board.{IsNoteOf, MeetsDesks, ServesDesks, Service, has_missed, served_end}
 use Rattle.apron_serve.specs.Files.{PrintsServeEnd, ServesFiles, ServesFound, ServesTask, listener_line, no_memory}
 use Rattle.apron_serve.specs.Orders.{Order, day_shown}
 use Rattle.apron_serve.specs.Serve.{HaveFinished, ServesAs, SomeFailed, is_screen_order, may_end_serve}
@@ -48,10 +50,10 @@ module _ {In Out : Type 0} where
   abbrev pub AnyFailed : ServeOuts In Out → ServeOuts In Out → Type 0
   AnyFailed before after = SomeFailed before.listeners after.listeners ⊎ SomeFailed before.screens after.screens
 
--- the status is that of serving that was all done; or, if there are screens, of one after which a
--- screen missed the last version
-abbrev pub IsDone : {In Out : Type 0} → ServeOuts In Out → ℕ → Type 0
-IsDone before code = (code ≡ exit_code Done) ⊎ ((code ≡ exit_code Memory) × (0 < length before.screens))
+-- the status is that of serving that was all done, or of one after which a screen missed the last
+-- version, as the note says
+abbrev pub IsDone : Option HallNoteState → ℕ → Type 0
+IsDone note code = ((code ≡ exit_code Done) × (has_missed note ≡ false)) ⊎ ((code ≡ exit_code Memory) × (has_missed note ≡ true))
 
 -- what is known of an ending, by its status
 record EndsAs {In Out : Type 0} (order : Order) (found : Result AirportFiles FilesFault) (status : Status) (before after : ServeOuts In Out) : Type 0 where
@@ -59,8 +61,8 @@ record EndsAs {In Out : Type 0} (order : Order) (found : Result AirportFiles Fil
   pub shelf : is_shelf_status status ≡ is_shelf_found found
   pub sink : before.sink.faults ≤ after.sink.faults
   pub disk : ServedCounts status before.disk.faults after.disk.faults
-  pub done : exit_code status ≡ exit_code Done → AllFinished order.connections before after
-  pub finished : AllFinished order.connections before after → IsDone before (exit_code status)
+  pub done : exit_code status ≡ exit_code Done → AllFinished order.connections before after × (has_missed after.note ≡ false)
+  pub finished : AllFinished order.connections before after → IsDone after.note (exit_code status)
   pub failed : exit_code status ≡ exit_code ListenerFault → AnyFailed before after
   pub ordered : exit_code status ≡ exit_code Usage → is_some order.day ≡ true
 
@@ -115,8 +117,10 @@ module _ {In Out : Type 0} where
       })
 
 -- how the workers of desks and of screens ended, by how serving did
-both_done : (desks looks : WorkEnd) (missed : Bool) → served_end (end_of (desks ∷ looks ∷ [])) missed ≡ end.Done → (desks ≡ work.Done) × (looks ≡ work.Done)
-both_done work.Done work.Done missed is = (refl, refl)
+both_done : (desks looks : WorkEnd) (missed : Bool) → served_end (end_of (desks ∷ looks ∷ [])) missed ≡ end.Done
+    → (desks ≡ work.Done) × (looks ≡ work.Done) × (missed ≡ false)
+both_done work.Done work.Done true is = absurd cc
+both_done work.Done work.Done false is = (refl, refl, refl)
 both_done work.Done work.ListenerFault missed is = absurd cc
 both_done work.ListenerFault looks missed is = absurd cc
 
@@ -154,8 +158,8 @@ module _ {In Out : Type 0} (service : Service In Out) where
 
   -- what was finished, by how serving ended
   record Served (connections : ℕ) (before after : ServeOuts In Out) (served : ServeEnd) : Type 0 where
-    pub done : served ≡ end.Done → AllFinished connections before after
-    pub missed : served ≡ end.Missed → AllFinished connections before after × (0 < length before.screens)
+    pub done : served ≡ end.Done → AllFinished connections before after × (has_missed after.note ≡ false)
+    pub missed : served ≡ end.Missed → AllFinished connections before after × (has_missed after.note ≡ true)
     pub failed : served ≡ end.ListenerFault → AnyFailed before after
     pub all : AllFinished connections before after → ¬ (served ≡ end.ListenerFault)
 
@@ -167,15 +171,21 @@ module _ {In Out : Type 0} (service : Service In Out) where
       let shown : Finished task.connections before.screens after.screens desks.looks =
       screens_ended service.states task.connections _ _ desks.looks desks.shows.shows in
       record {
-        done = λ is. let both = both_done desks.desks desks.looks desks.missed (sym desks.end_is ∙ is) in (ended.finished both.0, shown.finished both.1);
-        missed = λ is. let all = one_missed desks.desks desks.looks desks.missed (sym desks.end_is ∙ is) in
-            ((ended.finished all.0, shown.finished all.1), desks.screens all.2);
+        done = λ is. let both = both_done desks.desks desks.looks (has_missed after.note) (sym desks.end_is ∙ is) in
+            ((ended.finished both.0, shown.finished both.1), both.2);
+        missed = λ is. let all = one_missed desks.desks desks.looks (has_missed after.note) (sym desks.end_is ∙ is) in
+            ((ended.finished all.0, shown.finished all.1), all.2);
         failed = λ is. ⊎_elim
             (λ (failed : desks.desks ≡ work.ListenerFault). inl (ended.failed failed))
             (λ (failed : desks.looks ≡ work.ListenerFault). inr (shown.failed failed))
-            (one_failed desks.desks desks.looks desks.missed (sym desks.end_is ∙ is));
-        all = λ all is. none_failed desks.desks desks.looks desks.missed (ended.done all.0) (shown.done all.1) (sym desks.end_is ∙ is);
+            (one_failed desks.desks desks.looks (has_missed after.note) (sym desks.end_is ∙ is));
+        all = λ all is. none_failed desks.desks desks.looks (has_missed after.note) (ended.done all.0) (shown.done all.1) (sym desks.end_is ∙ is);
       }
+
+  -- a hall that missed a version has writers
+  missed_some : (opened history : List Entry) (writers : ℕ) (note : Option HallNoteState) → IsNoteOf opened history writers note → has_missed note ≡ true → 0 < writers
+  missed_some opened history writers None is missed = absurd cc
+  missed_some opened history writers (Some note) is missed = is.3
 
   -- if a screen missed a version there are screens
   pub missed_shown : (files : AirportFiles) (task : Task) (before after : ServeOuts In Out) (met : Result ServeEnd Unusable)
@@ -183,7 +193,8 @@ module _ {In Out : Type 0} (service : Service In Out) where
   missed_shown files task before after met meets is =
       let desks : ServesDesks service files task (serve_ends before) (serve_ends after) end.Missed =
       subst (λ (m : Result ServeEnd Unusable). MeetsDesks service files task (serve_ends before) (serve_ends after) m) is meets in
-      desks.screens (one_missed desks.desks desks.looks desks.missed (sym desks.end_is)).2
+      missed_some desks.opened desks.board.history (length before.screens) after.note desks.note
+      (one_missed desks.desks desks.looks (has_missed after.note) (sym desks.end_is)).2
 
   -- what was met at the journal
   met_as : (files : AirportFiles) (order : Order) (day : ℕ) (before after : ServeOuts In Out) (met : Result ServeEnd Unusable) (status : Status) → 1 ≤ order.connections
@@ -199,7 +210,7 @@ module _ {In Out : Type 0} (service : Service In Out) where
         sink = let same : after.sink.faults ≡ before.sink.faults = ap (λ (s : SinkState). s.faults) silent in omega arith;
         disk = least_count files task before after end.Done desks;
         done = λ _. served.done refl;
-        finished = λ _. inl refl;
+        finished = λ _. inl (refl, (served.done refl).1);
         failed = λ is. absurd cc;
         ordered = λ is. absurd cc;
       })
@@ -277,8 +288,9 @@ module _ {In Out : Type 0} (service : Service In Out) where
   -- what is known of what was asked, by the number that the program ends with
   pub record Carried (asked : Option Order) (before after : ServeWorld In Out) (code : ℕ) : Type 0 where
     pub serves : ServesAs service asked before after code
-    pub done : (order : Order) → asked ≡ Some order → code ≡ exit_code Done → AllFinished order.connections (serve_outs before) (serve_outs after)
-    pub finished : (order : Order) → asked ≡ Some order → AllFinished order.connections (serve_outs before) (serve_outs after) → IsDone (serve_outs before) code
+    pub done : (order : Order) → asked ≡ Some order → code ≡ exit_code Done
+        → AllFinished order.connections (serve_outs before) (serve_outs after) × (has_missed after.note ≡ false)
+    pub finished : (order : Order) → asked ≡ Some order → AllFinished order.connections (serve_outs before) (serve_outs after) → IsDone after.note code
     pub failed : code ≡ exit_code ListenerFault → AnyFailed (serve_outs before) (serve_outs after)
     pub usage : asked ≡ None → code ≡ exit_code Usage
     pub usage_alone : code ≡ exit_code Usage → (asked ≡ None) ⊎ (is_screen_order asked ≡ true)
@@ -301,9 +313,10 @@ module _ {In Out : Type 0} (service : Service In Out) where
           disk = ends.disk;
         };
         done = λ other is. let same : order ≡ other = cc in
-            subst (λ (o : Order). exit_code status ≡ exit_code Done → AllFinished o.connections (serve_outs before) (serve_outs after)) same ends.done;
+            subst (λ (o : Order). exit_code status ≡ exit_code Done
+            → AllFinished o.connections (serve_outs before) (serve_outs after) × (has_missed after.note ≡ false)) same ends.done;
         finished = λ other is. let same : order ≡ other = cc in
-            subst (λ (o : Order). AllFinished o.connections (serve_outs before) (serve_outs after) → IsDone (serve_outs before) (exit_code status)) same ends.finished;
+            subst (λ (o : Order). AllFinished o.connections (serve_outs before) (serve_outs after) → IsDone after.note (exit_code status)) same ends.finished;
         failed = ends.failed;
         usage = λ is. absurd cc;
         usage_alone = λ is. inr (ends.ordered is);

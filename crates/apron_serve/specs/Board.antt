@@ -1,5 +1,5 @@
 -- What desks and screens that are served at one journal do to it, and to their listeners.
-use Rattle.std.specs.Prelude.{◌≡◌, ◌<◌, ℕ, Bool, true, false, List, [], ◌∷◌, length, None, Result, Ok, Err}
+use Rattle.std.specs.Prelude.{◌≡◌, ◌<◌, ℕ, Bool, true, false, List, [], ◌∷◌, length, Option, None, Some, Result, Ok, Err}
 use Rattle.apron_base.specs.Machine.{MachineState}
 use Rattle.apron_rules.specs.declared.parts.AirportParts.{AirportParts}
 use Rattle.visit_book.specs.declared.visits.NewVisit.{NewVisit}
@@ -10,6 +10,7 @@ use Rattle.desk_workers.specs.Watched.{FeedTexts, fed_sessions}
 use Rattle.desk_workers.specs.Work.{EndStates}
 use Rattle.desk_workers.specs.declared.worker.WorkEnd.{WorkEnd}
 use Rattle.desk_workers.specs.declared.worker.WorkEnd.TheVariants as work
+use Rattle.shown_board.specs.Halls.{HallNoteState}
 use Rattle.screen_server.specs.Shown.{ShowsFrom}
 use Rattle.screen_server.specs.declared.shown.Task.{Task}
 use Rattle.apron_check.specs.declared.files.AirportFiles.{AirportFiles}
@@ -36,6 +37,21 @@ pub record Service (In Out : Type 0) : Type 0 where
   pub states : EndStates In Out
   pub feeds : FeedTexts
 
+-- what a hall with this many writers noted, which was made over a board that was opened with one
+-- history, and ended with the other
+abbrev pub IsNoteOf : List Entry → List Entry → ℕ → Option HallNoteState → Type 0
+IsNoteOf opened history writers None = writers ≡ 0
+IsNoteOf opened history writers (Some note) =
+    (note.begun ≡ next_after opened)
+    × (note.version ≡ length history)
+    × (note.writers ≡ writers)
+    × (0 < writers)
+
+-- whether a writer missed the last version
+abbrev pub has_missed : Option HallNoteState → Bool
+has_missed None = false
+has_missed (Some note) = note.missed
+
 -- how serving ended, by how the workers ended and whether a screen's writer missed the last version
 abbrev pub served_end : WorkEnd → Bool → ServeEnd
 served_end work.ListenerFault missed = ListenerFault
@@ -49,6 +65,7 @@ pub record ServeFindsNoJournal {In Out : Type 0} (files : AirportFiles)
   pub listeners : after.listeners ≡ before.listeners
   pub screens : after.screens ≡ before.screens
   pub disk : NotOpened files before.disk after.disk why
+  pub note : after.note ≡ before.note
 
 module _ {In Out : Type 0} (service : Service In Out) (files : AirportFiles) (task : Task) where
   -- The headline for many desks. The journal of the files opened to a legal history. Each
@@ -66,9 +83,10 @@ module _ {In Out : Type 0} (service : Service In Out) (files : AirportFiles) (ta
   -- the answer that it could not be kept, and no entry was added after it. Beside the desks each
   -- screen's connections were shown its sheets, one look each. A screen had seen the chart of the
   -- opened plan, and its sheets are charts of the day of plans that fronts of the history make,
-  -- whose versions never fall. Serving ended as the first worker in order that stopped early, those
-  -- of the desks before those of the screens. If none did, and there are screens, it may say that a
-  -- version was missed. Whether one was is said of the hall at the end, in `served_end`.
+  -- whose versions never fall. The hall of these screens began with the opened history, had a writer
+  -- for each, and noted whether one of them does not show the last version. Serving ended as the
+  -- first worker in order that stopped early, those of the desks before those of the screens. If
+  -- none did, it ended as that note says.
   pub record ServesDesks (before after : ServeEnds In Out) (end : ServeEnd) : Type 0 where
     pub opened : List Entry
     pub opens : OpensTo files before.disk opened
@@ -81,12 +99,11 @@ module _ {In Out : Type 0} (service : Service In Out) (files : AirportFiles) (ta
         })
         (record { listeners = after.listeners; board = board }) desks
     pub looks : WorkEnd
-    pub missed : Bool
     pub shows : ShowsFrom service.states (record { airport = files.airport; history = opened }) task
         before.screens
         (record { listeners = after.screens; history = board.history; end = looks })
-    pub screens : missed ≡ true → 0 < length before.screens
-    pub end_is : end ≡ served_end (end_of (desks ∷ looks ∷ [])) missed
+    pub note : IsNoteOf opened board.history (length before.screens) after.note
+    pub end_is : end ≡ served_end (end_of (desks ∷ looks ∷ [])) (has_missed after.note)
     pub faults : after.disk.faults ≡ board.faults
     pub keeps : KeepsHistory files board.history board.at_risk after.disk
     pub sound : AllSound files.airport board.history

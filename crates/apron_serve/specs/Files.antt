@@ -43,6 +43,7 @@ pub record TellsFiles {In Out : Type 0} (fault : FilesFault) (before after : Ser
   pub listeners : after.listeners ≡ before.listeners
   pub screens : after.screens ≡ before.screens
   pub disk : after.disk ≡ before.disk
+  pub note : after.note ≡ before.note
   pub tells : TellsFault fault before.sink after.sink told
 
 -- the plan has no such day: the line for faulty words was written, and the listeners and the disk
@@ -52,6 +53,7 @@ pub record TellsNoDay {In Out : Type 0} (before after : ServeOuts In Out)
   pub listeners : after.listeners ≡ before.listeners
   pub screens : after.screens ≡ before.screens
   pub disk : after.disk ≡ before.disk
+  pub note : after.note ≡ before.note
   pub tells : Writes usage_text status.Usage status.Usage before.sink after.sink told
 
 -- what is to be done at an airport, if its plan has the day that is ordered

@@ -1,23 +1,22 @@
 // Desks and screens at the board of an airport over its journal on a disk.
-ghost use Rattle.std.specs.Prelude.{◌≡◌, ◌<◌, ◌≤◌, [], ◌∷◌, OnErr, length, map};
+ghost use Rattle.std.specs.Prelude.{◌≡◌, ◌<◌, ◌≤◌, [], ◌∷◌, None, OnErr, length, map};
 ghost use Rattle.desk_workers.specs.Crew.{end_of};
 ghost use Rattle.desk_workers.specs.Watched.{feed_texts};
 ghost use Rattle.journal_disk.specs.Disk.{Stays};
-ghost use Rattle.shown_board.specs.Halls.{IsHall};
 ghost use Rattle.apron_run.specs.World.{disk_seen};
-ghost use Rattle.apron_serve.specs.Board.{MeetsDesks, served_end};
+ghost use Rattle.apron_serve.specs.Board.{MeetsDesks, has_missed, served_end};
 ghost use Rattle.apron_serve.specs.Crash.{LeavesOfService};
 ghost use Rattle.apron_serve.specs.Orders.{most_listeners};
 ghost use Rattle.apron_serve.specs.World.{serve_ends_at};
 
-use apron_base::{Keeper, Memory};
+use apron_base::Memory;
 use apron_check::AirportFiles;
 use apron_run::{OfFiles, Unusable, close_board, open_watched};
 use desk_workers::{WorkEnd, first_end};
 use history_core::OpenFault;
 use journal_disk::Disk;
 use screen_server::{ShownEnd, Task, Wall, serve_watched};
-use shown_board::Hall;
+use shown_board::HallNote;
 use std::alloc::Global;
 use std::sync::Wait;
 use std::thread::Threads;
@@ -35,9 +34,10 @@ pub(crate) enum ServeEnd {
 }
 
 /// Opens the journal of these files on the disk, and serves the connections of the listeners of
-/// desks at its board, and those of the listeners of screens beside them. `Err` says why there is
-/// no journal to work on, or that there is no memory for the screens or the turns at it; then no
-/// listener was called, and the disk reads as before.
+/// desks at its board, and those of the listeners of screens beside them. It gives the disk back,
+/// and what the hall of the screens noted, if there are any. `Err` says why there is no journal to
+/// work on, or that there is no memory for the screens or the turns at it; then no listener was
+/// called, and the disk reads as before.
 pub(crate) fn serve_desks<
     'a,
     N: OfFiles + Send,
@@ -55,7 +55,7 @@ pub(crate) fn serve_desks<
     listeners: &mut [L],
     screens: &mut [L],
     disk: D,
-) -> (Result<ServeEnd, Unusable>, D)
+) -> (Result<ServeEnd, Unusable>, D, Option<HallNote>)
     requires digests { files.now.digests ≡ N.digests }
     requires begun { Stays N.begun (D.state disk) }
     requires few { length listeners.old ≤ most_listeners }
@@ -66,16 +66,18 @@ pub(crate) fn serve_desks<
           listeners = map L.state listeners.old;
           screens = map L.state screens.old;
           disk = disk_seen (D.state disk);
+          note = None;
         })
         (record {
           listeners = map L.state listeners.new;
           screens = map L.state screens.new;
           disk = disk_seen (D.state result.1);
+          note = result.2;
         }) result.0 }
     ensures crash { let before = serve_ends_at (map L.state listeners.old)
-        (map L.state screens.old) (D.state disk) in
+        (map L.state screens.old) (D.state disk) None in
         let after = serve_ends_at (map L.state listeners.new)
-        (map L.state screens.new) (D.state result.1) in
+        (map L.state screens.new) (D.state result.1) result.2 in
         (meets : MeetsDesks (record { states = L.states; feeds = feed_texts R.tells watches.now })
         files.now task before after result.0)
         × LeavesOfService (record { states = L.states; feeds = feed_texts R.tells watches.now })
@@ -86,35 +88,41 @@ pub(crate) fn serve_desks<
 {
     let board = match open_watched::<N, D, R, T>(alloc, files, watches, disk) {
         Ok(board) => board,
-        Err((why, disk)) => return (Err(why), disk),
+        Err((why, disk)) => return (Err(why), disk, None),
     };
     let (served, hall) = serve_watched(rt, alloc, &files.airport, board, listeners, screens, task);
     match served {
         Ok(ends) => {
-            let end = served_end(&ends, &hall);
-            (Ok(end), close_board(hall.into_board().into_board()))
+            let note = hall.note();
+            let end = served_end(&ends, &note);
+            (Ok(end), close_board(hall.into_board().into_board()), note)
         }
         Err(Memory) => (
             Err(Unusable::Entries(OpenFault::Memory)),
             close_board(hall.into_board().into_board()),
+            None,
         ),
     }
 }
 
-// How serving ended, by how its workers did, and by the note of the hall: the workers of desks come
-// before those of screens.
-fn served_end<W: Wait, K: Keeper, R: Stated, T: NoteTest>(
-    ends: &ShownEnd,
-    hall: &Hall<'_, '_, '_, W, K, R, T>,
-) -> ServeEnd
+// How serving ended, by how its workers did, and by the note of their hall: the workers of desks
+// come before those of screens.
+fn served_end(ends: &ShownEnd, note: &Option<HallNote>) -> ServeEnd
     ensures is { result
-        ≡ served_end (end_of (ends.now.desks ∷ ends.now.screens ∷ [])) hall.now.missed }
-    ensures note { IsHall hall.now }
+        ≡ served_end (end_of (ends.now.desks ∷ ends.now.screens ∷ [])) (has_missed note.now) }
 {
-    let missed = hall.missed();
     match first_end(ends.desks, ends.screens) {
         WorkEnd::ListenerFault => ServeEnd::ListenerFault,
-        WorkEnd::Done if missed => ServeEnd::Missed,
+        WorkEnd::Done if has_missed(note) => ServeEnd::Missed,
         WorkEnd::Done => ServeEnd::Done,
+    }
+}
+
+fn has_missed(note: &Option<HallNote>) -> bool
+    ensures is { result ≡ has_missed note.now }
+{
+    match note {
+        Some(note) => note.missed(),
+        None => false,
     }
 }

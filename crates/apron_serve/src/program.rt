@@ -1,9 +1,11 @@
 // The calls of the words `serve A T N` and `serve A T N screen DAY`.
-ghost use Rattle.std.specs.Prelude.{◌≡◌, ◌↔◌, ◌⊎◌, ◌<◌, ◌≤◌, true, false, [], None, Ok, Some, length, map, not};
+ghost use Rattle.std.specs.Prelude.{◌≡◌, ◌↔◌, ◌⊎◌, ◌<◌, ◌≤◌, true, false, [], None, Ok, Option, Some, length, map, not};
 ghost use Rattle.desk_workers.specs.Watched.{feed_texts, no_feeds};
 ghost use Rattle.apron_run.specs.Run.{KeptUnless};
 ghost use Rattle.apron_run.specs.Statuses.{exit_code};
 ghost use Rattle.apron_run.specs.World.{disk_seen};
+ghost use Rattle.shown_board.specs.Halls.{HallNoteState};
+ghost use Rattle.apron_serve.specs.Board.{has_missed};
 ghost use Rattle.apron_serve.specs.Complete.{IsServeComplete};
 ghost use Rattle.apron_serve.specs.Crash.{LeavesFound, LeavesOfService, LeavesTask, ServeCrashesAs};
 ghost use Rattle.apron_serve.specs.Files.{PrintsServeEnd, ServesFiles, ServesJournal, ServesTask, listener_line, task_at};
@@ -20,6 +22,7 @@ use apron_run::{Status, Unusable, print_fault, print_usage, tell_unusable};
 use history_core::OpenFault;
 use journal_disk::Disk;
 use screen_server::{Task, Wall};
+use shown_board::HallNote;
 use std::alloc::Global;
 use std::marker::Brand;
 use std::sync::Wait;
@@ -63,6 +66,7 @@ pub fn serve<F: Shelf, L: Wall + Send, W: Sink, D: Disk + Send, Rt: Wait + Threa
           screens = [];
           sink = W.state sink.old;
           disk = disk_seen (D.state disk);
+          note = None;
         })
         (record {
           shelf = F.state shelf.new;
@@ -70,6 +74,7 @@ pub fn serve<F: Shelf, L: Wall + Send, W: Sink, D: Disk + Send, Rt: Wait + Threa
           screens = [];
           sink = W.state sink.new;
           disk = disk_seen (D.state result.1);
+          note = None;
         }) result.0 }
     ensures done { (order : Ordered)
         → order_of words.now (length listeners.old) 0 ≡ Some order
@@ -87,6 +92,7 @@ pub fn serve<F: Shelf, L: Wall + Send, W: Sink, D: Disk + Send, Rt: Wait + Threa
           screens = [];
           sink = W.state sink.old;
           disk = disk_seen (D.state disk);
+          note = None;
         })
         (record {
           shelf = F.state shelf.new;
@@ -94,14 +100,15 @@ pub fn serve<F: Shelf, L: Wall + Send, W: Sink, D: Disk + Send, Rt: Wait + Threa
           screens = [];
           sink = W.state sink.new;
           disk = disk_seen (D.state result.1);
+          note = None;
         }) result.0 }
     ensures crash { ServeCrashesAs (record { states = L.states; feeds = no_feeds })
         (record { before = D.state disk; after = D.state result.1 })
         (order_of words.now (length listeners.old) 0)
         (serve_world_at (F.state shelf.old) (map L.state listeners.old) []
-        (W.state sink.old) (D.state disk))
+        (W.state sink.old) (D.state disk) None)
         (serve_world_at (F.state shelf.new) (map L.state listeners.new) []
-        (W.state sink.new) (D.state result.1)) result.0 }
+        (W.state sink.new) (D.state result.1) None) result.0 }
     ensures shelf_kept { KeptUnless (is_order (order_of words.now (length listeners.old) 0))
         shelf.old shelf.new }
     ensures listeners_kept { KeptUnless (has_served 0 result.0) listeners.old listeners.new }
@@ -139,6 +146,7 @@ pub fn serve_with<
           screens = [];
           sink = W.state sink.old;
           disk = disk_seen (D.state disk);
+          note = None;
         })
         (record {
           shelf = F.state shelf.new;
@@ -146,6 +154,7 @@ pub fn serve_with<
           screens = [];
           sink = W.state sink.new;
           disk = disk_seen (D.state result.1);
+          note = None;
         }) result.0 }
     ensures done { (order : Ordered)
         → order_of words.now (length listeners.old) 0 ≡ Some order
@@ -163,6 +172,7 @@ pub fn serve_with<
           screens = [];
           sink = W.state sink.old;
           disk = disk_seen (D.state disk);
+          note = None;
         })
         (record {
           shelf = F.state shelf.new;
@@ -170,22 +180,26 @@ pub fn serve_with<
           screens = [];
           sink = W.state sink.new;
           disk = disk_seen (D.state result.1);
+          note = None;
         }) result.0 }
     ensures crash { ServeCrashesAs
         (record { states = L.states; feeds = feed_texts R.tells watches.now })
         (record { before = D.state disk; after = D.state result.1 })
         (order_of words.now (length listeners.old) 0)
         (serve_world_at (F.state shelf.old) (map L.state listeners.old) []
-        (W.state sink.old) (D.state disk))
+        (W.state sink.old) (D.state disk) None)
         (serve_world_at (F.state shelf.new) (map L.state listeners.new) []
-        (W.state sink.new) (D.state result.1)) result.0 }
+        (W.state sink.new) (D.state result.1) None) result.0 }
     ensures shelf_kept { KeptUnless (is_order (order_of words.now (length listeners.old) 0))
         shelf.old shelf.new }
     ensures listeners_kept { KeptUnless (has_served 0 result.0) listeners.old listeners.new }
     ensures disk_kept { KeptUnless (not (serve_ends_before_journal result.0)) disk result.1 }
 {
     let (none, desks) = listeners.split_at_mut(0);
-    serve_all(rt, alloc, words, watches, shelf, desks, none, sink, disk)
+    let (code, disk, _note) = serve_noted(
+        rt, alloc, words, watches, shelf, desks, none, sink, disk,
+    );
+    (code, disk)
 }
 
 /// The same with screens beside the desks.
@@ -221,7 +235,7 @@ pub fn serve_all<
     sink: &mut W,
     disk: D,
 ) -> (u8, D)
-    ensures headline { ServesAs
+    ensures headline { (note : Option HallNoteState) × ServesAs
         (record { states = L.states; feeds = feed_texts R.tells watches.now })
         (order_of words.now (length listeners.old) (length screens.old))
         (record {
@@ -230,6 +244,7 @@ pub fn serve_all<
           screens = map L.state screens.old;
           sink = W.state sink.old;
           disk = disk_seen (D.state disk);
+          note = None;
         })
         (record {
           shelf = F.state shelf.new;
@@ -237,6 +252,7 @@ pub fn serve_all<
           screens = map L.state screens.new;
           sink = W.state sink.new;
           disk = disk_seen (D.state result.1);
+          note = note;
         }) result.0 }
     ensures done { (order : Ordered)
         → order_of words.now (length listeners.old) (length screens.old) ≡ Some order
@@ -258,6 +274,107 @@ pub fn serve_all<
         → (order_of words.now (length listeners.old) (length screens.old) ≡ None)
         ⊎ (is_screen_order (order_of words.now (length listeners.old) (length screens.old))
         ≡ true) }
+    ensures complete { (note : Option HallNoteState) × IsServeComplete
+        (order_of words.now (length listeners.old) (length screens.old))
+        (record {
+          shelf = F.state shelf.old;
+          listeners = map L.state listeners.old;
+          screens = map L.state screens.old;
+          sink = W.state sink.old;
+          disk = disk_seen (D.state disk);
+          note = None;
+        })
+        (record {
+          shelf = F.state shelf.new;
+          listeners = map L.state listeners.new;
+          screens = map L.state screens.new;
+          sink = W.state sink.new;
+          disk = disk_seen (D.state result.1);
+          note = note;
+        }) result.0 }
+    ensures crash { (note : Option HallNoteState) × ServeCrashesAs
+        (record { states = L.states; feeds = feed_texts R.tells watches.now })
+        (record { before = D.state disk; after = D.state result.1 })
+        (order_of words.now (length listeners.old) (length screens.old))
+        (serve_world_at (F.state shelf.old) (map L.state listeners.old) (map L.state screens.old)
+        (W.state sink.old) (D.state disk) None)
+        (serve_world_at (F.state shelf.new) (map L.state listeners.new) (map L.state screens.new)
+        (W.state sink.new) (D.state result.1) note) result.0 }
+    ensures shelf_kept { KeptUnless
+        (is_order (order_of words.now (length listeners.old) (length screens.old))) shelf.old
+        shelf.new }
+    ensures listeners_kept { KeptUnless (has_served (length screens.old) result.0)
+        listeners.old listeners.new }
+    ensures screens_kept { KeptUnless (has_served (length screens.old) result.0)
+        screens.old screens.new }
+    ensures disk_kept { KeptUnless (not (serve_ends_before_journal result.0)) disk result.1 }
+{
+    let (code, disk, _note) = serve_noted(
+        rt, alloc, words, watches, shelf, listeners, screens, sink, disk,
+    );
+    (code, disk)
+}
+
+// The same, and what the hall of the screens noted, once they were shown.
+fn serve_noted<
+    F: Shelf,
+    L: Wall + Send,
+    W: Sink,
+    D: Disk + Send,
+    R: Stated + Sync,
+    T: NoteTest + Sync,
+    Rt: Wait + Threads + Sync,
+>(
+    rt: &Rt,
+    alloc: Global,
+    words: &[Word],
+    watches: &Watches<R, T>,
+    shelf: &mut F,
+    listeners: &mut [L],
+    screens: &mut [L],
+    sink: &mut W,
+    disk: D,
+) -> (u8, D, Option<HallNote>)
+    ensures headline { ServesAs
+        (record { states = L.states; feeds = feed_texts R.tells watches.now })
+        (order_of words.now (length listeners.old) (length screens.old))
+        (record {
+          shelf = F.state shelf.old;
+          listeners = map L.state listeners.old;
+          screens = map L.state screens.old;
+          sink = W.state sink.old;
+          disk = disk_seen (D.state disk);
+          note = None;
+        })
+        (record {
+          shelf = F.state shelf.new;
+          listeners = map L.state listeners.new;
+          screens = map L.state screens.new;
+          sink = W.state sink.new;
+          disk = disk_seen (D.state result.1);
+          note = result.2;
+        }) result.0 }
+    ensures done { (order : Ordered)
+        → order_of words.now (length listeners.old) (length screens.old) ≡ Some order
+        → result.0 ≡ exit_code Status.Done
+        → HaveFinished order.connections (map L.state listeners.old) (map L.state listeners.new)
+        × HaveFinished order.connections (map L.state screens.old) (map L.state screens.new)
+        × (has_missed result.2 ≡ false) }
+    ensures finished { (order : Ordered)
+        → order_of words.now (length listeners.old) (length screens.old) ≡ Some order
+        → HaveFinished order.connections (map L.state listeners.old) (map L.state listeners.new)
+        → HaveFinished order.connections (map L.state screens.old) (map L.state screens.new)
+        → ((result.0 ≡ exit_code Status.Done) × (has_missed result.2 ≡ false))
+        ⊎ ((result.0 ≡ exit_code Status.Memory) × (has_missed result.2 ≡ true)) }
+    ensures failed { result.0 ≡ exit_code Status.ListenerFault
+        → SomeFailed (map L.state listeners.old) (map L.state listeners.new)
+        ⊎ SomeFailed (map L.state screens.old) (map L.state screens.new) }
+    ensures usage { order_of words.now (length listeners.old) (length screens.old) ≡ None
+        → result.0 ≡ exit_code Status.Usage }
+    ensures usage_alone { result.0 ≡ exit_code Status.Usage
+        → (order_of words.now (length listeners.old) (length screens.old) ≡ None)
+        ⊎ (is_screen_order (order_of words.now (length listeners.old) (length screens.old))
+        ≡ true) }
     ensures complete { IsServeComplete
         (order_of words.now (length listeners.old) (length screens.old))
         (record {
@@ -266,6 +383,7 @@ pub fn serve_all<
           screens = map L.state screens.old;
           sink = W.state sink.old;
           disk = disk_seen (D.state disk);
+          note = None;
         })
         (record {
           shelf = F.state shelf.new;
@@ -273,15 +391,16 @@ pub fn serve_all<
           screens = map L.state screens.new;
           sink = W.state sink.new;
           disk = disk_seen (D.state result.1);
+          note = result.2;
         }) result.0 }
     ensures crash { ServeCrashesAs
         (record { states = L.states; feeds = feed_texts R.tells watches.now })
         (record { before = D.state disk; after = D.state result.1 })
         (order_of words.now (length listeners.old) (length screens.old))
         (serve_world_at (F.state shelf.old) (map L.state listeners.old) (map L.state screens.old)
-        (W.state sink.old) (D.state disk))
+        (W.state sink.old) (D.state disk) None)
         (serve_world_at (F.state shelf.new) (map L.state listeners.new) (map L.state screens.new)
-        (W.state sink.new) (D.state result.1)) result.0 }
+        (W.state sink.new) (D.state result.1) result.2) result.0 }
     ensures shelf_kept { KeptUnless
         (is_order (order_of words.now (length listeners.old) (length screens.old))) shelf.old
         shelf.new }
@@ -293,12 +412,12 @@ pub fn serve_all<
 {
     match order_of(words, listeners.len(), screens.len()) {
         Some(order) => {
-            let (status, disk) = serve_files(
+            let (status, disk, note) = serve_files(
                 rt, alloc, &order, watches, shelf, listeners, screens, sink, disk,
             );
-            (status.code(), disk)
+            (status.code(), disk, note)
         }
-        None => (print_usage(sink).code(), disk),
+        None => (print_usage(sink).code(), disk, None),
     }
 }
 
@@ -321,7 +440,7 @@ fn serve_files<
     screens: &mut [L],
     sink: &mut W,
     disk: D,
-) -> (Status, D)
+) -> (Status, D, Option<HallNote>)
     requires few { length listeners.old ≤ most_listeners }
     requires screens { may_have (length screens.old) (order_shown order.now).day ≡ true }
     ensures serves { ServesFiles
@@ -333,6 +452,7 @@ fn serve_files<
           screens = map L.state screens.old;
           sink = W.state sink.old;
           disk = disk_seen (D.state disk);
+          note = None;
         })
         (record {
           shelf = F.state shelf.new;
@@ -340,11 +460,12 @@ fn serve_files<
           screens = map L.state screens.new;
           sink = W.state sink.new;
           disk = disk_seen (D.state result.1);
+          note = result.2;
         }) result.0 }
     ensures crash { let before = serve_world_at (F.state shelf.old) (map L.state listeners.old)
-        (map L.state screens.old) (W.state sink.old) (D.state disk) in
+        (map L.state screens.old) (W.state sink.old) (D.state disk) None in
         let after = serve_world_at (F.state shelf.new) (map L.state listeners.new)
-        (map L.state screens.new) (W.state sink.new) (D.state result.1) in
+        (map L.state screens.new) (W.state sink.new) (D.state result.1) result.2 in
         (serves : ServesFiles (record { states = L.states; feeds = feed_texts R.tells watches.now })
         (order_shown order.now) before after result.0)
         × LeavesFound (record { states = L.states; feeds = feed_texts R.tells watches.now })
@@ -361,7 +482,7 @@ fn serve_files<
         Ok(files) => serve_day(
             rt, alloc, &files, order, watches, listeners, screens, sink, disk,
         ),
-        Err(fault) => (print_fault(sink, &fault), disk),
+        Err(fault) => (print_fault(sink, &fault), disk, None),
     }
 }
 
@@ -383,7 +504,7 @@ fn serve_day<
     screens: &mut [L],
     sink: &mut W,
     disk: D,
-) -> (Status, D)
+) -> (Status, D, Option<HallNote>)
     requires few { length listeners.old ≤ most_listeners }
     requires screens { may_have (length screens.old) (order_shown order.now).day ≡ true }
     ensures serves { ServesTask
@@ -394,17 +515,19 @@ fn serve_day<
           screens = map L.state screens.old;
           sink = W.state sink.old;
           disk = disk_seen (D.state disk);
+          note = None;
         })
         (record {
           listeners = map L.state listeners.new;
           screens = map L.state screens.new;
           sink = W.state sink.new;
           disk = disk_seen (D.state result.1);
+          note = result.2;
         }) result.0 }
     ensures crash { let before = serve_outs_at (map L.state listeners.old) (map L.state screens.old)
-        (W.state sink.old) (D.state disk) in
+        (W.state sink.old) (D.state disk) None in
         let after = serve_outs_at (map L.state listeners.new) (map L.state screens.new)
-        (W.state sink.new) (D.state result.1) in
+        (W.state sink.new) (D.state result.1) result.2 in
         (serves : ServesTask (record { states = L.states; feeds = feed_texts R.tells watches.now })
         files.now (task_at files.now (order_shown order.now)) before after result.0)
         × LeavesTask (record { states = L.states; feeds = feed_texts R.tells watches.now })
@@ -427,7 +550,7 @@ fn serve_day<
                 rt, alloc, files, task, watches, listeners, screens, sink, disk,
             )
         }
-        None => (print_usage(sink), disk),
+        None => (print_usage(sink), disk, None),
     }
 }
 
@@ -450,7 +573,7 @@ fn serve_journal<
     screens: &mut [L],
     sink: &mut W,
     disk: D,
-) -> (Status, D)
+) -> (Status, D, Option<HallNote>)
     requires few { length listeners.old ≤ most_listeners }
     requires day { 0 < length screens.old → (1 ≤ task.day) × (task.day ≤ files.now.airport.days) }
     ensures serves { ServesJournal
@@ -460,17 +583,19 @@ fn serve_journal<
           screens = map L.state screens.old;
           sink = W.state sink.old;
           disk = disk_seen (D.state disk);
+          note = None;
         })
         (record {
           listeners = map L.state listeners.new;
           screens = map L.state screens.new;
           sink = W.state sink.new;
           disk = disk_seen (D.state result.1);
+          note = result.2;
         }) result.0 }
     ensures crash { let before = serve_outs_at (map L.state listeners.old) (map L.state screens.old)
-        (W.state sink.old) (D.state disk) in
+        (W.state sink.old) (D.state disk) None in
         let after = serve_outs_at (map L.state listeners.new) (map L.state screens.new)
-        (W.state sink.new) (D.state result.1) in
+        (W.state sink.new) (D.state result.1) result.2 in
         (serves : ServesJournal
         (record { states = L.states; feeds = feed_texts R.tells watches.now }) files.now task
         before after result.0)
@@ -483,10 +608,10 @@ fn serve_journal<
         screens.old screens.new }
     ensures comes { serve_ends_before_journal (exit_code result.0) ≡ false }
 {
-    let (met, disk) = serve_desks::<Brand, L, D, R, T, Rt>(
+    let (met, disk, note) = serve_desks::<Brand, L, D, R, T, Rt>(
         rt, alloc, files, task, watches, listeners, screens, disk,
     );
-    (tell_met(sink, &met), disk)
+    (tell_met(sink, &met), disk, note)
 }
 
 // Prints the line about it, if there is one, and gives its status, which stays even if the sink

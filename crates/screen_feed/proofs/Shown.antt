@@ -144,3 +144,13 @@ page_among mine whole s opened front legal =
     let none : (t : SheetState) → None ≡ Some t → P t = λ t same. absurd (cc same) in
     every_push P (shown_in mine) s (shown_holds P None mine (legal_front None mine front.0 (subst IsLegalLog (sym front.1) legal)) none each)
     (last_holds P None mine s opened none each)
+
+counted : (b : Bool) (s : SheetState) (e : SheetEntry) (es : List SheetEntry) (shown begun : List SheetState) → length es ≡ length shown + length begun
+    → length (e ∷ es) ≡ length (cond b (s ∷ shown) shown) + length (cond b begun (s ∷ begun))
+counted true s e es shown begun is = omega (arith, is)
+counted false s e es shown begun is = omega (arith, is)
+
+-- each entry is of a sheet that was begun, or of one that is shown
+pub entries_are : (log : List SheetEntry) → length log ≡ length (shown_in log) + length (begun_in log)
+entries_are [] = refl
+entries_are (e ∷ es) = counted e.shown e.sheet.value e es (shown_in es) (begun_in es) (entries_are es)

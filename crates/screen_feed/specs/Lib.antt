@@ -5,3 +5,4 @@ pub mod Rules
 pub mod Appenders
 pub mod Pages
 pub mod Ends
+pub mod Looks

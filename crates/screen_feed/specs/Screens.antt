@@ -1,24 +1,26 @@
 -- Writers and screens as contracts see them.
-use Rattle.std.specs.Prelude.{◌≡◌, ◌⊎◌, List, [], ◌∷◌, ◌++◌, Option, None, if◌then◌else◌, nat_lt}
+use Rattle.std.specs.Prelude.{◌≡◌, ◌≤◌, ◌<◌, ◌+◌, ◌^◌, ◌⊎◌, ℕ, List, [], ◌∷◌, ◌++◌, length, Option, None, if◌then◌else◌, nat_lt}
 use Rattle.logbook.specs.Pages.{Book}
+use Rattle.apron_base.specs.Counts.{one_more}
 use Rattle.screen_feed.specs.Sheets.{AreSheets, Begins, SheetState, ShownChart, last_version}
 
--- a writer: its pair, what it shows, the sheets that it has shown, and those that it has shown or
--- tried to show
+-- a writer: its pair, what it shows, the sheets that it has shown, those that it has shown or tried
+-- to show, and how often there was no memory for a sheet that it was to show
 pub record WriterState : Type 0 where
   pub pair : Book
   pub shown : ShownChart
   pub sheets : List SheetState
   pub tried : List SheetState
+  pub unmade : ℕ
 
 -- a screen: its pair, what it shows, the list that it has seen, the longest list that it was told,
--- and the sheet that its last look gave, if it gave one
+-- and what its last look gave, if it has looked: a sheet, or none
 pub record ScreenState : Type 0 where
   pub pair : Book
   pub shown : ShownChart
   pub seen : List SheetState
   pub told : List SheetState
-  pub given : Option SheetState
+  pub given : Option (Option SheetState)
 
 -- what a writer tells: its pair, and the list that it had
 pub record ToldState : Type 0 where
@@ -51,6 +53,26 @@ after_show writer sheet = record writer {
   tried = if nat_lt (last_version writer.sheets) sheet.version
       then writer.tried ++ sheet ∷ [] else writer.tried;
 }
+
+-- the writer after there was no memory for a sheet that it was to show
+abbrev pub after_lack : WriterState → WriterState
+after_lack writer = record writer { unmade = one_more writer.unmade }
+
+-- so many sheets a writer begins and shows at most, each show counted with its beginning
+abbrev pub most_entries : ℕ
+most_entries = 2 ^ 60
+
+-- the writer tried to show the sheet in vain; once it has shown as many as it may, it is as it was
+abbrev pub HasTried : WriterState → SheetState → WriterState → Type 0
+HasTried before sheet after =
+    (after ≡ after_try before sheet)
+    ⊎ ((after ≡ before) × (most_entries ≤ length before.sheets + length before.tried))
+
+-- the writer does not show a sheet of a greater version, since it tried it in vain, or since there
+-- was no memory for it
+pub record HasMissed (before : WriterState) (sheet : SheetState) (after : WriterState) : Type 0 where
+  pub later : last_version before.sheets < sheet.version
+  pub how : HasTried before sheet after ⊎ (after ≡ after_lack before)
 
 -- the screen has seen a list of sheets that begins with what it had seen
 pub record HasLooked (before after : ScreenState) : Type 0 where

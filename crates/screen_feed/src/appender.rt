@@ -1,5 +1,5 @@
 // The one value that adds entries to a writer's book, the record of the sheets it showed.
-ghost use Rattle.std.specs.Prelude.{◌≡◌, ◌+◌, ◌<◌, ◌^◌, [], ◌∷◌, ◌++◌, length, true, Some, None, IfOk};
+ghost use Rattle.std.specs.Prelude.{◌≡◌, ◌+◌, ◌<◌, ◌^◌, [], ◌∷◌, ◌++◌, length, true, Some, None, IfSome};
 ghost use mathlib.Core.List.{IsPrefix};
 ghost use Rattle.logbook.specs.Pages.{may_write};
 ghost use Rattle.screen_feed.specs.Logs.{IsLegalLog, begun_after, begun_in, shown_in};
@@ -7,7 +7,6 @@ ghost use Rattle.screen_feed.specs.Rules.{IsEntryAdded, entry_word};
 
 use crate::book::{Add, AddFirst, BookRule, EntryWord, Log, MakePen, Nothing, SeeAll, SheetEntry};
 use crate::sheet::Sheet;
-use apron_base::Memory;
 use logbook::{Offer, Pen, Seen, Start, Word};
 use std::marker::Model;
 
@@ -52,13 +51,13 @@ fn new_pen(head: &EntryWord, seen: &Log, entry: &SheetEntry) -> Pen
 }
 
 impl Appender {
-    /// A new book, in which this sheet is begun. `Err` never comes, since nobody else has the book;
-    /// but no clause of `logbook` says so before there is an entry.
-    pub fn open(sheet: &Sheet) -> Result<Appender, Memory>
-        ensures shown { IfOk result (λ appender. shown_in appender.log ≡ []) }
-        ensures begun { IfOk result (λ appender. begun_after None appender.log ≡ Some sheet.now) }
-        ensures tried { IfOk result (λ appender. begun_in appender.log ≡ sheet.now ∷ []) }
-        ensures count { IfOk result (λ appender. length appender.log ≡ 1) }
+    /// A new book, in which this sheet is begun. `None` never comes, since nobody else has the
+    /// book; but no clause of `logbook` says so before there is an entry.
+    pub fn open(sheet: &Sheet) -> Option<Appender>
+        ensures shown { IfSome result (λ appender. shown_in appender.log ≡ []) }
+        ensures begun { IfSome result (λ appender. begun_after None appender.log ≡ Some sheet.now) }
+        ensures tried { IfSome result (λ appender. begun_in appender.log ≡ sheet.now ∷ []) }
+        ensures count { IfSome result (λ appender. length appender.log ≡ 1) }
     {
         let (mut seen, mut first, _second) = Seen::open(Start::alone(), 0, 0);
         let head = Word::tracked(0, &mut first);
@@ -78,9 +77,9 @@ impl Appender {
             &mut no_pen,
         );
         if found != 0 {
-            return Err(Memory);
+            return None;
         }
-        Ok(Appender {
+        Some(Appender {
             head,
             pen,
             seen,

@@ -1,12 +1,12 @@
 // The writer, its screen, and what the writer tells its screen.
-ghost use Rattle.std.specs.Prelude.{◌≡◌, ◌≤◌, ◌⊎◌, [], ◌∷◌, IfOk, OnErr, OnOk};
+ghost use Rattle.std.specs.Prelude.{◌≡◌, ◌≤◌, ◌<◌, [], ◌∷◌, IfOk, OnErr, OnOk, Some};
 ghost use Rattle.std.specs.Result.{result_ok};
-ghost use Rattle.screen_feed.specs.Screens.{HasLearned, HasLooked, after_show, after_try, screen_of, told_of};
+ghost use Rattle.screen_feed.specs.Screens.{HasLearned, HasLooked, HasMissed, HasTried, after_lack, after_show, screen_of, told_of};
 ghost use Rattle.screen_feed.specs.Sheets.{AreAmong, AreSheets, Begins, IsLast, IsSheet, last_version, sheet_of};
 
 use crate::appender::Appender;
 use crate::book::Log;
-use crate::sheet::Sheet;
+use crate::sheet::{Sheet, Unmade};
 use crate::steps::{Front, WriterSide, look_at, page_of, pair_of, publish};
 use apron_base::Memory;
 use apron_rules::Airport;
@@ -17,18 +17,20 @@ use std::marker::Model;
 use std::snapshot::Snapshot;
 use std::sync::Wait;
 
-// After this many entries of its book a writer shows no more: at a thousand million entries a
-// second, after 36 years.
+// After this many entries of its book, two a show, a writer shows no more: at a thousand million
+// entries a second, after 36 years.
 const MOST_ENTRIES: u64 = 1 << 60;
 
 /// What shows the chart of one day to one screen. Contracts see its pair, the airport and the day,
-/// and the list of the sheets that it has shown. It is not `Drop`: end it by `close`.
+/// the list of the sheets that it has shown, those that it tried to show, and how many were not
+/// made. It is not `Drop`: end it by `close`.
 pub struct ScreenWriter {
     side: WriterSide,
     appender: Appender,
     airport: Snapshot<Airport>,
     day: u32,
     version: u32,
+    unmade: u64,
 }
 
 impl Model for ScreenWriter {
@@ -43,6 +45,7 @@ impl Model for ScreenWriter {
       shown = record { airport = w.airport.value; day = w.day };
       sheets = shown_in w.appender.log;
       tried = begun_in w.appender.log;
+      unmade = w.unmade;
     } };
 
     ghost invariant = { λ w. IsWriter w.side.desk.shown.value w.appender
@@ -51,7 +54,7 @@ impl Model for ScreenWriter {
 
 /// What looks at the sheet that was shown last. Contracts see its pair, the airport and the day,
 /// the list of the sheets that it has seen, of which it takes the last, the longest list that it was
-/// told, and the sheet that its last look gave.
+/// told, and what its last look gave.
 #[derive(Drop)]
 pub struct Screen {
     front: Front,
@@ -59,11 +62,11 @@ pub struct Screen {
     round: u64,
     airport: Snapshot<Airport>,
     day: u32,
-    given: Snapshot<Result<Sheet, Memory>>,
 }
 
 impl Model for Screen {
     ghost use Rattle.std.specs.Prelude.{◌≡◌, length};
+    ghost use Rattle.std.specs.Option.{option_map};
     ghost use Rattle.std.specs.Result.{result_ok};
     ghost use Rattle.left_right.specs.Sides.{view as view_of};
     ghost use Rattle.screen_feed.specs.Ends.{IsScreenAt};
@@ -78,7 +81,7 @@ impl Model for Screen {
       shown = record { airport = s.airport.value; day = s.day };
       seen = sheets_seen (view_of s.front.side.place);
       told = shown_in s.told.log;
-      given = result_ok s.given.value;
+      given = option_map (λ given. result_ok given.value) s.front.given;
     } };
 
     ghost invariant = { λ s. IsScreenAt (view_of s.front.side.place)
@@ -125,18 +128,17 @@ impl ScreenWriter {
         ensures screen { IfOk result (λ ends. ends.1 ≡ screen_of ends.0) }
     {
         let sheet = Sheet::of(alloc, airport, plan, day)?;
-        let mut appender = Appender::open(&sheet)?;
+        let mut appender = Appender::open(&sheet).ok_or(Memory)?;
         let page = page_of(&appender, sheet.another()?);
         let seen = appender.seen();
         let (writer_side, side) = pair_of(rt, alloc, page)?;
         appender.confirm(&sheet);
         let screen = Screen {
-            front: Front { side, seen },
+            front: Front::new(side, seen),
             told: appender.seen(),
             round: appender.round(),
             airport: Snapshot::of(airport),
             day,
-            given: Snapshot::of(&Err(Memory)),
         };
         let writer = ScreenWriter {
             side: writer_side,
@@ -144,6 +146,7 @@ impl ScreenWriter {
             airport: Snapshot::of(airport),
             day,
             version: plan.version(),
+            unmade: 0,
         };
         Ok((writer, screen))
     }
@@ -181,13 +184,18 @@ impl ScreenWriter {
         ensures ok { let sheet = sheet_of plan.now.plan self.old.shown.day in
             OnOk result (self.new ≡ after_show self.old sheet) }
         ensures err { let sheet = sheet_of plan.now.plan self.old.shown.day in
-            OnErr result ((self.new ≡ self.old) ⊎ (self.new ≡ after_try self.old sheet)) }
+            OnErr result (HasMissed self.old sheet self.new) }
     {
         if plan.version() <= self.version {
             return Ok(());
         }
-        let sheet = Sheet::of(alloc, airport, plan, self.day)?;
-        self.show_sheet(rt, &sheet)
+        match Sheet::of(alloc, airport, plan, self.day) {
+            Ok(sheet) => self.show_sheet(rt, &sheet),
+            Err(sheet) => {
+                self.miss(sheet);
+                Err(Memory)
+            }
+        }
     }
 
     /// The same with a sheet that was made already, as for several writers of the same day.
@@ -195,8 +203,8 @@ impl ScreenWriter {
         requires sheet { IsSheet self.old.shown sheet.now }
         requires version { last_version self.old.sheets ≤ sheet.now.version }
         ensures ok { OnOk result (self.new ≡ after_show self.old sheet.now) }
-        ensures err { OnErr result
-            ((self.new ≡ self.old) ⊎ (self.new ≡ after_try self.old sheet.now)) }
+        ensures err { OnErr result (HasTried self.old sheet.now self.new) }
+        ensures later { OnErr result (last_version self.old.sheets < sheet.now.version) }
     {
         if sheet.version() <= self.version {
             return Ok(());
@@ -204,13 +212,21 @@ impl ScreenWriter {
         if self.appender.round() >= MOST_ENTRIES {
             return Err(Memory);
         }
-        let shown = sheet.another()?;
         self.appender.begin(sheet);
-        let page = page_of(&self.appender, shown);
+        let page = page_of(&self.appender, sheet.another()?);
         publish(rt, &mut self.side, page)?;
         self.appender.confirm(sheet);
         self.version = sheet.version();
         Ok(())
+    }
+
+    /// Takes note that there was no memory for a sheet that was to be shown.
+    pub fn miss(&mut self, sheet: Unmade)
+        requires of { sheet.shown ≡ self.old.shown }
+        requires version { last_version self.old.sheets < sheet.version }
+        ensures counted { self.new ≡ after_lack self.old }
+    {
+        self.unmade = self.unmade.saturating_add(1);
     }
 
     /// What it has shown, for its screen to learn. It takes no memory.
@@ -230,7 +246,7 @@ impl ScreenWriter {
         ensures same { self.new ≡ self.old }
         ensures seen { AreAmong screen.now.seen self.old.tried }
     {
-        self.appender.knows(&screen.front.seen);
+        self.appender.knows(screen.front.seen());
     }
 
     /// Ends the writer, and takes what its screen looks at. It may wait for a screen that is
@@ -242,6 +258,7 @@ impl ScreenWriter {
             airport: _,
             day: _,
             version: _,
+            unmade: _,
         } = self;
         side.take(rt);
     }
@@ -269,12 +286,11 @@ impl Screen {
         ensures looked { HasLooked self.old self.new }
         ensures last { IfOk result (IsLast self.new.seen) }
         ensures told { IfOk result (λ sheet. Begins self.new.seen self.old.told) }
-        ensures given { self.new.given ≡ result_ok result }
+        ensures given { self.new.given ≡ Some (result_ok result) }
     {
         let told = &self.told;
         let round = self.round;
         let looked = replace_with(&mut self.front, (), |front, ()| look_at(front, told, round));
-        self.given = Snapshot::of(&looked);
-        looked
+        looked.ok().ok_or(Memory)
     }
 }

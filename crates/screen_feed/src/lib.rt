@@ -10,4 +10,4 @@ mod sheet;
 mod steps;
 
 pub use ends::{Screen, ScreenWriter, Told};
-pub use sheet::Sheet;
+pub use sheet::{Sheet, Unmade};

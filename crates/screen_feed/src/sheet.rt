@@ -1,5 +1,5 @@
 // What is shown.
-ghost use Rattle.std.specs.Prelude.{◌≡◌, ◌≤◌, IfOk};
+ghost use Rattle.std.specs.Prelude.{◌≡◌, ◌≤◌, IfErr, IfOk};
 ghost use Rattle.screen_feed.specs.Sheets.{IsSheet, sheet_of};
 
 use apron_base::{Listed, Memory};
@@ -39,26 +39,71 @@ impl Model for Sheet {
     } };
 }
 
+/// A sheet for which there was no memory. Contracts see the sheet. Only `Sheet::of` makes one.
+#[derive(Drop)]
+pub struct Unmade {
+    plan: Snapshot<Plan>,
+    day: u32,
+}
+
+impl Model for Unmade {
+    ghost use Rattle.screen_feed.specs.Sheets.{SheetState, sheet_of};
+
+    ghost Value = { SheetState };
+
+    ghost view = { λ u. sheet_of u.plan.value.plan u.day };
+}
+
+impl From<Unmade> for Memory {
+    fn from(_unmade: Unmade) -> Memory {
+        Memory
+    }
+}
+
+/// That a sheet can have no more owners. Contracts see the sheet. Only `Sheet::another` makes one.
+#[derive(Drop)]
+pub(crate) struct NoOwner {
+    sheet: Snapshot<Sheet>,
+}
+
+impl Model for NoOwner {
+    ghost use Rattle.screen_feed.specs.Sheets.{SheetState};
+
+    ghost Value = { SheetState };
+
+    ghost view = { λ n. n.sheet.value };
+}
+
+impl From<NoOwner> for Memory {
+    fn from(_none: NoOwner) -> Memory {
+        Memory
+    }
+}
+
 impl Sheet {
     /// The sheet of this plan for a day, counted from 1. The only error is a lack of memory.
-    pub fn of(alloc: Global, airport: &Airport, plan: &Plan, day: u32) -> Result<Sheet, Memory>
+    pub fn of(alloc: Global, airport: &Airport, plan: &Plan, day: u32) -> Result<Sheet, Unmade>
         requires airport { airport.now ≡ plan.now.plan.airport }
         requires first { 1 ≤ day }
         requires last { day ≤ airport.now.days }
         ensures is { IfOk result (λ sheet. sheet ≡ sheet_of plan.now.plan day) }
         ensures sheet { IfOk result (IsSheet (record { airport = airport.now; day = day })) }
+        ensures unmade { IfErr result (λ sheet. sheet ≡ sheet_of plan.now.plan day) }
     {
         let _sound = plan.visits();
-        let text = chart(alloc, airport, plan, day)?;
+        let Ok(text) = chart(alloc, airport, plan, day) else {
+            return Err(Unmade::of(plan, day));
+        };
         let kept = SheetFields {
             airport: Snapshot::of(airport),
             day,
             version: plan.version(),
             text,
         };
-        Ok(Sheet {
-            kept: Arc::new(alloc, kept)?,
-        })
+        match Arc::new(alloc, kept) {
+            Ok(kept) => Ok(Sheet { kept }),
+            Err(_) => Err(Unmade::of(plan, day)),
+        }
     }
 
     /// The day, counted from 1.
@@ -83,11 +128,26 @@ impl Sheet {
     }
 
     /// Another owner of the same sheet. At `Err` there can be no more of them.
-    pub(crate) fn another(&self) -> Result<Sheet, Memory>
+    pub(crate) fn another(&self) -> Result<Sheet, NoOwner>
         ensures same { IfOk result (λ sheet. sheet ≡ self.now) }
+        ensures none { IfErr result (λ sheet. sheet ≡ self.now) }
     {
-        Ok(Sheet {
-            kept: Arc::try_clone(&self.kept)?,
-        })
+        match Arc::try_clone(&self.kept) {
+            Ok(kept) => Ok(Sheet { kept }),
+            Err(_) => Err(NoOwner {
+                sheet: Snapshot::of(self),
+            }),
+        }
+    }
+}
+
+impl Unmade {
+    fn of(plan: &Plan, day: u32) -> Unmade
+        ensures is { result ≡ sheet_of plan.now.plan day }
+    {
+        Unmade {
+            plan: Snapshot::of(plan),
+            day,
+        }
     }
 }

@@ -1,8 +1,9 @@
 // What a writer and its screen do with their two copies of a page.
-ghost use Rattle.std.specs.Prelude.{◌≡◌, ◌+◌, ◌<◌, ◌^◌, ◌∷◌, ◌++◌, [], length, IfOk, IsSome, IsTrue, None, OnErr, OnOk, Some};
-ghost use Rattle.std.specs.Option.{ForSome};
+ghost use Rattle.std.specs.Prelude.{◌≡◌, ◌≤◌, ◌+◌, ◌↔◌, ◌∷◌, ◌++◌, [], length, IfErr, IfOk, IsSome, IsTrue, None, OnErr, OnOk, Some};
+ghost use Rattle.std.specs.Option.{ForSome, option_map};
 ghost use Rattle.left_right.specs.Sides.{view};
 ghost use Rattle.screen_feed.specs.Ends.{HasLookedAt};
+ghost use Rattle.screen_feed.specs.Looks.{HasNoSheet, IsNoSheetOf};
 ghost use Rattle.screen_feed.specs.Logs.{begun_after, shown_in};
 ghost use Rattle.screen_feed.specs.Pages.{Follows, sheets_seen, sheets_with};
 ghost use Rattle.screen_feed.specs.Sheets.{AreSheets, Begins, IsLast};
@@ -10,12 +11,13 @@ ghost use Rattle.screen_feed.specs.Sheets.{AreSheets, Begins, IsLast};
 use crate::appender::Appender;
 use crate::book::Log;
 use crate::page::{LookAtPage, Page, PairRule, Tell};
-use crate::sheet::Sheet;
+use crate::sheet::{NoOwner, Sheet};
 use apron_base::Memory;
 use core::mem::replace_with;
 use left_right::reader::Reader;
 use left_right::writer::Writer;
 use std::alloc::Global;
+use std::snapshot::Snapshot;
 use std::sync::Wait;
 
 /// The writer's side of a pair of copies.
@@ -24,11 +26,48 @@ pub(crate) type WriterSide = Writer<Page, Page, Option<Page>, PairRule>;
 /// The screen's side.
 pub(crate) type ScreenSide = Reader<Page, Option<Page>, PairRule>;
 
-/// The screen's side, with what was known of the book as the page was begun that it has seen last.
+/// The screen's side, with what was known of the book as the page was begun that it has seen last,
+/// and, in proofs alone, what the last look gave. Only `look_at` sets this.
 #[derive(Drop)]
 pub(crate) struct Front {
-    pub side: ScreenSide,
-    pub seen: Log,
+    side: ScreenSide,
+    seen: Log,
+    given: Option<Snapshot<Result<Sheet, NoSheet>>>,
+}
+
+/// Why a look gives no sheet.
+#[derive(Drop)]
+pub(crate) enum NoSheet {
+    /// The writer is closed.
+    Closed,
+    /// The page is older than what was told. This never comes, since a writer publishes a page
+    /// before it tells of it. But no clause of `left_right` says so of a reader that has looked
+    /// before.
+    Older,
+    /// The page's sheet can have no more owners.
+    Owned(NoOwner),
+}
+
+impl Front {
+    /// A side that has seen a page, at which nobody has looked.
+    pub fn new(side: ScreenSide, seen: Log) -> Front
+        ensures side { result.side ≡ side }
+        ensures seen { result.seen ≡ seen }
+        ensures given { result.given ≡ None }
+    {
+        Front {
+            side,
+            seen,
+            given: None,
+        }
+    }
+
+    /// What was known of the book as the page was begun that it has seen last.
+    pub fn seen(&self) -> &Log
+        ensures seen { result.now ≡ self.now.seen }
+    {
+        &self.seen
+    }
 }
 
 /// The page of the sheet that was begun last.
@@ -97,14 +136,13 @@ pub(crate) fn publish<R: Wait>(rt: &R, end: &mut WriterSide, page: Page) -> Resu
     replace_with(end, page, |end, page| publish_page(rt, end, page))
 }
 
-// Whether the page is late enough to show all that was told. It always is, since a writer publishes
-// a page before it tells of it. But no clause of `left_right` says so of a reader that has looked
-// before.
+// Whether the page is late enough to show all that was told.
 fn covers(page: &Page, told: &Log, round: u64) -> bool
     requires book { page.now.book ≡ told.now.book }
     requires round { round ≡ length told.now.log }
     ensures sheets { AreSheets page.now.sheet.shown (sheets_with page.now) }
     ensures begun { begun_after None page.now.log ≡ Some page.now.sheet }
+    ensures late { IsTrue result ↔ length told.now.log ≤ length page.now.log + 1 }
     ensures told { IsTrue result → Begins (sheets_with page.now) (shown_in told.now.log) }
 {
     let mut both = page.seen.again();
@@ -112,8 +150,28 @@ fn covers(page: &Page, told: &Log, round: u64) -> bool
     round.saturating_sub(1) <= page.round
 }
 
-/// The sheet that is shown. At `Err` the writer is closed, or the sheet can have no more owners.
-pub(crate) fn look_at(front: Front, told: &Log, round: u64) -> (Front, Result<Sheet, Memory>)
+// The sheet of a page.
+fn sheet_at(page: &Page, told: &Log, round: u64) -> Result<Sheet, NoSheet>
+    requires book { page.now.book ≡ told.now.book }
+    requires round { round ≡ length told.now.log }
+    ensures sheets { AreSheets page.now.sheet.shown (sheets_with page.now) }
+    ensures begun { begun_after None page.now.log ≡ Some page.now.sheet }
+    ensures is { IfOk result (λ sheet. sheet ≡ page.now.sheet) }
+    ensures told { IfOk result
+        (λ sheet. Begins (sheets_with page.now) (shown_in told.now.log)) }
+    ensures none { IfErr result (IsNoSheetOf page.now told.now.log) }
+{
+    if !covers(page, told, round) {
+        return Err(NoSheet::Older);
+    }
+    match page.sheet.another() {
+        Ok(sheet) => Ok(sheet),
+        Err(none) => Err(NoSheet::Owned(none)),
+    }
+}
+
+/// The sheet that is shown, or why there is none.
+pub(crate) fn look_at(front: Front, told: &Log, round: u64) -> (Front, Result<Sheet, NoSheet>)
     requires there { IsSome (view front.side.place) }
     requires book { ForSome (view front.side.place) (λ page. page.book ≡ told.now.book) }
     requires log { ForSome (view front.side.place)
@@ -125,20 +183,28 @@ pub(crate) fn look_at(front: Front, told: &Log, round: u64) -> (Front, Result<Sh
     ensures last { IfOk result.1 (IsLast (sheets_seen (view result.0.side.place))) }
     ensures told { IfOk result.1
         (λ sheet. Begins (sheets_seen (view result.0.side.place)) (shown_in told.now.log)) }
+    ensures given { option_map (λ given. given.value) result.0.given ≡ Some result.1 }
+    ensures none { IfErr result.1 (HasNoSheet told.now.log (view front.side.place)
+        (view result.0.side.place)) }
 {
-    let Front { side, seen } = front;
+    let Front {
+        side,
+        seen,
+        given: _given,
+    } = front;
     match side.enter_as::<LookAtPage>() {
         Ok(reading) => {
             let page = reading.get();
             let seen = page.seen.again();
-            let answer = if covers(page, told, round) {
-                page.sheet.another()
-            } else {
-                Err(Memory)
-            };
+            let answer = sheet_at(page, told, round);
+            let given = Some(Snapshot::of(&answer));
             let side = reading.leave();
-            (Front { side, seen }, answer)
+            (Front { side, seen, given }, answer)
         }
-        Err(side) => (Front { side, seen }, Err(Memory)),
+        Err(side) => {
+            let answer = Err(NoSheet::Closed);
+            let given = Some(Snapshot::of(&answer));
+            (Front { side, seen, given }, answer)
+        }
     }
 }

@@ -1,4 +1,4 @@
--- What a hall keeps of its writers while desks are served at it.
+-- What a hall keeps while desks are served at it.
 use Rattle.std.proofs.Common.{◌≡◌, ◌∙◌, ℕ, List, length, map, Result, Ok, IfOk, ap, subst, sym}
 use Rattle.std.proofs.lemmas.List.{length-map}
 use Rattle.desk_workers.specs.Work.{EndStates}
@@ -19,6 +19,10 @@ module _ {K R : Type 0} (begun hall : HallHeld K R) (fixed : hall_fixed hall ≡
       → pairs_of hall.writers ≡ map (λ (screen : ScreenState). screen.pair) after.screens
   kept_pairs states asked before after end pairs shows =
       ap (λ (f : HallFixedState R). f.pairs) fixed ∙ (pairs ∙ sym (shown_pairs states asked before after end shows))
+
+  -- it began with the same call
+  pub begun_there : hall.begun ≡ begun.begun
+  begun_there = ap (λ (f : HallFixedState R). f.begun) fixed
 
   -- there are as many writers as listeners of screens
   pub writers_there : {L : Type 0} (screens : List ScreenState) (walls : List L) → length screens ≡ length walls

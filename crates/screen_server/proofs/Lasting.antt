@@ -32,7 +32,7 @@ no_older shown before after are (rest, is) =
     subst (λ (list : List SheetState). last_version before ≤ last_version list) (sym is) (goes_on_later 0 _ 0 before rest (omega arith) rises)
 
 -- the last sheet that a screen has seen after a look
-pub is_last : (before after : ScreenState) (sheet : SheetState) → HasLooked before after → after.given ≡ Some sheet → IsLast after.seen sheet → IsLastSheet after sheet
+pub is_last : (before after : ScreenState) (sheet : SheetState) → HasLooked before after → after.given ≡ Some (Some sheet) → IsLast after.seen sheet → IsLastSheet after sheet
 is_last before after sheet looked given last = record {
   given = given;
   last = last;

@@ -26,7 +26,7 @@ pub record ScreenAndSink : Type 0 where
 -- the sheet that the screen's last look gave, which is the last that it has seen: the chart of its
 -- day of some plan of its airport
 pub record IsLastSheet (screen : ScreenState) (sheet : SheetState) : Type 0 where
-  pub given : screen.given ≡ Some sheet
+  pub given : screen.given ≡ Some (Some sheet)
   pub last : IsLast screen.seen sheet
   pub chart : IsSheet screen.shown sheet
 
@@ -35,7 +35,7 @@ pub record IsLastSheet (screen : ScreenState) (sheet : SheetState) : Type 0 wher
 abbrev pub EndsAs : ScreenAndSink → ScreenAndSink → Outcome → Type 0
 EndsAs before after Ended = (sheet : SheetState) × IsLastSheet after.screen sheet
     × Wrote false before.sink after.sink sheet.text
-EndsAs before after Memory = (after.screen.given ≡ None) × (after.sink ≡ before.sink)
+EndsAs before after Memory = (after.screen.given ≡ Some None) × (after.sink ≡ before.sink)
 EndsAs before after WriteFault = (sheet : SheetState) × IsLastSheet after.screen sheet
     × ((count : ℕ) × Wrote true before.sink after.sink (take count sheet.text))
 EndsAs before after outcome = ⊥

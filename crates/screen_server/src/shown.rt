@@ -40,8 +40,8 @@ pub struct ShownEnd {
 
 /// Serves the connections of desks at a board with watches that was just opened, and beside them
 /// those of screens, which show a day of its plan; each listener by a worker in a thread of its
-/// own. It gives back the hall in which the board is, with a writer for each screen. At `Err` there
-/// is no memory, and no listener was called.
+/// own. It gives back the hall in which the board has been since, with a writer for each screen. At
+/// `Err` there is no memory, and no listener was called.
 pub fn serve_watched<
     'a,
     Rt: Threads + Wait + Sync,
@@ -81,11 +81,12 @@ pub fn serve_watched<
           end = ends.screens;
         })) }
     ensures writers { IfOk result.0 (λ _. length result.1.writers ≡ length walls.old) }
+    ensures begun { IfOk result.0 (λ _. result.1.begun ≡ board.entry.next) }
     ensures refused { IfErr result.0 (λ _. (listeners.new ≡ listeners.old)
         × (walls.new ≡ walls.old) × (result.1.board.board ≡ board.entry.board)) }
 {
     let mut screens = Vec::new(alloc);
-    let writers = writers_of(
+    let (writers, made) = writers_of(
         rt,
         alloc,
         airport,
@@ -95,6 +96,9 @@ pub fn serve_watched<
         &mut screens,
     );
     let hall = Hall::new(rt, board, writers);
+    if let Err(Memory) = made {
+        return (Err(Memory), hall);
+    }
     serve_hall(
         rt,
         alloc,
@@ -150,6 +154,7 @@ pub fn serve_hall<
     ensures pairs { IfOk result.0
         (λ _. pairs_of result.1.writers ≡ map (λ screen. screen.pair) screens.new) }
     ensures writers { IfOk result.0 (λ _. length result.1.writers ≡ length walls.old) }
+    ensures begun { IfOk result.0 (λ _. result.1.begun ≡ hall.entry.begun) }
     ensures refused { IfErr result.0 (λ _. (listeners.new ≡ listeners.old)
         × (walls.new ≡ walls.old) × (result.1 ≡ hall.entry)) }
 {

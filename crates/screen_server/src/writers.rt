@@ -1,11 +1,11 @@
 // The writers of a board's plan, and their screens.
-ghost use Rattle.std.specs.Prelude.{◌≡◌, ◌<◌, ◌≤◌, [], map};
+ghost use Rattle.std.specs.Prelude.{◌≡◌, ◌<◌, ◌≤◌, [], OnErr, OnOk, length, map};
 ghost use Rattle.apron_base.specs.Histories.{Every};
 ghost use Rattle.history_core.specs.History.{replay};
 ghost use Rattle.shown_board.specs.Halls.{IsNewWriter, pairs_of};
 ghost use Rattle.screen_server.specs.Looks.{IsNewScreen};
 
-use apron_base::Keeper;
+use apron_base::{Keeper, Memory};
 use apron_rules::Airport;
 use plan_core::Plan;
 use screen_feed::{Screen, ScreenWriter};
@@ -24,8 +24,8 @@ fn plan_of<'b, K: Keeper, R: Stated, T: NoteTest>(
     board.board().plan()
 }
 
-/// This many writers of the board's plan on a day, or fewer if there is no memory for more. Their
-/// screens are put last.
+/// This many writers of the board's plan on a day. Their screens are put last. At `Err` these are
+/// fewer, since there is no memory for more.
 pub(crate) fn writers_of<W: Wait, K: Keeper, R: Stated, T: NoteTest>(
     rt: &W,
     alloc: Global,
@@ -34,26 +34,29 @@ pub(crate) fn writers_of<W: Wait, K: Keeper, R: Stated, T: NoteTest>(
     day: u32,
     count: usize,
     screens: &mut Vec<Screen>,
-) -> Vec<ScreenWriter>
+) -> (Vec<ScreenWriter>, Result<(), Memory>)
     requires airport { board.now.board.airport ≡ airport.now }
     requires day { 0 < count → (1 ≤ day) × (day ≤ airport.now.days) }
     requires none { screens.old.items ≡ [] }
-    ensures new { Every (IsNewWriter board.now.board.airport board.now.board.history) result.items }
+    ensures new { Every (IsNewWriter board.now.board.airport board.now.board.history)
+        result.0.items }
     ensures screens { Every (IsNewScreen airport.now board.now.board.history day)
         screens.new.items }
-    ensures pairs { pairs_of result.items ≡ map (λ screen. screen.pair) screens.new.items }
+    ensures pairs { pairs_of result.0.items ≡ map (λ screen. screen.pair) screens.new.items }
+    ensures all { OnOk result.1 (length result.0.items ≡ count) }
+    ensures fewer { OnErr result.1 (length result.0.items < count) }
 {
     let mut writers = Vec::new(alloc);
     let plan = plan_of(airport, board);
     for _made in 0..count {
         if writers.reserve(1).is_err() || screens.reserve(1).is_err() {
-            return writers;
+            return (writers, Err(Memory));
         }
         let Ok((writer, screen)) = ScreenWriter::new(rt, alloc, airport, plan, day) else {
-            return writers;
+            return (writers, Err(Memory));
         };
         writers.push_reserved(writer);
         screens.push_reserved(screen);
     }
-    writers
+    (writers, Ok(()))
 }

@@ -1,6 +1,6 @@
 -- Writers, as their board's history grows and its plan is shown.
-use Rattle.std.proofs.Common.{◌≡◌, ℕ, ◌+◌, ◌≤◌, Bool, true, false, List, [], ◌∷◌, ◌++◌, length, refl, sym, ap, ◌∙◌, subst, ⊎_elim, append-nil, append_assoc, length-append, arith, if◌then◌else◌}
-use Rattle.std.specs.Prelude.{nat_lt}
+use Rattle.std.proofs.Common.{◌≡◌, ℕ, ◌+◌, ◌≤◌, ◌<◌, Bool, true, false, List, [], ◌∷◌, ◌++◌, length, refl, sym, ap, ◌∙◌, subst, ⊎_elim, inl, inr, append-nil, append_assoc, length-append, arith, if◌then◌else◌}
+use Rattle.std.specs.Prelude.{nat_lt, Result, Ok, Err, OnErr, OnOk}
 use Rattle.std.specs.List.{AllZip}
 use Rattle.std.proofs.lemmas.Bool.Decides.{nat_tests}
 use Rattle.apron_base.specs.Histories.{Every}
@@ -17,7 +17,7 @@ use Rattle.history_core.proofs.Replay.{replay-airport}
 use Rattle.watch_list.specs.WatchBoards.{watch_fixed, watch_state}
 use Rattle.screen_feed.specs.Sheets.{AreAmong, IsAmong, SheetState, last_version, sheet_of, version_after}
 use Rattle.logbook.specs.Pages.{Book}
-use Rattle.screen_feed.specs.Screens.{ScreenState, WriterState, after_show, after_try}
+use Rattle.screen_feed.specs.Screens.{HasMissed, HasTried, ScreenState, WriterState, after_lack, after_show, after_try}
 use Rattle.screen_feed.proofs.Listing.{last_push}
 use Rattle.shown_board.specs.Halls.{CanShow, HallHeld, IsNewWriter, IsOfFront, IsShown, IsWriterOf, SeesFronts, ShowsVersion, hall_state, pairs_of}
 
@@ -54,13 +54,30 @@ shows_after plan writer can =
     let sheet = sheet_of plan writer.shown.day in
     version_shown writer sheet (nat_lt (last_version writer.sheets) sheet.version) refl can.1
 
+-- a writer was to show the sheet of a plan
+pub shown_by : {A E : Type 0} (plan : PlanState) (before after : WriterState) (sheet : SheetState) (result : Result A E) → sheet ≡ sheet_of plan before.shown.day
+    → OnOk result (after ≡ after_show before sheet) → OnErr result (HasTried before sheet after) → OnErr result (last_version before.sheets < sheet.version)
+    → IsShown plan before after
+shown_by plan before after sheet (Ok value) is shows tried later = inl (shows ∙ ap (after_show before) is)
+shown_by plan before after sheet (Err why) is shows tried later =
+    inr (subst (λ (s : SheetState). HasMissed before s after) is (record { later = later; how = inl tried }))
+
+-- what holds of a writer as it was, after it tried a sheet in vain, and after there was no memory
+-- for the sheet, holds of one that missed it
+missed_of : (before after : WriterState) (sheet : SheetState) (P : WriterState → Type 0) → P before → P (after_try before sheet) → P (after_lack before)
+    → HasMissed before sheet after → P after
+missed_of before after sheet P was vain lacked missed = ⊎_elim
+    (λ (tried : HasTried before sheet after). ⊎_elim (λ (is : after ≡ after_try before sheet). subst P (sym is) vain) (λ full. subst P (sym full.0) was) tried)
+    (λ (is : after ≡ after_lack before). subst P (sym is) lacked)
+    missed.how
+
 -- a writer that was to show a plan is of the same pair
 same_pair : (plan : PlanState) (before after : WriterState) → IsShown plan before after → after.pair ≡ before.pair
 same_pair plan before after shown =
     let sheet = sheet_of plan before.shown.day in
     let pair : WriterState → Book = λ writer. writer.pair in ⊎_elim
     (λ (done : after ≡ after_show before sheet). ap pair done)
-    (λ rest. ⊎_elim (λ (vain : after ≡ after_try before sheet). ap pair vain) (λ (same : after ≡ before). ap pair same) rest)
+    (missed_of before after sheet (λ writer. writer.pair ≡ before.pair) refl refl refl)
     shown
 
 pub same_pairs : (plan : PlanState) (writers left : List WriterState) → AllZip (IsShown plan) writers left → pairs_of left ≡ pairs_of writers
@@ -71,13 +88,14 @@ same_pairs plan (x ∷ writers) (y ∷ left) shown =
     let first = same_pair plan x y shown.0 in
     let rest = same_pairs plan writers left shown.1 in cc (first, rest)
 
--- an act of a board is one of a hall around it, if the writers keep their pairs
+-- an act of a board is one of a hall around it, if the writers keep their pairs and the hall its
+-- beginning
 pub hall_acts : {K R : Type 0} (tells : K → KeeperState) (before after : HallHeld K R) (call : ℕ) (answer : Acted)
-    → Acts call_of (watch_state tells before.board) (watch_state tells after.board) call answer → pairs_of after.writers ≡ pairs_of before.writers
+    → Acts call_of (watch_state tells before.board) (watch_state tells after.board) call answer → pairs_of after.writers ≡ pairs_of before.writers → after.begun ≡ before.begun
     → Acts call_of (hall_state tells before) (hall_state tells after) call answer
-hall_acts tells before after call answer acts pairs =
+hall_acts tells before after call answer acts pairs begun =
     let fixed : watch_fixed after.board ≡ watch_fixed before.board = acts.fixed in record {
-      fixed = cc (fixed, pairs);
+      fixed = cc (fixed, pairs, begun);
       next = acts.next;
       history = acts.history;
       faults = acts.faults;
@@ -187,10 +205,8 @@ module _ (airport : AirportParts) where
       let sheet = sheet_of (replay airport history) before.shown.day in ⊎_elim
       (λ (done : after ≡ after_show before sheet).
       subst (IsWriterOf airport history) (sym done) (put_last history before (nat_lt (last_version before.sheets) sheet.version) legal is))
-      (λ rest. ⊎_elim
-      (λ (vain : after ≡ after_try before sheet). subst (IsWriterOf airport history) (sym vain) (try_last history before legal is))
-      (λ (same : after ≡ before). subst (IsWriterOf airport history) (sym same) is)
-      rest)
+      (missed_of before after sheet (IsWriterOf airport history) is (try_last history before legal is)
+      (record { airport_is = is.airport_is; sheets = is.sheets; tried = is.tried }))
       shown
 
   -- the writers of a history are writers of one that goes on from it, also after each was to show its plan

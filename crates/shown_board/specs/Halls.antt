@@ -1,5 +1,5 @@
 -- A board whose plan is shown on screens, as contracts see it and as a machine.
-use Rattle.std.specs.Prelude.{◌≡◌, ◌≤◌, ◌⊎◌, ◌↔◌, ℕ, Bool, false, List, [], ◌∷◌, ◌++◌, length, map, Option}
+use Rattle.std.specs.Prelude.{◌≡◌, ◌≤◌, ◌⊎◌, ◌↔◌, ℕ, Bool, false, List, [], ◌∷◌, ◌++◌, length, map, Option, None, Some}
 use Rattle.logbook.specs.Pages.{Book}
 use Rattle.apron_base.specs.Histories.{Every}
 use Rattle.apron_base.specs.Keeper.{KeeperState}
@@ -11,7 +11,7 @@ use Rattle.history_core.specs.History.{replay}
 use Rattle.watch_list.specs.declared.watch_asks.WatchFixed.{WatchFixed}
 use Rattle.watch_list.specs.WatchBoards.{WatchHeld, watch_fixed, watch_state}
 use Rattle.screen_feed.specs.Sheets.{SheetState, last_version, sheet_of}
-use Rattle.screen_feed.specs.Screens.{ScreenState, WriterState, after_show, after_try}
+use Rattle.screen_feed.specs.Screens.{HasMissed, ScreenState, WriterState, after_show}
 
 -- the chart of a day of the plan that a front of the history makes; the front has as many entries
 -- as the sheet's version says
@@ -53,28 +53,43 @@ abbrev pub CanShow : PlanState → WriterState → Type 0
 CanShow plan writer = (writer.shown.airport ≡ plan.airport)
     × (last_version writer.sheets ≤ plan.version)
 
--- a writer before and after it was to show a plan: it showed it, or tried in vain, or is as it was
+-- a writer before and after it was to show a plan: it shows it, or has missed it
 abbrev pub IsShown : PlanState → WriterState → WriterState → Type 0
 IsShown plan before after =
     let sheet = sheet_of plan before.shown.day in
-    (after ≡ after_show before sheet) ⊎ (after ≡ after_try before sheet) ⊎ (after ≡ before)
+    (after ≡ after_show before sheet) ⊎ HasMissed before sheet after
 
 -- the pairs of these writers, in order
 abbrev pub pairs_of : List WriterState → List Book
 pairs_of writers = map (λ (writer : WriterState). writer.pair) writers
 
--- what no act changes of a hall: what none changes of its board, and the pairs of its writers
+-- what no act changes of a hall: what none changes of its board, the pairs of its writers, and the
+-- number that the next call might have as the hall was made
 pub record HallFixedState (R : Type 0) : Type 0 where
   pub watched : WatchFixed R
   pub pairs : List Book
+  pub begun : ℕ
 
--- a board, its writers, whether the last act missed to show a writer the plan, and the number of
--- the call after whose act this was noted, if there was one
+-- a board, its writers, whether the last act missed to show a writer the plan, and the number that
+-- the next call might have as the hall was made
 pub record HallHeld (K R : Type 0) : Type 0 where
   pub board : WatchHeld K R
   pub writers : List WriterState
   pub missed : Bool
-  pub noted : Option ℕ
+  pub begun : ℕ
+
+-- what is known of a hall that has ended: with which call it began, the version of its board's plan,
+-- how many writers it had, and whether one of them did not show that version
+pub record HallNoteState : Type 0 where
+  pub begun : ℕ
+  pub version : ℕ
+  pub writers : ℕ
+  pub missed : Bool
+
+-- the note, if there are writers
+abbrev pub note_with : List WriterState → HallNoteState → Option HallNoteState
+note_with [] note = None
+note_with (writer ∷ writers) note = Some note
 
 module _ {K R : Type 0} where
   -- the plan of the board
@@ -88,7 +103,20 @@ module _ {K R : Type 0} where
     pub missed : hall.missed ≡ false ↔ Every (ShowsVersion (hall_plan hall).version) hall.writers
 
   abbrev pub hall_fixed : HallHeld K R → HallFixedState R
-  hall_fixed hall = record { watched = watch_fixed hall.board; pairs = pairs_of hall.writers }
+  hall_fixed hall = record {
+    watched = watch_fixed hall.board;
+    pairs = pairs_of hall.writers;
+    begun = hall.begun;
+  }
+
+  -- what is known of the hall once it has ended
+  abbrev pub hall_note : HallHeld K R → Option HallNoteState
+  hall_note hall = note_with hall.writers (record {
+    begun = hall.begun;
+    version = (hall_plan hall).version;
+    writers = length hall.writers;
+    missed = hall.missed;
+  })
 
   -- as a machine it is its board, with the pairs of its writers
   abbrev pub hall_state : (K → KeeperState) → HallHeld K R → MachineState Entry (HallFixedState R)

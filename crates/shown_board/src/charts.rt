@@ -1,5 +1,5 @@
 // The charts of one plan.
-ghost use Rattle.std.specs.Prelude.{◌≡◌, ◌≤◌, ◌<◌, IfOk, OnErr, OnOk};
+ghost use Rattle.std.specs.Prelude.{◌≡◌, ◌≤◌, ◌<◌, IfErr, IfOk, OnErr, OnOk};
 ghost use Rattle.plan_core.specs.PlanState.{IsPlan};
 ghost use Rattle.screen_feed.specs.Sheets.{IsSheet, last_version, sheet_of};
 ghost use Rattle.shown_board.specs.Halls.{CanShow, IsShown, ShowsVersion};
@@ -7,7 +7,7 @@ ghost use Rattle.shown_board.specs.Halls.{CanShow, IsShown, ShowsVersion};
 use apron_base::Memory;
 use apron_rules::Airport;
 use plan_core::Plan;
-use screen_feed::{ScreenWriter, Sheet};
+use screen_feed::{ScreenWriter, Sheet, Unmade};
 use std::alloc::Global;
 use std::marker::Model;
 use std::sync::Wait;
@@ -48,11 +48,12 @@ impl<'p> Charts<'p> {
 
     // The chart of this day: the last one, if it is of this day. The only error is a lack of
     // memory.
-    fn take(&mut self, alloc: Global, day: u32) -> Result<Sheet, Memory>
+    fn take(&mut self, alloc: Global, day: u32) -> Result<Sheet, Unmade>
         requires first { 1 ≤ day }
         requires last { day ≤ self.old.airport.days }
         ensures plan { self.new ≡ self.old }
         ensures is { IfOk result (λ sheet. sheet ≡ sheet_of self.old day) }
+        ensures unmade { IfErr result (λ sheet. sheet ≡ sheet_of self.old day) }
         ensures sound { IsPlan self.old }
     {
         let _sound = self.plan.visits();
@@ -63,7 +64,7 @@ impl<'p> Charts<'p> {
     }
 
     /// Shows the plan on a writer, if it does not show this version. At `Err` there is no memory,
-    /// and the writer may have tried in vain. It may wait for a screen that is looking.
+    /// for the chart or to show it. It may wait for a screen that is looking.
     pub(crate) fn show_on<W: Wait>(
         &mut self,
         rt: &W,
@@ -79,9 +80,16 @@ impl<'p> Charts<'p> {
         if writer.version() >= self.plan.version() {
             return Ok(());
         }
-        let sheet = self.take(alloc, writer.day())?;
-        let shown = writer.show_sheet(rt, &sheet);
-        self.last = Some(sheet);
-        shown
+        match self.take(alloc, writer.day()) {
+            Ok(sheet) => {
+                let shown = writer.show_sheet(rt, &sheet);
+                self.last = Some(sheet);
+                shown
+            }
+            Err(sheet) => {
+                writer.miss(sheet);
+                Err(Memory)
+            }
+        }
     }
 }

@@ -1,14 +1,15 @@
 // A board whose plan is shown on screens, as a machine.
-ghost use Rattle.std.specs.Prelude.{◌≡◌, ◌≤◌, ◌<◌, false, map, Some};
+ghost use Rattle.std.specs.Prelude.{◌≡◌, ◌≤◌, ◌<◌, false, map};
 ghost use Rattle.std.specs.List.{AllZip};
 ghost use Rattle.apron_base.specs.Histories.{Every, Rises};
 ghost use Rattle.apron_base.specs.Machine.{Acts, ActsAtRisk, history_at_risk_of, is_fault};
 ghost use Rattle.history_core.specs.History.{IsLegal, call_limit, call_of};
 ghost use Rattle.watch_list.specs.WatchBoards.{CanAdd, IsWatchAskOf, WatchAnswers, watch_fixed};
-ghost use Rattle.shown_board.specs.Halls.{IsHall, IsNewWriter, IsShown, SeesFronts, hall_plan, hall_state, pairs_of};
+ghost use Rattle.shown_board.specs.Halls.{IsHall, IsNewWriter, IsShown, SeesFronts, hall_note, hall_plan, hall_state, pairs_of};
 
 use crate::charts::Charts;
-use crate::show::{ShownAfter, close_all, know_all, show_after};
+use crate::note::HallNote;
+use crate::show::{close_all, know_all, show_on_all};
 use apron_base::{Acted, Keeper, Machine};
 use desk_asks::Entry;
 use screen_feed::{Screen, ScreenWriter};
@@ -20,7 +21,7 @@ use watch_list::{NoteTest, Stated, WatchAsk, WatchBoard, WatchFixed};
 /// A board with watches, and the writers of screens, on which its plan is shown after each act.
 ///
 /// Contracts see the board, what each writer has shown, whether the last act missed a show, and the
-/// call of that act.
+/// number that the next call might have as the hall was made.
 /// Each sheet of a writer is the chart of the plan that a front of the board's history makes, with
 /// as many entries as the sheet's version says. It is not `Drop`: end it by `into_board`.
 pub struct Hall<'s, 'w, 'a, W, K: Keeper, R: Stated, T: NoteTest> {
@@ -28,14 +29,15 @@ pub struct Hall<'s, 'w, 'a, W, K: Keeper, R: Stated, T: NoteTest> {
     board: WatchBoard<'w, 'a, K, R, T>,
     writers: Vec<ScreenWriter>,
     missed: bool,
-    shown: Option<ShownAfter>,
+    begun: u64,
 }
 
-/// What no act changes of a hall: the airport and the watches of its board, and the pairs of its
-/// writers. No value of it is made.
+/// What no act changes of a hall: the airport and the watches of its board, the pairs of its
+/// writers, and with which call it began. No value of it is made.
 pub struct HallFixed<R> {
     watched: WatchFixed<R>,
     writers: Vec<ScreenWriter>,
+    begun: u64,
 }
 
 impl<R> Model for HallFixed<R> {
@@ -43,11 +45,14 @@ impl<R> Model for HallFixed<R> {
 
     ghost Value = { HallFixedState R };
 
-    ghost view = { λ f. record { watched = f.watched; pairs = pairs_of f.writers.items } };
+    ghost view = { λ f. record {
+      watched = f.watched;
+      pairs = pairs_of f.writers.items;
+      begun = f.begun;
+    } };
 }
 
 impl<'s, 'w, 'a, W, K: Keeper, R: Stated, T: NoteTest> Model for Hall<'s, 'w, 'a, W, K, R, T> {
-    ghost use Rattle.std.specs.Option.{option_map};
     ghost use Rattle.shown_board.specs.Halls.{HallHeld, IsHall};
 
     ghost Value = { HallHeld K R };
@@ -56,14 +61,14 @@ impl<'s, 'w, 'a, W, K: Keeper, R: Stated, T: NoteTest> Model for Hall<'s, 'w, 'a
       board = h.board;
       writers = h.writers.items;
       missed = h.missed;
-      noted = option_map (λ shown. shown.call.value) h.shown;
+      begun = h.begun;
     } };
 
     ghost invariant = { λ h. IsHall (record {
       board = h.board;
       writers = h.writers.items;
       missed = h.missed;
-      noted = option_map (λ shown. shown.call.value) h.shown;
+      begun = h.begun;
     }) };
 }
 
@@ -80,15 +85,17 @@ impl<'s, 'w, 'a, W: Wait, K: Keeper, R: Stated, T: NoteTest> Hall<'s, 'w, 'a, W,
         ensures board { result.board ≡ board.entry }
         ensures writers { result.writers ≡ writers.items }
         ensures missed { result.missed ≡ false }
+        ensures begun { result.begun ≡ board.entry.next }
     {
         // It is legal, so that it has as many entries as its plan's version says.
         let _history = board.board().history();
+        let begun = board.next_call();
         Hall {
             rt,
             board,
             writers,
             missed: false,
-            shown: None,
+            begun,
         }
     }
 
@@ -99,6 +106,22 @@ impl<'s, 'w, 'a, W: Wait, K: Keeper, R: Stated, T: NoteTest> Hall<'s, 'w, 'a, W,
         ensures shows { IsHall self.now }
     {
         self.missed
+    }
+
+    /// What it has noted, for those who end it: None if it has no writer. It takes no memory.
+    pub fn note(&self) -> Option<HallNote>
+        ensures value { result ≡ hall_note self.now }
+        ensures shows { IsHall self.now }
+    {
+        if self.writers.is_empty() {
+            return None;
+        }
+        Some(HallNote {
+            begun: self.begun,
+            version: self.board.board().plan().version(),
+            writers: self.writers.len(),
+            missed: self.missed,
+        })
     }
 
     /// Nothing is done: it shows that each sheet which a screen of these writers has seen is the
@@ -122,7 +145,7 @@ impl<'s, 'w, 'a, W: Wait, K: Keeper, R: Stated, T: NoteTest> Hall<'s, 'w, 'a, W,
             board,
             writers,
             missed: _,
-            shown: _shown,
+            begun: _,
         } = self;
         close_all(rt, writers);
         board
@@ -138,9 +161,9 @@ impl<'s, 'w, 'a, W: Wait, K: Keeper, R: Stated, T: NoteTest> Hall<'s, 'w, 'a, W,
         self.board.next_call()
     }
 
-    /// What the board answers. Then each writer shows the board's plan, where that has another
-    /// version, and it is noted anew whether one does not. The answer is the same if memory runs
-    /// out for that. It may wait for screens that are looking.
+    /// What the board answers. Then each writer whose version is another shows the board's plan,
+    /// whatever the answer is, and it is noted anew whether one does not. The answer is the same if
+    /// memory runs out for that. It may wait for screens that are looking.
     pub fn ask(&mut self, alloc: Global, call: u64, ask: &WatchAsk) -> Acted
         requires valid { IsWatchAskOf (watch_fixed self.old.board) ask.now }
         requires next { self.old.board.next ≤ call }
@@ -153,22 +176,14 @@ impl<'s, 'w, 'a, W: Wait, K: Keeper, R: Stated, T: NoteTest> Hall<'s, 'w, 'a, W,
         ensures answers { WatchAnswers R.tells (watch_fixed self.old.board)
             self.old.board.board.history call ask.now result self.new.board.board.history }
         ensures shown { AllZip (IsShown (hall_plan self.new)) self.old.writers self.new.writers }
-        ensures noted { self.new.noted ≡ Some call }
     {
         let acted = self.board.act(alloc, call, ask);
         let board = self.board.board();
         // It is legal, so that it has as many entries as its plan's version says.
         let _history = board.history();
         let mut charts = Charts::of(board.airport(), board.plan());
-        let (missed, shown) = show_after(
-            self.rt,
-            alloc,
-            &mut charts,
-            self.writers.as_mut_slice(),
-            call,
-        );
+        let missed = show_on_all(self.rt, alloc, &mut charts, self.writers.as_mut_slice());
         self.missed = missed;
-        self.shown = Some(shown);
         acted
     }
 }

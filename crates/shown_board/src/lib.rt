@@ -6,6 +6,8 @@
 mod charts;
 mod desks;
 mod hall;
+mod note;
 mod show;
 
 pub use hall::{Hall, HallFixed};
+pub use note::HallNote;

@@ -8,13 +8,12 @@ ghost use Rattle.shown_board.specs.Halls.{CanShow, IsShown, ShowsVersion, pairs_
 use crate::charts::Charts;
 use screen_feed::{Screen, ScreenWriter};
 use std::alloc::Global;
-use std::snapshot::Snapshot;
 use std::sync::Wait;
 
-// Shows a plan on each of these. It gives whether some writer does not show the plan's version,
-// since a show had no memory. Writers of one day that follow each other share a chart. It may wait
-// for screens that are looking.
-fn show_on_all<W: Wait>(
+/// Shows a plan on each of these. It gives whether some writer does not show the plan's version,
+/// since a show had no memory. Writers of one day that follow each other share a chart. It may wait
+/// for screens that are looking.
+pub(crate) fn show_on_all<W: Wait>(
     rt: &W,
     alloc: Global,
     charts: &mut Charts<'_>,
@@ -31,33 +30,6 @@ fn show_on_all<W: Wait>(
     let missed = charts.show_on(rt, alloc, &mut first[0]).is_err();
     let others = show_on_all(rt, alloc, charts, rest);
     missed || others
-}
-
-/// That writers were shown the plan after an act. Only `show_after` makes one. It exists in proofs
-/// alone.
-#[derive(Drop)]
-pub(crate) struct ShownAfter {
-    call: Snapshot<u64>,
-}
-
-/// Shows the plan that the act of a call left on each of these, and gives what `show_on_all` gives.
-pub(crate) fn show_after<W: Wait>(
-    rt: &W,
-    alloc: Global,
-    charts: &mut Charts<'_>,
-    writers: &mut [ScreenWriter],
-    call: u64,
-) -> (bool, ShownAfter)
-    requires writers { Every (CanShow charts.old) writers.old }
-    ensures shown { AllZip (IsShown charts.old) writers.old writers.new }
-    ensures missed { result.0 ≡ false ↔ Every (ShowsVersion charts.old.version) writers.new }
-    ensures call { result.1.call.value ≡ call }
-{
-    let missed = show_on_all(rt, alloc, charts, writers);
-    let shown = ShownAfter {
-        call: Snapshot::of(&call),
-    };
-    (missed, shown)
 }
 
 /// Nothing is done: it shows that each of these writers has shown, or tried to show, each sheet

@@ -1,5 +1,5 @@
 use denote.Param.Send.{param_send}
-use Rattle.std.proofs.Common.{◌≡◌, ◌∙◌, ℕ, List, IfOk, ap, length, map, subst, sym}
+use Rattle.std.proofs.Common.{◌≡◌, ◌∙◌, ℕ, List, IfOk, None, ap, length, map, refl, subst, sym}
 use Rattle.std.proofs.lemmas.List.{length-map}
 use Rattle.history_core.specs.AtRisk.{read_entry_at_risk}
 use Rattle.history_core.specs.Board.{machine_state}
@@ -12,7 +12,7 @@ use Rattle.apron_run.specs.Survival.{Survives}
 use Rattle.apron_run.specs.World.{disk_seen}
 use Rattle.apron_run.proofs.Fronts.{stays_both}
 use Rattle.apron_serve.proofs.Crosses.{files_send}
-use Rattle.apron_serve.proofs.Desks.{desks_serve, missed_of, of_err, of_ok, opened_safe, turns_want_memory}
+use Rattle.apron_serve.proofs.Desks.{desks_serve, of_err, of_ok, opened_safe, turns_want_memory}
 use Rattle.apron_serve.proofs.board.serve_desks.Goals as goal
 
 pub serve_watched-served-requires-send-K : goal.serve_watched-served-requires-send-K
@@ -30,18 +30,19 @@ returns-in-Ok-served-clause-crash g c =
     let left = hall.board.board in
     let same : c.into_board-in-Ok-served.result ≡ left = c.into_board-in-Ok-served.ensures.value ∙ ap (λ w. w.board) c.into_board.ensures.board in
     let writers : length hall.writers ≡ length (map g.L.Workplace.state c.args.screens.now) =
-    of_ok c.serve_watched-served.result.0 c.in-Ok-served.ends c.in-Ok-served.is c.serve_watched-served.ensures.writers ∙ sym (length-map c.args.screens.now g.L.Workplace.state) in (
+    of_ok c.serve_watched-served.result.0 c.in-Ok-served.ends c.in-Ok-served.is c.serve_watched-served.ensures.writers ∙ sym (length-map c.args.screens.now g.L.Workplace.state) in
+    let begun : hall.begun ≡ c.in-Ok.board.board.next =
+    of_ok c.serve_watched-served.result.0 c.in-Ok-served.ends c.in-Ok-served.is c.serve_watched-served.ensures.begun ∙ c.in-Ok.ensures.next in (
       desks_serve (record { states = g.L.Workplace.states; feeds = feed_texts g.R.Stated.tells c.args.watches.now }) tells c.args.files.now c.args.task
-          (record { listeners = map g.L.Workplace.state c.args.listeners.now; screens = map g.L.Workplace.state c.args.screens.now; disk = disk_seen (g.D.Disk.state c.args.disk) })
-          (record { listeners = map g.L.Workplace.state c.serve_watched-served.new.listeners; screens = map g.L.Workplace.state c.serve_watched-served.new.walls; disk = disk_seen (g.D.Disk.state c.close_board.result) })
-          c.in-Ok.board.board left c.serve_watched-served.result.0 c.in-Ok-served.ends hall.missed c.served_end-end.result c.in-Ok.ensures.opened c.in-Ok-served.is
+          (record { listeners = map g.L.Workplace.state c.args.listeners.now; screens = map g.L.Workplace.state c.args.screens.now; disk = disk_seen (g.D.Disk.state c.args.disk); note = None })
+          (record { listeners = map g.L.Workplace.state c.serve_watched-served.new.listeners; screens = map g.L.Workplace.state c.serve_watched-served.new.walls; disk = disk_seen (g.D.Disk.state c.close_board.result); note = c.note-note.result })
+          c.in-Ok.board.board hall c.serve_watched-served.result.0 c.in-Ok-served.ends c.served_end-end.result c.in-Ok.ensures.opened c.in-Ok-served.is
           (subst (λ (watches : List (Watched g.row.R.Denot)). IfOk c.serve_watched-served.result.0 (λ ends. ServesBoard g.L.Workplace.states
           (fed_sessions (feed_texts g.R.Stated.tells watches)) c.args.task.connections
           (record { listeners = map g.L.Workplace.state c.args.listeners.now; board = machine_state tells c.in-Ok.board.board })
           (record { listeners = map g.L.Workplace.state c.serve_watched-served.new.listeners; board = machine_state tells left }) ends.desks))
           c.in-Ok.ensures.watches c.serve_watched-served.ensures.serves) c.serve_watched-served.ensures.shows
-          (missed_of hall (length (map g.L.Workplace.state c.args.screens.now)) writers c.served_end-end.ensures.note)
-          c.served_end-end.ensures.is
+          writers begun c.note-note.ensures.value c.served_end-end.ensures.is
           (ap (λ d. (disk_seen (g.D.Disk.state d)).faults) (c.close_board.ensures.disk ∙ ap (λ b. b.keeper.disk) same))
           (subst (λ (digests : List ℕ). KeepsHistory (record { airport = left.airport; digests = digests }) left.history
           (read_entry_at_risk left.airport (tells left.keeper)) (disk_seen (g.D.Disk.state c.close_board.result)))
@@ -63,9 +64,9 @@ returns-in-Err-served-clause-crash g c =
     let closed = c.into_board-in-Err-served-2.ensures.value ∙ ap (λ w. w.board) c.into_board-in-Err-served.ensures.board in
     let same = c.close_board-in-Err-served.ensures.disk ∙ ap (λ b. b.keeper.disk) (closed ∙ refused.2) in (
       turns_want_memory (journal_tells g.D.Disk.state) c.args.files.now
-          (record { listeners = map g.L.Workplace.state c.args.listeners.now; screens = map g.L.Workplace.state c.args.screens.now; disk = disk_seen (g.D.Disk.state c.args.disk) })
-          (record { listeners = map g.L.Workplace.state c.serve_watched-served.new.listeners; screens = map g.L.Workplace.state c.serve_watched-served.new.walls; disk = disk_seen (g.D.Disk.state c.close_board-in-Err-served.result) })
-          c.in-Ok.board.board c.in-Ok.ensures.opened (ap (map g.L.Workplace.state) refused.0) (ap (map g.L.Workplace.state) refused.1)
+          (record { listeners = map g.L.Workplace.state c.args.listeners.now; screens = map g.L.Workplace.state c.args.screens.now; disk = disk_seen (g.D.Disk.state c.args.disk); note = None })
+          (record { listeners = map g.L.Workplace.state c.serve_watched-served.new.listeners; screens = map g.L.Workplace.state c.serve_watched-served.new.walls; disk = disk_seen (g.D.Disk.state c.close_board-in-Err-served.result); note = None })
+          c.in-Ok.board.board c.in-Ok.ensures.opened (ap (map g.L.Workplace.state) refused.0) (ap (map g.L.Workplace.state) refused.1) refl
           (ap (λ d. (g.D.Disk.state d).contents) same ∙ c.in-Ok.ensures.stays.contents)
           (ap (λ d. (disk_seen (g.D.Disk.state d)).faults) same),
       stays_both g.N.OfFiles.begun (g.D.Disk.state c.args.disk) (g.D.Disk.state c.close_board-in-Err-served.result) c.requires.begun

@@ -26,7 +26,7 @@ returns-in-Err-clause-crash g c =
       record {
         found = Err c.in-Err.fault;
         finds = finds;
-        serves = record { listeners = refl; screens = refl; disk = refl; tells = c.print_fault.ensures.tells };
+        serves = record { listeners = refl; screens = refl; disk = refl; note = refl; tells = c.print_fault.ensures.tells };
       },
       stays_same (g.D.Disk.state c.args.disk),
     )

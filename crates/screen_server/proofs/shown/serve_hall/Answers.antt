@@ -6,7 +6,7 @@ use Rattle.shown_board.specs.Halls.{HallHeld, hall_state}
 use Rattle.shown_board.proofs.Crosses.{hall_send}
 use Rattle.screen_server.specs.Walls.{ShowsAll, WallsState, walls_of}
 use Rattle.screen_server.proofs.Boards.{hall_sessions}
-use Rattle.screen_server.proofs.Kept.{if_ok, kept_pairs, writers_there}
+use Rattle.screen_server.proofs.Kept.{begun_there, if_ok, kept_pairs, writers_there}
 use Rattle.screen_server.specs.contracts.shown.serve_hall as contract
 use Rattle.screen_server.proofs.shown.serve_hall.Goals as goal
 
@@ -47,6 +47,9 @@ returns-in-Ok-clause-serves g c =
 pub returns-in-Ok-clause-writers : goal.returns-in-Ok-clause-writers
 returns-in-Ok-clause-writers g c =
     writers_there c.args.hall c.knows.new.self (returns-in-Ok-clause-serves g c).fixed c.args.screens.now c.args.walls.now (search rules) c.requires.pairs
+
+pub returns-in-Ok-clause-begun : goal.returns-in-Ok-clause-begun
+returns-in-Ok-clause-begun g c = begun_there c.args.hall c.knows.new.self (returns-in-Ok-clause-serves g c).fixed
 
 pub returns-in-Ok-clause-pairs : goal.returns-in-Ok-clause-pairs
 returns-in-Ok-clause-pairs g c =

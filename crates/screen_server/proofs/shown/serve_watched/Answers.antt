@@ -1,5 +1,5 @@
 use Rattle.std.proofs.Common.{◌∙◌, map, ap, subst, sym}
-use Rattle.std.proofs.lemmas.Result.{IfErr-weaker}
+use Rattle.std.proofs.lemmas.Result.{IfErr-weaker, IfOk-weaker}
 use Rattle.apron_base.specs.Histories.{Every}
 use Rattle.screen_feed.specs.Screens.{ScreenState}
 use Rattle.shown_board.specs.Halls.{pairs_of}
@@ -36,6 +36,9 @@ returns-clause-shows g c =
 
 pub returns-clause-writers : goal.returns-clause-writers
 returns-clause-writers g c = c.serve_hall.ensures.writers
+
+pub returns-clause-begun : goal.returns-clause-begun
+returns-clause-begun g c = IfOk-weaker c.serve_hall.result.0 _ _ (λ _ same. same ∙ c.new-hall.ensures.begun) c.serve_hall.ensures.begun
 
 pub returns-clause-refused : goal.returns-clause-refused
 returns-clause-refused g c =

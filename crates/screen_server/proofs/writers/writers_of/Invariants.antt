@@ -1,4 +1,4 @@
-use Rattle.std.proofs.Common.{◌≡◌, map}
+use Rattle.std.proofs.Common.{◌≡◌, length, map}
 use Rattle.apron_base.specs.Histories.{Every}
 use Rattle.history_core.specs.History.{replay}
 use Rattle.screen_feed.specs.Screens.{ScreenState}
@@ -12,4 +12,4 @@ invariant-loop-made g l =
     × Every (IsNewScreen l.airport l.board.board.history l.day) l.screens.items
     × (pairs_of l.writers.items ≡ map (λ (screen : ScreenState). screen.pair) l.screens.items)
     × (l.board.board.airport ≡ l.airport) × (l.plan.plan ≡ replay l.board.board.airport l.board.board.history)
-    × (l.plan.plan.airport ≡ l.airport)
+    × (l.plan.plan.airport ≡ l.airport) × (length l.writers.items ≡ l._made)

@@ -1,8 +1,4 @@
-use Rattle.std.proofs.Common.{◌≡◌, ◌∙◌, List, ap, subst, sym}
-use mathlib.Core.List.{IsPrefix}
-use Rattle.screen_feed.specs.declared.book.SheetEntry.{SheetEntry}
-use Rattle.screen_feed.specs.Logs.{IsLegalLog}
-use Rattle.screen_feed.specs.Rules.{entry_word}
+use Rattle.std.proofs.Common.{◌∙◌, ap, sym}
 use Rattle.screen_feed.proofs.Adding.{sees_moves}
 use Rattle.screen_feed.proofs.appender.Appender.knows.Goals as goal
 

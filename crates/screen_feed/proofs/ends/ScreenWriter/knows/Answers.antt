@@ -11,7 +11,7 @@ pub returns-clause-seen : goal.returns-clause-seen
 returns-clause-seen c =
     let at = c.screen.invariant.0 in
     let whole = c.self.inside.appender.log in
-    let front : IsPrefix at.page.log whole = subst (λ (log : List SheetEntry). IsPrefix log whole) (sym at.log_is) c.knows.ensures.all in
+    let front : IsPrefix at.page.log whole = subst (λ (log : List SheetEntry). IsPrefix log whole) (ap (λ s. s.log) c.seen.ensures.seen ∙ sym at.log_is) c.knows.ensures.all in
     let seen : c.args.screen.now.seen ≡ sheets_with at.page = sym (ap (λ s. s.seen) c.screen.view_is) ∙ ap sheets_seen at.is in
     let tried : begun_in whole ≡ c.args.self.now.tried = ap (λ w. w.tried) c.self.view_is in
     subst (AreAmong c.args.screen.now.seen) tried
