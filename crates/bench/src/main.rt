@@ -1,22 +1,19 @@
-//! Measures how fast apron is: how fast airports are read and looked up in (`bench airports`), a
-//! desk's commits answered (`bench commits`), movement messages read (`bench messages`) and turns
-//! taken at a board (`bench turns`). `bench` alone says how each is called.
+//! Measures how fast parts of apron are: how fast airports are read and looked up in (`bench
+//! airports`), movement messages read (`bench messages`) and turns taken at a board (`bench turns`).
+//! `bench` alone says how each is called.
 #![tactic(auto)]
 
 mod airports;
-mod commits;
 mod messages;
 mod turns;
 
 use crate::airports::measure_airports;
-use crate::commits::measure_commits;
 use crate::messages::measure_messages;
 use crate::turns::measure_turns;
 use std::{env, io};
 
 const USAGE: &str = "\
 bench airports TIMES AIRPORT TYPES reads an airport at every limit TIMES times, looks up the rules of all pairs of stands and types of these files, and looks at the neighbours of their stands and at the slots of a full one
-bench commits AIRPORT TYPES has commits answered over 6, 500 and 5000 visits, at an airport with stands A1 to A24 and B1 and the type A320
 bench messages TIMES reads a message of 300 bytes and a text of 4000 bytes, each TIMES times
 bench turns TURNS takes TURNS turns at a machine that does nothing, and a hundredth of them at one whose acts take 200 microseconds";
 
@@ -36,9 +33,6 @@ fn main(rt: HostRuntime) -> io::Result<()> {
             airport.as_str(),
             types.as_str(),
         ),
-        ("commits", Some(airport), Some(types), None) => {
-            measure_commits(&rt, airport.as_str(), types.as_str())
-        }
         ("messages", Some(times), None, None) => measure_messages(&rt, count_of(times.as_str())),
         ("turns", Some(turns), None, None) => measure_turns(
             &rt,
